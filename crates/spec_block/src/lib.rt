@@ -1,0 +1,60 @@
+// Blocks of calls, and what contracts say of them.
+#![tactic(auto)]
+
+ghost use Rattle.std.specs.Prelude.{◌≡◌, ℕ, ◌<◌, ◌≤◌, ◌+◌, List, length, take};
+ghost use Rattle.std.specs.List.{AllByRecursion};
+ghost use Rattle.spec_ledger.specs.declared.Entry.{Entry};
+ghost use Rattle.spec_ledger.specs.declared.Mode.{Mode};
+ghost use Rattle.spec_ledger.specs.Cells.{Cells};
+ghost use Rattle.spec_ledger.specs.Order.{AreGroups, groups_before, groups_before_last};
+ghost use Rattle.spec_block.specs.Worlds.{Block, Call, World, profiles_of};
+ghost use Rattle.spec_block.specs.Runs.{RunsAreUnique};
+ghost use Rattle.spec_execution.specs.Serial.{Ran};
+ghost use Rattle.spec_block.specs.Serial.{Serial};
+ghost use Rattle.spec_block.specs.Bytes.{IsCall, SpellsBlock, SpellsWorld, TreesAreUnique, calls_bytes};
+ghost use Rattle.spec_block.specs.Verdicts.{IsVerdictOf, Verdict};
+ghost use Rattle.spec_block.specs.Headline.{AcceptsExactly, Headline};
+ghost use Rattle.spec_block.specs.Schedule.{HaveTurns, PathsJoin, WavesGoTogether};
+
+/// Accepted are exactly the spellings of the blocks of admissible orders, where a call has one run.
+pub fn accepts_exactly()
+    ensures exactly { RunsAreUnique → (world : World) (calls : List Call) (fuel : ℕ) (bytes : List ℕ) → AcceptsExactly world calls fuel bytes }
+{}
+
+/// Bytes spell one block, one list of calls and, where they spell one tree, one world.
+pub fn one_block_a_spelling()
+    ensures one { (bytes : List ℕ) (b c : Block) → SpellsBlock bytes b → SpellsBlock bytes c → b ≡ c }
+    ensures calls { (xs ys : List Call) → length xs ≤ 65535 → length ys ≤ 65535 → AllByRecursion IsCall xs → AllByRecursion IsCall ys → calls_bytes xs ≡ calls_bytes ys → xs ≡ ys }
+    ensures worlds { TreesAreUnique → (bytes : List ℕ) (v w : World) → SpellsWorld bytes v → SpellsWorld bytes w → v ≡ w }
+{}
+
+/// An order has one serial run, where a call has one.
+pub fn one_serial_run()
+    ensures one { RunsAreUnique → (world : World) (calls : List Call) (order : List ℕ) (cells : Cells) (rs ss : List Ran) (l m : Cells) → Serial world calls order cells rs l → Serial world calls order cells ss m → (rs ≡ ss) × (l ≡ m) }
+{}
+
+/// Positions whose modes at a lock do not go together are joined by a path, the earlier first; those of one wave go together.
+pub fn paths_join()
+    ensures joined { (profiles : List (List Entry)) → HaveTurns profiles → PathsJoin profiles }
+    ensures published { RunsAreUnique → (world : World) (calls : List Call) (fuel : ℕ) (block : Block) (next : World) → Headline world calls fuel block next → HaveTurns (profiles_of block) }
+    ensures together { (profiles : List (List Entry)) → HaveTurns profiles → WavesGoTogether profiles }
+{}
+
+/// A lock's holders fall into groups, and a holder's turn is the number of groups before its own.
+pub fn turns_count_groups()
+    ensures there_are { (held : List Mode) → (groups : List (List Mode)) × AreGroups held groups }
+    ensures turns { (held : List Mode) (groups : List (List Mode)) → AreGroups held groups → (k : ℕ) → k < length held → groups_before groups k ≡ groups_before_last (take (k + 1) held) }
+{}
+
+/// Bytes have one verdict, where a call has one run.
+pub fn one_verdict()
+    ensures one { RunsAreUnique → (world : World) (calls : List Call) (fuel : ℕ) (bytes : List ℕ) (v w : Verdict) → IsVerdictOf world calls fuel bytes v → IsVerdictOf world calls fuel bytes w → v ≡ w }
+{}
+
+/// The same of the runs of the execution, which are unique: accepted are exactly the spellings of the blocks of admissible orders.
+pub fn accepts_exactly_the_published()
+    ensures exactly { (world : World) (calls : List Call) (fuel : ℕ) (bytes : List ℕ) → AcceptsExactly world calls fuel bytes }
+    ensures one { (world : World) (calls : List Call) (fuel : ℕ) (bytes : List ℕ) (v w : Verdict) → IsVerdictOf world calls fuel bytes v → IsVerdictOf world calls fuel bytes w → v ≡ w }
+{
+    spec_execution::runs_are_unique();
+}

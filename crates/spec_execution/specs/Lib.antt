@@ -1,0 +1,11 @@
+pub mod Configuration
+pub mod Reduction
+pub mod Run
+pub mod Turns
+pub mod Walk
+pub mod Unique
+pub mod Codes
+pub mod Numbers
+pub mod Exec
+pub mod Serial
+pub mod Places

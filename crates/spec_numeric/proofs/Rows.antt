@@ -1,0 +1,74 @@
+-- Worked examples of operators.
+use Rattle.std.specs.Prelude.{◌≡◌, refl, pos, negsuc, Ok, Err}
+use Rattle.wtypes.specs.declared.ValType.TheVariants as valtype
+use Rattle.wtypes.specs.declared.Value.TheVariants.{I32, I64}
+use Rattle.wtypes.specs.declared.TrapCode.TheVariants as trap
+use Rattle.wtypes.specs.declared.UnOp.TheVariants.{Clz, Ctz, Popcnt}
+use Rattle.wtypes.specs.declared.BinOp.TheVariants.{DivS, RemS, ShrS, Rotl, Rotr}
+use Rattle.wtypes.specs.declared.RelOp.TheVariants.{LtS, LtU}
+use Rattle.wtypes.specs.declared.CvtOp.TheVariants.{I32WrapI64, I64ExtendI32S, I64ExtendI32U}
+use Rattle.spec_numeric.specs.Numbers.{zeros_above, zeros_below, ones_among}
+use Rattle.spec_numeric.specs.Operators.{unary_of, binary_of, compare_of, convert_of}
+
+rotl_row : binary_of (Rotl valtype.I32) (I32 (negsuc 2147483646)) (I32 (pos 33)) ≡ Ok (I32 (pos 3))
+rotl_row = refl
+
+rotr_row : binary_of (Rotr valtype.I32) (I32 (pos 3)) (I32 (pos 33)) ≡ Ok (I32 (negsuc 2147483646))
+rotr_row = refl
+
+rotate_by_nothing : binary_of (Rotr valtype.I64) (I64 (negsuc 4)) (I64 (pos 64)) ≡ Ok (I64 (negsuc 4))
+rotate_by_nothing = refl
+
+shr_row : binary_of (ShrS valtype.I64) (I64 (negsuc 7)) (I64 (pos 65)) ≡ Ok (I64 (negsuc 3))
+shr_row = refl
+
+shr_down : binary_of (ShrS valtype.I32) (I32 (negsuc 6)) (I32 (pos 1)) ≡ Ok (I32 (negsuc 3))
+shr_down = refl
+
+clz_row : unary_of (Clz valtype.I32) (I32 (pos 0)) ≡ I32 (pos 32)
+unfolding zeros_above
+clz_row = refl
+
+clz_one : unary_of (Clz valtype.I64) (I64 (pos 1)) ≡ I64 (pos 63)
+unfolding zeros_above
+clz_one = refl
+
+ctz_row : unary_of (Ctz valtype.I32) (I32 (pos 0)) ≡ I32 (pos 32)
+unfolding zeros_below
+ctz_row = refl
+
+ctz_four : unary_of (Ctz valtype.I32) (I32 (pos 12)) ≡ I32 (pos 2)
+unfolding zeros_below
+ctz_four = refl
+
+popcnt_row : unary_of (Popcnt valtype.I64) (I64 (negsuc 0)) ≡ I64 (pos 64)
+unfolding ones_among
+popcnt_row = refl
+
+extend_row : convert_of I64ExtendI32U (I32 (negsuc 0)) ≡ I64 (pos 4294967295)
+extend_row = refl
+
+extend_signed : convert_of I64ExtendI32S (I32 (negsuc 0)) ≡ I64 (negsuc 0)
+extend_signed = refl
+
+wrap_row : convert_of I32WrapI64 (I64 (pos 4294967303)) ≡ I32 (pos 7)
+wrap_row = refl
+
+div_row : binary_of (DivS valtype.I32) (I32 (negsuc 2147483647)) (I32 (negsuc 0)) ≡ Err trap.IntegerOverflow
+div_row = refl
+
+div_truncates : binary_of (DivS valtype.I32) (I32 (negsuc 6)) (I32 (pos 2)) ≡ Ok (I32 (negsuc 2))
+div_truncates = refl
+
+rem_row : binary_of (RemS valtype.I32) (I32 (negsuc 2147483647)) (I32 (negsuc 0)) ≡ Ok (I32 (pos 0))
+rem_row = refl
+
+rem_of_negative : binary_of (RemS valtype.I32) (I32 (negsuc 6)) (I32 (pos 2)) ≡ Ok (I32 (negsuc 0))
+rem_of_negative = refl
+
+less_signed : compare_of (LtS valtype.I32) (I32 (negsuc 0)) (I32 (pos 0)) ≡ I32 (pos 1)
+less_signed = refl
+
+less_unsigned : compare_of (LtU valtype.I32) (I32 (negsuc 0)) (I32 (pos 0)) ≡ I32 (pos 0)
+less_unsigned = refl
+

@@ -1,0 +1,184 @@
+-- The operators (Core, Numerics, Integer Operations) on numbers of N bits. The width is an argument of its own, and an operator's own width is not read there.
+use Rattle.std.specs.Prelude.{ℕ, ◌+◌, ◌-◌, ◌*◌, ◌/◌, ◌%◌, ◌^◌, pos, Bool, true, false, not, ◌==◌, nat_lt, nat_le, int_lt, int_le, int_div, int_rem, if◌then◌else◌, bit_and, bit_or, bit_xor, Result, Ok, Err}
+use Rattle.std.specs.Int.{Width, w32, w64}
+use mir.Val.{bits, hbits}
+use Rattle.spec_numeric.specs.Numbers.{modulus, signed, unsigned, zeros_above, zeros_below, ones_among, floor, rotated_left, rotated_right}
+use Rattle.wtypes.specs.declared.ValType.{ValType}
+use Rattle.wtypes.specs.declared.ValType.TheVariants.{I32, I64}
+use Rattle.wtypes.specs.declared.Value.{Value}
+use Rattle.wtypes.specs.declared.Value.TheVariants as value
+use Rattle.wtypes.specs.declared.TrapCode.{TrapCode}
+use Rattle.wtypes.specs.declared.TrapCode.TheVariants.{DivideByZero, IntegerOverflow}
+use Rattle.wtypes.specs.declared.UnOp.{UnOp}
+use Rattle.wtypes.specs.declared.UnOp.TheVariants.{Clz, Ctz, Popcnt}
+use Rattle.wtypes.specs.declared.BinOp.{BinOp}
+use Rattle.wtypes.specs.declared.BinOp.TheVariants.{Add, Sub, Mul, DivS, DivU, RemS, RemU, And, Or, Xor, Shl, ShrS, ShrU, Rotl, Rotr}
+use Rattle.wtypes.specs.declared.RelOp.{RelOp}
+use Rattle.wtypes.specs.declared.RelOp.TheVariants.{Equal, NotEqual, LtS, LtU, GtS, GtU, LeS, LeU, GeS, GeU}
+use Rattle.wtypes.specs.declared.TestOp.{TestOp}
+use Rattle.wtypes.specs.declared.TestOp.TheVariants.{Eqz}
+use Rattle.wtypes.specs.declared.CvtOp.{CvtOp}
+use Rattle.wtypes.specs.declared.CvtOp.TheVariants.{I32WrapI64, I64ExtendI32S, I64ExtendI32U}
+
+-- ---- on numbers
+
+abbrev pub unary : Width → UnOp → ℕ → ℕ
+unary w (Clz t) x = zeros_above (bits w) x
+unary w (Ctz t) x = zeros_below (bits w) x
+unary w (Popcnt t) x = ones_among (bits w) x
+
+-- the quotient, truncated toward zero; 2^(N-1) is no signed reading
+abbrev pub div_signed : Width → ℕ → ℕ → Result ℕ TrapCode
+div_signed w x y =
+    if y == 0 then Err DivideByZero
+    else (if int_le (pos (2 ^ hbits w)) (int_div (signed w x) (signed w y)) then Err IntegerOverflow
+    else Ok (unsigned w (int_div (signed w x) (signed w y))))
+
+abbrev pub div_unsigned : ℕ → ℕ → Result ℕ TrapCode
+div_unsigned x y = if y == 0 then Err DivideByZero else Ok (x / y)
+
+-- the remainder has the sign of the dividend
+abbrev pub rem_signed : Width → ℕ → ℕ → Result ℕ TrapCode
+rem_signed w x y = if y == 0 then Err DivideByZero else Ok (unsigned w (int_rem (signed w x) (signed w y)))
+
+abbrev pub rem_unsigned : ℕ → ℕ → Result ℕ TrapCode
+rem_unsigned x y = if y == 0 then Err DivideByZero else Ok (x % y)
+
+-- x is the first operand, y the second
+abbrev pub binary : Width → BinOp → ℕ → ℕ → Result ℕ TrapCode
+binary w (Add t) x y = Ok ((x + y) % modulus w)
+binary w (Sub t) x y = Ok ((x + (modulus w - y)) % modulus w)
+binary w (Mul t) x y = Ok ((x * y) % modulus w)
+binary w (DivS t) x y = div_signed w x y
+binary w (DivU t) x y = div_unsigned x y
+binary w (RemS t) x y = rem_signed w x y
+binary w (RemU t) x y = rem_unsigned x y
+binary w (And t) x y = Ok (bit_and x y)
+binary w (Or t) x y = Ok (bit_or x y)
+binary w (Xor t) x y = Ok (bit_xor x y)
+binary w (Shl t) x y = Ok ((x * 2 ^ (y % bits w)) % modulus w)
+binary w (ShrS t) x y = Ok (unsigned w (floor (signed w x) (2 ^ (y % bits w))))
+binary w (ShrU t) x y = Ok (x / 2 ^ (y % bits w))
+binary w (Rotl t) x y = Ok (rotated_left w x (y % bits w))
+binary w (Rotr t) x y = Ok (rotated_right w x (y % bits w))
+
+abbrev pub test : TestOp → ℕ → Bool
+test (Eqz t) x = x == 0
+
+abbrev pub compare : Width → RelOp → ℕ → ℕ → Bool
+compare w (Equal t) x y = x == y
+compare w (NotEqual t) x y = not (x == y)
+compare w (LtS t) x y = int_lt (signed w x) (signed w y)
+compare w (LtU t) x y = nat_lt x y
+compare w (GtS t) x y = int_lt (signed w y) (signed w x)
+compare w (GtU t) x y = nat_lt y x
+compare w (LeS t) x y = int_le (signed w x) (signed w y)
+compare w (LeU t) x y = nat_le x y
+compare w (GeS t) x y = int_le (signed w y) (signed w x)
+compare w (GeU t) x y = nat_le y x
+
+abbrev pub convert : CvtOp → ℕ → ℕ
+convert I32WrapI64 x = x % 2 ^ 32
+convert I64ExtendI32S x = unsigned w64 (signed w32 x)
+convert I64ExtendI32U x = x
+
+-- ---- on values
+
+abbrev pub word : ValType → Width
+word I32 = w32
+word I64 = w64
+
+abbrev pub same_type : ValType → ValType → Bool
+same_type I32 I32 = true
+same_type I64 I64 = true
+same_type t u = false
+
+abbrev pub type_of : Value → ValType
+type_of (value.I32 x) = I32
+type_of (value.I64 x) = I64
+
+-- the number that a value's bits spell
+abbrev pub bits_of : Value → ℕ
+bits_of (value.I32 x) = unsigned w32 x
+bits_of (value.I64 x) = unsigned w64 x
+
+abbrev pub value_of : ValType → ℕ → Value
+value_of I32 n = value.I32 (signed w32 n)
+value_of I64 n = value.I64 (signed w64 n)
+
+abbrev pub truth : Bool → Value
+truth true = value.I32 (pos 1)
+truth false = value.I32 (pos 0)
+
+abbrev pub unary_type : UnOp → ValType
+unary_type (Clz t) = t
+unary_type (Ctz t) = t
+unary_type (Popcnt t) = t
+
+abbrev pub binary_type : BinOp → ValType
+binary_type (Add t) = t
+binary_type (Sub t) = t
+binary_type (Mul t) = t
+binary_type (DivS t) = t
+binary_type (DivU t) = t
+binary_type (RemS t) = t
+binary_type (RemU t) = t
+binary_type (And t) = t
+binary_type (Or t) = t
+binary_type (Xor t) = t
+binary_type (Shl t) = t
+binary_type (ShrS t) = t
+binary_type (ShrU t) = t
+binary_type (Rotl t) = t
+binary_type (Rotr t) = t
+
+abbrev pub test_type : TestOp → ValType
+test_type (Eqz t) = t
+
+abbrev pub compare_type : RelOp → ValType
+compare_type (Equal t) = t
+compare_type (NotEqual t) = t
+compare_type (LtS t) = t
+compare_type (LtU t) = t
+compare_type (GtS t) = t
+compare_type (GtU t) = t
+compare_type (LeS t) = t
+compare_type (LeU t) = t
+compare_type (GeS t) = t
+compare_type (GeU t) = t
+
+abbrev pub convert_from : CvtOp → ValType
+convert_from I32WrapI64 = I64
+convert_from I64ExtendI32S = I32
+convert_from I64ExtendI32U = I32
+
+abbrev pub convert_to : CvtOp → ValType
+convert_to I32WrapI64 = I32
+convert_to I64ExtendI32S = I64
+convert_to I64ExtendI32U = I64
+
+abbrev pub answer_of : ValType → Result ℕ TrapCode → Result Value TrapCode
+answer_of t (Ok x) = Ok (value_of t x)
+answer_of t (Err code) = Err code
+
+-- with t the type of the operands
+abbrev pub unary_at : ValType → UnOp → Value → Value
+unary_at t op v = value_of t (unary (word t) op (bits_of v))
+
+abbrev pub binary_at : ValType → BinOp → Value → Value → Result Value TrapCode
+binary_at t op a b = answer_of t (binary (word t) op (bits_of a) (bits_of b))
+
+abbrev pub unary_of : UnOp → Value → Value
+unary_of op v = unary_at (unary_type op) op v
+
+abbrev pub binary_of : BinOp → Value → Value → Result Value TrapCode
+binary_of op a b = binary_at (binary_type op) op a b
+
+abbrev pub test_of : TestOp → Value → Value
+test_of op v = truth (test op (bits_of v))
+
+abbrev pub compare_of : RelOp → Value → Value → Value
+compare_of op a b = truth (compare (word (compare_type op)) op (bits_of a) (bits_of b))
+
+abbrev pub convert_of : CvtOp → Value → Value
+convert_of op v = value_of (convert_to op) (convert op (bits_of v))

@@ -1,0 +1,4 @@
+pub mod Syntax
+pub mod Profile
+pub mod Shape
+pub mod Codes

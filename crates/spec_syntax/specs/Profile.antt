@@ -1,0 +1,90 @@
+-- The profile: the limits of this product, and the host module that contracts import.
+use Rattle.std.specs.Prelude.{ℕ, List, [], ◌∷◌, codes}
+use Rattle.wtypes.specs.declared.ValType.TheVariants.{I32, I64}
+use Rattle.wtypes.specs.declared.HostCall.{HostCall}
+use Rattle.wtypes.specs.declared.HostCall.TheVariants.{Get, Has, Put, Del, Add, Total}
+use Rattle.spec_syntax.specs.Syntax.{FuncType, Name}
+
+-- ---- Limits of a module, with the number that a refusal gives
+
+-- 1: the bytes of a module, of its text, and of its shortest spelling
+abbrev pub byte_limit : ℕ
+byte_limit = 1048576
+
+-- 2: the defined functions
+abbrev pub function_limit : ℕ
+function_limit = 4096
+
+-- 3: the declared locals of a function, its parameters aside
+abbrev pub local_limit : ℕ
+local_limit = 1024
+
+-- 4: the blocks that stand in one another, a body being level 0
+abbrev pub nesting_limit : ℕ
+nesting_limit = 128
+
+-- 5: the labels of a `br_table`, the default aside
+abbrev pub label_limit : ℕ
+label_limit = 1024
+
+-- ---- Limits of a contract and its execution
+
+-- the bytes of a page (Core, Execution, Runtime Structure, Memory Instances)
+abbrev pub page_size : ℕ
+page_size = 65536
+
+-- no memory has more pages
+abbrev pub page_limit : ℕ
+page_limit = 256
+
+-- no table has more elements at its beginning
+abbrev pub element_limit : ℕ
+element_limit = 65536
+
+-- no more frames stand in one another
+abbrev pub frame_limit : ℕ
+frame_limit = 256
+
+-- ---- Limits of worlds, blocks and calls
+
+abbrev pub contract_limit : ℕ
+contract_limit = 1024
+
+abbrev pub call_limit : ℕ
+call_limit = 65535
+
+-- the bytes of a call's entry
+abbrev pub entry_limit : ℕ
+entry_limit = 65535
+
+-- the arguments of a call
+abbrev pub argument_limit : ℕ
+argument_limit = 1024
+
+abbrev pub worker_limit : ℕ
+worker_limit = 64
+
+abbrev pub try_limit : ℕ
+try_limit = 16
+
+-- ---- The host module
+
+abbrev pub host_module : Name
+host_module = codes "boost"
+
+abbrev pub host_name : HostCall → Name
+host_name Get = codes "get"
+host_name Has = codes "has"
+host_name Put = codes "put"
+host_name Del = codes "del"
+host_name Add = codes "add"
+host_name Total = codes "total"
+
+-- the key comes first
+abbrev pub host_type : HostCall → FuncType
+host_type Get = record { params = I64 ∷ []; results = I64 ∷ [] }
+host_type Has = record { params = I64 ∷ []; results = I32 ∷ [] }
+host_type Put = record { params = I64 ∷ I64 ∷ []; results = [] }
+host_type Del = record { params = I64 ∷ []; results = I32 ∷ [] }
+host_type Add = record { params = I64 ∷ I64 ∷ []; results = [] }
+host_type Total = record { params = I64 ∷ []; results = I64 ∷ [] }
