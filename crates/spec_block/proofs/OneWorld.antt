@@ -1,20 +1,19 @@
 -- Bytes spell one world.
 use Rattle.std.proofs.Common.{◌≡◌, ℕ, suc, ◌<◌, ◌≤◌, ◌^◌, Bool, true, false, cond, ◌==◌, List, [], ◌∷◌, ◌++◌, Some, length, filter, flat_map, refl, sym, ap, subst, ◌∙◌, append_assoc, append-nil, arith}
-use Rattle.std.specs.List.{AllByRecursion, AllZip}
+use Rattle.std.specs.List.{AllByRecursion}
 use Rattle.std.specs.Ordering.{eq_by_cmp}
 use Rattle.std.specs.Cmp.{IsTotalOrder, on_total, then_total, nat_cmp_total, Equal-is}
 use Rattle.std.specs.FinMap.{IsAntisymmetric, entries, get, find, get-entries, same_map}
-use Rattle.spec_syntax.specs.Syntax.{Module, Import}
+use Rattle.spec_syntax.specs.Syntax.{Module}
 use Rattle.spec_binary.specs.Shortest.{shortest}
 use Rattle.spec_binary.specs.Spells.{Spells}
 use Rattle.spec_ledger.specs.declared.Kind.{Kind}
 use Rattle.spec_ledger.specs.declared.Kind.TheVariants.{Map, Counter}
 use Rattle.spec_ledger.specs.declared.Lock.{Lock}
 use Rattle.spec_ledger.specs.Cells.{Cells, lock_cmp, rank}
-use Rattle.wtypes.specs.declared.HostCall.{HostCall}
-use Rattle.wtypes.specs.declared.HostCall.TheVariants.{Get, Has, Put, Del, Add, Total}
-use Rattle.spec_syntax.specs.Profile.{host_module, host_name}
-use Rattle.spec_block.specs.Worlds.{IsResolved, World}
+use Rattle.spec_typing.specs.Linking.{IsLinked}
+use Rattle.spec_typing.specs.Laws.{IsResolvedOnce}
+use Rattle.spec_block.specs.Worlds.{World}
 use Rattle.spec_block.specs.Bytes.{u32_bytes, u64_bytes, counted, is_map, is_counter, contract_bytes, cell_bytes, cells_bytes, IsCell, IsTree, SpellsWorld, TreesAreUnique}
 use Rattle.spec_block.proofs.Locks.{lock_is}
 use Rattle.spec_block.proofs.OneToOne.{halves, IsCode, code32, code64, list_code, counted_code}
@@ -25,45 +24,17 @@ lock_cmp_total = then_total (on_total (λ (a : Lock). a.contract) nat_cmp_total)
 lock_cmp-IsAntisymmetric : IsAntisymmetric lock_cmp
 lock_cmp-IsAntisymmetric a b e = lock_is a b ((Equal-is (lock_cmp a b)).1 e)
 
--- ---- host calls
+-- ---- contracts
 
-abbrev host_from : List ℕ → HostCall
-host_from [] = Total
-host_from (b ∷ bs) = cond (b == 0x67) Get (cond (b == 0x68) Has (cond (b == 0x70) Put (cond (b == 0x64) Del (cond (b == 0x61) Add Total))))
-
-host_again : (h : HostCall) → host_from (host_name h) ≡ h
-host_again Get = refl
-host_again Has = refl
-host_again Put = refl
-host_again Del = refl
-host_again Add = refl
-host_again Total = refl
-
-one_name : (h k : HostCall) → host_name h ≡ host_name k → h ≡ k
-one_name h k e = sym (host_again h) ∙ (ap host_from e ∙ host_again k)
-
-one_resolved : (is : List Import) (hs ks : List HostCall)
-    → AllZip (λ (i : Import) (h : HostCall). (i.from_module ≡ host_module) × (i.name ≡ host_name h)) is hs
-    → AllZip (λ (i : Import) (h : HostCall). (i.from_module ≡ host_module) × (i.name ≡ host_name h)) is ks → hs ≡ ks
-one_resolved [] [] [] a b = refl
-one_resolved [] [] (k ∷ ks) a b = absurd b
-one_resolved [] (h ∷ hs) ks a b = absurd a
-one_resolved (i ∷ is) [] ks a b = absurd a
-one_resolved (i ∷ is) (h ∷ hs) [] a b = absurd b
-one_resolved (i ∷ is) (h ∷ hs) (k ∷ ks) a b =
-    let one = one_name h k (sym a.0.1 ∙ b.0.1) in
-    let rest = one_resolved is hs ks a.1 b.1 in
-    λ j. one j ∷ rest j
-
-contract_code : TreesAreUnique → IsCode contract_bytes IsTree
-contract_code unique x y r s a b e =
+contract_code : TreesAreUnique → IsResolvedOnce → IsCode contract_bytes IsTree
+contract_code unique once x y r s a b e =
     let small = (a.tree).bytes_fit in
     let small' = (b.tree).bytes_fit in
     let n = code32 (length (shortest x.tree)) (length (shortest y.tree)) (shortest x.tree ++ r) (shortest y.tree ++ s) (omega (arith, small)) (omega (arith, small')) e in
     let t = halves (shortest x.tree) (shortest y.tree) r s n.0 n.1 in
     let tree : x.tree ≡ y.tree = unique (shortest y.tree) x.tree y.tree (subst (λ (w : List ℕ). Spells w x.tree) t.0 a.tree) b.tree in
-    let imports : x.hosts ≡ y.hosts = one_resolved (y.tree).imports x.hosts y.hosts (subst (λ (m : Module). IsResolved (record { tree = m; hosts = x.hosts })) tree a.imports) b.imports in
-    ((λ i. record { tree = tree i; hosts = imports i }), t.1)
+    let hosts : x.hosts ≡ y.hosts = once y.tree x.hosts y.hosts (subst (λ (m : Module). IsLinked m x.hosts) tree a.linked) b.linked in
+    ((λ i. record { tree = tree i; hosts = hosts i }), t.1)
 
 -- ---- cells
 
@@ -140,8 +111,8 @@ only_counter : (k : Kind) → is_counter k ≡ true → k ≡ Counter
 only_counter Map e = absurd (cc e)
 only_counter Counter e = refl
 
-pub one_world : TreesAreUnique → (bytes : List ℕ) (v w : World) → SpellsWorld bytes v → SpellsWorld bytes w → v ≡ w
-one_world unique bytes v w p q =
+pub one_world : TreesAreUnique → IsResolvedOnce → (bytes : List ℕ) (v w : World) → SpellsWorld bytes v → SpellsWorld bytes w → v ≡ w
+one_world unique once bytes v w p q =
     let a = p.fits in let b = q.fits in
     let head : List ℕ = (0x57 ∷ 0x42 ∷ 0x57 ∷ 0x44 ∷ []) ++ u32_bytes 1 in
     let C = counted contract_bytes v.contracts in let D = counted contract_bytes w.contracts in
@@ -152,7 +123,7 @@ one_world unique bytes v w p q =
     let t = halves head head (C ++ (M ++ K)) (D ++ (N ++ L)) refl (sym (grouped C M K) ∙ (e ∙ grouped D N L)) in
     let few : length v.contracts < 2 ^ 32 = (let n = a.count in omega (arith, n)) in
     let few' : length w.contracts < 2 ^ 32 = (let n = b.count in omega (arith, n)) in
-    let c = counted_code contract_bytes IsTree (contract_code unique) v.contracts w.contracts (M ++ K) (N ++ L) few few' a.trees b.trees t.1 in
+    let c = counted_code contract_bytes IsTree (contract_code unique once) v.contracts w.contracts (M ++ K) (N ++ L) few few' a.trees b.trees t.1 in
     let m = cells_code is_map Map only_map v.cells w.cells K L a.size b.size a.cells b.cells c.1 in
     let k = cells_code is_counter Counter only_counter v.cells w.cells [] [] a.size b.size a.cells b.cells (append-nil K ∙ (m.1 ∙ sym (append-nil L))) in
     let cells = same_cells v.cells w.cells m.0 k.0 in

@@ -1,7 +1,5 @@
 -- Worlds, calls and blocks as plain values.
 use Rattle.std.specs.Prelude.{◌≡◌, ℕ, List, [], ◌∷◌, map}
-use Rattle.std.specs.List.{AllZip}
-use Rattle.spec_syntax.specs.Syntax.{Import}
 use Rattle.spec_ledger.specs.declared.Lock.{Lock}
 use Rattle.spec_ledger.specs.declared.Mode.{Mode}
 use Rattle.spec_ledger.specs.declared.Receipt.{Receipt}
@@ -9,12 +7,6 @@ use Rattle.spec_ledger.specs.declared.Entry.{Entry}
 use Rattle.spec_ledger.specs.Cells.{Cells}
 pub use Rattle.spec_execution.specs.Configuration.{Deployed as Contract}
 pub use Rattle.spec_execution.specs.Run.{ContractCall as Call}
-use Rattle.wtypes.specs.declared.HostCall.{HostCall}
-use Rattle.spec_syntax.specs.Profile.{host_module, host_name}
-
--- each import is the host call that it names in `boost`
-abbrev pub IsResolved : Contract → Type 0
-IsResolved c = AllZip (λ (i : Import) (h : HostCall). (i.from_module ≡ host_module) × (i.name ≡ host_name h)) c.tree.imports c.hosts
 
 pub record World : Type 0 where
   pub contracts : List Contract

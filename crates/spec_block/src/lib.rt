@@ -26,7 +26,9 @@ pub fn one_block_a_spelling()
     ensures one { (bytes : List ℕ) (b c : Block) → SpellsBlock bytes b → SpellsBlock bytes c → b ≡ c }
     ensures calls { (xs ys : List Call) → length xs ≤ 65535 → length ys ≤ 65535 → AllByRecursion IsCall xs → AllByRecursion IsCall ys → calls_bytes xs ≡ calls_bytes ys → xs ≡ ys }
     ensures worlds { TreesAreUnique → (bytes : List ℕ) (v w : World) → SpellsWorld bytes v → SpellsWorld bytes w → v ≡ w }
-{}
+{
+    spec_typing::resolved_once();
+}
 
 /// An order has one serial run, where a call has one.
 pub fn one_serial_run()

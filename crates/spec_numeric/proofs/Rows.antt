@@ -1,14 +1,17 @@
--- Worked examples of operators.
-use Rattle.std.specs.Prelude.{◌≡◌, refl, pos, negsuc, Ok, Err}
+-- Worked examples of operators, bytes and memory.
+use Rattle.std.specs.Prelude.{◌≡◌, refl, pos, negsuc, Ok, Err, [], ◌∷◌}
 use Rattle.wtypes.specs.declared.ValType.TheVariants as valtype
 use Rattle.wtypes.specs.declared.Value.TheVariants.{I32, I64}
 use Rattle.wtypes.specs.declared.TrapCode.TheVariants as trap
 use Rattle.wtypes.specs.declared.UnOp.TheVariants.{Clz, Ctz, Popcnt}
-use Rattle.wtypes.specs.declared.BinOp.TheVariants.{DivS, RemS, ShrS, Rotl, Rotr}
+use Rattle.wtypes.specs.declared.BinOp.TheVariants.{DivS, DivU, RemS, ShrS, Rotl, Rotr}
 use Rattle.wtypes.specs.declared.RelOp.TheVariants.{LtS, LtU}
 use Rattle.wtypes.specs.declared.CvtOp.TheVariants.{I32WrapI64, I64ExtendI32S, I64ExtendI32U}
 use Rattle.spec_numeric.specs.Numbers.{zeros_above, zeros_below, ones_among}
 use Rattle.spec_numeric.specs.Operators.{unary_of, binary_of, compare_of, convert_of}
+use Rattle.spec_numeric.specs.Storage.{bytes_of_number, extended}
+use Rattle.spec_numeric.specs.Memory.{load, written}
+use Rattle.wtypes.specs.declared.LoadOp.TheVariants.{I32Load8S, I32Load8U}
 
 rotl_row : binary_of (Rotl valtype.I32) (I32 (negsuc 2147483646)) (I32 (pos 33)) ≡ Ok (I32 (pos 3))
 rotl_row = refl
@@ -72,3 +75,24 @@ less_signed = refl
 less_unsigned : compare_of (LtU valtype.I32) (I32 (negsuc 0)) (I32 (pos 0)) ≡ I32 (pos 0)
 less_unsigned = refl
 
+div_by_zero : binary_of (DivU valtype.I64) (I64 (pos 1)) (I64 (pos 0)) ≡ Err trap.DivideByZero
+div_by_zero = refl
+
+-- 0x0102030405060708, and its upper half
+little_endian : bytes_of_number 8 72623859790382856 ≡ 8 ∷ 7 ∷ 6 ∷ 5 ∷ 4 ∷ 3 ∷ 2 ∷ 1 ∷ []
+little_endian = refl
+
+upper_half : load (bytes_of_number 8 72623859790382856) 4 4 ≡ Ok 16909060
+upper_half = refl
+
+past_the_end : load (bytes_of_number 8 72623859790382856) 5 4 ≡ Err trap.MemoryOutOfBounds
+past_the_end = refl
+
+in_the_middle : written 1 (7 ∷ 8 ∷ []) (1 ∷ 2 ∷ 3 ∷ 4 ∷ []) ≡ 1 ∷ 7 ∷ 8 ∷ 4 ∷ []
+in_the_middle = refl
+
+load_signed : extended I32Load8S 255 ≡ 4294967295
+load_signed = refl
+
+load_unsigned : extended I32Load8U 255 ≡ 255
+load_unsigned = refl

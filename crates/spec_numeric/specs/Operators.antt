@@ -1,4 +1,5 @@
--- The operators (Core, Numerics, Integer Operations) on numbers of N bits. The width is an argument of its own, and an operator's own width is not read there.
+-- The operators of the integer profile (Core Specification, 4.3.2 Integer Operations and 4.3.4 Conversions): first on numbers of N bits, where the width is an
+-- argument of its own and an operator's own type is not read, then on values (4.4.1 Numeric Instructions).
 use Rattle.std.specs.Prelude.{ℕ, ◌+◌, ◌-◌, ◌*◌, ◌/◌, ◌%◌, ◌^◌, pos, Bool, true, false, not, ◌==◌, nat_lt, nat_le, int_lt, int_le, int_div, int_rem, if◌then◌else◌, bit_and, bit_or, bit_xor, Result, Ok, Err}
 use Rattle.std.specs.Int.{Width, w32, w64}
 use mir.Val.{bits, hbits}
@@ -22,29 +23,33 @@ use Rattle.wtypes.specs.declared.CvtOp.TheVariants.{I32WrapI64, I64ExtendI32S, I
 
 -- ---- on numbers
 
+-- iclz, ictz, ipopcnt
 abbrev pub unary : Width → UnOp → ℕ → ℕ
 unary w (Clz t) x = zeros_above (bits w) x
 unary w (Ctz t) x = zeros_below (bits w) x
 unary w (Popcnt t) x = ones_among (bits w) x
 
--- the quotient, truncated toward zero; 2^(N-1) is no signed reading
+-- idiv_s: the quotient of the signed readings, truncated toward zero. The quotient 2^(N-1), the only one above each signed reading, is a trap.
 abbrev pub div_signed : Width → ℕ → ℕ → Result ℕ TrapCode
 div_signed w x y =
     if y == 0 then Err DivideByZero
     else (if int_le (pos (2 ^ hbits w)) (int_div (signed w x) (signed w y)) then Err IntegerOverflow
     else Ok (unsigned w (int_div (signed w x) (signed w y))))
 
+-- idiv_u
 abbrev pub div_unsigned : ℕ → ℕ → Result ℕ TrapCode
 div_unsigned x y = if y == 0 then Err DivideByZero else Ok (x / y)
 
--- the remainder has the sign of the dividend
+-- irem_s: the remainder of the signed readings, which has the sign of the dividend
 abbrev pub rem_signed : Width → ℕ → ℕ → Result ℕ TrapCode
 rem_signed w x y = if y == 0 then Err DivideByZero else Ok (unsigned w (int_rem (signed w x) (signed w y)))
 
+-- irem_u
 abbrev pub rem_unsigned : ℕ → ℕ → Result ℕ TrapCode
 rem_unsigned x y = if y == 0 then Err DivideByZero else Ok (x % y)
 
--- x is the first operand, y the second
+-- x is the first operand, y the second. Sums, differences and products are modulo 2^N. Shifts and rotations go by the second operand modulo N;
+-- shr_s fills in copies of the highest bit, so that the signed reading is divided and rounded down.
 abbrev pub binary : Width → BinOp → ℕ → ℕ → Result ℕ TrapCode
 binary w (Add t) x y = Ok ((x + y) % modulus w)
 binary w (Sub t) x y = Ok ((x + (modulus w - y)) % modulus w)
@@ -62,9 +67,11 @@ binary w (ShrU t) x y = Ok (x / 2 ^ (y % bits w))
 binary w (Rotl t) x y = Ok (rotated_left w x (y % bits w))
 binary w (Rotr t) x y = Ok (rotated_right w x (y % bits w))
 
+-- ieqz
 abbrev pub test : TestOp → ℕ → Bool
 test (Eqz t) x = x == 0
 
+-- ieq, ine, and the orders of the signed readings and of the numbers
 abbrev pub compare : Width → RelOp → ℕ → ℕ → Bool
 compare w (Equal t) x y = x == y
 compare w (NotEqual t) x y = not (x == y)
@@ -77,6 +84,7 @@ compare w (LeU t) x y = nat_le x y
 compare w (GeS t) x y = int_le (signed w y) (signed w x)
 compare w (GeU t) x y = nat_le y x
 
+-- wrap modulo 2^32, extend_s by the signed reading, extend_u
 abbrev pub convert : CvtOp → ℕ → ℕ
 convert I32WrapI64 x = x % 2 ^ 32
 convert I64ExtendI32S x = unsigned w64 (signed w32 x)
@@ -84,15 +92,18 @@ convert I64ExtendI32U x = x
 
 -- ---- on values
 
+-- the width of a type's numbers
 abbrev pub word : ValType → Width
 word I32 = w32
 word I64 = w64
 
+-- whether t and u are one type
 abbrev pub same_type : ValType → ValType → Bool
 same_type I32 I32 = true
 same_type I64 I64 = true
 same_type t u = false
 
+-- the type of a value
 abbrev pub type_of : Value → ValType
 type_of (value.I32 x) = I32
 type_of (value.I64 x) = I64
@@ -102,14 +113,17 @@ abbrev pub bits_of : Value → ℕ
 bits_of (value.I32 x) = unsigned w32 x
 bits_of (value.I64 x) = unsigned w64 x
 
+-- the value whose bits spell n
 abbrev pub value_of : ValType → ℕ → Value
 value_of I32 n = value.I32 (signed w32 n)
 value_of I64 n = value.I64 (signed w64 n)
 
+-- 1 where it holds, 0 where not (4.3.2, Boolean Interpretation)
 abbrev pub truth : Bool → Value
 truth true = value.I32 (pos 1)
 truth false = value.I32 (pos 0)
 
+-- the type of an operator's operands, and of its result where that is no truth
 abbrev pub unary_type : UnOp → ValType
 unary_type (Clz t) = t
 unary_type (Ctz t) = t
@@ -147,6 +161,7 @@ compare_type (LeU t) = t
 compare_type (GeS t) = t
 compare_type (GeU t) = t
 
+-- a conversion's operand and result
 abbrev pub convert_from : CvtOp → ValType
 convert_from I32WrapI64 = I64
 convert_from I64ExtendI32S = I32
@@ -157,6 +172,7 @@ convert_to I32WrapI64 = I32
 convert_to I64ExtendI32S = I64
 convert_to I64ExtendI32U = I64
 
+-- a number as a value of type t, a trap as it is
 abbrev pub answer_of : ValType → Result ℕ TrapCode → Result Value TrapCode
 answer_of t (Ok x) = Ok (value_of t x)
 answer_of t (Err code) = Err code
@@ -168,6 +184,7 @@ unary_at t op v = value_of t (unary (word t) op (bits_of v))
 abbrev pub binary_at : ValType → BinOp → Value → Value → Result Value TrapCode
 binary_at t op a b = answer_of t (binary (word t) op (bits_of a) (bits_of b))
 
+-- each operator on values of its type
 abbrev pub unary_of : UnOp → Value → Value
 unary_of op v = unary_at (unary_type op) op v
 
