@@ -1,4 +1,4 @@
--- Worked rows of memory, the table, the start function and deployment, which compute.
+-- Worked examples of memory, the table and the start function, which compute.
 use Rattle.std.proofs.Common.{◌≡◌, ℕ, zero, suc, List, [], ◌∷◌, Option, Some, None, refl, pos, negsuc, Bool, true, false}
 use Rattle.wtypes.specs.declared.ValType.TheVariants as valtype
 use Rattle.wtypes.specs.declared.Value.{Value}
@@ -37,12 +37,12 @@ ends_so m outcome fuel = report 100 (record { tree = m; hosts = [] } ∷ []) fiv
 abbrev in_pages : ℕ → Option ℕ → List Instr → Module
 in_pages min max body = record (with_functions (nullary body ∷ [])) { memories = record { min = min; max = max } ∷ [] }
 
--- row 5
+-- an address with its offset does not wrap
 outside : ends_so (in_pages 1 None (const 1 ∷ Plain (Load I32Load 2 4294967295) ∷ [])) (Trapped trap.MemoryOutOfBounds) 2
 unfolding walk reduce execute execute_plain loaded
 outside = refl
 
--- row R4.3
+-- growth to the declared maximum
 grows : ends_so (in_pages 1 (Some 2) (const 1 ∷ Plain MemoryGrow ∷ [])) (Returned (Some (I32 (pos 1)))) 2
 unfolding walk reduce execute execute_plain grown
 grows = refl
@@ -51,7 +51,7 @@ grows_no_more : ends_so (in_pages 2 (Some 2) (const 1 ∷ Plain MemoryGrow ∷ [
 unfolding walk reduce execute execute_plain grown
 grows_no_more = refl
 
--- row R4.4
+-- a store over a page border
 across : ends_so (in_pages 2 None (const 65532 ∷ Plain (Const (I64 (pos 72623859790382856))) ∷ Plain (Store I64Store 3 0) ∷ const 65536 ∷ Plain (Load I32Load 2 0) ∷ [])) (Returned (Some (I32 (pos 16909060)))) 5
 unfolding walk reduce execute execute_plain loaded stored
 across = refl

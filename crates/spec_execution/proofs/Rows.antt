@@ -1,4 +1,4 @@
--- Worked rows, which compute.
+-- Worked examples of runs, places and refused calls, which compute.
 use Rattle.std.proofs.Common.{◌≡◌, ℕ, zero, suc, ◌+◌, ◌^◌, List, [], ◌∷◌, Option, Some, None, refl, pos, negsuc, Bool, true, false}
 use Rattle.std.specs.Prelude.{Ok, Err}
 use Rattle.wtypes.specs.declared.ValType.{ValType}
@@ -55,7 +55,7 @@ counts_down = one_function (record { params = valtype.I64 ∷ []; results = [] }
 abbrev pub call_from : ℕ → List Value → ContractCall
 call_from fuel args = record { contract = 0; entry = run; args = args; fuel = fuel }
 
--- row 4
+-- the countdown, with enough fuel and with one unit less
 counts_with_16 : report 100 (counts_down ∷ []) five (call_from 16 (I64 (pos 2) ∷ [])) ≡ record { at_end = true; outcome = Returned None; fuel = 16; trace = [] }
 unfolding walk reduce execute execute_plain
 counts_with_16 = refl
@@ -64,7 +64,7 @@ counts_with_15 : report 100 (counts_down ∷ []) five (call_from 15 (I64 (pos 2)
 unfolding walk reduce execute execute_plain
 counts_with_15 = refl
 
--- row R4.2: a function that only calls itself
+-- endless recursion: a function that only calls itself
 abbrev calls_itself : Deployed
 calls_itself = one_function (record { params = []; results = [] }) (Plain (Call 0) ∷ [])
 
@@ -76,7 +76,7 @@ depth_row_255 : report 600 (calls_itself ∷ []) five (call_from 255 []) ≡ rec
 unfolding walk reduce execute execute_plain
 depth_row_255 = refl
 
--- row R1.1: module M1
+-- the first module, which adds to a counter and reads it
 abbrev first_module : Deployed
 first_module = record {
   tree = record no_module {
@@ -126,7 +126,7 @@ too_few = refl
 wrong_type : refused_with (first_module ∷ []) (call_from 100 (I32 (pos 7) ∷ [])) 4
 wrong_type = refl
 
--- ---- row 19: states 0, 3 and 8 of row 4's call
+-- ---- what is shown of the countdown after 0, 3 and 8 turns
 
 abbrev contract_0 : Contract
 contract_0 = record { number = 0; deployed = counts_down }

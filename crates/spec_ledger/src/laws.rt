@@ -1,0 +1,49 @@
+// What follows from the definitions of storage and of the book. Each law is the contract of a function with nothing to do.
+ghost use Rattle.std.specs.Prelude.{◌≡◌, ℕ, List};
+ghost use Rattle.std.specs.FinMap.{empty};
+ghost use Rattle.spec_ledger.specs.declared.Inverse.{Inverse};
+ghost use Rattle.spec_ledger.specs.declared.Op.{Op};
+ghost use Rattle.spec_ledger.specs.declared.Outcome.{Outcome};
+ghost use Rattle.spec_ledger.specs.declared.Reply.{Reply};
+ghost use Rattle.spec_ledger.specs.declared.Step.{Step};
+ghost use Rattle.spec_ledger.specs.Book.{Content, IsKept, after, back_all, inverses_of};
+ghost use Rattle.spec_ledger.specs.Cells.{AreCells, Cells, back, cells_after, inverse_to, reply_to};
+ghost use Rattle.spec_ledger.specs.Events.{BeginDone, CommitDone, OpDone, UndoDone};
+ghost use Rattle.spec_ledger.specs.Facts.{CellsAreSettledButForHolders, EntriesAreSerialRun, LiveAttemptsGoTogether, LiveTracesGetReplies};
+ghost use Rattle.spec_ledger.specs.Modes.{GoTogether};
+
+/// Taking back the inverse of an operation undoes it, and taking back those of a trace, last first, undoes the trace (PODC 2017, section 3: inverses).
+pub fn taking_back_undoes()
+    ensures operation { (op : Op) (cells : Cells) → AreCells cells → back (inverse_to op cells) (cells_after op cells) ≡ cells }
+    ensures trace { (trace : List Step) (cells : Cells) → AreCells cells → back_all (inverses_of trace cells) (after trace cells) ≡ cells }
+{}
+
+/// Two operations that go together commute: in either order they leave the same cells, and neither sees the other in its reply or its inverse (PODC 2017, section 3: abstract locks).
+pub fn operations_that_go_together_commute()
+    ensures cells { (first second : Op) (cells : Cells) → GoTogether first second → cells_after first (cells_after second cells) ≡ cells_after second (cells_after first cells) }
+    ensures reply { (first second : Op) (cells : Cells) → GoTogether first second → reply_to first (cells_after second cells) ≡ reply_to first cells }
+    ensures inverse { (first second : Op) (cells : Cells) → GoTogether first second → inverse_to first (cells_after second cells) ≡ inverse_to first cells }
+{}
+
+/// No operation, and nothing taken back, leaves a counter at 0 or past 64 bits.
+pub fn cells_stay_cells()
+    ensures none { AreCells empty }
+    ensures done { (op : Op) (cells : Cells) → AreCells cells → AreCells (cells_after op cells) }
+    ensures back { (inverse : Inverse) (cells : Cells) → AreCells cells → AreCells (back inverse cells) }
+{}
+
+/// Each event keeps what the type of a book keeps.
+pub fn events_keep_a_book()
+    ensures begun { (old new : Content) (call number : ℕ) → IsKept old → BeginDone old new call number → IsKept new }
+    ensures operated { (old new : Content) (call number : ℕ) (op : Op) (reply : Reply) → IsKept old → OpDone old new call number op reply → IsKept new }
+    ensures undone { (old new : Content) (call number : ℕ) → IsKept old → UndoDone old new call number → IsKept new }
+    ensures committed { (old new : Content) (call number : ℕ) (trace : List Step) (outcome : Outcome) (position : ℕ) → IsKept old → CommitDone old new call number trace outcome position → IsKept new }
+{}
+
+/// From what the type of a book keeps, the four facts of a book follow.
+pub fn a_kept_book_has_its_facts()
+    ensures entries { (b : Content) → IsKept b → EntriesAreSerialRun b }
+    ensures cells { (b : Content) → IsKept b → CellsAreSettledButForHolders b }
+    ensures replies { (b : Content) → IsKept b → LiveTracesGetReplies b }
+    ensures modes { (b : Content) → IsKept b → LiveAttemptsGoTogether b }
+{}
