@@ -1,5 +1,5 @@
 -- The profile: the limits of this product, and the host module that contracts import.
-use Rattle.std.specs.Prelude.{ℕ, List, [], ◌∷◌, codes}
+use Rattle.std.specs.Prelude.{ℕ, [], ◌∷◌, codes}
 use Rattle.wtypes.specs.declared.ValType.TheVariants.{I32, I64}
 use Rattle.wtypes.specs.declared.HostCall.{HostCall}
 use Rattle.wtypes.specs.declared.HostCall.TheVariants.{Get, Has, Put, Del, Add, Total}

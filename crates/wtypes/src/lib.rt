@@ -1,7 +1,29 @@
 // The plain types of the integer profile of WebAssembly 1.0, shared by code and definitions.
 #![tactic(auto)]
 
-use std::alloc::Allocator;
+ghost use Rattle.std.specs.Prelude.{◌≡◌};
+
+use std::alloc::{AllocError, AllocFailed, Allocator};
+
+/// Memory ran out, or a counter is full.
+#[derive(Clone, Copy, Debug, PartialEq, Eq)]
+pub struct NoMemory;
+
+impl From<AllocError> for NoMemory {
+    ghost from_gives = { λ _ e. e ≡ record {} };
+
+    fn from(_refused: AllocError) -> NoMemory {
+        NoMemory
+    }
+}
+
+impl<T: Drop> From<AllocFailed<T>> for NoMemory {
+    ghost from_gives = { λ _ e. e ≡ record {} };
+
+    fn from(_refused: AllocFailed<T>) -> NoMemory {
+        NoMemory
+    }
+}
 
 /// A value type (Core Specification, 2.3.1 Value Types; this profile has the integer types alone).
 #[derive(Clone, Copy, Debug, PartialEq, Eq)]

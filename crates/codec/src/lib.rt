@@ -1,0 +1,10 @@
+//! Where bytes are put.
+#![tactic(auto)]
+
+mod failures;
+mod memory;
+mod sink;
+
+pub use failures::Failures;
+pub use memory::MemorySink;
+pub use sink::{Sink, SinkFault, put_all};

@@ -1,0 +1,13 @@
+-- What a deployed module holds.
+use Rattle.std.specs.Prelude.{List}
+use Rattle.wtypes.specs.declared.HostCall.{HostCall}
+use Rattle.module_tree.specs.declared.module.Module.{Module}
+use Rattle.link.specs.declared.deployed.Deployed.{Deployed}
+
+-- the module in memory
+abbrev pub tree_of : {A : Type 0} → Deployed A → Module A
+tree_of d = d.tree
+
+-- the host calls that the imports are
+abbrev pub hosts_of : {A : Type 0} → Deployed A → List HostCall
+hosts_of d = d.hosts.items

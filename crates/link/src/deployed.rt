@@ -1,0 +1,47 @@
+// Modules that can be instantiated.
+ghost use Rattle.spec_typing.specs.Linking.{IsLinked};
+ghost use Rattle.module_tree.specs.Modules.{module_view};
+
+use module_tree::module::Module;
+use std::alloc::Allocator;
+use wtypes::HostCall;
+
+/// A module that can be instantiated (Core Specification, 4.5.4 Instantiation): it is typed, each of its imports is a
+/// host call of its type, its segments are in range, and its memory and its table keep the limits of the profile.
+#[derive(Drop)]
+pub struct Deployed<A: Allocator> {
+    tree: Module<A>,
+    hosts: Vec<HostCall, A>,
+    pub ghost linked: { ∥ IsLinked (module_view tree) hosts.items ∥₁ },
+}
+
+impl<A: Allocator> Deployed<A> {
+    ghost use Rattle.std.specs.Prelude.{◌≡◌, slice_get};
+    ghost use Rattle.link.specs.Parts.{tree_of, hosts_of};
+
+    /// The module.
+    pub fn module(&self) -> &Module<A>
+        ensures { result.now ≡ tree_of self.now }
+    {
+        &self.tree
+    }
+
+    /// The host calls that the imports are, in the order of the imports.
+    pub fn hosts(&self) -> &[HostCall]
+        ensures { result.now ≡ hosts_of self.now }
+    {
+        &self.hosts
+    }
+
+    /// The host call that import `i` is, counted from 0, or None where there is no such import.
+    pub fn import(&self, i: u32) -> Option<HostCall>
+        ensures { result ≡ slice_get (hosts_of self.now) i }
+    {
+        self.hosts.get(i as usize).copied()
+    }
+
+    /// A law: the module is typed, its imports are these host calls, and its segments are in range.
+    pub fn is_linked(&self)
+        ensures { ∥ IsLinked (module_view (tree_of self.now)) (hosts_of self.now) ∥₁ }
+    {}
+}

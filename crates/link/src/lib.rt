@@ -1,0 +1,4 @@
+// Linking of modules: a `Deployed` keeps in its type that its imports are resolved and its segments are in range.
+#![tactic(auto)]
+
+pub mod deployed;

@@ -1,0 +1,12 @@
+use Rattle.std.proofs.Common.{rules, ◌∙◌}
+use Rattle.numeric.proofs.Digits.{leading, trailing, count}
+use Rattle.numeric.proofs.bits_64.unary.Goals as goal
+
+pub returns-in-Clz : goal.returns-in-Clz
+returns-in-Clz c = rw c.in-Clz.is (c.from.ensures ∙ leading 64 c.args.x (search rules))
+
+pub returns-in-Ctz : goal.returns-in-Ctz
+returns-in-Ctz c = rw c.in-Ctz.is (c.from-in-Ctz.ensures ∙ trailing 64 c.args.x)
+
+pub returns-in-Popcnt : goal.returns-in-Popcnt
+returns-in-Popcnt c = rw c.in-Popcnt.is (c.from-in-Popcnt.ensures ∙ count 64 c.args.x (search rules))

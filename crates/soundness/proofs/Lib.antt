@@ -1,0 +1,4 @@
+pub mod Executing
+pub mod Functions
+pub mod Reducing
+pub mod Starting
