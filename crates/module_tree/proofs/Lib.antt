@@ -1,0 +1,4 @@
+pub mod Maps
+pub mod ModuleWalks
+pub mod Sizes
+pub mod Walks

@@ -1,3 +1,5 @@
 pub mod View
 pub mod ModuleView
 pub mod Modules
+pub mod Numbering
+pub mod Readers

@@ -5,7 +5,6 @@ use Rattle.wtypes.specs.declared.FuncType.{FuncType}
 use Rattle.wtypes.specs.declared.Limits.{Limits}
 use Rattle.spec_syntax.specs.Syntax as syntax
 use Rattle.spec_syntax.specs.Limits.{counts_from}
-use Rattle.module_tree.specs.declared.instr.Instr.{Instr}
 use Rattle.module_tree.specs.declared.module.GlobalType.{GlobalType}
 use Rattle.module_tree.specs.declared.module.ImportDesc.{ImportDesc}
 use Rattle.module_tree.specs.declared.module.ImportDesc.TheVariants as import_desc
@@ -75,11 +74,24 @@ module_of types imports funcs tables memories globals exports start elements dat
 
 -- ---- Ordinals
 
--- the ordinals of an expression rise by one from 0
-abbrev pub is_numbered : {A : Type 0} → List (Instr A) → Bool
-is_numbered is = counts_from 0 (ordinals is)
+abbrev pub func_ordinals : {A : Type 0} → Func A → List ℕ
+func_ordinals f = ordinals f.body.items
 
+abbrev pub global_ordinals : {A : Type 0} → Global A → List ℕ
+global_ordinals g = ordinals g.init.items
+
+abbrev pub element_ordinals : {A : Type 0} → Element A → List ℕ
+element_ordinals e = ordinals e.offset.items
+
+abbrev pub data_ordinals : {A : Type 0} → DataSegment A → List ℕ
+data_ordinals d = ordinals d.offset.items
+
+-- in each list the ordinals rise by one from 0
+abbrev pub all_numbered : List (List ℕ) → Bool
+all_numbered lists = list_all (counts_from 0) lists
+
+-- the ordinals of each expression do
 abbrev pub are_numbered : {A : Type 0} → List (Func A) → List (Global A) → List (Element A) → List (DataSegment A) → Bool
 are_numbered funcs globals elements datas =
-    list_all is_numbered (map (λ (f : Func _). f.body.items) funcs) && (list_all is_numbered (map (λ (g : Global _). g.init.items) globals)
-    && (list_all is_numbered (map (λ (e : Element _). e.offset.items) elements) && list_all is_numbered (map (λ (d : DataSegment _). d.offset.items) datas)))
+    all_numbered (map func_ordinals funcs) && (all_numbered (map global_ordinals globals)
+    && (all_numbered (map element_ordinals elements) && all_numbered (map data_ordinals datas)))

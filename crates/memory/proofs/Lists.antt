@@ -1,0 +1,231 @@
+-- Lists of pages and the bytes that they stand for.
+use Rattle.std.proofs.Common.{◌≡◌, ℕ, zero, suc, ◌+◌, ◌-◌, ◌*◌, ◌/◌, ◌%◌, ◌^◌, ◌<◌, ◌≤◌, refl, sym, ap, ◌∙◌, arith, subst, length}
+use Rattle.std.specs.Prelude.{List, [], ◌∷◌, ◌++◌, Option, Some, MatchOption, slice_get, slice_set, slice_index, replicate, map, Vec, vec_len, take, drop, Bool, true, false, ◌==◌, ◌⊎◌, Ok, Err}
+use Rattle.wtypes.specs.declared.TrapCode.TheVariants.{MemoryOutOfBounds}
+use Rattle.std.proofs.lemmas.List.{drop_more, ext_get_or}
+use Rattle.std.proofs.lemmas.Grind.{common_steps}
+use Rattle.std.proofs.Common.{get_or, inl, inr}
+use Rattle.std.proofs.lemmas.Bool.{cases_lt}
+use Rattle.std.specs.List.{range_with_len}
+use Rattle.std.proofs.Math.Nat.{pow-suc, pow-le-pow_right, div-div-eq-div-mul}
+use Rattle.std.proofs.lemmas.List.FromFn.{length-map-range_with_len, get_or-map-range_with_len}
+use Rattle.spec_syntax.specs.Profile.{page_size}
+use Rattle.spec_numeric.specs.Storage.{number_of_bytes, bytes_of_number}
+use Rattle.spec_numeric.specs.Memory.{written, load}
+use Rattle.memory.specs.Linear.{Memory, Grown, pages}
+use Rattle.std.specs.Int.{cast_signed, w32, w64, to_le_bytes, bytes_low_first, byte_at as le_byte}
+use Rattle.std.proofs.lemmas.Int.{to_z_pos}
+use Rattle.memory.specs.Pages.{byte_of, byte_in, bytes_in, IsMade, number_in}
+
+-- ---- one page replaced
+
+pub at_set : {X : Type 0} (P : Option X → Type 0) (ps : List X) (i : ℕ) (x : X) (k : ℕ) → (k ≡ i → P (Some x)) → P (slice_get ps k) → P (slice_get (slice_set ps i x) k)
+at_set P [] i x k f h = h
+at_set P (y ∷ ys) zero x zero f h = f refl
+at_set P (y ∷ ys) zero x (suc k) f h = h
+at_set P (y ∷ ys) (suc i) x zero f h = h
+at_set P (y ∷ ys) (suc i) x (suc k) f h = at_set P ys i x k (λ e. f (ap suc e)) h
+
+pub here : {X : Type 0} (ps : List X) (i : ℕ) (x : X) → i < length ps → slice_get (slice_set ps i x) i ≡ Some x
+here [] i x h = absurd (omega arith)
+here (y ∷ ys) zero x h = refl
+here (y ∷ ys) (suc i) x h = here ys i x (omega arith)
+
+pub kept : {A : Type 0} (ps : List (Vec ℕ A)) (i : ℕ) (page : Vec ℕ A) → vec_len page ≡ page_size → (k : ℕ) → IsMade ps k → IsMade (slice_set ps i page) k
+kept ps i page e k h = at_set (λ o. MatchOption o ⊥ (λ p. vec_len p ≡ page_size)) ps i page k (λ q. e) h
+
+pub made : {A : Type 0} (ps : List (Vec ℕ A)) (i : ℕ) (page : Vec ℕ A) → vec_len page ≡ page_size → i < length ps → IsMade (slice_set ps i page) i
+made ps i page e h = subst (λ o. MatchOption o ⊥ (λ p. vec_len p ≡ page_size)) (sym (here ps i page h)) e
+
+none_there : (xs : List ℕ) (j : ℕ) → length xs ≡ 0 → slice_index xs j ≡ 0
+none_there [] j e = refl
+none_there (x ∷ xs) j e = absurd (omega arith)
+
+pub same : {A : Type 0} (ps : List (Vec ℕ A)) (i : ℕ) (page old : Vec ℕ A) → slice_get ps i ≡ Some old → length old.items ≡ 0 → ((j : ℕ) → slice_index page.items j ≡ 0)
+    → (at : ℕ) → byte_in (slice_set ps i page) at ≡ byte_in ps at
+same ps i page old e n z at =
+    at_set (λ o. byte_of o (at % page_size) ≡ byte_of (slice_get ps (at / page_size)) (at % page_size)) ps i page (at / page_size)
+    (λ q. z (at % page_size) ∙ sym (none_there old.items (at % page_size) n)
+    ∙ ap (λ o. byte_of o (at % page_size)) (sym e) ∙ ap (λ k. byte_of (slice_get ps k) (at % page_size)) (sym q))
+    refl
+
+-- ---- the whole list of bytes
+
+pub length_bytes : {A : Type 0} (ps : List (Vec ℕ A)) → length (bytes_in ps) ≡ page_size * length ps
+length_bytes ps = length-map-range_with_len (byte_in ps) 0 (page_size * length ps)
+
+pub pages_of : {A : Type 0} (ps : List (Vec ℕ A)) → length (bytes_in ps) / page_size ≡ length ps
+pages_of ps = ap (λ n. n / page_size) (length_bytes ps) ∙ omega arith
+
+pub byte_at : {A : Type 0} (ps : List (Vec ℕ A)) (k : ℕ) → k < page_size * length ps → slice_index (bytes_in ps) k ≡ byte_in ps k
+byte_at ps k h = get_or-map-range_with_len (byte_in ps) 0 (page_size * length ps) k k 0 h (omega arith)
+
+-- ---- numbers
+
+pub more : (w r b : ℕ) → 0 < w → r < 256 ^ (w - 1) → b < 256 → b + 256 * r < 256 ^ w
+more zero r b p q l = absurd (omega arith)
+more (suc w) r b p q l = let e : suc w - 1 ≡ w = omega arith in let h : r < 256 ^ w = subst (λ n. r < 256 ^ n) e q in omega (arith, pow-suc 256 w)
+
+pub most : (w : ℕ) → w ≤ 8 → 256 ^ w ≤ 256 ^ 8
+most w h = pow-le-pow_right {n = 256} (omega arith) h
+
+pub is_zero : (n : ℕ) (b : Bool) → b ≡ (n == 0) → b ≡ true → n ≡ 0
+is_zero zero b e h = refl
+is_zero (suc n) b e h = grind arith
+
+pub other : (n m : ℕ) (b : Bool) → b ≡ (n == 0) → b ≡ false → (n ≡ 0) ⊎ (n ≡ m) → n ≡ m
+other zero m b e h s = grind arith
+other (suc n) m b e h s = omega arith
+
+-- ---- load
+
+pub load_out : (bytes : List ℕ) (at n : ℕ) → length bytes < at + n → Err MemoryOutOfBounds ≡ load bytes at n
+load_out bytes at n h = grind arith
+
+spelled : (bs : List ℕ) (f : ℕ → ℕ) (n at : ℕ) → at + n ≤ length bs → ((k : ℕ) → k < at + n → slice_index bs k ≡ f k) → number_of_bytes (take n (drop at bs)) ≡ number_in f at n
+spelled bs f zero at h e = refl
+spelled bs f (suc n) at h e =
+    let first : slice_index bs at ≡ f at = e at (omega arith) in
+    let rest : number_of_bytes (take n (drop (at + 1) bs)) ≡ number_in f (at + 1) n = spelled bs f n (at + 1) (omega arith) (λ k l. e k (omega arith)) in
+    ap (λ l. number_of_bytes (take (suc n) l)) (drop_more bs at 0 (omega arith)) ∙ (λ i. first i + 256 * rest i)
+
+fits : (bytes : List ℕ) (at n x : ℕ) → at + n ≤ length bytes → number_of_bytes (take n (drop at bytes)) ≡ x → Ok x ≡ load bytes at n
+fits bytes at n x h e = grind arith
+
+pub load_in : {A : Type 0} (ps : List (Vec ℕ A)) (at n : ℕ) → at + n ≤ page_size * length ps → Ok (number_in (byte_in ps) at n) ≡ load (bytes_in ps) at n
+load_in ps at n h =
+    let l = length_bytes ps in
+    fits (bytes_in ps) at n (number_in (byte_in ps) at n) (omega (arith, l)) (spelled (bytes_in ps) (byte_in ps) n at (omega (arith, l)) (λ k q. byte_at ps k (omega arith)))
+
+-- ---- store
+
+digit : (i x : ℕ) → le_byte i x ≡ x / 256 ^ i % 256
+digit zero x = ap (λ y. y % 256) (omega arith)
+digit (suc i) x = refl
+
+shifted : (i x : ℕ) → x / 256 ^ suc i ≡ x / 256 ^ i / 256
+shifted i x = ap (λ y. x / y) (pow-suc 256 i) ∙ sym (div-div-eq-div-mul x (256 ^ i) 256)
+
+low_first : (n k i x : ℕ) → n ≤ k → take n (bytes_low_first i k x) ≡ bytes_of_number n (x / 256 ^ i)
+low_first zero k i x h = refl
+low_first (suc n) zero i x h = absurd (omega arith)
+low_first (suc n) (suc k) i x h =
+    (λ j. digit i x j ∷ low_first n k (suc i) x (omega arith) j) ∙ ap (λ y. x / 256 ^ i % 256 ∷ bytes_of_number n y) (shifted i x)
+
+-- the first bytes of a number of 64 bits
+pub lowest : (n x : ℕ) → n ≤ 8 → take n (to_le_bytes w64 x) ≡ bytes_of_number n x
+lowest n x h = low_first n 8 0 x h ∙ ap (bytes_of_number n) (omega arith)
+
+pub all_same : {A : Type 0} (ps qs : List (Vec ℕ A)) → length qs ≡ length ps → ((at : ℕ) → byte_in qs at ≡ byte_in ps at) → bytes_in qs ≡ bytes_in ps
+all_same ps qs l s = λ i. map (λ at. s at i) (range_with_len 0 (page_size * l i))
+
+pick : {P : Type 0} (at n k : ℕ) → ((k < at) → P) → ((at ≤ k) → (k < at + n) → P) → ((at + n ≤ k) → P) → P
+pick at n k f g h = elim (cases_lt k at) [ inl l ↦ f l | inr l ↦ elim (cases_lt k (at + n)) [ inl m ↦ g l m | inr m ↦ h m ] ]
+
+length_written : (bs news : List ℕ) (at : ℕ) → at + length news ≤ length bs → length (written at news bs) ≡ length bs
+length_written bs news at h = grind (arith, common_steps)
+
+below : (bs news : List ℕ) (at k : ℕ) → at + length news ≤ length bs → k < at → slice_index (written at news bs) k ≡ slice_index bs k
+below bs news at k h l = grind (arith, common_steps)
+
+within : (bs news : List ℕ) (at k : ℕ) → at + length news ≤ length bs → at ≤ k → k < at + length news → slice_index (written at news bs) k ≡ slice_index news (k - at)
+within bs news at k h l m = grind (arith, common_steps)
+
+above : (bs news : List ℕ) (at k : ℕ) → at + length news ≤ length bs → at + length news ≤ k → slice_index (written at news bs) k ≡ slice_index bs k
+above bs news at k h l = grind (arith, common_steps)
+
+overwritten : (bs cs news : List ℕ) (at : ℕ) → length cs ≡ length bs → at + length news ≤ length bs
+    → ((k : ℕ) → k < length news → slice_index cs (at + k) ≡ slice_index news k)
+    → ((k : ℕ) → (k < at) ⊎ (at + length news ≤ k) → k < length bs → slice_index cs k ≡ slice_index bs k)
+    → cs ≡ written at news bs
+overwritten bs cs news at l w f g =
+    ext_get_or 0 cs (written at news bs) (l ∙ sym (length_written bs news at w))
+    (λ k q. pick at (length news) k
+    (λ b. g k (inl b) (omega arith) ∙ sym (below bs news at k w b))
+    (λ b c. let r : k ≡ at + (k - at) = omega arith in ap (slice_index cs) r ∙ f (k - at) (omega arith) ∙ sym (within bs news at k w b (omega arith)))
+    (λ b. g k (inr b) (omega arith) ∙ sym (above bs news at k w (omega arith))))
+
+pub stored : {A : Type 0} (ps qs : List (Vec ℕ A)) (at : ℕ) (news : List ℕ) → length qs ≡ length ps → at + length news ≤ page_size * length ps
+    → ((k : ℕ) → k < length news → byte_in qs (at + k) ≡ slice_index news k)
+    → ((k : ℕ) → (k < at) ⊎ (at + length news ≤ k) → byte_in qs k ≡ byte_in ps k)
+    → bytes_in qs ≡ written at news (bytes_in ps)
+stored ps qs at news l h f g =
+    let a = length_bytes ps in let b = length_bytes qs in
+    overwritten (bytes_in ps) (bytes_in qs) news at (omega (arith, a, b, l)) (omega (arith, a))
+    (λ k q. byte_at qs (at + k) (omega (arith, l)) ∙ f k q)
+    (λ k s q. byte_at qs k (omega (arith, a, l)) ∙ g k s ∙ sym (byte_at ps k (omega (arith, a))))
+
+-- ---- new
+
+zero_at : {A : Type 0} (ps : List (Vec ℕ A)) (i j : ℕ) → ((k : ℕ) (d : Vec ℕ A) → k < length ps → vec_len (get_or ps k d) ≡ 0) → byte_of (slice_get ps i) j ≡ 0
+zero_at [] i j e = refl
+zero_at (p ∷ ps) zero j e = let o = p.ok in none_there p.items j (omega (arith, o.0, e 0 p (omega arith)))
+zero_at (p ∷ ps) (suc i) j e = zero_at ps i j (λ k d h. e (suc k) d (omega arith))
+
+constant : (a n : ℕ) → map {B = ℕ} (λ (k : ℕ). 0) (range_with_len a n) ≡ replicate n 0
+constant a zero = refl
+constant a (suc n) = ap (λ l. 0 ∷ l) (constant (a + 1) n)
+
+pub all_zero : {A : Type 0} (ps : List (Vec ℕ A)) (n : ℕ) → length ps ≡ n → ((k : ℕ) (d : Vec ℕ A) → k < length ps → vec_len (get_or ps k d) ≡ 0) → bytes_in ps ≡ replicate (page_size * n) 0
+all_zero ps n l e = (λ i. map (λ at. zero_at ps (at / page_size) (at % page_size) e i) (range_with_len 0 (page_size * l i))) ∙ constant 0 (page_size * n)
+
+-- ---- grow
+
+got_left : {X : Type 0} (ps es : List X) (i : ℕ) → i < length ps → slice_get (ps ++ es) i ≡ slice_get ps i
+got_left [] es i h = absurd (omega arith)
+got_left (p ∷ ps) es zero h = refl
+got_left (p ∷ ps) es (suc i) h = got_left ps es i (omega arith)
+
+got_right : {X : Type 0} (ps es : List X) (i : ℕ) → length ps ≤ i → slice_get (ps ++ es) i ≡ slice_get es (i - length ps)
+got_right [] es i h = let e : i ≡ i - 0 = omega arith in ap (slice_get es) e
+got_right (p ∷ ps) es zero h = absurd (omega arith)
+got_right (p ∷ ps) es (suc i) h = let e : i - length ps ≡ suc i - suc (length ps) = omega arith in got_right ps es i (omega arith) ∙ ap (slice_get es) e
+
+zeros : (m j : ℕ) → slice_index (replicate m 0) j ≡ 0
+zeros zero j = refl
+zeros (suc m) zero = refl
+zeros (suc m) (suc j) = zeros m j
+
+lower : (xs ys : List ℕ) (k : ℕ) → k < length xs → slice_index (xs ++ ys) k ≡ slice_index xs k
+lower xs ys k h = grind (arith, common_steps)
+
+upper : (xs ys : List ℕ) (k : ℕ) → length xs ≤ k → slice_index (xs ++ ys) k ≡ slice_index ys (k - length xs)
+upper xs ys k h = grind (arith, common_steps)
+
+length_zeros : (m : ℕ) → length (replicate {A = ℕ} m 0) ≡ m
+length_zeros zero = refl
+length_zeros (suc m) = let h = length_zeros m in omega (arith, h)
+
+length_both : {X : Type 0} (xs ys : List X) → length (xs ++ ys) ≡ length xs + length ys
+length_both [] ys = omega arith
+length_both (x ∷ xs) ys = let h = length_both xs ys in omega (arith, h)
+
+pub more_pages : {A : Type 0} (ps es : List (Vec ℕ A)) (n : ℕ) → length es ≡ n → ((k : ℕ) (d : Vec ℕ A) → k < length es → vec_len (get_or es k d) ≡ 0)
+    → bytes_in (ps ++ es) ≡ bytes_in ps ++ replicate (page_size * n) 0
+more_pages ps es n l e =
+    let a = length_bytes (ps ++ es) in let b = length_bytes ps in let c = length_both ps es in
+    let d = length_both (bytes_in ps) (replicate {A = ℕ} (page_size * n) 0) in let z = length_zeros (page_size * n) in
+    ext_get_or 0 (bytes_in (ps ++ es)) (bytes_in ps ++ replicate (page_size * n) 0) (omega (arith, a, b, c, d, z, l))
+    (λ k q. let within : k < page_size * length (ps ++ es) = omega (arith, a) in
+    elim (cases_lt k (page_size * length ps)) [
+      | inl m ↦ byte_at (ps ++ es) k within ∙ ap (λ o. byte_of o (k % page_size)) (got_left ps es (k / page_size) (omega arith))
+          ∙ sym (byte_at ps k m) ∙ sym (lower (bytes_in ps) (replicate (page_size * n) 0) k (omega (arith, b)))
+      | inr m ↦ byte_at (ps ++ es) k within ∙ ap (λ o. byte_of o (k % page_size)) (got_right ps es (k / page_size) (omega arith))
+          ∙ zero_at es (k / page_size - length ps) (k % page_size) e ∙ sym (zeros (page_size * n) (k - length (bytes_in ps)))
+          ∙ sym (upper (bytes_in ps) (replicate (page_size * n) 0) k (omega (arith, b)))
+    ])
+
+pub grown : (old new : Memory) (delta n : ℕ) → n < 2 ^ 31 → pages old + delta ≤ old.max → n ≡ pages old
+    → new ≡ record old { bytes = old.bytes ++ replicate (page_size * delta) 0 } → Grown (Ok (cast_signed w32 n)) old delta new
+grown old new delta n small room is fact = subst (λ z. Grown (Ok z) old delta new) (sym (to_z_pos w32 n small)) (room, is, fact)
+
+pub grew : {A : Type 0} (now : Memory) (ps qs es : List (Vec ℕ A)) (max n : ℕ) → record { bytes = bytes_in ps; max = max } ≡ now → qs ≡ ps ++ es → length es ≡ n
+    → ((k : ℕ) (d : Vec ℕ A) → k < length es → vec_len (get_or es k d) ≡ 0)
+    → record { bytes = bytes_in qs; max = max } ≡ record now { bytes = now.bytes ++ replicate (page_size * n) 0 }
+grew now ps qs es max n v e l z =
+    let pack : List ℕ → Memory = λ b. record { bytes = b; max = max } in
+    let more : Memory → Memory = λ m. record m { bytes = m.bytes ++ replicate (page_size * n) 0 } in
+    ap pack (ap bytes_in e ∙ more_pages ps es n l z) ∙ ap more v
+
+pub stays : {A : Type 0} (now : Memory) (ps qs : List (Vec ℕ A)) (max : ℕ) → record { bytes = bytes_in ps; max = max } ≡ now → qs ≡ ps → record { bytes = bytes_in qs; max = max } ≡ now
+stays {A} now ps qs max v e = let pack : List (Vec ℕ A) → Memory = λ l. record { bytes = bytes_in l; max = max } in ap pack e ∙ v

@@ -1,0 +1,347 @@
+//! Linear memory (Core Specification, 4.2.8 Memory Instances; 4.4.4 Memory Instructions): a list of pages that contracts see as one list of
+//! bytes. A page gets bytes of its own at the first store that meets it, and reads as zeros before.
+#![tactic(auto)]
+
+ghost use Rattle.std.specs.Prelude.{◌≡◌, ℕ, ◌+◌, ◌*◌, ◌/◌, ◌%◌, ◌^◌, ◌<◌, ◌≤◌, ◌⊎◌, length, replicate, All, IfOk, vec_len, ◌≢◌, slice_index};
+ghost use Rattle.spec_syntax.specs.Profile.{page_size, page_limit};
+ghost use Rattle.spec_numeric.specs.Storage.{bytes_of_number};
+ghost use Rattle.spec_numeric.specs.Memory.{load};
+ghost use Rattle.memory.specs.Linear.{Memory, pages, Stored, Grown};
+ghost use Rattle.memory.specs.Pages.{byte_in, bytes_in, IsPage, IsEmptyPage, IsMade, IsSound, number_in};
+
+use std::alloc::{AllocError, Allocator};
+use std::marker::Model;
+use wtypes::TrapCode;
+
+/// The bytes of a page.
+pub const PAGE_SIZE: usize = 65_536;
+
+/// No memory has more pages.
+pub const PAGE_LIMIT: u32 = 256;
+
+/// There was no memory.
+#[derive(Clone, Copy, Debug, PartialEq, Eq)]
+pub struct NoMemory;
+
+/// Why a store is refused.
+#[derive(Clone, Copy, Debug, PartialEq, Eq)]
+pub enum StoreRefusal {
+    /// The bytes do not all lie in memory: `MemoryOutOfBounds`.
+    Trap(TrapCode),
+    /// There was no memory for a page.
+    NoMemory,
+}
+
+/// A linear memory. Contracts see its bytes and the greatest number of its pages.
+#[derive(Drop)]
+pub struct Linear<A: Allocator + Clone> {
+    pages: Vec<Vec<u8, A>, A>,
+    max: u32,
+}
+
+impl<A: Allocator + Clone> Model for Linear<A> {
+    ghost Value = { Memory };
+
+    ghost view = { λ m. record { bytes = bytes_in m.pages.items; max = m.max } };
+
+    ghost invariant = { λ m. IsSound m.pages.items m.max };
+}
+
+fn byte<A: Allocator>(pages: &Vec<Vec<u8, A>, A>, at: usize) -> u8
+    requires { at < page_size * vec_len pages.now }
+    ensures { result ≡ byte_in pages.now.items at }
+{
+    match pages[at / PAGE_SIZE].get(at % PAGE_SIZE) {
+        Some(byte) => *byte,
+        None => 0,
+    }
+}
+
+/// The little-endian number that the `width` bytes from `at` on spell.
+fn number<A: Allocator>(pages: &Vec<Vec<u8, A>, A>, at: usize, width: u32) -> u64
+    requires in_range { at + width ≤ page_size * vec_len pages.now }
+    requires narrow { width ≤ 8 }
+    requires limit { vec_len pages.now ≤ page_limit }
+    ensures value { result ≡ number_in (byte_in pages.now.items) at width }
+    ensures below { result < 256 ^ width }
+{
+    if width == 0 {
+        return 0;
+    }
+    let low = byte(pages, at);
+    let high = number(pages, at + 1, width - 1);
+    u64::from(low) + 256 * high
+}
+
+// `PAGE_SIZE` is passed as a number, so that no fact of a caller holds a list of 65,536 zeros, which tactics would compute.
+fn zeros<A: Allocator>(alloc: A, size: usize) -> Result<Vec<u8, A>, AllocError>
+    ensures len { IfOk result (λ page. vec_len page ≡ size) }
+    ensures zero { IfOk result (λ page. (j : ℕ) → slice_index page.items j ≡ 0) }
+{
+    vec![in alloc; 0; size]
+}
+
+/// Gives the page bytes of its own. Nothing that is read changes.
+fn make<A: Allocator + Clone + Drop>(
+    pages: &mut Vec<Vec<u8, A>, A>,
+    index: usize,
+) -> Result<(), AllocError>
+    requires in_range { index < vec_len pages.old }
+    requires whole { All IsPage pages.old.items }
+    ensures whole { All IsPage pages.new.items }
+    ensures len { vec_len pages.new ≡ vec_len pages.old }
+    ensures same { (at : ℕ) → byte_in pages.new.items at ≡ byte_in pages.old.items at }
+    ensures kept { (k : ℕ) → IsMade pages.old.items k → IsMade pages.new.items k }
+    ensures made { IfOk result (λ _. IsMade pages.new.items index) }
+{
+    if pages[index].is_empty() {
+        let alloc = pages.allocator().clone()?;
+        let page = zeros(alloc, PAGE_SIZE)?;
+        pages[index] = page;
+    }
+    Ok(())
+}
+
+fn put<A: Allocator>(pages: &mut Vec<Vec<u8, A>, A>, at: usize, byte: u8)
+    requires in_range { at < page_size * vec_len pages.old }
+    requires whole { All IsPage pages.old.items }
+    requires made { IsMade pages.old.items (at / page_size) }
+    ensures whole { All IsPage pages.new.items }
+    ensures len { vec_len pages.new ≡ vec_len pages.old }
+    ensures there { byte_in pages.new.items at ≡ byte }
+    ensures elsewhere { (k : ℕ) → k ≢ at → byte_in pages.new.items k ≡ byte_in pages.old.items k }
+    ensures kept { (k : ℕ) → IsMade pages.old.items k → IsMade pages.new.items k }
+{
+    pages[at / PAGE_SIZE][at % PAGE_SIZE] = byte;
+}
+
+/// Gives each page from `first` on and below `end` bytes of its own. Nothing that is read changes.
+fn make_all<A: Allocator + Clone + Drop>(
+    pages: &mut Vec<Vec<u8, A>, A>,
+    first: usize,
+    end: usize,
+) -> Result<(), AllocError>
+    requires in_range { end ≤ vec_len pages.old }
+    requires whole { All IsPage pages.old.items }
+    ensures whole { All IsPage pages.new.items }
+    ensures len { vec_len pages.new ≡ vec_len pages.old }
+    ensures same { (at : ℕ) → byte_in pages.new.items at ≡ byte_in pages.old.items at }
+    ensures made { IfOk result (λ _. (k : ℕ) → first ≤ k → k < end → IsMade pages.new.items k) }
+{
+    for index in first..end {
+        make(pages, index)?;
+    }
+    Ok(())
+}
+
+/// Writes the bytes from `at` on, into pages that are made.
+fn put_all<A: Allocator>(pages: &mut Vec<Vec<u8, A>, A>, at: usize, bytes: &[u8])
+    requires in_range { at + length bytes.now ≤ page_size * vec_len pages.old }
+    requires limit { vec_len pages.old ≤ page_limit }
+    requires whole { All IsPage pages.old.items }
+    requires made { (k : ℕ) → at ≤ k → k < at + length bytes.now → IsMade pages.old.items (k / page_size) }
+    ensures whole { All IsPage pages.new.items }
+    ensures len { vec_len pages.new ≡ vec_len pages.old }
+    ensures there { (k : ℕ) → k < length bytes.now → byte_in pages.new.items (at + k) ≡ slice_index bytes.now k }
+    ensures elsewhere { (k : ℕ) → (k < at) ⊎ (at + length bytes.now ≤ k) → byte_in pages.new.items k ≡ byte_in pages.old.items k }
+{
+    for (index, byte) in bytes.iter().enumerate() {
+        put(pages, at + index, *byte);
+    }
+}
+
+/// A list of pages with no bytes of their own.
+fn empty_pages<A: Allocator + Clone + Drop>(
+    alloc: &A,
+    count: u32,
+) -> Result<Vec<Vec<u8, A>, A>, AllocError>
+    ensures len { IfOk result (λ list. vec_len list ≡ count) }
+    ensures empty { IfOk result (λ list. All IsEmptyPage list.items) }
+{
+    let mut list: Vec<Vec<u8, A>, A> = Vec::with_capacity(alloc.clone()?, count as usize)?;
+    for _ in 0..count {
+        list.push(Vec::new(alloc.clone()?))?;
+    }
+    Ok(list)
+}
+
+impl<A: Allocator + Clone + Drop> Linear<A> {
+    /// A memory of so many pages of zeros, which may grow to `max` pages. It makes the list of pages alone.
+    ///
+    /// # Errors
+    ///
+    /// `NoMemory` where the list was refused.
+    pub fn new(alloc: A, pages: u32, max: u32) -> Result<Linear<A>, NoMemory>
+        requires fits { pages ≤ max }
+        requires limit { max ≤ page_limit }
+        ensures { IfOk result (λ m. m ≡ record { bytes = replicate (page_size * pages) 0; max = max }) }
+    {
+        match empty_pages(&alloc, pages) {
+            Ok(list) => Ok(Linear { pages: list, max }),
+            Err(_) => Err(NoMemory),
+        }
+    }
+
+    /// Adds so many pages of zeros, and answers the old size in pages. Where the new size would pass the greatest one, it answers -1 and
+    /// changes nothing.
+    ///
+    /// # Errors
+    ///
+    /// `NoMemory` where the longer list was refused. Nothing changes.
+    pub fn grow(&mut self, delta: u32) -> Result<i32, NoMemory>
+        ensures { Grown result self.old delta self.new }
+    {
+        let count = self.pages.len();
+        if count + delta as usize > self.max as usize {
+            return Ok(-1);
+        }
+        match empty_pages(self.pages.allocator(), delta) {
+            Err(_) => Err(NoMemory),
+            Ok(mut added) => match self.pages.append(&mut added) {
+                Err(_) => Err(NoMemory),
+                Ok(()) => Ok(count as i32),
+            },
+        }
+    }
+
+    /// The size in pages.
+    pub fn size(&self) -> u32
+        ensures { result ≡ pages self.now }
+    {
+        self.pages.len() as u32
+    }
+
+    /// The little-endian number that `width` bytes spell, from the address `at` plus `offset` on, which never wraps. It takes no memory.
+    ///
+    /// # Errors
+    ///
+    /// `MemoryOutOfBounds` where the bytes do not all lie in memory.
+    pub fn load(&self, at: u32, offset: u32, width: u32) -> Result<u64, TrapCode>
+        requires { width ≤ 8 }
+        ensures { result ≡ load self.now.bytes (at + offset) width }
+    {
+        let start = at as usize + offset as usize;
+        if start + width as usize > PAGE_SIZE * self.pages.len() {
+            return Err(TrapCode::MemoryOutOfBounds);
+        }
+        Ok(number(&self.pages, start, width))
+    }
+
+    /// Writes the `width` lowest bytes of `value`, the lowest first, from the address `at` plus `offset` on, which never wraps.
+    ///
+    /// # Errors
+    ///
+    /// `Trap` where the bytes do not all lie in memory, else `NoMemory` where a page was refused. Nothing changes.
+    pub fn store(
+        &mut self,
+        at: u32,
+        offset: u32,
+        width: u32,
+        value: u64,
+    ) -> Result<(), StoreRefusal>
+        requires { width ≤ 8 }
+        ensures { Stored result self.old (at + offset) (bytes_of_number width value) self.new }
+    {
+        let bytes = value.to_le_bytes();
+        self.write(at as usize + offset as usize, &bytes[..width as usize])
+    }
+
+    /// Writes these bytes from the address `at` on, as the bytes of a data segment.
+    ///
+    /// # Errors
+    ///
+    /// `Trap` where the bytes do not all lie in memory, else `NoMemory` where a page was refused. Nothing changes.
+    pub fn write_all(&mut self, at: u32, bytes: &[u8]) -> Result<(), StoreRefusal>
+        ensures { Stored result self.old at bytes.now self.new }
+    {
+        self.write(at as usize, bytes)
+    }
+
+    // Each page that the bytes meet is made before the first byte is written.
+    fn write(&mut self, start: usize, bytes: &[u8]) -> Result<(), StoreRefusal>
+        requires { start < 2 ^ 33 }
+        ensures { Stored result self.old start bytes.now self.new }
+    {
+        let end = start + bytes.len();
+        if end > PAGE_SIZE * self.pages.len() {
+            return Err(StoreRefusal::Trap(TrapCode::MemoryOutOfBounds));
+        }
+        if make_all(&mut self.pages, start / PAGE_SIZE, end.div_ceil(PAGE_SIZE)).is_err() {
+            return Err(StoreRefusal::NoMemory);
+        }
+        put_all(&mut self.pages, start, bytes);
+        Ok(())
+    }
+}
+
+#[cfg(test)]
+mod tests {
+    use super::*;
+
+    #[test]
+    fn stores_across_the_border(rt: HostRuntime) {
+        let mut memory = Linear::new(rt.alloc(), 2, 2).expect(&rt, "memory");
+        assert_eq!(rt; memory.load(65_532, 0, 8), Ok(0));
+        assert_eq!(rt;
+            memory.store(65_000, 532, 8, 72_623_859_790_382_856),
+            Ok(())
+        );
+        assert_eq!(rt; memory.load(65_536, 0, 4), Ok(16_909_060));
+        assert_eq!(rt; memory.load(65_532, 0, 4), Ok(84_281_096));
+        assert_eq!(rt; memory.load(65_532, 0, 8), Ok(72_623_859_790_382_856));
+        assert_eq!(rt; memory.size(), 2);
+    }
+
+    #[test]
+    fn widths_at_the_last_byte_and_past_it(rt: HostRuntime) {
+        let mut memory = Linear::new(rt.alloc(), 2, 2).expect(&rt, "memory");
+        for (width, last) in [(1, 131_071), (2, 131_070), (4, 131_068), (8, 131_064)] {
+            assert_eq!(rt;
+                memory.store(last, 0, width, u64::MAX),
+                Ok(()),
+                "of {width}"
+            );
+            assert_eq!(rt;
+                memory.load(last, 0, width),
+                Ok(u64::MAX >> (64 - 8 * width)),
+                "of {width}"
+            );
+            assert_eq!(rt;
+                memory.store(last, 1, width, 0),
+                Err(StoreRefusal::Trap(TrapCode::MemoryOutOfBounds)),
+                "of {width}"
+            );
+            assert_eq!(rt;
+                memory.load(last, 1, width),
+                Err(TrapCode::MemoryOutOfBounds),
+                "of {width}"
+            );
+        }
+        assert_eq!(rt;
+            memory.load(1, 4_294_967_295, 4),
+            Err(TrapCode::MemoryOutOfBounds)
+        );
+    }
+
+    #[test]
+    fn grows_to_the_greatest_size(rt: HostRuntime) {
+        let mut memory = Linear::new(rt.alloc(), 1, 2).expect(&rt, "memory");
+        assert_eq!(rt; memory.grow(1), Ok(1));
+        assert_eq!(rt; memory.grow(1), Ok(-1));
+        assert_eq!(rt; memory.grow(4_294_967_295), Ok(-1));
+        assert_eq!(rt; memory.size(), 2);
+    }
+
+    #[test]
+    fn writes_a_segment(rt: HostRuntime) {
+        let mut memory = Linear::new(rt.alloc(), 2, PAGE_LIMIT).expect(&rt, "memory");
+        assert_eq!(rt; memory.write_all(65_534, b"segment"), Ok(()));
+        assert_eq!(rt; memory.load(65_533, 0, 8), Ok(0x74_6e65_6d67_6573_00));
+        assert_eq!(rt; memory.load(65_541, 0, 1), Ok(0));
+        assert_eq!(rt;
+            memory.write_all(131_070, b"segment"),
+            Err(StoreRefusal::Trap(TrapCode::MemoryOutOfBounds))
+        );
+        assert_eq!(rt; memory.load(131_070, 0, 2), Ok(0));
+    }
+}

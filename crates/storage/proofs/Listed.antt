@@ -1,0 +1,146 @@
+-- The cells of a store as a list in the order of locks.
+use Rattle.std.proofs.Common.{◌≡◌, ◌≢◌, ℕ, zero, suc, ◌<◌, ◌≤◌, ◌^◌, Bool, true, false, cond, ◌&&◌, Option, Some, None, List, [], ◌∷◌, ◌++◌, map, length, refl, sym, ◌∙◌, ap, subst, arith}
+use Rattle.std.specs.Prelude.{T}
+use Rattle.std.specs.declared.cmp.Ordering.{Ordering}
+use Rattle.std.specs.declared.cmp.Ordering.TheVariants.{Less, Equal, Greater}
+use Rattle.std.specs.Ordering.{eq_by_cmp, is_eq, is_lt, ordering_reverse}
+use Rattle.std.specs.List.{AllByRecursion}
+use Rattle.std.specs.List.Sorted.{IsStrictlySortedBy}
+use Rattle.std.specs.FinMap.{get, insert, remove, empty, entries, entries_sorted, get-entries, get-remove, entries-insert, len-entries, len-empty, from_entries, from_entries_push, get-from_entries, same_map, find, put, is_sorted}
+use Rattle.std.specs.FinMap.Entries.{below_all}
+use Rattle.spec_ledger.specs.declared.Kind.TheVariants.{Counter}
+use Rattle.spec_ledger.specs.declared.Lock.{Lock}
+use Rattle.spec_ledger.specs.declared.Place.{Place}
+use Rattle.spec_ledger.specs.Cells.{Cells, lock_cmp, set_at, counter_at, AreCells, IsCounter}
+use Rattle.spec_ledger.proofs.Maps.{key_itself, lock_cmp_total, lock_cmp-IsAntisymmetric}
+use Rattle.spec_ledger.specs.contracts.LockOrd.TheImpl as derived
+use Rattle.spec_ledger.proofs.Locks.{derived_is}
+use Rattle.storage.specs.declared.Slot.{Slot}
+use Rattle.storage.specs.Slots.{cells_in, held_in, with_cell}
+
+first : (a b : Bool) → T (a && b) → T a
+first true b p = tt
+first false b p = p
+
+second : (a b : Bool) → T (a && b) → T b
+second true b p = p
+second false b p = absurd p
+
+both : (a b : Bool) → T a → T b → T (a && b)
+both true b p q = q
+both false b p q = p
+
+is_less : (o : Ordering) → T (is_lt o) → o ≡ Less
+is_less Less p = refl
+is_less Equal p = absurd p
+is_less Greater p = absurd p
+
+is_equal : (o : Ordering) → is_eq o ≡ true → o ≡ Equal
+is_equal Less e = cc
+is_equal Equal e = refl
+is_equal Greater e = cc
+
+put_first : (k : Lock) (v : ℕ) (xs : List (Lock × ℕ)) → T (below_all lock_cmp k xs) → put lock_cmp k v xs ≡ (k, v) ∷ xs
+put_first k v [] h = refl
+put_first k v (x ∷ xs) h = let e : lock_cmp k x.0 ≡ Less = is_less (lock_cmp k x.0) (first _ _ h) in rw e refl
+
+find_below : (k : Lock) (xs : List (Lock × ℕ)) → T (below_all lock_cmp k xs) → find lock_cmp k xs ≡ None
+find_below k [] h = refl
+find_below k (x ∷ xs) h = let e : lock_cmp k x.0 ≡ Less = is_less (lock_cmp k x.0) (first _ _ h) in rw e (find_below k xs (second _ _ h))
+
+below_with : (k l : Lock) (c : Option ℕ) (xs : List (Lock × ℕ)) → lock_cmp k l ≡ Less → T (below_all lock_cmp k xs) → T (below_all lock_cmp k (with_cell l c xs))
+below_with k l None xs e h = h
+below_with k l (Some v) xs e h = both (is_lt (lock_cmp k l)) (below_all lock_cmp k xs) (subst (λ o. T (is_lt o)) (sym e) tt) h
+
+below_held : (k : Lock) (es : List (Lock × Slot)) → AllByRecursion (λ l. lock_cmp k l ≡ Less) (map (λ e. e.0) es) → T (below_all lock_cmp k (held_in es))
+below_held k [] h = tt
+below_held k (e ∷ es) h = below_with k e.0 e.1.cell (held_in es) h.0 (below_held k es h.1)
+
+entries-with : (m : Cells) (k : Lock) (c : Option ℕ) (xs : List (Lock × ℕ)) → entries m ≡ xs → T (below_all lock_cmp k xs) → entries (set_at m k c) ≡ with_cell k c xs
+entries-with m k None xs e h =
+    let none : get m k ≡ None = get-entries m k ∙ ap (find lock_cmp k) e ∙ find_below k xs h in
+    ap entries (same_map lock_cmp_total lock_cmp-IsAntisymmetric (remove m k) m (λ q.
+    get-remove lock_cmp_total m k q
+    ∙ elim (eq_by_cmp lock_cmp q k) as (λ b. eq_by_cmp lock_cmp q k ≡ b → cond b None (get m q) ≡ get m q) [
+      | true ↦ λ t. let same : q ≡ k = lock_cmp-IsAntisymmetric q k (is_equal (lock_cmp q k) t) in sym (ap (get m) same ∙ none)
+      | false ↦ λ _. refl
+    ] refl)) ∙ e
+entries-with m k (Some v) xs e h = entries-insert lock_cmp_total m k v ∙ ap (put lock_cmp k v) e ∙ put_first k v xs h
+
+no_length : (xs : List (Lock × ℕ)) → length xs ≡ 0 → xs ≡ []
+no_length [] e = refl
+no_length (x ∷ xs) e = absurd (omega (arith, e))
+
+entries-cells_in : (es : List (Lock × Slot)) → IsStrictlySortedBy lock_cmp (map (λ e. e.0) es) → entries (cells_in es) ≡ held_in es
+unfolding IsStrictlySortedBy
+entries-cells_in [] h = no_length (entries empty) (sym (len-entries empty) ∙ len-empty lock_cmp ℕ)
+entries-cells_in (e ∷ es) h = entries-with (cells_in es) e.0 e.1.cell (held_in es) (entries-cells_in es h.1) (below_held e.0 es h.0)
+
+pub entries_held : (es : List (Lock × Slot)) → IsStrictlySortedBy derived.cmp-value.it (map (λ e. e.0) es) → held_in es ≡ entries (cells_in es)
+entries_held es h = sym (entries-cells_in es (let P : (Lock → Lock → Ordering) → Type 0 = λ R. IsStrictlySortedBy R (map (λ e. e.0) es) in subst P derived_is h))
+
+-- ---- a copy, entry by entry
+
+greater_than : (k x : Lock) → T (is_lt (lock_cmp x k)) → eq_by_cmp lock_cmp k x ≡ false
+greater_than k x h = ap is_eq (lock_cmp_total.antisymm k x ∙ ap ordering_reverse (is_less (lock_cmp x k) h))
+
+below_here : (x k : Lock) (v : ℕ) (xs ys : List (Lock × ℕ)) → T (below_all lock_cmp x (xs ++ (k, v) ∷ ys)) → T (is_lt (lock_cmp x k))
+below_here x k v [] ys h = first _ _ h
+below_here x k v (e ∷ xs) ys h = below_here x k v xs ys (second _ _ h)
+
+new_before : (xs : List (Lock × ℕ)) (k : Lock) (v : ℕ) (ys : List (Lock × ℕ)) → T (is_sorted lock_cmp (xs ++ (k, v) ∷ ys)) → find lock_cmp k xs ≡ None
+new_before [] k v ys h = refl
+new_before (x ∷ xs) k v ys h = ap (λ b. cond b (Some x.1) (find lock_cmp k xs)) (greater_than k x.0 (below_here x.0 k v xs ys (first _ _ h))) ∙ new_before xs k v ys (second _ _ h)
+
+found_there : (xs : List (Lock × ℕ)) (k : Lock) (v : ℕ) (ys : List (Lock × ℕ)) → find lock_cmp k xs ≡ None → find lock_cmp k (xs ++ (k, v) ∷ ys) ≡ Some v
+found_there [] k v ys h = ap (λ b. cond b (Some v) (find lock_cmp k ys)) (key_itself lock_cmp_total lock_cmp-IsAntisymmetric k)
+found_there (x ∷ xs) k v ys h =
+    elim (eq_by_cmp lock_cmp k x.0) as (λ b. cond b (Some x.1) (find lock_cmp k xs) ≡ None → cond b (Some x.1) (find lock_cmp k (xs ++ (k, v) ∷ ys)) ≡ Some v) [
+      | true ↦ λ e. cc
+      | false ↦ λ e. found_there xs k v ys e
+    ] h
+
+append_nil : (xs : List (Lock × ℕ)) → xs ≡ xs ++ []
+append_nil [] = refl
+append_nil (x ∷ xs) = ap (λ t. x ∷ t) (append_nil xs)
+
+above_zero : (v : ℕ) → Some v ≢ Some 0 → 0 < v
+above_zero zero h = absurd (h refl)
+above_zero (suc n) h = omega arith
+
+module _ (m : Cells) (xs : List (Lock × ℕ)) (k : Lock) (v : ℕ) (ys : List (Lock × ℕ)) (all : xs ++ (k, v) ∷ ys ≡ entries m) where
+  no_such : find lock_cmp k xs ≡ None
+  no_such = new_before xs k v ys (subst (λ es. T (is_sorted lock_cmp es)) (sym all) (entries_sorted m))
+
+  pub copied_next : from_entries {R = lock_cmp} (xs ++ (k, v) ∷ []) ≡ insert (from_entries xs) k v
+  copied_next = from_entries_push lock_cmp_total lock_cmp-IsAntisymmetric xs k v no_such
+
+  held_there : get m k ≡ Some v
+  held_there = get-entries m k ∙ ap (find lock_cmp k) (sym all) ∙ found_there xs k v ys no_such
+
+  pub copied_condition : AreCells m → k.kind ≡ Counter → 0 < v
+  copied_condition are e =
+      let place : Place = record { contract = k.contract; key = k.key } in
+      let same : k ≡ counter_at place = λ i. record { contract = k.contract; kind = e i; key = k.key } in
+      above_zero v (subst (λ (x : Option ℕ). IsCounter x) (ap (get m) (sym same) ∙ held_there) (are.counters place)).not_zero
+
+pub copied_all : (m : Cells) (xs : List (Lock × ℕ)) → xs ++ [] ≡ entries m → from_entries xs ≡ m
+copied_all m xs all = same_map lock_cmp_total lock_cmp-IsAntisymmetric _ _ (λ q. get-from_entries lock_cmp_total xs q ∙ ap (find lock_cmp q) (append_nil xs ∙ all) ∙ sym (get-entries m q))
+
+append_one : (xs : List (Lock × ℕ)) (e : Lock × ℕ) (ys : List (Lock × ℕ)) → xs ++ e ∷ [] ++ ys ≡ xs ++ e ∷ ys
+append_one [] e ys = refl
+append_one (x ∷ xs) e ys = ap (λ t. x ∷ t) (append_one xs e ys)
+
+pub split_next : (xs : List (Lock × ℕ)) (e : Lock × ℕ) (ys its all : List (Lock × ℕ)) → its ≡ e ∷ ys → xs ++ its ≡ all → xs ++ e ∷ [] ++ ys ≡ all
+split_next xs e ys its all i f = append_one xs e ys ∙ ap (λ t. xs ++ t) (sym i) ∙ f
+
+length-with : (k : Lock) (c : Option ℕ) (xs : List (Lock × ℕ)) (n : ℕ) → length xs ≤ n → length (with_cell k c xs) ≤ suc n
+length-with k None xs n h = omega (arith, h)
+length-with k (Some v) xs n h = omega (arith, h)
+
+length-held : (es : List (Lock × Slot)) → length (held_in es) ≤ length es
+length-held [] = omega arith
+length-held (e ∷ es) = length-with e.0 e.1.cell (held_in es) (length es) (length-held es)
+
+pub held_fits : (its es : List (Lock × Slot)) → its ≡ es → length es < 2 ^ 63 → length (held_in its) < 2 ^ 63
+held_fits its es e h = subst (λ xs. length (held_in xs) < 2 ^ 63) (sym e) (let l = length-held es in omega (arith, l, h))

@@ -1,0 +1,177 @@
+-- What slots hold, key by key.
+use Rattle.std.proofs.Common.{◌≡◌, ℕ, zero, suc, ◌+◌, ◌<◌, ◌^◌, arith, Bool, true, false, cond, Option, Some, List, [], ◌∷◌, refl, sym, ◌∙◌, ap, subst}
+use Rattle.std.specs.declared.cmp.Ordering.{Ordering}
+use Rattle.std.specs.Ordering.{eq_by_cmp, is_eq}
+use Rattle.std.specs.Map.{lookup}
+use Rattle.std.specs.Cmp.{eq_by_cmp_equiv}
+use Rattle.std.specs.FinMap as finite
+use Rattle.std.specs.BTreeMap as tree
+use Rattle.std.specs.BTreeMap.{BTreeMap}
+use Rattle.spec_ledger.specs.declared.Lock.{Lock}
+use Rattle.spec_ledger.specs.declared.Place.{Place}
+use Rattle.spec_ledger.specs.declared.Op.{Op}
+use Rattle.spec_ledger.specs.declared.Op.TheVariants.{Get, Has, Put, Del, Add, Total}
+use Rattle.spec_ledger.specs.declared.Inverse.{Inverse}
+use Rattle.spec_ledger.specs.declared.Inverse.TheVariants.{Keep, Subtract, Restore}
+use Rattle.spec_ledger.specs.Cells.{Cells, lock_cmp, lock_of, counter, set_at, update, number, cells_after, cell_after, inverse_of, is_reading, map_at, counter_at, subtracted, AreCells, IsCounter, IsOfItsType, AreOfTheirTypes}
+use Rattle.spec_ledger.proofs.Types.{types-empty, types-set_at}
+use Rattle.spec_ledger.proofs.Maps.{update_same, is_key, key_itself, get-update}
+use Rattle.spec_ledger.specs.declared.Kind.TheVariants.{Counter}
+use Rattle.spec_ledger.proofs.Ops.{AreCells-back, AreCells-empty}
+use Rattle.storage.specs.Counts.{Counts, opened, count_at, IsUnsettled}
+use Rattle.spec_ledger.proofs.Maps.{get-set_at, lock_cmp_total, lock_cmp-IsAntisymmetric}
+use Rattle.spec_ledger.specs.contracts.LockOrd.TheImpl as derived
+use Rattle.spec_ledger.proofs.Locks.{derived_is}
+use Rattle.storage.specs.declared.Slot.{Slot}
+use Rattle.storage.specs.Slots.{cells_in, counts_in, cell_in, count_in}
+
+cell_of_cond : (b : Bool) (v : Slot) (o : Option Slot) → cond b v.cell (cell_in o) ≡ cell_in (cond b (Some v) o)
+cell_of_cond true v o = refl
+cell_of_cond false v o = refl
+
+pub get-cells_in : (es : List (Lock × Slot)) (q : Lock) → finite.get (cells_in es) q ≡ cell_in (lookup (λ k. is_eq (lock_cmp q k)) es)
+get-cells_in [] q = finite.get-empty lock_cmp q
+get-cells_in (e ∷ es) q =
+    get-set_at lock_cmp_total (cells_in es) e.0 e.1.cell q
+    ∙ ap (cond (eq_by_cmp lock_cmp q e.0) e.1.cell) (get-cells_in es q)
+    ∙ cell_of_cond (eq_by_cmp lock_cmp q e.0) e.1 _
+
+count_of_cond : (b : Bool) (v : Slot) (o : Option Slot) → cond b (counter v.unsettled) (counter (count_in o)) ≡ counter (count_in (cond b (Some v) o))
+count_of_cond true v o = refl
+count_of_cond false v o = refl
+
+pub get-counts_in : (es : List (Lock × Slot)) (q : Lock) → finite.get (counts_in es) q ≡ counter (count_in (lookup (λ k. is_eq (lock_cmp q k)) es))
+get-counts_in [] q = finite.get-empty lock_cmp q
+get-counts_in (e ∷ es) q =
+    get-set_at lock_cmp_total (counts_in es) e.0 (counter e.1.unsettled) q
+    ∙ ap (cond (eq_by_cmp lock_cmp q e.0) (counter e.1.unsettled)) (get-counts_in es q)
+    ∙ count_of_cond (eq_by_cmp lock_cmp q e.0) e.1 _
+
+-- what a map of slots means after one is written or dropped
+module _ (m n : BTreeMap Lock Slot) (lock : Lock) (o : Option Slot) (h : (q : Lock) → tree.get lock_cmp n q ≡ cond (eq_by_cmp lock_cmp lock q) o (tree.get lock_cmp m q)) where
+  pub cells_in_written : cells_in n.entries ≡ set_at (cells_in m.entries) lock (cell_in o)
+  cells_in_written = finite.same_map lock_cmp_total lock_cmp-IsAntisymmetric _ _ (λ q.
+      get-cells_in n.entries q
+      ∙ ap cell_in (h q)
+      ∙ elim (eq_by_cmp lock_cmp lock q) as (λ b. cell_in (cond b o (tree.get lock_cmp m q)) ≡ cond b (cell_in o) (cell_in (tree.get lock_cmp m q))) [ true ↦ refl | false ↦ refl ]
+      ∙ ap (cond (eq_by_cmp lock_cmp lock q) (cell_in o)) (sym (get-cells_in m.entries q))
+      ∙ ap (λ b. cond b (cell_in o) (finite.get (cells_in m.entries) q)) ((eq_by_cmp_equiv lock_cmp_total).symm lock q)
+      ∙ sym (get-set_at lock_cmp_total (cells_in m.entries) lock (cell_in o) q))
+
+  pub counts_in_written : counts_in n.entries ≡ set_at (counts_in m.entries) lock (counter (count_in o))
+  counts_in_written = finite.same_map lock_cmp_total lock_cmp-IsAntisymmetric _ _ (λ q.
+      get-counts_in n.entries q
+      ∙ ap (λ x. counter (count_in x)) (h q)
+      ∙ elim (eq_by_cmp lock_cmp lock q) as (λ b. counter (count_in (cond b o (tree.get lock_cmp m q))) ≡ cond b (counter (count_in o)) (counter (count_in (tree.get lock_cmp m q)))) [ true ↦ refl | false ↦ refl ]
+      ∙ ap (cond (eq_by_cmp lock_cmp lock q) (counter (count_in o))) (sym (get-counts_in m.entries q))
+      ∙ ap (λ b. cond b (counter (count_in o)) (finite.get (counts_in m.entries) q)) ((eq_by_cmp_equiv lock_cmp_total).symm lock q)
+      ∙ sym (get-set_at lock_cmp_total (counts_in m.entries) lock (counter (count_in o)) q))
+
+-- the same, by the order that the derive gives
+module _ (m n : BTreeMap Lock Slot) (lock : Lock) (o : Option Slot) (h : (q : Lock) → tree.get derived.cmp-value.it n q ≡ cond (eq_by_cmp derived.cmp-value.it lock q) o (tree.get derived.cmp-value.it m q)) where
+  by_order : (q : Lock) → tree.get lock_cmp n q ≡ cond (eq_by_cmp lock_cmp lock q) o (tree.get lock_cmp m q)
+  by_order =
+      let P : (Lock → Lock → Ordering) → Type 0 = λ R. (q : Lock) → tree.get R n q ≡ cond (eq_by_cmp R lock q) o (tree.get R m q) in
+      subst P derived_is h
+
+  pub cells_written : cells_in n.entries ≡ set_at (cells_in m.entries) lock (cell_in o)
+  cells_written = cells_in_written m n lock o by_order
+
+  pub counts_written : counts_in n.entries ≡ set_at (counts_in m.entries) lock (counter (count_in o))
+  counts_written = counts_in_written m n lock o by_order
+
+-- what a look-up finds
+module _ (m : BTreeMap Lock Slot) (lock : Lock) (o : Option Slot) (is : o ≡ tree.get derived.cmp-value.it m lock) where
+  there : o ≡ tree.get lock_cmp m lock
+  there = is ∙ ap (λ R. tree.get R m lock) derived_is
+
+  pub cell_found : cell_in o ≡ finite.get (cells_in m.entries) lock
+  cell_found = ap cell_in there ∙ sym (get-cells_in m.entries lock)
+
+  pub count_found : counter (count_in o) ≡ finite.get (counts_in m.entries) lock
+  count_found = ap (λ x. counter (count_in x)) there ∙ sym (get-counts_in m.entries lock)
+
+number-counter : (n : ℕ) → number (counter n) ≡ n
+number-counter zero = refl
+number-counter (suc n) = refl
+
+pub AreCells-none : (es : List (Lock × Slot)) → es ≡ [] → AreCells (cells_in es)
+AreCells-none es e = subst (λ x. AreCells (cells_in x)) (sym e) AreCells-empty
+
+pub read_cells : (op : Op) (m : Cells) (b : Bool) → b ≡ is_reading op → b ≡ true → m ≡ cells_after op m
+read_cells (Get p) m b e f = sym (update_same lock_cmp_total lock_cmp-IsAntisymmetric m (map_at p) (λ c. c) refl)
+read_cells (Has p) m b e f = sym (update_same lock_cmp_total lock_cmp-IsAntisymmetric m (map_at p) (λ c. c) refl)
+read_cells (Total p) m b e f = sym (update_same lock_cmp_total lock_cmp-IsAntisymmetric m (counter_at p) (λ c. c) refl)
+read_cells (Put p v) m b e f = cc
+read_cells (Del p) m b e f = cc
+read_cells (Add p v) m b e f = cc
+
+pub put_is : (op : Op) (m n : Cells) (l : Lock) (next cell : Option ℕ) → n ≡ set_at m l next → l ≡ lock_of op → next ≡ cell_after op cell → cell ≡ finite.get m l → n ≡ cells_after op m
+put_is op m n l next cell e f g h = e ∙ (λ i. set_at m (f i) (g i)) ∙ ap (λ x. set_at m (lock_of op) (cell_after op x)) (h ∙ ap (finite.get m) f)
+
+opened_is : (op : Op) (c : Option ℕ) (m : Counts) → is_reading op ≡ false → opened (inverse_of op c) m ≡ update m (lock_of op) (λ n. counter (number n + 1))
+opened_is (Get p) c m e = cc
+opened_is (Has p) c m e = cc
+opened_is (Total p) c m e = cc
+opened_is (Put p v) c m e = refl
+opened_is (Del p) c m e = refl
+opened_is (Add p v) c m e = refl
+
+pub opened_by : (op : Op) (cell : Option ℕ) (i : Inverse) (b : Bool) (m n : Counts) (l : Lock) (count : ℕ) → n ≡ set_at m l (counter (count + 1)) → l ≡ lock_of op → counter count ≡ finite.get m l → i ≡ inverse_of op cell → b ≡ is_reading op → b ≡ false → n ≡ opened i m
+opened_by op cell i b m n l count e f g h r changing =
+    e
+    ∙ ap (λ x. set_at m l (counter (x + 1))) (sym (number-counter count) ∙ ap number g)
+    ∙ ap (λ k. update m k (λ x. counter (number x + 1))) f
+    ∙ sym (ap (λ x. opened x m) h ∙ opened_is op cell m (sym r ∙ changing))
+
+pub same_cells : (m n : Cells) (l : Lock) (c : Option ℕ) → n ≡ set_at m l c → c ≡ finite.get m l → n ≡ m
+same_cells m n l c e f = e ∙ ap (set_at m l) f ∙ update_same lock_cmp_total lock_cmp-IsAntisymmetric m l (λ x. x) refl
+
+pub AreCells-subtracted : (m n : Cells) (p : Place) (v : ℕ) (l : Lock) (next cell : Option ℕ) → n ≡ set_at m l next → l ≡ counter_at p → next ≡ subtracted v cell → cell ≡ finite.get m l → AreCells m → AreCells n
+AreCells-subtracted m n p v l next cell e f g h are =
+    subst (λ x. AreCells x) (sym (e ∙ (λ i. set_at m (f i) (g i)) ∙ ap (λ x. set_at m (counter_at p) (subtracted v x)) (h ∙ ap (finite.get m) f))) (AreCells-back (Subtract p v) m are)
+
+pub AreCells-restored : (m n : Cells) (p : Place) (l : Lock) (c : Option ℕ) → n ≡ set_at m l c → l ≡ map_at p → AreCells m → AreCells n
+AreCells-restored m n p l c e f are = subst (λ x. AreCells x) (sym (e ∙ ap (λ k. set_at m k c) f)) (AreCells-back (Restore p c) m are)
+
+counter_not_zero : (l : Lock) (v : ℕ) (p : Place) → (l.kind ≡ Counter → 0 < v) → v < 2 ^ 64 → counter_at p ≡ l → IsCounter (Some v)
+counter_not_zero l v p condition fits e = record { fits = fits; not_zero = λ z. let h : 0 < v = condition (sym (ap (λ (x : Lock). x.kind) e)) in absurd (omega (arith, h, ap number z)) }
+
+pub AreCells-inserted : (m n : Cells) (l : Lock) (v : ℕ) → n ≡ set_at m l (Some v) → (l.kind ≡ Counter → 0 < v) → v < 2 ^ 64 → AreCells m → AreCells n
+AreCells-inserted m n l v e condition fits are = record {
+  counters = λ p. subst (λ (x : Option ℕ). IsCounter x) (sym (ap (λ x. finite.get x (counter_at p)) e ∙ get-set_at lock_cmp_total m l (Some v) (counter_at p)))
+      (elim (eq_by_cmp lock_cmp (counter_at p) l) as (λ b. eq_by_cmp lock_cmp (counter_at p) l ≡ b → IsCounter (cond b (Some v) (finite.get m (counter_at p)))) [
+        | true ↦ λ t. counter_not_zero l v p condition fits (is_key lock_cmp_total lock_cmp-IsAntisymmetric (counter_at p) l t)
+        | false ↦ λ _. are.counters p
+      ] refl);
+}
+
+pub types_written : (m n : Cells) (l : Lock) (c : Option ℕ) → n ≡ set_at m l c → ((v : ℕ) → c ≡ Some v → IsOfItsType l v) → AreOfTheirTypes m → AreOfTheirTypes n
+types_written m n l c e here are = subst (λ x. AreOfTheirTypes x) (sym e) (types-set_at m l c are here)
+
+pub types-none : (es : List (Lock × Slot)) → es ≡ [] → AreOfTheirTypes (cells_in es)
+types-none es e = subst (λ x. AreOfTheirTypes (cells_in x)) (sym e) types-empty
+
+count_more : (m : Counts) (l : Lock) → 0 < count_at (update m l (λ n. counter (number n + 1))) l
+count_more m l =
+    let e : count_at (update m l (λ n. counter (number n + 1))) l ≡ number (finite.get m l) + 1 =
+    ap number (get-update lock_cmp_total lock_cmp-IsAntisymmetric m l (λ n. counter (number n + 1)) l
+    ∙ ap (λ b. cond b (counter (number (finite.get m l) + 1)) (finite.get m l)) (key_itself lock_cmp_total lock_cmp-IsAntisymmetric l))
+    ∙ number-counter (number (finite.get m l) + 1) in
+    omega (arith, e)
+
+pub IsUnsettled-opened : (i : Inverse) (m : Counts) → IsUnsettled i (opened i m)
+IsUnsettled-opened Keep m = tt
+IsUnsettled-opened (Subtract p v) m = count_more m (counter_at p)
+IsUnsettled-opened (Restore p c) m = count_more m (map_at p)
+
+pub IsUnsettled-by : (i : Inverse) (m n : Counts) → n ≡ opened i m → IsUnsettled i n
+IsUnsettled-by i m n e = subst (λ x. IsUnsettled i x) (sym e) (IsUnsettled-opened i m)
+
+pub IsUnsettled-read : (op : Op) (cell : Option ℕ) (i : Inverse) (b : Bool) (m : Counts) → i ≡ inverse_of op cell → b ≡ is_reading op → b ≡ true → IsUnsettled i m
+IsUnsettled-read (Get p) c i b m e f g = subst (λ x. IsUnsettled x m) (sym e) tt
+IsUnsettled-read (Has p) c i b m e f g = subst (λ x. IsUnsettled x m) (sym e) tt
+IsUnsettled-read (Total p) c i b m e f g = subst (λ x. IsUnsettled x m) (sym e) tt
+IsUnsettled-read (Put p v) c i b m e f g = cc
+IsUnsettled-read (Del p) c i b m e f g = cc
+IsUnsettled-read (Add p v) c i b m e f g = cc

@@ -1,0 +1,35 @@
+-- What the slots of a store mean.
+use Rattle.std.specs.Prelude.{ℕ, Option, Some, None, List, [], ◌∷◌}
+use Rattle.std.specs.FinMap.{empty}
+use Rattle.spec_ledger.specs.declared.Lock.{Lock}
+use Rattle.storage.specs.declared.Slot.{Slot}
+use Rattle.spec_ledger.specs.Cells.{Cells, counter, set_at}
+use Rattle.storage.specs.Counts.{Counts}
+
+-- the cells of some slots
+abbrev pub cells_in : List (Lock × Slot) → Cells
+cells_in [] = empty
+cells_in (e ∷ es) = set_at (cells_in es) e.0 e.1.cell
+
+-- the unsettled changes of some slots
+abbrev pub counts_in : List (Lock × Slot) → Counts
+counts_in [] = empty
+counts_in (e ∷ es) = set_at (counts_in es) e.0 (counter e.1.unsettled)
+
+-- what a slot holds, if there is one
+abbrev pub cell_in : Option Slot → Option ℕ
+cell_in None = None
+cell_in (Some s) = s.cell
+
+abbrev pub count_in : Option Slot → ℕ
+count_in None = 0
+count_in (Some s) = s.unsettled
+
+-- the cells that these slots hold, in their order
+abbrev pub with_cell : Lock → Option ℕ → List (Lock × ℕ) → List (Lock × ℕ)
+with_cell lock None cells = cells
+with_cell lock (Some value) cells = (lock, value) ∷ cells
+
+abbrev pub held_in : List (Lock × Slot) → List (Lock × ℕ)
+held_in [] = []
+held_in (e ∷ es) = with_cell e.0 e.1.cell (held_in es)

@@ -1,0 +1,387 @@
+// Boosted storage: cells whose changes can be taken back without memory.
+#![tactic(auto)]
+
+ghost use Rattle.std.specs.Prelude.{◌≡◌, ◌+◌, ◌-◌, ◌<◌, ◌≤◌, ◌^◌, ◌%◌, ℕ, Some, None, IsSome, IfOk, OnOk, OnErr, ◌↔◌, IsTrue, if◌then◌else◌, Option, length};
+ghost use Rattle.std.specs.BTreeMap.{get, IsUnchanged};
+ghost use Rattle.std.specs.Ordering.{eq_by_cmp};
+ghost use Rattle.spec_ledger.specs.declared.Mode.TheVariants.{Read};
+ghost use Rattle.spec_ledger.specs.Cells.{lock_cmp, lock_of, cell_after, reply_of, inverse_of, cells_after, reply_to, inverse_to, back, subtracted, counter, set_at, update, is_reading, number, counter_at, map_at, AreCells, IsOfItsType, AreOfTheirTypes};
+ghost use Rattle.spec_ledger.specs.Modes.{mode_of};
+ghost use Rattle.storage.specs.Counts.{opened, closed, IsUnsettled, count_at};
+ghost use Rattle.spec_ledger.specs.declared.Lock.{Lock};
+ghost use Rattle.storage.specs.Slots.{cells_in, counts_in, cell_in, count_in};
+ghost use Rattle.std.specs.FinMap as finite;
+ghost use Rattle.std.specs.Iterator.{YieldsFirst, item_count};
+
+#[cfg(test)]
+mod tests;
+
+pub use spec_ledger::{Inverse, Kind, Lock, NoMemory, Op, Place, Reply, Step};
+use std::alloc::Global;
+use std::collections::BTreeMap;
+use std::collections::btree_map::Iter;
+use std::marker::Model;
+
+#[derive(Clone, Copy, Debug, PartialEq, Eq)]
+pub struct Slot {
+    pub cell: Option<u64>,
+    pub unsettled: u64,
+}
+
+fn map_lock(place: Place) -> Lock
+    ensures { result ≡ map_at place }
+{
+    Lock {
+        contract: place.contract,
+        kind: Kind::Map,
+        key: place.key,
+    }
+}
+
+fn counter_lock(place: Place) -> Lock
+    ensures { result ≡ counter_at place }
+{
+    Lock {
+        contract: place.contract,
+        kind: Kind::Counter,
+        key: place.key,
+    }
+}
+
+/// The lock of an operation.
+pub fn lock(op: Op) -> Lock
+    ensures { result ≡ lock_of op }
+{
+    match op {
+        Op::Get(place) | Op::Has(place) | Op::Put(place, _) | Op::Del(place) => map_lock(place),
+        Op::Add(place, _) | Op::Total(place) => counter_lock(place),
+    }
+}
+
+fn sum_cell(cell: Option<u64>, value: u64) -> Option<u64>
+    ensures { result ≡ counter ((number cell + value) % 2 ^ 64) }
+{
+    let sum = cell.unwrap_or(0).wrapping_add(value);
+    if sum == 0 { None } else { Some(sum) }
+}
+
+fn next_cell(op: Op, cell: Option<u64>) -> Option<u64>
+    ensures { result ≡ cell_after op cell }
+{
+    match op {
+        Op::Get(_) | Op::Has(_) | Op::Total(_) => cell,
+        Op::Put(_, value) => Some(value),
+        Op::Del(_) => None,
+        Op::Add(_, value) => sum_cell(cell, value),
+    }
+}
+
+fn reply(op: Op, cell: Option<u64>) -> Reply
+    ensures { result ≡ reply_of op cell }
+{
+    match op {
+        Op::Get(_) | Op::Total(_) => Reply::I64(cell.unwrap_or(0).cast_signed()),
+        Op::Has(_) | Op::Del(_) => Reply::I32(if cell.is_some() { 1 } else { 0 }),
+        Op::Put(_, _) | Op::Add(_, _) => Reply::Nothing,
+    }
+}
+
+fn inverse(op: Op, cell: Option<u64>) -> Inverse
+    ensures { result ≡ inverse_of op cell }
+{
+    match op {
+        Op::Get(_) | Op::Has(_) | Op::Total(_) => Inverse::Keep,
+        Op::Put(place, _) | Op::Del(place) => Inverse::Restore(place, cell),
+        Op::Add(place, value) => Inverse::Subtract(place, value),
+    }
+}
+
+fn reads(op: Op) -> bool
+    ensures { result ≡ is_reading op }
+{
+    match op {
+        Op::Get(_) | Op::Has(_) | Op::Total(_) => true,
+        Op::Put(_, _) | Op::Del(_) | Op::Add(_, _) => false,
+    }
+}
+
+/// A number that is held is of its type, and so is its lock.
+fn note_types(lock: Lock, cell: Option<u64>)
+    ensures { (value : ℕ) → cell ≡ Some value → IsOfItsType lock value }
+{
+    let _contract = lock.contract;
+    let _key = lock.key;
+    if let Some(_value) = cell {}
+}
+
+/// A lock's slot, an empty one where there is none.
+fn slot_at(slots: &BTreeMap<Lock, Slot>, lock: Lock) -> Slot
+    ensures cell { result.cell ≡ finite.get (cells_in slots.now.entries) lock }
+    ensures count { counter result.unsettled ≡ finite.get (counts_in slots.now.entries) lock }
+    ensures present { 0 < result.unsettled → IsSome (get lock_cmp slots.now lock) }
+{
+    match slots.get(&lock) {
+        None => Slot {
+            cell: None,
+            unsettled: 0,
+        },
+        Some(slot) => *slot,
+    }
+}
+
+/// Drops a slot.
+fn drop_slot(slots: &mut BTreeMap<Lock, Slot>, lock: Lock)
+    ensures cells { cells_in slots.new.entries ≡ set_at (cells_in slots.old.entries) lock None }
+    ensures counts { counts_in slots.new.entries ≡ set_at (counts_in slots.old.entries) lock None }
+{
+    slots.remove(&lock);
+}
+
+/// Writes a slot that is there, which takes no memory.
+fn write_slot(slots: &mut BTreeMap<Lock, Slot>, lock: Lock, slot: Slot)
+    requires { IsSome (get lock_cmp slots.old lock) }
+    ensures cells { cells_in slots.new.entries ≡ set_at (cells_in slots.old.entries) lock slot.cell }
+    ensures counts { counts_in slots.new.entries ≡ set_at (counts_in slots.old.entries) lock (counter slot.unsettled) }
+{
+    match slots.insert(lock, slot) {
+        Ok(_) => (),
+        Err(_) => unreachable!(),
+    }
+}
+
+/// Writes a slot that is there, or drops it where it is empty.
+fn close_slot(slots: &mut BTreeMap<Lock, Slot>, lock: Lock, slot: Slot)
+    requires { IsSome (get lock_cmp slots.old lock) }
+    ensures cells { cells_in slots.new.entries ≡ set_at (cells_in slots.old.entries) lock slot.cell }
+    ensures counts { counts_in slots.new.entries ≡ set_at (counts_in slots.old.entries) lock (counter slot.unsettled) }
+    ensures types { AreOfTheirTypes (cells_in slots.old.entries) → AreOfTheirTypes (cells_in slots.new.entries) }
+{
+    note_types(lock, slot.cell);
+    match (slot.cell, slot.unsettled) {
+        (None, 0) => drop_slot(slots, lock),
+        _ => write_slot(slots, lock, slot),
+    }
+}
+
+/// Writes a slot.
+fn put_slot(slots: &mut BTreeMap<Lock, Slot>, lock: Lock, slot: Slot) -> Result<(), NoMemory>
+    ensures cells { OnOk result (cells_in slots.new.entries ≡ set_at (cells_in slots.old.entries) lock slot.cell) }
+    ensures counts { OnOk result (counts_in slots.new.entries ≡ set_at (counts_in slots.old.entries) lock (counter slot.unsettled)) }
+    ensures types { OnOk result (AreOfTheirTypes (cells_in slots.old.entries) → AreOfTheirTypes (cells_in slots.new.entries)) }
+    ensures err { OnErr result (slots.new.entries ≡ slots.old.entries) }
+{
+    note_types(lock, slot.cell);
+    match slots.insert(lock, slot) {
+        Ok(_) => Ok(()),
+        Err(_) => Err(NoMemory),
+    }
+}
+
+/// The cells of a store that are left to go over, in the order of locks.
+#[derive(Drop)]
+pub struct Entries<'a> {
+    slots: Iter<'a, Lock, Slot>,
+}
+
+impl<'a> Model for Entries<'a> {
+    ghost use Rattle.std.specs.Prelude.{ℕ, List};
+    ghost use Rattle.spec_ledger.specs.declared.Lock.{Lock};
+    ghost use Rattle.storage.specs.Slots.{held_in};
+
+    ghost Value = { List (Lock × ℕ) };
+
+    ghost view = { λ e. held_in e.slots };
+}
+
+impl<'a> Iterator for Entries<'a> {
+    type Item = (Lock, u64);
+
+    ghost next_gives = { YieldsFirst (λ e. e) };
+
+    ghost remaining = { item_count (λ e. e) };
+
+    fn next(&mut self) -> Option<(Lock, u64)> {
+        while let Some((lock, slot)) = self.slots.next() {
+            if let Some(value) = slot.cell {
+                return Some((*lock, value));
+            }
+        }
+        None
+    }
+}
+
+/// Cells, with their unsettled changes.
+#[derive(Drop)]
+pub struct Cells {
+    slots: BTreeMap<Lock, Slot>,
+}
+
+impl Model for Cells {
+    ghost use Rattle.storage.specs.Counts.{Store, store_code};
+
+    ghost Value = { Store };
+
+    ghost coded = { store_code };
+
+    ghost use Rattle.storage.specs.Counts.{AreKept};
+    ghost use Rattle.storage.specs.Slots.{cells_in, counts_in};
+
+    ghost view = { λ a. record { cells = cells_in a.slots.entries; unsettled = counts_in a.slots.entries } };
+
+    ghost invariant = { λ a. AreKept (cells_in a.slots.entries) };
+}
+
+impl Cells {
+    /// No cells.
+    pub fn new(alloc: Global) -> Self
+        ensures cells { result.cells ≡ finite.empty }
+        ensures unsettled { result.unsettled ≡ finite.empty }
+    {
+        Cells {
+            slots: BTreeMap::new(alloc),
+        }
+    }
+
+    /// What the type keeps: no counter is at 0, and each cell is of 64 bits at a lock of its type.
+    pub fn hold(&self)
+        ensures cells { AreCells self.now.cells }
+        ensures types { AreOfTheirTypes self.now.cells }
+    {
+        let _slots = &self.slots;
+    }
+
+    /// What is in a cell.
+    pub fn get(&self, lock: Lock) -> Option<u64>
+        ensures { result ≡ finite.get self.now.cells lock }
+    {
+        slot_at(&self.slots, lock).cell
+    }
+
+    /// The cells with their numbers, in the order of locks.
+    pub fn entries(&self) -> Entries<'_>
+        ensures cells { result ≡ finite.entries self.now.cells }
+        ensures fits { length result < 2 ^ 63 }
+    {
+        Entries {
+            slots: self.slots.iter(),
+        }
+    }
+
+    /// The same cells, in which nothing is unsettled.
+    pub fn copy(&self, alloc: Global) -> Result<Cells, NoMemory>
+        ensures cells { IfOk result (λ copy. copy.cells ≡ self.now.cells) }
+        ensures unsettled { IfOk result (λ copy. copy.unsettled ≡ finite.empty) }
+    {
+        self.hold();
+        let mut copy = Cells::new(alloc);
+        for (lock, value) in self.entries() {
+            copy.insert(lock, value)?;
+        }
+        Ok(copy)
+    }
+
+    /// Puts a number into a cell. No counter is put at 0. Its unsettled changes stay.
+    pub fn insert(&mut self, lock: Lock, value: u64) -> Result<(), NoMemory>
+        requires { lock.kind ≡ Kind.Counter → 0 < value }
+        ensures cells { OnOk result (self.new.cells ≡ finite.insert self.old.cells lock value) }
+        ensures unsettled { OnOk result (self.new.unsettled ≡ self.old.unsettled) }
+        ensures err { OnErr result (self.new ≡ self.old) }
+    {
+        let slot = Slot {
+            cell: Some(value),
+            unsettled: slot_at(&self.slots, lock).unsettled,
+        };
+        put_slot(&mut self.slots, lock, slot)?;
+        Ok(())
+    }
+
+    /// Does an operation, and says how to take it back. The place that this needs is kept until then.
+    pub fn apply(&mut self, op: Op) -> Result<(Reply, Inverse), NoMemory>
+        ensures reply { IfOk result (λ r. r.0 ≡ reply_to op self.old.cells) }
+        ensures inverse { IfOk result (λ r. r.1 ≡ inverse_to op self.old.cells) }
+        ensures cells { OnOk result (self.new.cells ≡ cells_after op self.old.cells) }
+        ensures unsettled { IfOk result (λ r. self.new.unsettled ≡ opened r.1 self.old.unsettled) }
+        ensures kept { IfOk result (λ r. IsUnsettled r.1 self.new.unsettled) }
+        ensures err { OnErr result (self.new ≡ self.old) }
+    {
+        let lock = lock(op);
+        let slot = slot_at(&self.slots, lock);
+        let reply = reply(op, slot.cell);
+        let inverse = inverse(op, slot.cell);
+        if reads(op) {
+            return Ok((reply, inverse));
+        }
+        if slot.unsettled == u64::MAX {
+            return Err(NoMemory);
+        }
+        let next = Slot {
+            cell: next_cell(op, slot.cell),
+            unsettled: slot.unsettled + 1,
+        };
+        put_slot(&mut self.slots, lock, next)?;
+        Ok((reply, inverse))
+    }
+
+    /// Takes a change back.
+    pub fn take_back(&mut self, inverse: Inverse)
+        requires { IsUnsettled inverse self.old.unsettled }
+        ensures cells { self.new.cells ≡ back inverse self.old.cells }
+        ensures unsettled { self.new.unsettled ≡ closed inverse self.old.unsettled }
+    {
+        match inverse {
+            Inverse::Keep => (),
+            Inverse::Subtract(place, value) => {
+                let lock = counter_lock(place);
+                let slot = slot_at(&self.slots, lock);
+                let next = Slot {
+                    cell: less_cell(slot.cell, value),
+                    unsettled: slot.unsettled - 1,
+                };
+                close_slot(&mut self.slots, lock, next);
+            }
+            Inverse::Restore(place, cell) => {
+                let lock = map_lock(place);
+                let slot = slot_at(&self.slots, lock);
+                let next = Slot {
+                    cell,
+                    unsettled: slot.unsettled - 1,
+                };
+                close_slot(&mut self.slots, lock, next);
+            }
+        }
+    }
+
+    /// Lets a change stand.
+    pub fn settle(&mut self, inverse: Inverse)
+        requires { IsUnsettled inverse self.old.unsettled }
+        ensures cells { self.new.cells ≡ self.old.cells }
+        ensures unsettled { self.new.unsettled ≡ closed inverse self.old.unsettled }
+    {
+        match inverse {
+            Inverse::Keep => (),
+            Inverse::Subtract(place, _) => settle_slot(&mut self.slots, counter_lock(place)),
+            Inverse::Restore(place, _) => settle_slot(&mut self.slots, map_lock(place)),
+        }
+    }
+}
+
+/// One change less of a lock.
+fn settle_slot(slots: &mut BTreeMap<Lock, Slot>, lock: Lock)
+    requires { 0 < count_at (counts_in slots.old.entries) lock }
+    ensures cells { cells_in slots.new.entries ≡ cells_in slots.old.entries }
+    ensures counts { counts_in slots.new.entries ≡ update (counts_in slots.old.entries) lock (λ n. counter (number n - 1)) }
+{
+    let slot = slot_at(slots, lock);
+    let next = Slot {
+        cell: slot.cell,
+        unsettled: slot.unsettled - 1,
+    };
+    close_slot(slots, lock, next);
+}
+
+fn less_cell(cell: Option<u64>, value: u64) -> Option<u64>
+    ensures { result ≡ subtracted value cell }
+{
+    let rest = cell.unwrap_or(0).wrapping_sub(value);
+    if rest == 0 { None } else { Some(rest) }
+}
