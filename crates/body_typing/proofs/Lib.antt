@@ -1,0 +1,4 @@
+pub mod Blocks
+pub mod Imports
+pub mod Leaves
+pub mod Placed

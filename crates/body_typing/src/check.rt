@@ -1,0 +1,208 @@
+// The check of a body.
+
+ghost use Rattle.std.specs.Prelude.{◌≡◌, ◌<◌, ◌≤◌, All, ◌∷◌, ◌++◌, [], length, Some, Option, OnOk, IfOk, IsTrue, false, option_and_then, map};
+ghost use Rattle.wtypes.specs.declared.ValType.{ValType};
+ghost use Rattle.spec_typing.specs.Typing.{Context, of, in_block};
+ghost use Rattle.spec_typing.specs.Modules.{BodyTyped, type_at, result_of, imported_funcs, func_type_indices};
+ghost use Rattle.spec_typing.specs.Principal.{Stack, empty, arrow, step, run, ends, guard};
+ghost use Rattle.module_tree.specs.View.{instr_view, instrs_view};
+ghost use Rattle.module_tree.specs.ModuleView.{func_view, func_type_view};
+ghost use Rattle.module_tree.specs.Modules.{module_view};
+ghost use Rattle.body_typing.specs.Checked.{IsBodyTyped, spaces_view, context_at, Meets, Gives, Tells};
+
+use crate::operands::Operands;
+use crate::plain::{Place, check_plain, check_table, refused};
+use crate::scope::{Scope, TypeRefusal};
+use crate::spaces::Spaces;
+use module_tree::instr::Instr;
+use module_tree::module::{Func, Module};
+use std::alloc::{AllocError, Allocator};
+use wtypes::{FuncType, ValType};
+
+// Whether a result is asked of an empty else.
+fn lacks_else<A: Allocator>(block: Option<ValType>, else_body: &Vec<Instr<A>, A>) -> bool
+    ensures { IsTrue result → (c : Context) → ends block (run c (instrs_view else_body.now.items) empty) ≡ false }
+{
+    match block {
+        None => false,
+        Some(_) => else_body.is_empty(),
+    }
+}
+
+// The end of a block, which left this.
+fn end_block<W: Allocator>(
+    ops: &mut Operands<W>,
+    left: Operands<W>,
+    block: Option<ValType>,
+    place: Place,
+) -> Result<(), TypeRefusal>
+    ensures { Meets result ops.new (option_and_then (λ _. arrow [] (of block) ops.old) (guard (ends block (Some left)) ops.old)) }
+{
+    if !left.is_result(block) {
+        return Err(refused(place, 18));
+    }
+    ops.put_result(block)?;
+    Ok(())
+}
+
+// What the body of a block leaves, which a branch to the block leaves with the label's type.
+#[cycle(check)]
+fn check_all<A: Allocator, W: Allocator + Clone>(
+    alloc: &W,
+    scope: &Scope<A, W>,
+    labels: &mut Vec<Option<ValType>, W>,
+    label: Option<ValType>,
+    body: &Vec<Instr<A>, A>,
+    next: &mut u32,
+) -> Result<Operands<W>, TypeRefusal>
+    ensures gives { Gives (λ left. left) result (run (in_block label (context_at scope.now labels.old.items)) (instrs_view body.now.items) empty) }
+    ensures labels { OnOk result (labels.new.items ≡ labels.old.items) }
+{
+    let mut ops = Operands::new(alloc.clone()?);
+    labels.push(label).map_err(AllocError::from)?;
+    for i in body {
+        match check_instr(alloc, scope, labels, &mut ops, i, next) {
+            Ok(()) => {}
+            Err(refusal) => return Err(refusal),
+        }
+    }
+    let _label = labels.pop();
+    Ok(ops)
+}
+
+#[cycle(check)]
+fn check_instr<A: Allocator, W: Allocator + Clone>(
+    alloc: &W,
+    scope: &Scope<A, W>,
+    labels: &mut Vec<Option<ValType>, W>,
+    ops: &mut Operands<W>,
+    instr: &Instr<A>,
+    next: &mut u32,
+) -> Result<(), TypeRefusal>
+    ensures meets { Meets result ops.new (step (context_at scope.now labels.old.items) (instr_view instr.now) ops.old) }
+    ensures labels { OnOk result (labels.new.items ≡ labels.old.items) }
+{
+    let place = Place {
+        func: scope.func,
+        ordinal: *next,
+    };
+    *next = next.saturating_add(1);
+    match instr {
+        Instr::Plain(_, op) => check_plain(ops, scope, labels, *op, place),
+        Instr::BrTable(_, targets, fallback) => check_table(ops, labels, targets, *fallback, place),
+        Instr::Block(_, block, body) => match check_all(alloc, scope, labels, *block, body, next) {
+            Ok(left) => end_block(ops, left, *block, place),
+            Err(refusal) => Err(refusal),
+        },
+        Instr::Loop(_, block, body) => match check_all(alloc, scope, labels, None, body, next) {
+            Ok(left) => end_block(ops, left, *block, place),
+            Err(refusal) => Err(refusal),
+        },
+        Instr::If(_, block, then_body, else_body) => {
+            if !ops.pop_type(ValType::I32) {
+                return Err(refused(place, 17));
+            }
+            if lacks_else(*block, else_body) {
+                return Err(refused(place, 19));
+            }
+            match check_all(alloc, scope, labels, *block, then_body, next) {
+                Err(refusal) => Err(refusal),
+                Ok(left) => {
+                    if !left.is_result(*block) {
+                        return Err(refused(place, 18));
+                    }
+                    match check_all(alloc, scope, labels, *block, else_body, next) {
+                        Err(refusal) => Err(refusal),
+                        Ok(left) => end_block(ops, left, *block, place),
+                    }
+                }
+            }
+        }
+    }
+}
+
+fn all_locals<A: Allocator, W: Allocator>(
+    alloc: W,
+    params: &[ValType],
+    locals: &Vec<ValType, A>,
+) -> Result<Vec<ValType, W>, AllocError>
+    ensures { IfOk result (λ all. all.items ≡ params.now ++ locals.now.items) }
+{
+    let mut all = Vec::new(alloc);
+    for t in params {
+        all.push(*t)?;
+    }
+    for t in locals {
+        all.push(*t)?;
+    }
+    Ok(all)
+}
+
+fn own_type<'t, A: Allocator>(types: &'t Vec<FuncType<A>, A>, index: u32) -> &'t FuncType<A>
+    requires { index < length types.now.items }
+    ensures { type_at (map func_type_view types.now.items) index ≡ func_type_view result.now }
+{
+    &types[index as usize]
+}
+
+fn result_type<A: Allocator>(own: &FuncType<A>) -> Option<ValType>
+    ensures { result ≡ result_of own.now.results.items }
+{
+    own.results.first().copied()
+}
+
+/// Checks the body of a defined function, in a module with these types and index spaces. The function has this number,
+/// imports counted first.
+pub fn check_func<A: Allocator, W: Allocator + Clone>(
+    alloc: &W,
+    types: &Vec<FuncType<A>, A>,
+    spaces: &Spaces<W>,
+    func: &Func<A>,
+    number: u32,
+) -> Result<(), TypeRefusal>
+    requires { func.now.type_index < length types.now.items }
+    ensures { Tells result (BodyTyped (spaces_view types.now.items spaces.now) (func_view func.now)) }
+{
+    let own = own_type(types, func.type_index);
+    let wanted = result_type(own);
+    let scope = Scope {
+        types,
+        spaces,
+        locals: all_locals(alloc.clone()?, &own.params, &func.locals)?,
+        result: wanted,
+        func: number,
+    };
+    let mut labels = Vec::new(alloc.clone()?);
+    let mut next = 0;
+    match check_all(alloc, &scope, &mut labels, wanted, &func.body, &mut next) {
+        Err(refusal) => Err(refusal),
+        Ok(left) => {
+            if left.is_result(wanted) {
+                Ok(())
+            } else {
+                let end = Place {
+                    func: number,
+                    ordinal: next,
+                };
+                Err(refused(end, 18))
+            }
+        }
+    }
+}
+
+/// Checks the body of the function of this number, imports counted first, in a module whose parts but the bodies have
+/// passed. A refusal is the first fault of the body.
+pub fn check_body<A: Allocator, W: Allocator + Clone>(
+    alloc: &W,
+    tree: &Module<A>,
+    func: u32,
+) -> Result<(), TypeRefusal>
+    requires defined { length (imported_funcs (module_view tree.now)) ≤ func }
+    requires there { func < length (func_type_indices (module_view tree.now)) }
+    requires types { All (λ index. index < length (module_view tree.now).types) (func_type_indices (module_view tree.now)) }
+    ensures { Tells result (IsBodyTyped (module_view tree.now) func) }
+{
+    let spaces = Spaces::of_module(alloc, tree)?;
+    let place = func as usize - spaces.imported_funcs;
+    check_func(alloc, &tree.types, &spaces, &tree.funcs[place], func)
+}

@@ -1,0 +1,10 @@
+// The check of one body (Core Specification, 3.3 Instructions and 3.4.1 Functions).
+#![tactic(auto)]
+
+pub mod check;
+mod operands;
+mod operators;
+mod plain;
+mod rows;
+pub mod scope;
+pub mod spaces;

@@ -1,0 +1,460 @@
+// The check of an instruction that holds no other.
+
+ghost use Rattle.std.specs.Prelude.{◌≡◌, ◌<◌, ◌^◌, nat_le, ◌∷◌, slice_get, [], reverse, Option, Some, None, false, IsTrue, option_map, option_and_then};
+ghost use Rattle.wtypes.specs.declared.ValType.{ValType};
+ghost use Rattle.wtypes.specs.declared.ValType.TheVariants.{I32};
+ghost use Rattle.wtypes.specs.declared.PlainInstr.TheVariants as plain;
+ghost use Rattle.spec_typing.specs.Typing.{of};
+ghost use Rattle.spec_typing.specs.Principal.{guard, arrow, leave, select, plain_step, leads, all_lead, same_result};
+ghost use Rattle.body_typing.specs.Checked.{context_at, Meets};
+
+use crate::operands::Operands;
+use crate::operators;
+use crate::scope::{Scope, TypeRefusal};
+use std::alloc::Allocator;
+use wtypes::{FuncType, LoadOp, PlainInstr, StoreOp, ValType};
+
+// A place in the code.
+#[derive(Clone, Copy)]
+pub struct Place {
+    pub func: u32,
+    pub ordinal: u32,
+}
+
+pub fn refused(place: Place, rule: u8) -> TypeRefusal
+    ensures { result ≡ TypeRefusal.At (Some place.func) place.ordinal rule }
+{
+    TypeRefusal::At {
+        func: Some(place.func),
+        ordinal: place.ordinal,
+        rule,
+    }
+}
+
+fn apply<W: Allocator>(
+    ops: &mut Operands<W>,
+    operands: &[ValType],
+    results: &[ValType],
+    place: Place,
+) -> Result<(), TypeRefusal>
+    ensures { Meets result ops.new (arrow (reverse operands.now) (reverse results.now) ops.old) }
+{
+    if !ops.take(operands) {
+        return Err(refused(place, 17));
+    }
+    ops.put(results)?;
+    Ok(())
+}
+
+fn go<W: Allocator>(
+    ops: &mut Operands<W>,
+    block: Option<ValType>,
+    place: Place,
+) -> Result<(), TypeRefusal>
+    ensures { Meets result ops.new (leave (of block) ops.old) }
+{
+    if !ops.take_result(block) {
+        return Err(refused(place, 17));
+    }
+    ops.forget();
+    Ok(())
+}
+
+fn go_if<W: Allocator>(
+    ops: &mut Operands<W>,
+    block: Option<ValType>,
+    place: Place,
+) -> Result<(), TypeRefusal>
+    ensures { Meets result ops.new (arrow (I32 ∷ of block) (of block) ops.old) }
+{
+    if !ops.pop_type(ValType::I32) {
+        return Err(refused(place, 17));
+    }
+    if !ops.take_result(block) {
+        return Err(refused(place, 17));
+    }
+    ops.put_result(block)?;
+    Ok(())
+}
+
+fn choose<W: Allocator>(ops: &mut Operands<W>, place: Place) -> Result<(), TypeRefusal>
+    ensures { Meets result ops.new (select ops.old) }
+{
+    if !ops.pop_type(ValType::I32) {
+        return Err(refused(place, 17));
+    }
+    let Some(first) = ops.pop() else {
+        return Err(refused(place, 17));
+    };
+    let Some(second) = ops.pop() else {
+        return Err(refused(place, 17));
+    };
+    match (first, second) {
+        (None, _) => ops.push(second)?,
+        (Some(_), None) => ops.push(first)?,
+        (Some(t), Some(u)) => {
+            if !crate::operands::same(t, u) {
+                return Err(refused(place, 17));
+            }
+            ops.push(first)?
+        }
+    }
+    Ok(())
+}
+
+pub fn label_at<W: Allocator>(
+    labels: &Vec<Option<ValType>, W>,
+    label: u32,
+) -> Option<Option<ValType>>
+    ensures { result ≡ slice_get (reverse labels.now.items) label }
+{
+    let label = label as usize;
+    if label < labels.len() {
+        Some(labels[labels.len() - 1 - label])
+    } else {
+        None
+    }
+}
+
+fn type_index<A: Allocator, W: Allocator>(scope: &Scope<A, W>, func: u32) -> Option<u32>
+    ensures { result ≡ slice_get scope.now.spaces.now.funcs.items func }
+{
+    scope.spaces.funcs.get(func as usize).copied()
+}
+
+fn type_at<'s, A: Allocator, W: Allocator>(
+    scope: &'s Scope<A, W>,
+    index: u32,
+) -> Option<&'s FuncType<A>>
+    ensures { option_map (λ t. t.now) result ≡ slice_get scope.now.types.now.items index }
+{
+    scope.types.get(index as usize)
+}
+
+fn call<A: Allocator, W: Allocator>(
+    ops: &mut Operands<W>,
+    scope: &Scope<A, W>,
+    func: u32,
+    place: Place,
+) -> Result<(), TypeRefusal>
+    ensures { Meets result ops.new (plain_step (context_at scope.now []) (plain.Call func) ops.old) }
+{
+    let Some(index) = type_index(scope, func) else {
+        return Err(refused(place, 13));
+    };
+    match type_at(scope, index) {
+        Some(t) => apply(ops, &t.params, &t.results, place),
+        None => apply(ops, &[], &[], place),
+    }
+}
+
+fn call_indirect<A: Allocator, W: Allocator>(
+    ops: &mut Operands<W>,
+    scope: &Scope<A, W>,
+    index: u32,
+    place: Place,
+) -> Result<(), TypeRefusal>
+    ensures { Meets result ops.new (plain_step (context_at scope.now []) (plain.CallIndirect index) ops.old) }
+{
+    let Some(t) = scope.types.get(index as usize) else {
+        return Err(refused(place, 1));
+    };
+    if !scope.spaces.has_table() {
+        return Err(refused(place, 15));
+    }
+    if !ops.pop_type(ValType::I32) {
+        return Err(refused(place, 17));
+    }
+    apply(ops, &t.params, &t.results, place)
+}
+
+fn local_get<A: Allocator, W: Allocator>(
+    ops: &mut Operands<W>,
+    scope: &Scope<A, W>,
+    local: u32,
+    place: Place,
+) -> Result<(), TypeRefusal>
+    ensures { Meets result ops.new (plain_step (context_at scope.now []) (plain.LocalGet local) ops.old) }
+{
+    match scope.locals.get(local as usize) {
+        None => Err(refused(place, 11)),
+        Some(t) => apply(ops, &[], &[*t], place),
+    }
+}
+
+fn local_set<A: Allocator, W: Allocator>(
+    ops: &mut Operands<W>,
+    scope: &Scope<A, W>,
+    local: u32,
+    place: Place,
+) -> Result<(), TypeRefusal>
+    ensures { Meets result ops.new (plain_step (context_at scope.now []) (plain.LocalSet local) ops.old) }
+{
+    match scope.locals.get(local as usize) {
+        None => Err(refused(place, 11)),
+        Some(t) => apply(ops, &[*t], &[], place),
+    }
+}
+
+fn local_tee<A: Allocator, W: Allocator>(
+    ops: &mut Operands<W>,
+    scope: &Scope<A, W>,
+    local: u32,
+    place: Place,
+) -> Result<(), TypeRefusal>
+    ensures { Meets result ops.new (plain_step (context_at scope.now []) (plain.LocalTee local) ops.old) }
+{
+    match scope.locals.get(local as usize) {
+        None => Err(refused(place, 11)),
+        Some(t) => apply(ops, &[*t], &[*t], place),
+    }
+}
+
+fn global_get<A: Allocator, W: Allocator>(
+    ops: &mut Operands<W>,
+    scope: &Scope<A, W>,
+    global: u32,
+    place: Place,
+) -> Result<(), TypeRefusal>
+    ensures { Meets result ops.new (plain_step (context_at scope.now []) (plain.GlobalGet global) ops.old) }
+{
+    match scope.spaces.globals.get(global as usize) {
+        None => Err(refused(place, 12)),
+        Some(g) => apply(ops, &[], &[g.value_type], place),
+    }
+}
+
+fn global_set<A: Allocator, W: Allocator>(
+    ops: &mut Operands<W>,
+    scope: &Scope<A, W>,
+    global: u32,
+    place: Place,
+) -> Result<(), TypeRefusal>
+    ensures { Meets result ops.new (plain_step (context_at scope.now []) (plain.GlobalSet global) ops.old) }
+{
+    match scope.spaces.globals.get(global as usize) {
+        None => Err(refused(place, 12)),
+        Some(g) => {
+            if !g.is_mutable {
+                return Err(refused(place, 12));
+            }
+            apply(ops, &[g.value_type], &[], place)
+        }
+    }
+}
+
+// Whether two to this power is at most the width.
+fn is_aligned(align: u32, width: u32) -> bool
+    requires { width < 16 }
+    ensures { result ≡ nat_le (2 ^ align) width }
+{
+    align < 4 && (1u32 << align) <= width
+}
+
+fn load<A: Allocator, W: Allocator>(
+    ops: &mut Operands<W>,
+    scope: &Scope<A, W>,
+    op: LoadOp,
+    align: u32,
+    offset: u32,
+    place: Place,
+) -> Result<(), TypeRefusal>
+    ensures { Meets result ops.new (plain_step (context_at scope.now []) (plain.Load op align offset) ops.old) }
+{
+    if !scope.spaces.has_memory() {
+        return Err(refused(place, 15));
+    }
+    if !is_aligned(align, operators::load_width(op)) {
+        return Err(refused(place, 16));
+    }
+    apply(ops, &[ValType::I32], &[operators::load_type(op)], place)
+}
+
+fn store<A: Allocator, W: Allocator>(
+    ops: &mut Operands<W>,
+    scope: &Scope<A, W>,
+    op: StoreOp,
+    align: u32,
+    offset: u32,
+    place: Place,
+) -> Result<(), TypeRefusal>
+    ensures { Meets result ops.new (plain_step (context_at scope.now []) (plain.Store op align offset) ops.old) }
+{
+    if !scope.spaces.has_memory() {
+        return Err(refused(place, 15));
+    }
+    if !is_aligned(align, operators::store_width(op)) {
+        return Err(refused(place, 16));
+    }
+    apply(ops, &[ValType::I32, operators::store_type(op)], &[], place)
+}
+
+fn memory_size<A: Allocator, W: Allocator>(
+    ops: &mut Operands<W>,
+    scope: &Scope<A, W>,
+    place: Place,
+) -> Result<(), TypeRefusal>
+    ensures { Meets result ops.new (plain_step (context_at scope.now []) plain.MemorySize ops.old) }
+{
+    if !scope.spaces.has_memory() {
+        return Err(refused(place, 15));
+    }
+    apply(ops, &[], &[ValType::I32], place)
+}
+
+fn memory_grow<A: Allocator, W: Allocator>(
+    ops: &mut Operands<W>,
+    scope: &Scope<A, W>,
+    place: Place,
+) -> Result<(), TypeRefusal>
+    ensures { Meets result ops.new (plain_step (context_at scope.now []) plain.MemoryGrow ops.old) }
+{
+    if !scope.spaces.has_memory() {
+        return Err(refused(place, 15));
+    }
+    apply(ops, &[ValType::I32], &[ValType::I32], place)
+}
+
+/// Checks an instruction in blocks with these labels, the innermost last.
+pub fn check_plain<A: Allocator, W: Allocator>(
+    ops: &mut Operands<W>,
+    scope: &Scope<A, W>,
+    labels: &Vec<Option<ValType>, W>,
+    op: PlainInstr,
+    place: Place,
+) -> Result<(), TypeRefusal>
+    ensures { Meets result ops.new (plain_step (context_at scope.now labels.now.items) op ops.old) }
+{
+    match op {
+        PlainInstr::Unreachable => {
+            ops.forget();
+            Ok(())
+        }
+        PlainInstr::Nop => Ok(()),
+        PlainInstr::Br(label) => match label_at(labels, label) {
+            None => Err(refused(place, 14)),
+            Some(block) => go(ops, block, place),
+        },
+        PlainInstr::BrIf(label) => match label_at(labels, label) {
+            None => Err(refused(place, 14)),
+            Some(block) => go_if(ops, block, place),
+        },
+        PlainInstr::Return => go(ops, scope.result, place),
+        PlainInstr::Call(func) => call(ops, scope, func, place),
+        PlainInstr::CallIndirect(index) => call_indirect(ops, scope, index, place),
+        PlainInstr::Drop => match ops.pop() {
+            None => Err(refused(place, 17)),
+            Some(_) => Ok(()),
+        },
+        PlainInstr::Select => choose(ops, place),
+        PlainInstr::LocalGet(n) => local_get(ops, scope, n, place),
+        PlainInstr::LocalSet(n) => local_set(ops, scope, n, place),
+        PlainInstr::LocalTee(n) => local_tee(ops, scope, n, place),
+        PlainInstr::GlobalGet(n) => global_get(ops, scope, n, place),
+        PlainInstr::GlobalSet(n) => global_set(ops, scope, n, place),
+        PlainInstr::Load(op, align, offset) => load(ops, scope, op, align, offset, place),
+        PlainInstr::Store(op, align, offset) => store(ops, scope, op, align, offset, place),
+        PlainInstr::MemorySize => memory_size(ops, scope, place),
+        PlainInstr::MemoryGrow => memory_grow(ops, scope, place),
+        PlainInstr::Const(v) => apply(ops, &[], &[operators::type_of(v)], place),
+        PlainInstr::Unary(op) => {
+            let t = operators::unary_type(op);
+            apply(ops, &[t], &[t], place)
+        }
+        PlainInstr::Binary(op) => {
+            let t = operators::binary_type(op);
+            apply(ops, &[t, t], &[t], place)
+        }
+        PlainInstr::Test(op) => apply(ops, &[operators::test_type(op)], &[ValType::I32], place),
+        PlainInstr::Compare(op) => {
+            let t = operators::compare_type(op);
+            apply(ops, &[t, t], &[ValType::I32], place)
+        }
+        PlainInstr::Convert(op) => apply(
+            ops,
+            &[operators::convert_from(op)],
+            &[operators::convert_to(op)],
+            place,
+        ),
+    }
+}
+
+fn same_block(a: Option<ValType>, b: Option<ValType>) -> bool
+    ensures { result ≡ same_result a b }
+{
+    match (a, b) {
+        (None, None) => true,
+        (Some(t), Some(u)) => crate::operands::same(t, u),
+        _ => false,
+    }
+}
+
+fn leads_to<W: Allocator>(
+    labels: &Vec<Option<ValType>, W>,
+    block: Option<ValType>,
+    label: u32,
+) -> bool
+    ensures { result ≡ leads (reverse labels.now.items) block label }
+{
+    match label_at(labels, label) {
+        None => false,
+        Some(found) => same_block(found, block),
+    }
+}
+
+/// Whether all these labels are of blocks with this result.
+pub fn all_lead_to<W: Allocator>(
+    labels: &Vec<Option<ValType>, W>,
+    block: Option<ValType>,
+    targets: &[u32],
+) -> bool
+    ensures { result ≡ all_lead (reverse labels.now.items) block targets.now }
+{
+    for target in targets {
+        if !leads_to(labels, block, *target) {
+            return false;
+        }
+    }
+    true
+}
+
+// Whether one of these labels is out of range.
+fn one_is_unknown<W: Allocator>(labels: &Vec<Option<ValType>, W>, targets: &[u32]) -> bool
+    ensures { IsTrue result → (block : Option ValType) → all_lead (reverse labels.now.items) block targets.now ≡ false }
+{
+    for target in targets {
+        if *target as usize >= labels.len() {
+            return true;
+        }
+    }
+    false
+}
+
+/// Checks a `br_table`.
+pub fn check_table<W: Allocator>(
+    ops: &mut Operands<W>,
+    labels: &Vec<Option<ValType>, W>,
+    targets: &[u32],
+    fallback: u32,
+    place: Place,
+) -> Result<(), TypeRefusal>
+    ensures { Meets result ops.new (option_and_then (λ block. option_and_then (λ _. leave (I32 ∷ of block) ops.old) (guard (all_lead (reverse labels.now.items) block targets.now) ops.old)) (slice_get (reverse labels.now.items) fallback)) }
+{
+    let Some(block) = label_at(labels, fallback) else {
+        return Err(refused(place, 14));
+    };
+    if one_is_unknown(labels, targets) {
+        return Err(refused(place, 14));
+    }
+    if !ops.pop_type(ValType::I32) {
+        return Err(refused(place, 17));
+    }
+    if !ops.take_result(block) {
+        return Err(refused(place, 17));
+    }
+    if !all_lead_to(labels, block, targets) {
+        return Err(refused(place, 20));
+    }
+    ops.forget();
+    Ok(())
+}

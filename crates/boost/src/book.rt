@@ -1,0 +1,362 @@
+// The book: what is settled, and the live attempts of calls.
+ghost use Rattle.std.specs.Prelude.{◌≡◌, ◌+◌, ◌<◌, ◌≤◌, ℕ, ◌∷◌, [], ◌++◌, true, false, IsTrue, ◌↔◌, Some, Option, IfSome, IfNone, IfOk, OnOk, OnErr, length, take, drop, vec_len, vec_capacity, slice_get, Err, replicate, IfErr, ◌⊎◌};
+ghost use Rattle.std.specs.List.{AllByRecursion};
+ghost use Rattle.spec_ledger.specs.Book.{IsKept, IsGranted, extended, after_undo, after_commit, entry_of, call_is_new, settled};
+ghost use Rattle.spec_ledger.specs.Facts.{CellsAreSettledButForHolders, EntriesAreSerialRun, LiveAttemptsGoTogether, LiveTracesGetReplies};
+ghost use Rattle.spec_ledger.specs.Events.{IsStale, BeginDone, HasNoAttempt, OpDone, IsConflict, UndoDone, CommitDone, IsOther, IsUndoneLast};
+ghost use Rattle.boost.specs.Kept.{IsBook, IsPlace};
+ghost use Rattle.spec_ledger.specs.Modes.{may_share};
+ghost use Rattle.std.specs.FinMap as finite;
+ghost use Rattle.spec_ledger.specs.Book.{Attempt as TheAttempt};
+
+use crate::attempt::{Attempt, Entry, end_all, returned, take_all_back};
+use crate::locks::{all_let, mode};
+use abstract_locks::join_to;
+use spec_ledger::{Lock, Mode, Op, Outcome, Reply, Step};
+use std::alloc::Global;
+use std::marker::Model;
+use storage::{Cells, NoMemory, lock};
+
+/// The right to act for an attempt.
+#[derive(Debug, Drop)]
+pub struct Ticket {
+    pub(crate) call: u32,
+    pub(crate) number: u64,
+}
+
+/// What a book asks of the finished run of a call: its trace, lent, and its outcome.
+#[derive(Clone, Copy)]
+pub struct Run<'a> {
+    /// The operations with their replies, in order.
+    pub trace: &'a [Step],
+    /// How it ended.
+    pub outcome: Outcome,
+}
+
+/// Why an operation is not done.
+#[derive(Clone, Copy, Debug, PartialEq, Eq)]
+pub enum OpRefusal {
+    /// Another live attempt holds the lock in a mode that does not go with the one asked for, joined to the one held.
+    Conflict,
+    /// The attempt of the ticket lives no more.
+    Stale,
+    /// Memory was refused, or a counter of unsettled changes is full.
+    NoMemory,
+}
+
+/// Why an attempt is not committed.
+#[derive(Clone, Copy, Debug, PartialEq, Eq)]
+pub enum CommitRefusal {
+    /// The attempt of the ticket lives no more.
+    Stale,
+    /// The run's trace is not the one that the book kept.
+    Differs,
+    /// Memory was refused.
+    NoMemory,
+}
+
+/// Why no attempt of a call is begun.
+#[derive(Clone, Copy, Debug, PartialEq, Eq)]
+pub enum BeginRefusal {
+    /// The book has no call of this number.
+    NoSuchCall,
+    /// The call has a live attempt.
+    Live,
+    /// The call has an entry.
+    Committed,
+    /// Memory was refused, or the counter of the call's attempts is full.
+    NoMemory,
+}
+
+/// What is left of a book.
+#[derive(Drop)]
+pub struct Closed {
+    /// The cells that the book was opened with.
+    pub opening: Cells,
+    /// The cells after every live call is undone.
+    pub cells: Cells,
+    /// The committed calls in their order.
+    pub entries: Vec<Entry>,
+}
+
+/// The committed calls, which are a serial run from the opening cells, and the live attempts, whose operations go together (Dickerson, Gazzillo, Herlihy, Koskinen, "Adding Concurrency to Smart Contracts", PODC 2017, sections 3 and 4).
+pub struct Book {
+    alloc: Global,
+    opening: Cells,
+    cells: Cells,
+    entries: Vec<Entry>,
+    attempts: Vec<Attempt>,
+    begun: Vec<u64>,
+}
+
+impl Model for Book {
+    ghost use Rattle.spec_ledger.specs.Book.{Content};
+    ghost use Rattle.spec_ledger.specs.Codes.{coded_content};
+    ghost use Rattle.boost.specs.Kept.{IsBook};
+
+    ghost Value = { Content };
+
+    ghost coded = { coded_content };
+
+    ghost view = { λ b. record { opening = b.opening.cells; now = b.cells.cells; entries = b.entries.items; attempts = b.attempts.items; begun = b.begun.items } };
+
+    ghost invariant = { λ b. IsBook (record { opening = b.opening.cells; now = b.cells.cells; entries = b.entries.items; attempts = b.attempts.items; begun = b.begun.items }) b.cells.unsettled };
+}
+
+/// Where the attempt of a ticket stands, if it lives.
+fn find(attempts: &[Attempt], ticket: &Ticket) -> Option<usize>
+    ensures found { IfSome result (λ i. IsPlace attempts.now i ticket.now.call ticket.now.number) }
+    ensures none { IfNone result (AllByRecursion (λ a. ¬ ((a.call ≡ ticket.now.call) × (a.number ≡ ticket.now.number))) attempts.now) }
+{
+    for (i, attempt) in attempts.iter().enumerate() {
+        if attempt.is_of(ticket.call, ticket.number) {
+            return Some(i);
+        }
+    }
+    None
+}
+
+/// Whether all of these let another hold a lock in a mode.
+fn both_let(before: &[Attempt], later: &[Attempt], wanted: Lock, mode: Mode) -> bool
+    ensures { IsTrue result ↔ AllByRecursion (λ c. may_share (Some mode) (finite.get c.modes wanted) ≡ true) (before.now ++ later.now) }
+{
+    all_let(before, wanted, mode) && all_let(later, wanted, mode)
+}
+
+/// Whether the attempt at a place may do an operation.
+fn granted(attempts: &[Attempt], i: usize, op: Op) -> bool
+    requires { i < length attempts.now }
+    ensures { (a : TheAttempt) → attempts.now ≡ take i attempts.now ++ a ∷ drop (i + 1) attempts.now → (IsTrue result ↔ IsGranted a op (take i attempts.now ++ drop (i + 1) attempts.now)) }
+{
+    let wanted = lock(op);
+    let mode = join_to(mode(op), attempts[i].held(wanted));
+    both_let(&attempts[..i], &attempts[i + 1..], wanted, mode)
+}
+
+impl Book {
+    /// Does an operation for a live attempt.
+    pub fn op(&mut self, ticket: &Ticket, op: Op) -> Result<Reply, OpRefusal>
+        ensures ok { IfOk result (λ reply. OpDone self.old self.new ticket.now.call ticket.now.number op reply) }
+        ensures conflict { result ≡ Err OpRefusal.Conflict → IsConflict self.old ticket.now.call ticket.now.number op }
+        ensures stale { (result ≡ Err OpRefusal.Stale) ↔ IsStale self.old ticket.now.call ticket.now.number }
+        ensures err { OnErr result (self.new ≡ self.old) }
+    {
+        let Some(i) = find(&self.attempts, ticket) else {
+            return Err(OpRefusal::Stale);
+        };
+        if !granted(&self.attempts, i, op) {
+            return Err(OpRefusal::Conflict);
+        }
+        let Ok(reply) = self.attempts[i].act(&mut self.cells, op) else {
+            return Err(OpRefusal::NoMemory);
+        };
+        Ok(reply)
+    }
+
+    /// Undoes a live attempt. A stale ticket changes nothing.
+    pub fn undo(&mut self, ticket: Ticket)
+        ensures stale { IsStale self.old ticket.call ticket.number → self.new ≡ self.old }
+        ensures done { IsStale self.old ticket.call ticket.number ⊎ UndoDone self.old self.new ticket.call ticket.number }
+    {
+        let Some(i) = find(&self.attempts, &ticket) else {
+            return;
+        };
+        let attempt = self.attempts.remove(i);
+        take_all_back(&mut self.cells, attempt.into_inverses());
+    }
+
+    /// Commits a live attempt, whose trace is that of the run, and answers its position.
+    pub fn commit(&mut self, ticket: Ticket, run: &Run<'_>) -> Result<u32, (Ticket, CommitRefusal)>
+        ensures ok { IfOk result (λ position. CommitDone self.old self.new ticket.call ticket.number run.now.trace.now run.now.outcome position) }
+        ensures stale { IfErr result (λ e. e.1 ≡ CommitRefusal.Stale → IsStale self.old ticket.call ticket.number) }
+        ensures differs { IfErr result (λ e. e.1 ≡ CommitRefusal.Differs → IsOther self.old ticket.call ticket.number run.now.trace.now) }
+        ensures ticket { IfErr result (λ e. e.0 ≡ ticket) }
+        ensures err { OnErr result (self.new ≡ self.old) }
+    {
+        let Some(i) = find(&self.attempts, &ticket) else {
+            return Err((ticket, CommitRefusal::Stale));
+        };
+        if !self.attempts[i].has_trace(run.trace) {
+            return Err((ticket, CommitRefusal::Differs));
+        }
+        if self.entries.reserve(1).is_err() {
+            return Err((ticket, CommitRefusal::NoMemory));
+        }
+        let position = self.entries.len() as u32;
+        let attempt = self.attempts.remove(i);
+        let (entry, inverses) = attempt.into_entry(run.outcome);
+        end_all(&mut self.cells, inverses, returned(run.outcome));
+        match self.entries.push(entry) {
+            Ok(()) => Ok(position),
+            Err(_) => unreachable!(),
+        }
+    }
+
+    /// A book of this many calls, with no entry and no attempt, over a copy of the opening cells in which nothing is unsettled.
+    pub fn open(alloc: Global, opening: Cells, calls: u32) -> Result<Book, NoMemory>
+        ensures opening { IfOk result (λ book. book.opening ≡ opening.cells) }
+        ensures now { IfOk result (λ book. book.now ≡ opening.cells) }
+        ensures entries { IfOk result (λ book. book.entries ≡ []) }
+        ensures attempts { IfOk result (λ book. book.attempts ≡ []) }
+        ensures begun { IfOk result (λ book. book.begun ≡ replicate calls 0) }
+    {
+        opening.hold();
+        let cells = opening.copy(alloc)?;
+        let Ok(begun) = vec![in alloc; 0u64; calls as usize] else {
+            return Err(NoMemory);
+        };
+        Ok(Book {
+            alloc,
+            opening,
+            cells,
+            entries: Vec::new(alloc),
+            attempts: Vec::new(alloc),
+            begun,
+        })
+    }
+
+    /// Undoes the newest live attempt, if there is one.
+    fn undo_last(&mut self) -> bool
+        ensures undone { IsTrue result → IsUndoneLast self.old self.new }
+        ensures none { result ≡ false → (self.new ≡ self.old) × (self.old.attempts ≡ []) }
+    {
+        let Some(attempt) = self.attempts.pop() else {
+            return false;
+        };
+        take_all_back(&mut self.cells, attempt.into_inverses());
+        true
+    }
+
+    /// The opening cells, the entries, and the cells after every live call is undone.
+    pub fn close(mut self) -> Closed
+        ensures opening { result.opening.cells ≡ self.opening }
+        ensures entries { result.entries.items ≡ self.entries }
+        ensures cells { result.cells.cells ≡ settled self.opening self.entries }
+    {
+        while self.undo_last() {}
+        let Book {
+            alloc: _,
+            opening,
+            cells,
+            entries,
+            attempts: _,
+            begun: _,
+        } = self;
+        Closed {
+            opening,
+            cells,
+            entries,
+        }
+    }
+
+    /// The ticket of a call's live attempt.
+    pub(crate) fn ticket_of(&self, call: u32) -> Option<Ticket>
+        ensures found { IfSome result (λ t. (t.call ≡ call) × ¬ (IsStale self.now call t.number)) }
+        ensures none { IfNone result (HasNoAttempt call self.now.attempts) }
+    {
+        ticket_in(&self.attempts, call)
+    }
+
+    /// What a cell holds now.
+    pub fn cell(&self, lock: Lock) -> Option<u64>
+        ensures { result ≡ finite.get self.now.now lock }
+    {
+        self.cells.get(lock)
+    }
+
+    /// What the type of a book keeps.
+    pub fn hold(&self)
+        ensures entries { EntriesAreSerialRun self.now }
+        ensures cells { CellsAreSettledButForHolders self.now }
+        ensures replies { LiveTracesGetReplies self.now }
+        ensures modes { LiveAttemptsGoTogether self.now }
+    {
+        let _cells = &self.cells;
+    }
+
+    /// Begins an attempt of a call.
+    pub fn begin(&mut self, call: u32) -> Result<Ticket, BeginRefusal>
+        ensures ok { IfOk result (λ ticket. (ticket.call ≡ call) × BeginDone self.old self.new call ticket.number) }
+        ensures no_such_call { (result ≡ Err BeginRefusal.NoSuchCall) ↔ (length self.old.begun ≤ call) }
+        ensures live { result ≡ Err BeginRefusal.Live → ¬ (HasNoAttempt call self.old.attempts) }
+        ensures committed { result ≡ Err BeginRefusal.Committed → ¬ (call_is_new call self.old.entries) }
+        ensures err { OnErr result (self.new ≡ self.old) }
+    {
+        if call as usize >= self.begun.len() {
+            return Err(BeginRefusal::NoSuchCall);
+        }
+        if !none_of(&self.attempts, call) {
+            return Err(BeginRefusal::Live);
+        }
+        if !is_new(&self.entries, call) {
+            return Err(BeginRefusal::Committed);
+        }
+        let number = self.begun[call as usize];
+        if number == u64::MAX {
+            return Err(BeginRefusal::NoMemory);
+        }
+        if self.attempts.reserve(1).is_err() {
+            return Err(BeginRefusal::NoMemory);
+        }
+        let attempt = Attempt::fresh(self.alloc, call, number);
+        match self.attempts.push(attempt) {
+            Ok(()) => (),
+            Err(_) => unreachable!(),
+        }
+        self.begun[call as usize] = number + 1;
+        Ok(Ticket { call, number })
+    }
+}
+
+/// Whether no attempt is of a call.
+fn none_of(attempts: &[Attempt], call: u32) -> bool
+    ensures { IsTrue result ↔ HasNoAttempt call attempts.now }
+{
+    for attempt in attempts {
+        if attempt.is_call(call) {
+            return false;
+        }
+    }
+    true
+}
+
+/// Whether no entry is of a call.
+fn is_new(entries: &[Entry], call: u32) -> bool
+    ensures { IsTrue result ↔ call_is_new call entries.now }
+{
+    for entry in entries {
+        if entry.is_call(call) {
+            return false;
+        }
+    }
+    true
+}
+
+impl Drop for Book {
+    fn drop(self) {
+        let Book {
+            alloc: _,
+            opening: _,
+            cells: _,
+            entries: _,
+            attempts: _,
+            begun: _,
+        } = self;
+    }
+}
+
+/// The ticket of a call's attempt among these.
+fn ticket_in(attempts: &[Attempt], call: u32) -> Option<Ticket>
+    ensures found { IfSome result (λ t. (t.call ≡ call) × ¬ (AllByRecursion (λ a. ¬ ((a.call ≡ call) × (a.number ≡ t.number))) attempts.now)) }
+    ensures none { IfNone result (HasNoAttempt call attempts.now) }
+{
+    for attempt in attempts {
+        if attempt.is_call(call) {
+            return Some(Ticket {
+                call,
+                number: attempt.number(),
+            });
+        }
+    }
+    None
+}

@@ -1,0 +1,4 @@
+pub mod Expression
+pub mod Numbers
+pub mod Turns
+pub mod Steps

@@ -1,0 +1,9 @@
+use Rattle.std.proofs.Common.{◌≡◌, ◌-◌, ◌≤◌, length}
+use Rattle.spec_binary.specs.Reading.{unsigned_at}
+use Rattle.spec_binary_laws.specs.ReadingExpressions.{items_at}
+use Rattle.expr_reader.proofs.Steps.{front}
+use Rattle.expr_reader.proofs.body.labels_of.Given as goal
+
+abbrev pub invariant-loop-i : goal.invariant-loop-i
+invariant-loop-i g l =
+    (front l.found.items (items_at (unsigned_at 32) (l.count - l._i) l.rest) ≡ items_at (unsigned_at 32) l.count l.bytes) × (length l.rest ≤ length l.bytes)

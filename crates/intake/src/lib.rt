@@ -1,0 +1,13 @@
+//! Numbered calls and a budget of fuel that threads share without a lock: each number is drawn once, and no more fuel is granted than there is.
+#![tactic(auto)]
+
+mod account;
+mod intake;
+mod rule;
+mod seat;
+#[cfg(test)]
+mod tests;
+
+pub use account::{Account, Limits};
+pub use intake::{Intake, NoMemory};
+pub use seat::Seat;

@@ -1,0 +1,133 @@
+// Whether a call starts, and with which function of its contract.
+#![tactic(auto)]
+
+ghost use Rattle.std.specs.Prelude.{◌≡◌, ◌+◌, ◌<◌, map, length, slice_get, Some, None, IfOk, IfErr, IfSome, IfNone, option_map, string_bytes, MatchOption};
+ghost use Rattle.spec_execution.specs.Run.{by_contract, Opens, Refused, exported, wrong_argument};
+ghost use Rattle.module_tree.specs.ModuleView.{export_view, export_desc_view};
+ghost use Rattle.spec_numeric.specs.Operators.{same_type, type_of};
+ghost use Rattle.std.specs.Prelude.{◌≤◌};
+ghost use Rattle.opening.specs.Views.{deployed_view, code_of, Enters};
+
+use call::Call;
+use link::deployed::Deployed;
+use module_tree::module::{Export, ExportDesc};
+use std::alloc::Allocator;
+use wtypes::{ValType, Value};
+
+/// Why a call does not start. The numbers are those of receipts.
+#[derive(Clone, Copy, Debug, PartialEq, Eq)]
+pub enum Refusal {
+    /// 1: nothing is exported under the name.
+    NoExport,
+    /// 2: what is exported is no function of the module's own.
+    NotFunction,
+    /// 3: there are too many arguments, or too few.
+    ArgCount,
+    /// 4: the argument of this place, from 0, is the first of another type.
+    ArgType(u32),
+    /// 6: there is no such contract.
+    NoContract,
+}
+
+impl Refusal {
+    /// The number of the cause.
+    pub fn code(self) -> u8
+        ensures { result ≡ code_of self }
+    {
+        match self {
+            Refusal::NoExport => 1,
+            Refusal::NotFunction => 2,
+            Refusal::ArgCount => 3,
+            Refusal::ArgType(_) => 4,
+            Refusal::NoContract => 6,
+        }
+    }
+}
+
+/// The number of the function that a call of this contract starts with, imports counted first. Of several causes of a
+/// refusal it answers the first of: the export, the function, the number of arguments, their types.
+///
+/// # Errors
+///
+/// Why the call does not start. `NoContract` is never among them.
+pub fn entry_of<A: Allocator>(contract: &Deployed<A>, call: &Call) -> Result<u32, Refusal>
+    ensures opens { IfOk result (λ func. by_contract call.now (Some (deployed_view contract.now)) ≡ Opens (record { number = call.now.contract; deployed = deployed_view contract.now }) func) }
+    ensures refused { IfErr result (λ r. by_contract call.now (Some (deployed_view contract.now)) ≡ Refused (code_of r)) }
+{
+    match exported_as(&contract.module().exports, call.entry()) {
+        None => Err(Refusal::NoExport),
+        Some(ExportDesc::Func(func)) => match check_args(contract, func, call.args()) {
+            Ok(()) => Ok(func),
+            Err(refusal) => Err(refusal),
+        },
+        Some(ExportDesc::Table(_) | ExportDesc::Memory(_) | ExportDesc::Global(_)) => {
+            Err(Refusal::NotFunction)
+        }
+    }
+}
+
+// What is exported under a name.
+fn exported_as<A: Allocator>(exports: &[Export<A>], name: &str) -> Option<ExportDesc>
+    ensures { option_map export_desc_view result ≡ exported name.now (map export_view exports.now) }
+{
+    for export in exports {
+        if name == export.name.as_str() {
+            return Some(export.desc);
+        }
+    }
+    None
+}
+
+// The first argument that is not of its parameter's type.
+fn wrong_arg(params: &[ValType], args: &[Value]) -> Option<usize>
+    requires { length params.now ≡ length args.now }
+    ensures which { result ≡ wrong_argument params.now args.now }
+    ensures below { IfSome result (λ i. i < length args.now) }
+{
+    for i in 0..args.len() {
+        if !has_type(args[i], params[i]) {
+            return Some(i);
+        }
+    }
+    None
+}
+
+// Whether a value is of a type.
+fn has_type(value: Value, value_type: ValType) -> bool
+    ensures { result ≡ same_type value_type (type_of value) }
+{
+    matches!(
+        (value_type, value),
+        (ValType::I32, Value::I32(_)) | (ValType::I64, Value::I64(_))
+    )
+}
+
+// The function is the module's own, and takes these arguments.
+fn check_args<A: Allocator>(
+    contract: &Deployed<A>,
+    func: u32,
+    args: &[Value],
+) -> Result<(), Refusal>
+    requires { length args.now ≤ 1024 }
+    ensures passes { IfOk result (λ _. Enters contract.now func args.now None) }
+    ensures refused { IfErr result (λ r. Enters contract.now func args.now (Some (code_of r))) }
+{
+    let imports = contract.hosts().len();
+    let module = contract.module();
+    let Some(own) = (func as usize).checked_sub(imports) else {
+        return Err(Refusal::NotFunction);
+    };
+    let Some(function) = module.funcs.get(own) else {
+        return Err(Refusal::NotFunction);
+    };
+    let Some(form) = module.types.get(function.type_index as usize) else {
+        return Err(Refusal::NotFunction);
+    };
+    if args.len() != form.params.len() {
+        return Err(Refusal::ArgCount);
+    }
+    match wrong_arg(&form.params, args) {
+        Some(i) => Err(Refusal::ArgType(i as u32)),
+        None => Ok(()),
+    }
+}

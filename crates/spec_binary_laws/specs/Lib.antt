@@ -1,0 +1,5 @@
+pub mod Opcodes
+pub mod ReadingExpressions
+pub mod Readers
+pub mod PlainLaws
+pub mod ExpressionLaws
