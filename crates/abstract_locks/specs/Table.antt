@@ -1,5 +1,5 @@
 -- Abstract locks: the modes that each call holds.
-use Rattle.std.specs.Prelude.{◌≡◌, ℕ, ◌+◌, true, Some, List, ◌++◌, take, drop, slice_set, slice_index_or}
+use Rattle.std.specs.Prelude.{◌≡◌, ℕ, ◌+◌, true, Some, List, ◌++◌, take, drop, slice_index_or}
 use Rattle.std.specs.List.{AllByRecursion}
 use Rattle.std.specs.FinMap.{get, insert, empty}
 use Rattle.spec_ledger.specs.declared.Lock.{Lock}

@@ -1,21 +1,23 @@
 // Abstract locks of calls that run at once (Dickerson, Gazzillo, Herlihy, Koskinen, "Adding Concurrency to Smart Contracts", PODC 2017, section 3).
 #![tactic(auto)]
 
-ghost use Rattle.std.specs.Prelude.{◌≡◌, ◌+◌, ◌<◌, ℕ, ◌++◌, true, IsTrue, ◌↔◌, Some, Option, if◌then◌else◌, IfOk, OnOk, OnErr, Err, length, take, drop, slice_set, slice_get, replicate};
-ghost use Rattle.std.specs.List.{AllByRecursion};
-ghost use Rattle.std.specs.Ordering.{eq_by_cmp};
+ghost use Rattle.std.specs.Prelude.{◌≡◌, ◌+◌, ◌-◌, ◌<◌, ◌≤◌, ℕ, ◌↔◌, IsTrue, IfOk, OnOk, OnErr, Err, length, slice_set, replicate};
 ghost use Rattle.std.specs.FinMap as finite;
-ghost use Rattle.spec_ledger.specs.Cells.{lock_cmp};
-ghost use Rattle.spec_ledger.specs.Modes.{join, join_held, goes_with, may_share, Modes};
-ghost use Rattle.abstract_locks.specs.Table.{asked, AllShare, others, row_at};
-ghost use Rattle.abstract_locks.specs.Held.{modes_from};
+ghost use Rattle.spec_ledger.specs.Modes.{join, join_held, goes_with, may_share};
+ghost use Rattle.abstract_locks.specs.Table.{AllShare, asked, others, row_at};
+ghost use Rattle.abstract_locks.specs.Held.{MayJoin, count_in, held_once};
 
+mod holder;
+mod sharing;
 #[cfg(test)]
 mod tests;
 
+use holder::Holder;
+use sharing::{Shared, Sharing, let_all_go};
 pub use spec_ledger::Mode;
 use std::alloc::Global;
 use std::marker::Model;
+use std::mem;
 use storage::{Lock, NoMemory};
 
 /// The mode that covers both: equal modes give that mode, different ones `Excl`.
@@ -56,86 +58,25 @@ pub fn may_hold(mode: Mode, held: Option<Mode>) -> bool
     }
 }
 
-fn same_lock(a: Lock, b: Lock) -> bool
-    ensures { result ≡ eq_by_cmp lock_cmp a b }
+/// How many others hold a lock that these many hold, the asker with them if it holds it.
+fn count_others(shared: Option<Shared>, held: Option<Mode>) -> u64
+    requires { held_once held ≤ count_in shared }
+    ensures { result ≡ count_in shared - held_once held }
 {
-    a == b
+    match (shared, held) {
+        (None, _) => 0,
+        (Some(shared), None) => shared.count,
+        (Some(shared), Some(_)) => shared.count - 1,
+    }
 }
 
-#[derive(Clone, Copy, Debug, PartialEq, Eq)]
-struct Held {
-    lock: Lock,
-    mode: Mode,
-}
-
-fn mode_after(step: Held, wanted: Lock, found: Option<Mode>) -> Option<Mode>
-    ensures { result ≡ (if eq_by_cmp lock_cmp wanted step.lock then Some step.mode else found) }
+/// Whether a mode goes with that of the others that hold a lock.
+fn may_join(shared: Option<Shared>, others: u64, joined: Mode) -> bool
+    ensures { IsTrue result ↔ MayJoin shared others joined }
 {
-    if same_lock(wanted, step.lock) {
-        Some(step.mode)
-    } else {
-        found
-    }
-}
-
-fn mode_in(held: &[Held], wanted: Lock) -> Option<Mode>
-    ensures { result ≡ finite.get (modes_from finite.empty held.now) wanted }
-{
-    let mut found = None;
-    for one in held {
-        found = mode_after(*one, wanted, found);
-    }
-    found
-}
-
-/// What one call holds.
-#[derive(Drop)]
-struct Holder {
-    held: Vec<Held>,
-}
-
-impl Model for Holder {
-    ghost use Rattle.std.specs.FinMap.{empty};
-    ghost use Rattle.spec_ledger.specs.Modes.{Modes as TheModes};
-    ghost use Rattle.spec_ledger.specs.Codes.{coded_modes};
-    ghost use Rattle.abstract_locks.specs.Held.{modes_from};
-
-    ghost Value = { TheModes };
-
-    ghost coded = { coded_modes };
-
-    ghost view = { λ h. modes_from empty h.held.items };
-}
-
-impl Holder {
-    fn new(alloc: Global) -> Holder
-        ensures { result ≡ finite.empty }
-    {
-        Holder {
-            held: Vec::new(alloc),
-        }
-    }
-
-    fn mode(&self, wanted: Lock) -> Option<Mode>
-        ensures { result ≡ finite.get self.now wanted }
-    {
-        mode_in(&self.held, wanted)
-    }
-
-    fn hold(&mut self, lock: Lock, mode: Mode) -> Result<(), NoMemory>
-        ensures ok { OnOk result (self.new ≡ finite.insert self.old lock mode) }
-        ensures err { OnErr result (self.new ≡ self.old) }
-    {
-        let Ok(()) = self.held.push(Held { lock, mode }) else {
-            return Err(NoMemory);
-        };
-        Ok(())
-    }
-
-    fn let_go(&mut self)
-        ensures { self.new ≡ finite.empty }
-    {
-        self.held.clear();
+    match shared {
+        None => true,
+        Some(shared) => others == 0 || goes_with(joined, shared.mode),
     }
 }
 
@@ -148,62 +89,28 @@ pub enum LockRefusal {
     NoMemory,
 }
 
-/// The modes that each call holds.
+/// The modes that each call holds. A lock is taken in time logarithmic in the number of locks, without a look at the other calls.
 #[derive(Drop)]
 pub struct Table {
+    alloc: Global,
     holders: Vec<Holder>,
+    locks: Sharing,
 }
 
 impl Model for Table {
-    ghost use Rattle.std.specs.Prelude.{List};
+    ghost use Rattle.std.specs.Prelude.{List, length, ◌<◌, ◌^◌};
     ghost use Rattle.std.specs.Coded.{coded_list};
     ghost use Rattle.spec_ledger.specs.Modes.{Modes as TheModes};
     ghost use Rattle.spec_ledger.specs.Codes.{coded_modes};
+    ghost use Rattle.abstract_locks.specs.Held.{AreShared};
 
     ghost Value = { List TheModes };
 
     ghost coded = { coded_list coded_modes };
 
     ghost view = { λ t. t.holders.items };
-}
 
-/// Whether each of these lets another hold a lock in a mode.
-fn all_share(holders: &[Holder], wanted: Lock, mode: Mode) -> bool
-    ensures { IsTrue result ↔ AllByRecursion (λ m. may_share (Some mode) (finite.get m wanted) ≡ true) holders.now }
-{
-    for holder in holders {
-        if !may_hold(mode, holder.mode(wanted)) {
-            return false;
-        }
-    }
-    true
-}
-
-fn both_share(before: &[Holder], later: &[Holder], wanted: Lock, mode: Mode) -> bool
-    ensures { IsTrue result ↔ AllByRecursion (λ m. may_share (Some mode) (finite.get m wanted) ≡ true) (before.now ++ later.now) }
-{
-    all_share(before, wanted, mode) && all_share(later, wanted, mode)
-}
-
-fn may_take(holders: &[Holder], call: usize, wanted: Lock, mode: Mode) -> bool
-    requires { call < length holders.now }
-    ensures { IsTrue result ↔ AllShare (row_at holders.now call) wanted mode (others holders.now call) }
-{
-    let joined = join_to(mode, holders[call].mode(wanted));
-    both_share(&holders[..call], &holders[call + 1..], wanted, joined)
-}
-
-/// Takes a lock in a mode for the holder at a place.
-fn take_at(holders: &mut [Holder], call: usize, lock: Lock, mode: Mode) -> Result<(), NoMemory>
-    requires { call < length holders.old }
-    ensures ok { OnOk result (holders.new ≡ slice_set holders.old call (asked (row_at holders.old call) lock mode)) }
-    ensures err { OnErr result (holders.new ≡ holders.old) }
-{
-    let joined = join_to(mode, holders[call].mode(lock));
-    let Ok(()) = holders[call].hold(lock, joined) else {
-        return Err(NoMemory);
-    };
-    Ok(())
+    ghost invariant = { λ t. AreShared t.locks t.holders.items × (length t.holders.items < 2 ^ 32) };
 }
 
 impl Table {
@@ -217,7 +124,11 @@ impl Table {
                 return Err(NoMemory);
             };
         }
-        Ok(Table { holders })
+        Ok(Table {
+            alloc,
+            holders,
+            locks: Sharing::new(alloc),
+        })
     }
 
     /// Takes a lock for a call, or refuses it where another call's mode does not go with it.
@@ -228,10 +139,22 @@ impl Table {
         ensures conflict { result ≡ Err LockRefusal.Conflict → ¬ (AllShare (row_at self.old call) lock mode (others self.old call)) }
         ensures err { OnErr result (self.new ≡ self.old) }
     {
-        if !may_take(&self.holders, call as usize, lock, mode) {
+        let held = self.holders[call as usize].mode(lock);
+        let shared = self.locks.at(lock);
+        let joined = join_to(mode, held);
+        let others = count_others(shared, held);
+        if !may_join(shared, others, joined) {
             return Err(LockRefusal::Conflict);
         }
-        let Ok(()) = take_at(&mut self.holders, call as usize, lock, mode) else {
+        let next = Shared {
+            mode: joined,
+            count: others + 1,
+        };
+        let Ok(()) = self.locks.put(lock, next) else {
+            return Err(LockRefusal::NoMemory);
+        };
+        let Ok(()) = self.holders[call as usize].hold(lock, joined) else {
+            self.locks.put_back(lock, shared);
             return Err(LockRefusal::NoMemory);
         };
         Ok(())
@@ -242,6 +165,7 @@ impl Table {
         requires { call < length self.old }
         ensures { self.new ≡ slice_set self.old call finite.empty }
     {
-        self.holders[call as usize].let_go();
+        let held = mem::replace(&mut self.holders[call as usize], Holder::new(self.alloc));
+        let_all_go(&mut self.locks, held);
     }
 }

@@ -15,7 +15,10 @@ fn adds_are_side_by_side_until_one_reads(rt: HostRuntime) -> Result<(), Fail> {
     let mut table = Table::open(rt.alloc(), 2)?;
     assert_eq!(rt; table.take(0, SEVEN, Mode::Add), Ok(()));
     assert_eq!(rt; table.take(1, SEVEN, Mode::Add), Ok(()));
-    assert_eq!(rt; table.take(0, SEVEN, Mode::Read), Err(LockRefusal::Conflict));
+    assert_eq!(rt;
+        table.take(0, SEVEN, Mode::Read),
+        Err(LockRefusal::Conflict)
+    );
     table.release(1);
     assert_eq!(rt; table.take(0, SEVEN, Mode::Read), Ok(()));
     assert_eq!(rt; table.take(1, SEVEN, Mode::Add), Err(LockRefusal::Conflict));

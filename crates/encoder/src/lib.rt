@@ -3,6 +3,7 @@
 
 ghost use Rattle.std.specs.Prelude.{◌≡◌, ◌++◌, length, take, OnOk, OnErr};
 ghost use Rattle.spec_binary.specs.Shortest.{shortest};
+ghost use Rattle.spec_binary.specs.Spells.{Spells};
 ghost use Rattle.module_tree.specs.Modules.{module_view};
 
 mod bytes;
@@ -18,14 +19,15 @@ use std::alloc::{AllocError, Allocator};
 use wtypes::NoMemory;
 
 /// Appends the shortest spelling of the module: the shortest numbers, no custom section, a section only where there is
-/// something in it, locals as maximal runs of one type, and no empty else part. Where memory is refused the buffer is
-/// as it was.
+/// something in it, locals as maximal runs of one type, and no empty else part. These bytes spell the module. Where
+/// memory is refused the buffer is as it was.
 pub fn encode<A: Allocator, B: Allocator>(
     tree: &Module<A>,
     out: &mut Vec<u8, B>,
 ) -> Result<(), NoMemory>
-    ensures spelled { OnOk result (out.new.items ≡ out.old.items ++ shortest (module_view tree.now)) }
+    ensures appended { OnOk result (out.new.items ≡ out.old.items ++ shortest (module_view tree.now)) }
     ensures refused { OnErr result (out.new.items ≡ out.old.items) }
+    ensures spells { Spells (shortest (module_view tree.now)) (module_view tree.now) }
 {
     let len = out.len();
     if let Err(refusal) = put_module(out, tree) {

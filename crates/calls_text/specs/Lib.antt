@@ -1,0 +1,4 @@
+pub mod Texts
+pub mod Refusals
+pub mod Receipts
+pub mod Rows

@@ -1,0 +1,12 @@
+//! Calls and receipts as lines of text.
+#![tactic(auto)]
+
+mod line;
+mod reader;
+mod receipt;
+#[cfg(test)]
+mod tests;
+mod words;
+
+pub use reader::{CallsRefusal, MOST_CALLS, read_calls};
+pub use receipt::{PositionLine, ReceiptText, ValueText};

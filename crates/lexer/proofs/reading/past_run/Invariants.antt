@@ -1,0 +1,10 @@
+use Rattle.std.proofs.Common.{◌≡◌, ◌≤◌, length}
+use Rattle.spec_text.specs.Lexical.{is_idchar}
+use Rattle.lexer.specs.Reading.{after_run}
+use Rattle.lexer.proofs.reading.past_run.Given as goal
+
+abbrev pub invariant-loop-rest : goal.invariant-loop-rest
+invariant-loop-rest l = (after_run is_idchar l.rest ≡ after_run is_idchar l.text) × (length l.rest ≤ length l.text)
+
+abbrev pub decreases-loop-rest : goal.decreases-loop-rest
+decreases-loop-rest l = length l.rest

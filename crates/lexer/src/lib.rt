@@ -1,0 +1,78 @@
+//! The tokens of a text in the text format of WebAssembly (Core Specification, 6.2 Lexical Format).
+#![tactic(auto)]
+
+ghost use Rattle.std.specs.Prelude.{◌≡◌, List, ⊤, IfOk, IfErr, length};
+ghost use Rattle.spec_text.specs.Lexical.{Lexes, LexesToOne};
+ghost use Rattle.lexer.specs.Views.{views, SpansRise};
+ghost use Rattle.lexer.specs.declared.LexRefusal.TheVariants.{NoMemory};
+ghost use Rattle.lexer.specs.Refused.{IsRightly};
+
+mod list;
+mod reading;
+mod states;
+
+pub use list::{Token, Tokens};
+
+use reading::read_piece;
+use states::Fault;
+use std::alloc::{AllocFailed, Allocator};
+
+/// Why a text has no tokens. A place is the number of bytes before it.
+#[derive(Clone, Copy, Debug, PartialEq, Eq)]
+pub enum LexRefusal {
+    /// What begins at this place is no token, white space or comment.
+    BadToken(usize),
+    /// The string or block comment that begins at this place does not end.
+    Unclosed(usize),
+    /// The allocator refused.
+    NoMemory,
+}
+
+impl<T: Drop> From<AllocFailed<T>> for LexRefusal {
+    ghost from_gives = { λ _ e. e ≡ NoMemory };
+
+    fn from(_failed: AllocFailed<T>) -> Self {
+        LexRefusal::NoMemory
+    }
+}
+
+/// The tokens of a text (Core Specification, 6.2.2 Tokens), each the longest that begins at its place. Of several faults the
+/// first one is answered. The places of refusals are for people to read, and no clause speaks of them.
+pub fn tokens<A: Allocator>(alloc: A, text: &str) -> Result<Tokens<A>, LexRefusal>
+    // The text is these tokens, each with the slice of its span, and white space and comments between them.
+    ensures lexes { IfOk result (λ tokens. Lexes text.now (views text.now tokens.items.items)) }
+    // No span is empty, they rise without overlap, and they end within the text.
+    ensures spans { IfOk result (λ tokens. SpansRise 0 tokens.items.items (length text.now)) }
+    // It is refused for another cause than memory only where it lexes to no list.
+    ensures refused { IfErr result (λ refusal. IsRightly text.now refusal) }
+{
+    let bytes = text.as_bytes();
+    let mut items = Vec::new(alloc);
+    let mut rest = bytes;
+    while !rest.is_empty() {
+        let from = bytes.len() - rest.len();
+        match read_piece(rest) {
+            Err(Fault::Bad) => return Err(LexRefusal::BadToken(from)),
+            Err(Fault::Unclosed) => return Err(LexRefusal::Unclosed(from)),
+            Ok((None, after)) => rest = after,
+            Ok((Some(kind), after)) => {
+                items.push(Token {
+                    kind,
+                    from,
+                    upto: bytes.len() - after.len(),
+                })?;
+                rest = after;
+            }
+        }
+    }
+    Ok(Tokens { items })
+}
+
+/// A law: no text lexes to two lists of tokens.
+pub fn no_text_lexes_to_two_lists()
+    ensures { LexesToOne }
+{
+}
+
+#[cfg(test)]
+mod tests;

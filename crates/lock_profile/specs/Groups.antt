@@ -1,0 +1,59 @@
+-- The last group of a lock, as an order goes on.
+use Rattle.std.specs.Prelude.{◌≡◌, ℕ, ◌+◌, ◌<◌, Option, Some, None, if◌then◌else◌, Bool, true, List, [], ◌∷◌, map, length, take}
+use Rattle.std.specs.FinMap.{entries, get}
+use Rattle.std.specs.Ordering.{eq_by_cmp, is_lt}
+use Rattle.spec_ledger.specs.declared.Lock.{Lock}
+use Rattle.spec_ledger.specs.declared.Mode.{Mode}
+use Rattle.spec_ledger.specs.Cells.{lock_cmp}
+use Rattle.spec_ledger.specs.Modes.{Modes, goes_with}
+use Rattle.spec_ledger.specs.Order.{holders}
+use Rattle.spec_ledger.specs.declared.Entry.{Entry}
+use Rattle.lock_profile.specs.declared.Held.{Held}
+use Rattle.lock_profile.specs.declared.Group.{Group}
+
+abbrev pub pair_of : Held → Lock × Mode
+pair_of h = (h.lock, h.mode)
+
+abbrev pub pairs : List Held → List (Lock × Mode)
+pairs hs = map pair_of hs
+
+-- whether the first lock is below the one that follows it, if there is one
+abbrev pub is_below_next : List Held → Bool
+is_below_next [] = true
+is_below_next (one ∷ []) = true
+is_below_next (one ∷ next ∷ more) = is_lt (lock_cmp one.lock next.lock)
+
+-- what a call holds of a lock
+abbrev pub held_at : Lock → Modes → Option Mode
+held_at q modes = get modes q
+
+-- the turn of a holder after the last group
+abbrev pub turn_next : Option Group → Mode → ℕ
+turn_next None mode = 0
+turn_next (Some g) mode = if goes_with g.mode mode then g.turn else g.turn + 1
+
+-- the last group after one more call
+abbrev pub group_of : Option Group → Option Mode → Option Group
+group_of last None = last
+group_of last (Some mode) = Some (record { mode = mode; turn = turn_next last mode })
+
+abbrev pub entry_of : (Lock → Option Group) → Held → Entry
+entry_of last h = record { lock = h.lock; mode = h.mode; turn = turn_next (last h.lock) h.mode }
+
+-- the entries of a call after these groups
+abbrev pub written : (Lock → Option Group) → Modes → List Entry
+written last modes = map (λ e. record { lock = e.0; mode = e.1; turn = turn_next (last e.0) e.1 }) (entries modes)
+
+-- what a lock has after these entries were written
+abbrev pub latest : Lock → List Entry → Option Group → Option Group
+latest q [] old = old
+latest q (e ∷ es) old = latest q es (if eq_by_cmp lock_cmp e.lock q then Some (record { mode = e.mode; turn = e.turn }) else old)
+
+-- the last group of these holders
+abbrev pub last_group : Option Group → List Mode → Option Group
+last_group last [] = last
+last_group last (m ∷ ms) = last_group (group_of last (Some m)) ms
+
+-- each lock's last group in an order
+abbrev pub GroupsOf : List Modes → (Lock → Option Group) → Type 0
+GroupsOf touched groups = (q : Lock) → groups q ≡ last_group None (holders (held_at q) touched)

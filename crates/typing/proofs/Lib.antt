@@ -1,0 +1,4 @@
+pub mod Bodies
+pub mod Constants
+pub mod Decides
+pub mod Gathered

@@ -1,0 +1,229 @@
+// The rules of globals, segments, the start function and exports.
+
+ghost use Rattle.std.specs.Prelude.{◌≡◌, ℕ, nat_lt, map, length, is_none, List, [], Some};
+ghost use Rattle.std.specs.List.{list_all, list_any};
+ghost use Rattle.std.specs.Str.{bytes_eq};
+ghost use Rattle.spec_syntax.specs.Syntax as syntax;
+ghost use Rattle.spec_numeric.specs.Operators;
+ghost use Rattle.spec_typing.specs.Principal;
+ghost use Rattle.module_tree.specs.View.{instrs_view};
+ghost use Rattle.module_tree.specs.ModuleView.{func_type_view, global_type_view, global_view, element_view, data_view, export_view, export_desc_view};
+ghost use Rattle.typing.specs.Tests;
+ghost use Rattle.typing.specs.Tests.{constant_passes, global_passes, element_passes, data_passes, start_passes, export_passes, exports_pass};
+
+use crate::rules::Fault;
+use body_typing::spaces::Spaces;
+use module_tree::instr::Instr;
+use module_tree::module::{DataSegment, Element, Export, ExportDesc, Global, GlobalType};
+use std::alloc::Allocator;
+use wtypes::{FuncType, PlainInstr, ValType, Value};
+
+fn same_type(a: ValType, b: ValType) -> bool
+    ensures { result ≡ Principal.same_type a b }
+{
+    match (a, b) {
+        (ValType::I32, ValType::I32) => true,
+        (ValType::I64, ValType::I64) => true,
+        _ => false,
+    }
+}
+
+fn type_of(v: Value) -> ValType
+    ensures { result ≡ Operators.type_of v }
+{
+    match v {
+        Value::I32(_) => ValType::I32,
+        Value::I64(_) => ValType::I64,
+    }
+}
+
+// Whether the instruction alone is a constant expression of this type.
+fn is_constant_op(imported: &[GlobalType], op: PlainInstr, t: ValType) -> bool
+    ensures { result ≡ constant_passes (map global_type_view imported.now) (syntax.seq (syntax.Plain op) syntax.nothing) t }
+{
+    match op {
+        PlainInstr::Const(v) => same_type(type_of(v), t),
+        PlainInstr::GlobalGet(index) => match imported.get(index as usize) {
+            None => false,
+            Some(g) => same_type(g.value_type, t) && !g.is_mutable,
+        },
+        _ => false,
+    }
+}
+
+// Whether this is a constant expression of this type.
+fn is_constant<A: Allocator>(imported: &[GlobalType], init: &Vec<Instr<A>, A>, t: ValType) -> bool
+    ensures { result ≡ constant_passes (map global_type_view imported.now) (instrs_view init.now.items) t }
+{
+    if init.len() != 1 {
+        return false;
+    }
+    match &init[0] {
+        Instr::Plain(_, op) => is_constant_op(imported, *op, t),
+        Instr::BrTable(_, _, _) => false,
+        Instr::Block(_, _, _) => false,
+        Instr::Loop(_, _, _) => false,
+        Instr::If(_, _, _, _) => false,
+    }
+}
+
+/// The first global whose expression is not constant or of another type.
+pub fn global_fault<A: Allocator>(
+    imported: &[GlobalType],
+    globals: &Vec<Global<A>, A>,
+) -> Option<Fault>
+    ensures { is_none result ≡ list_all (global_passes (map global_type_view imported.now)) (map global_view globals.now.items) }
+{
+    let mut place: u32 = 0;
+    for g in globals {
+        if !is_constant(imported, &g.init, g.global_type.value_type) {
+            return Some(Fault { place, rule: 5 });
+        }
+        place = place.saturating_add(1);
+    }
+    None
+}
+
+// Whether these are numbers of functions, of which there are so many.
+fn all_there<A: Allocator>(numbers: &Vec<u32, A>, funcs: usize) -> bool
+    ensures { result ≡ list_all (λ f. nat_lt f funcs) numbers.now.items }
+{
+    for f in numbers {
+        if *f as usize >= funcs {
+            return false;
+        }
+    }
+    true
+}
+
+fn element_fits<A: Allocator>(
+    tables: usize,
+    funcs: usize,
+    imported: &[GlobalType],
+    element: &Element<A>,
+) -> bool
+    ensures { result ≡ element_passes tables funcs (map global_type_view imported.now) (element_view element.now) }
+{
+    (element.table as usize) < tables
+        && (is_constant(imported, &element.offset, ValType::I32)
+            && all_there(&element.funcs, funcs))
+}
+
+/// The first element segment without its table, its functions or a constant offset, in a module of so many tables and
+/// functions.
+pub fn element_fault<A: Allocator>(
+    tables: usize,
+    funcs: usize,
+    imported: &[GlobalType],
+    elements: &Vec<Element<A>, A>,
+) -> Option<Fault>
+    ensures { is_none result ≡ list_all (element_passes tables funcs (map global_type_view imported.now)) (map element_view elements.now.items) }
+{
+    let mut place: u32 = 0;
+    for element in elements {
+        if !element_fits(tables, funcs, imported, element) {
+            return Some(Fault { place, rule: 9 });
+        }
+        place = place.saturating_add(1);
+    }
+    None
+}
+
+fn data_fits<A: Allocator>(
+    memories: usize,
+    imported: &[GlobalType],
+    segment: &DataSegment<A>,
+) -> bool
+    ensures { result ≡ data_passes memories (map global_type_view imported.now) (data_view segment.now) }
+{
+    (segment.memory as usize) < memories && is_constant(imported, &segment.offset, ValType::I32)
+}
+
+/// The first data segment without its memory or a constant offset, in a module of so many memories.
+pub fn data_fault<A: Allocator>(
+    memories: usize,
+    imported: &[GlobalType],
+    datas: &Vec<DataSegment<A>, A>,
+) -> Option<Fault>
+    ensures { is_none result ≡ list_all (data_passes memories (map global_type_view imported.now)) (map data_view datas.now.items) }
+{
+    let mut place: u32 = 0;
+    for segment in datas {
+        if !data_fits(memories, imported, segment) {
+            return Some(Fault { place, rule: 10 });
+        }
+        place = place.saturating_add(1);
+    }
+    None
+}
+
+fn takes_nothing<A: Allocator>(own: &FuncType<A>) -> bool
+    ensures { result ≡ Tests.takes_nothing (Some (func_type_view own.now)) }
+{
+    own.params.is_empty() && own.results.is_empty()
+}
+
+/// Whether the start function is not there or not of type `[] -> []`.
+pub fn start_fault<A: Allocator, W: Allocator>(
+    types: &Vec<FuncType<A>, A>,
+    funcs: &Vec<u32, W>,
+    start: Option<u32>,
+) -> Option<Fault>
+    ensures { is_none result ≡ start_passes (map func_type_view types.now.items) funcs.now.items start }
+{
+    let fault = Some(Fault { place: 0, rule: 8 });
+    let Some(func) = start else {
+        return None;
+    };
+    match funcs.get(func as usize) {
+        None => fault,
+        Some(index) => match types.get(*index as usize) {
+            None => fault,
+            Some(own) => { if takes_nothing(own) { None } else { fault } }
+        },
+    }
+}
+
+fn is_there<W: Allocator>(spaces: &Spaces<W>, desc: ExportDesc) -> bool
+    ensures { result ≡ export_passes (length spaces.now.funcs.items) (length spaces.now.tables.items) (length spaces.now.memories.items) (length spaces.now.globals.items) (export_desc_view desc) }
+{
+    match desc {
+        ExportDesc::Func(index) => (index as usize) < spaces.funcs.len(),
+        ExportDesc::Table(index) => (index as usize) < spaces.tables.len(),
+        ExportDesc::Memory(index) => (index as usize) < spaces.memories.len(),
+        ExportDesc::Global(index) => (index as usize) < spaces.globals.len(),
+    }
+}
+
+// Whether one of these exports has this name.
+fn is_named<A: Allocator>(exports: &[Export<A>], name: &str) -> bool
+    ensures { result ≡ list_any (λ n. bytes_eq n name.now) (map (λ e. e.name) (map export_view exports.now)) }
+{
+    for export in exports {
+        if export.name.as_str() == name {
+            return true;
+        }
+    }
+    false
+}
+
+/// The first export with the name of an earlier one, or of an index that is not there.
+pub fn export_fault<A: Allocator, W: Allocator>(
+    spaces: &Spaces<W>,
+    exports: &Vec<Export<A>, A>,
+) -> Option<Fault>
+    ensures { is_none result ≡ exports_pass (export_passes (length spaces.now.funcs.items) (length spaces.now.tables.items) (length spaces.now.memories.items) (length spaces.now.globals.items)) [] (map export_view exports.now.items) }
+{
+    let mut place: u32 = 0;
+    for i in 0..exports.len() {
+        let export = &exports[i];
+        if is_named(&exports[..i], export.name.as_str()) {
+            return Some(Fault { place, rule: 6 });
+        }
+        if !is_there(spaces, export.desc) {
+            return Some(Fault { place, rule: 7 });
+        }
+        place = place.saturating_add(1);
+    }
+    None
+}

@@ -1,0 +1,43 @@
+// Modules that are typed.
+ghost use Rattle.std.specs.Prelude.{◌≡◌, true};
+ghost use Rattle.module_tree.specs.Modules.{module_view};
+ghost use Rattle.typing.specs.Tests.{module_passes};
+
+use module_tree::module::Module;
+use std::alloc::Allocator;
+
+/// A module that is typed (Core Specification, 3.4 Modules).
+#[derive(Drop)]
+pub struct Valid<A: Allocator> {
+    tree: Module<A>,
+    pub ghost passes: { module_passes (module_view tree) ≡ true },
+}
+
+impl<A: Allocator> Valid<A> {
+    ghost use Rattle.spec_typing.specs.Modules.{ModuleTyped};
+    ghost use Rattle.typing.specs.Parts.{tree_of};
+
+    /// A module that has passed.
+    pub fn of_passed(tree: Module<A>) -> Valid<A>
+        requires { module_passes (module_view tree) ≡ true }
+        ensures { tree_of result ≡ tree }
+    {
+        Valid { tree }
+    }
+
+    /// The module.
+    pub fn module(&self) -> &Module<A>
+        ensures same { result.now ≡ tree_of self.now }
+        ensures typed { ModuleTyped (module_view result.now) }
+    {
+        &self.tree
+    }
+
+    /// Hands the module out.
+    pub fn into_module(self) -> Module<A>
+        ensures same { result ≡ tree_of self }
+        ensures typed { ModuleTyped (module_view result) }
+    {
+        self.tree
+    }
+}
