@@ -97,9 +97,9 @@ one_more b c bs mid s t r =
     elim (cases_eq b 59) [
       | inl e ↦ subst (λ (x : ℕ). BlockComment (x ∷ c ∷ bs) mid) (sym e) (semicolon (second_fails (b == 59) (c == 41) s (eq-eqb b 59 e)) r)
       | inr n ↦ elim (cases_eq b 40) [
-          | inl e ↦ subst (λ (x : ℕ). BlockComment (x ∷ c ∷ bs) mid) (sym e) (parenthesis (second_fails (b == 40) (c == 59) t (eq-eqb b 40 e)) r)
-          | inr m ↦ char n m r
-        ]
+        | inl e ↦ subst (λ (x : ℕ). BlockComment (x ∷ c ∷ bs) mid) (sym e) (parenthesis (second_fails (b == 40) (c == 59) t (eq-eqb b 40 e)) r)
+        | inr m ↦ char n m r
+      ]
     ]
 
 at_close : (around : ℕ) (bs rest : List ℕ) → next around bs ≡ Some rest → ((a : ℕ) → after_comment a bs ≡ Some rest → Closes a bs rest) → Closes around (59 ∷ 41 ∷ bs) rest

@@ -108,7 +108,7 @@ between_is (Some kind) text before rest piece after e f =
     let from : length text - length rest ≡ length before = omega arith in
     let upto : length text - length after ≡ length before + length piece = omega arith in
     let slice : slice_range text (length text - length rest) (length text - length after) ≡ piece =
-        ap (λ n. slice_range text n (length text - length after)) from ∙ ap (λ n. slice_range text (length before) n) upto ∙ ap (λ (t : List ℕ). slice_range t (length before) (length before + length piece)) w ∙ span_is before piece after in
+    ap (λ n. slice_range text n (length text - length after)) from ∙ ap (λ n. slice_range text (length before) n) upto ∙ ap (λ (t : List ℕ). slice_range t (length before) (length before + length piece)) w ∙ span_is before piece after in
     ap (λ n. record { kind = kind; from = n; text = piece } ∷ []) (sym from) ∙ ap (λ (p : List ℕ). record { kind = kind; from = length text - length rest; text = p } ∷ []) (sym slice)
 
 pub half_step : (text rest : List ℕ) (tokens : List Token) (kind : Option TokenKind) (after : List ℕ) → Half text rest tokens → piece_at rest ≡ Ok (kind, after)
@@ -126,10 +126,11 @@ half_step text rest tokens kind after h e =
       only = λ ts l. (
           let u = h.only ts l in
           let t = turn u.2 kind after e in
-          let piece_same : t.piece ≡ f.piece = same_piece t.piece f.piece after (sym t.whole ∙ f.whole) in
-          (t.others,
-           u.1 ∙ ap (λ (xs : List Token). tokens ++ xs) (t.front ∙ ap (λ (p : List ℕ). tokens_of kind (length h.before) p ++ t.others) piece_same) ∙ sym (append_assoc tokens (tokens_of kind (length h.before) f.piece) t.others),
-           subst (λ (n : ℕ). LexesFrom n after t.others) (sym far) (subst (λ (p : List ℕ). LexesFrom (length h.before + length p) after t.others) piece_same t.lexes)));
+          let piece_same : t.piece ≡ f.piece = same_piece t.piece f.piece after (sym t.whole ∙ f.whole) in (
+            t.others,
+            u.1 ∙ ap (λ (xs : List Token). tokens ++ xs) (t.front ∙ ap (λ (p : List ℕ). tokens_of kind (length h.before) p ++ t.others) piece_same) ∙ sym (append_assoc tokens (tokens_of kind (length h.before) f.piece) t.others),
+            subst (λ (n : ℕ). LexesFrom n after t.others) (sym far) (subst (λ (p : List ℕ). LexesFrom (length h.before + length p) after t.others) piece_same t.lexes),
+          ));
     })
 
 pub half_end : (text : List ℕ) (tokens : List Token) → Half text [] tokens → Lexes text tokens

@@ -176,19 +176,19 @@ read_is_piece (b ∷ bs) kind rest e =
     elim (chosen (is_white b) _ _ _ e) [
       | inl h ↦ found (b ∷ bs) None kind bs rest h.1 (record { piece = b ∷ []; whole = refl; is = white h.0 })
       | inr h1 ↦ elim (chosen (b == 59) _ _ _ h1.1) [
-          | inl h ↦ subst (λ (x : ℕ). Found kind (x ∷ bs) rest) (sym (eqb-true b 59 h.0)) (line_found bs kind rest h.1)
-          | inr h2 ↦ elim (chosen (b == 40) _ _ _ h2.1) [
-              | inl h ↦ subst (λ (x : ℕ). Found kind (x ∷ bs) rest) (sym (eqb-true b 40 h.0)) (bracket_found bs kind rest h.1)
-              | inr h3 ↦ elim (chosen (b == 41) _ _ _ h3.1) [
-                  | inl h ↦ found (b ∷ bs) (Some Close) kind bs rest h.1 (subst (λ (x : ℕ). Found (Some Close) (x ∷ bs) bs) (sym (eqb-true b 41 h.0)) (record { piece = 41 ∷ []; whole = refl; is = close_bracket }))
-                  | inr h4 ↦ elim (chosen (b == 34) _ _ _ h4.1) [
-                      | inl h ↦ subst (λ (x : ℕ). Found kind (x ∷ bs) rest) (sym (eqb-true b 34 h.0)) (text_found bs kind rest (after_string Plain bs) refl h.1)
-                      | inr h5 ↦ elim (chosen (is_idchar b) _ _ _ h5.1) [
-                          | inl h ↦ run_found (b ∷ bs) kind rest (kind_of (parts is_idchar (b ∷ bs)).run) refl (sym (run_read (b ∷ bs)) ∙ h.1)
-                          | inr h ↦ no_read Bad (kind, rest) h.1
-                        ]
-                    ]
-                ]
+        | inl h ↦ subst (λ (x : ℕ). Found kind (x ∷ bs) rest) (sym (eqb-true b 59 h.0)) (line_found bs kind rest h.1)
+        | inr h2 ↦ elim (chosen (b == 40) _ _ _ h2.1) [
+          | inl h ↦ subst (λ (x : ℕ). Found kind (x ∷ bs) rest) (sym (eqb-true b 40 h.0)) (bracket_found bs kind rest h.1)
+          | inr h3 ↦ elim (chosen (b == 41) _ _ _ h3.1) [
+            | inl h ↦ found (b ∷ bs) (Some Close) kind bs rest h.1 (subst (λ (x : ℕ). Found (Some Close) (x ∷ bs) bs) (sym (eqb-true b 41 h.0)) (record { piece = 41 ∷ []; whole = refl; is = close_bracket }))
+            | inr h4 ↦ elim (chosen (b == 34) _ _ _ h4.1) [
+              | inl h ↦ subst (λ (x : ℕ). Found kind (x ∷ bs) rest) (sym (eqb-true b 34 h.0)) (text_found bs kind rest (after_string Plain bs) refl h.1)
+              | inr h5 ↦ elim (chosen (is_idchar b) _ _ _ h5.1) [
+                | inl h ↦ run_found (b ∷ bs) kind rest (kind_of (parts is_idchar (b ∷ bs)).run) refl (sym (run_read (b ∷ bs)) ∙ h.1)
+                | inr h ↦ no_read Bad (kind, rest) h.1
+              ]
             ]
+          ]
         ]
+      ]
     ]

@@ -30,9 +30,9 @@ pub hex_is_low : (b : ℕ) → is_hex b ≡ true → b < 128
 hex_is_low b h =
     elim (or_cases (is_digit b || (nat_le 97 b && nat_le b 102)) (nat_le 65 b && nat_le b 70) h) [
       | inl l ↦ elim (or_cases (is_digit b) (nat_le 97 b && nat_le b 102) l) [
-          | inl d ↦ omega (arith, leb-true b 57 (and_parts (nat_le 48 b) (nat_le b 57) d).1)
-          | inr e ↦ omega (arith, leb-true b 102 (and_parts (nat_le 97 b) (nat_le b 102) e).1)
-        ]
+        | inl d ↦ omega (arith, leb-true b 57 (and_parts (nat_le 48 b) (nat_le b 57) d).1)
+        | inr e ↦ omega (arith, leb-true b 102 (and_parts (nat_le 97 b) (nat_le b 102) e).1)
+      ]
       | inr u ↦ omega (arith, leb-true b 70 (and_parts (nat_le 65 b) (nat_le b 70) u).1)
     ]
 
@@ -48,17 +48,20 @@ hex_is_apart b h =
     (q.0, q.1, p.1)
 
 digit_test : {b m : ℕ} → HexDigit b m → (is_hex b ≡ true) × (hex_value b ≡ m)
-digit_test (digit {b} h) =
-    (or_left (is_digit b || (nat_le 97 b && nat_le b 102)) (nat_le 65 b && nat_le b 70) (or_left (is_digit b) (nat_le 97 b && nat_le b 102) h),
-     cond-true (nat_le b 57) _ _ (and_parts (nat_le 48 b) (nat_le b 57) h).1)
+digit_test (digit {b} h) = (
+  or_left (is_digit b || (nat_le 97 b && nat_le b 102)) (nat_le 65 b && nat_le b 70) (or_left (is_digit b) (nat_le 97 b && nat_le b 102) h),
+  cond-true (nat_le b 57) _ _ (and_parts (nat_le 48 b) (nat_le b 57) h).1,
+)
 digit_test (lower {b} h) =
-    let low = leb-true 97 b (and_parts (nat_le 97 b) (nat_le b 102) h).0 in
-    (or_left (is_digit b || (nat_le 97 b && nat_le b 102)) (nat_le 65 b && nat_le b 70) (or_right (is_digit b) (nat_le 97 b && nat_le b 102) h),
-     cond-false (nat_le b 57) _ _ (lt-leb b 57 (omega arith)) ∙ cond-false (nat_le b 70) _ _ (lt-leb b 70 (omega arith)))
+    let low = leb-true 97 b (and_parts (nat_le 97 b) (nat_le b 102) h).0 in (
+      or_left (is_digit b || (nat_le 97 b && nat_le b 102)) (nat_le 65 b && nat_le b 70) (or_right (is_digit b) (nat_le 97 b && nat_le b 102) h),
+      cond-false (nat_le b 57) _ _ (lt-leb b 57 (omega arith)) ∙ cond-false (nat_le b 70) _ _ (lt-leb b 70 (omega arith)),
+    )
 digit_test (upper {b} h) =
-    let low = leb-true 65 b (and_parts (nat_le 65 b) (nat_le b 70) h).0 in
-    (or_right (is_digit b || (nat_le 97 b && nat_le b 102)) (nat_le 65 b && nat_le b 70) h,
-     cond-false (nat_le b 57) _ _ (lt-leb b 57 (omega arith)) ∙ cond-true (nat_le b 70) _ _ (and_parts (nat_le 65 b) (nat_le b 70) h).1)
+    let low = leb-true 65 b (and_parts (nat_le 65 b) (nat_le b 70) h).0 in (
+      or_right (is_digit b || (nat_le 97 b && nat_le b 102)) (nat_le 65 b && nat_le b 70) h,
+      cond-false (nat_le b 57) _ _ (lt-leb b 57 (omega arith)) ∙ cond-true (nat_le b 70) _ _ (and_parts (nat_le 65 b) (nat_le b 70) h).1,
+    )
 
 digit_small : {b m : ℕ} → HexDigit b m → m < 16
 digit_small (digit {b} h) = omega (arith, leb-true b 57 (and_parts (nat_le 48 b) (nat_le b 57) h).1)
@@ -182,18 +185,18 @@ short_from_test : (b : ℕ) → is_short b ≡ true → (c : ℕ) × ShortEscape
 short_from_test b h =
     elim (or_cases ((((b == 116) || (b == 110)) || (b == 114) || (b == 34)) || (b == 39)) (b == 92) h) [
       | inl h1 ↦ elim (or_cases (((b == 116) || (b == 110)) || (b == 114) || (b == 34)) (b == 39) h1) [
-          | inl h2 ↦ elim (or_cases (((b == 116) || (b == 110)) || (b == 114)) (b == 34) h2) [
-              | inl h3 ↦ elim (or_cases ((b == 116) || (b == 110)) (b == 114) h3) [
-                  | inl h4 ↦ elim (or_cases (b == 116) (b == 110) h4) [
-                      | inl e ↦ (9, subst (λ (x : ℕ). ShortEscape x 9) (sym (eqb-true b 116 e)) tab)
-                      | inr e ↦ (10, subst (λ (x : ℕ). ShortEscape x 10) (sym (eqb-true b 110 e)) newline)
-                    ]
-                  | inr e ↦ (13, subst (λ (x : ℕ). ShortEscape x 13) (sym (eqb-true b 114 e)) return)
-                ]
-              | inr e ↦ (34, subst (λ (x : ℕ). ShortEscape x 34) (sym (eqb-true b 34 e)) double_quote)
+        | inl h2 ↦ elim (or_cases (((b == 116) || (b == 110)) || (b == 114)) (b == 34) h2) [
+          | inl h3 ↦ elim (or_cases ((b == 116) || (b == 110)) (b == 114) h3) [
+            | inl h4 ↦ elim (or_cases (b == 116) (b == 110) h4) [
+              | inl e ↦ (9, subst (λ (x : ℕ). ShortEscape x 9) (sym (eqb-true b 116 e)) tab)
+              | inr e ↦ (10, subst (λ (x : ℕ). ShortEscape x 10) (sym (eqb-true b 110 e)) newline)
             ]
-          | inr e ↦ (39, subst (λ (x : ℕ). ShortEscape x 39) (sym (eqb-true b 39 e)) quote)
+            | inr e ↦ (13, subst (λ (x : ℕ). ShortEscape x 13) (sym (eqb-true b 114 e)) return)
+          ]
+          | inr e ↦ (34, subst (λ (x : ℕ). ShortEscape x 34) (sym (eqb-true b 34 e)) double_quote)
         ]
+        | inr e ↦ (39, subst (λ (x : ℕ). ShortEscape x 39) (sym (eqb-true b 39 e)) quote)
+      ]
       | inr e ↦ (92, subst (λ (x : ℕ). ShortEscape x 92) (sym (eqb-true b 92 e)) backslash)
     ]
 
@@ -220,14 +223,14 @@ turn Plain next b body e t =
     elim (chosen (b == 34) End _ (Go next) e) [
       | inl p ↦ absurd (let wrong : End ≡ Go next = p.1 in cc)
       | inr p ↦ elim (chosen (b == 92) (Go Slash) _ (Go next) p.1) [
-          | inl q ↦
-              let s : Tail Slash body = subst (λ (x : InString). Tail x body) (sym (go_same Slash next q.1)) t in
-              subst (λ (x : ℕ). Body (x ∷ body)) (sym (eqb-true b 92 q.0)) s
-          | inr q ↦ elim (chosen (is_plain b) (Go Plain) Wrong (Go next) q.1) [
-              | inl r ↦ let s : Tail Plain body = subst (λ (x : InString). Tail x body) (sym (go_same Plain next r.1)) t in (b ∷ s.0, plain r.0 s.1)
-              | inr r ↦ absurd (let wrong : Wrong ≡ Go next = r.1 in cc)
-            ]
+        | inl q ↦
+            let s : Tail Slash body = subst (λ (x : InString). Tail x body) (sym (go_same Slash next q.1)) t in
+            subst (λ (x : ℕ). Body (x ∷ body)) (sym (eqb-true b 92 q.0)) s
+        | inr q ↦ elim (chosen (is_plain b) (Go Plain) Wrong (Go next) q.1) [
+          | inl r ↦ let s : Tail Plain body = subst (λ (x : InString). Tail x body) (sym (go_same Plain next r.1)) t in (b ∷ s.0, plain r.0 s.1)
+          | inr r ↦ absurd (let wrong : Wrong ≡ Go next = r.1 in cc)
         ]
+      ]
     ]
 turn Slash next b body e t =
     elim (chosen (is_short b) (Go Plain) _ (Go next) e) [
@@ -236,14 +239,14 @@ turn Slash next b body e t =
           let c = short_from_test b p.0 in
           (c.0 ∷ s.0, short c.1 s.1)
       | inr p ↦ elim (chosen (b == 117) (Go Brace) _ (Go next) p.1) [
-          | inl q ↦
-              let s : Tail Brace body = subst (λ (x : InString). Tail x body) (sym (go_same Brace next q.1)) t in
-              subst (λ (x : ℕ). Body (92 ∷ x ∷ body)) (sym (eqb-true b 117 q.0)) s
-          | inr q ↦ elim (chosen (is_hex b) (Go Second) Wrong (Go next) q.1) [
-              | inl r ↦ let s : Tail Second body = subst (λ (x : InString). Tail x body) (sym (go_same Second next r.1)) t in s b (hex_value b) (digit_from_test b r.0)
-              | inr r ↦ absurd (let wrong : Wrong ≡ Go next = r.1 in cc)
-            ]
+        | inl q ↦
+            let s : Tail Brace body = subst (λ (x : InString). Tail x body) (sym (go_same Brace next q.1)) t in
+            subst (λ (x : ℕ). Body (92 ∷ x ∷ body)) (sym (eqb-true b 117 q.0)) s
+        | inr q ↦ elim (chosen (is_hex b) (Go Second) Wrong (Go next) q.1) [
+          | inl r ↦ let s : Tail Second body = subst (λ (x : InString). Tail x body) (sym (go_same Second next r.1)) t in s b (hex_value b) (digit_from_test b r.0)
+          | inr r ↦ absurd (let wrong : Wrong ≡ Go next = r.1 in cc)
         ]
+      ]
     ]
 turn Second next c body e t =
     elim (chosen (is_hex c) (Go Plain) Wrong (Go next) e) [
@@ -271,20 +274,26 @@ turn First next b body e t =
 turn (Digits n) next b body e t =
     elim (chosen (is_hex b) (Go (Digits (min (16 * n + hex_value b) 1114112))) _ (Go next) e) [
       | inl p ↦
-          let s : Tail (Digits (min (16 * n + hex_value b) 1114112)) body = subst (λ (x : InString). Tail x body) (sym (go_same (Digits (min (16 * n + hex_value b) 1114112)) next p.1)) t in
-          (b ∷ s.0, s.1, ap (λ (xs : List ℕ). b ∷ xs) s.2,
-           λ k same. (let v = s.3 (16 * k + hex_value b) (held_step k n (hex_value b) same) in (v.0, more (digit_from_test b p.0) v.1, v.2)),
-           s.4)
+          let s : Tail (Digits (min (16 * n + hex_value b) 1114112)) body = subst (λ (x : InString). Tail x body) (sym (go_same (Digits (min (16 * n + hex_value b) 1114112)) next p.1)) t in (
+            b ∷ s.0,
+            s.1,
+            ap (λ (xs : List ℕ). b ∷ xs) s.2,
+            λ k same. (let v = s.3 (16 * k + hex_value b) (held_step k n (hex_value b) same) in (v.0, more (digit_from_test b p.0) v.1, v.2)),
+            s.4,
+          )
       | inr p ↦ elim (chosen ((b == 125) && is_scalar n) (Go Plain) Wrong (Go next) p.1) [
-          | inl q ↦
-              let s : Tail Plain body = subst (λ (x : InString). Tail x body) (sym (go_same Plain next q.1)) t in
-              let both = and_parts (b == 125) (is_scalar n) q.0 in
-              let range = range_from_test n both.1 in
-              ([], body, ap (λ (x : ℕ). x ∷ body) (eqb-true b 125 both.0),
-               λ k same. (k, whole, subst InScalarRange (not_held k n same (range_below n range)) range),
-               s)
-          | inr q ↦ absurd (let wrong : Wrong ≡ Go next = q.1 in cc)
-        ]
+        | inl q ↦
+            let s : Tail Plain body = subst (λ (x : InString). Tail x body) (sym (go_same Plain next q.1)) t in
+            let both = and_parts (b == 125) (is_scalar n) q.0 in
+            let range = range_from_test n both.1 in (
+              [],
+              body,
+              ap (λ (x : ℕ). x ∷ body) (eqb-true b 125 both.0),
+              λ k same. (k, whole, subst InScalarRange (not_held k n same (range_below n range)) range),
+              s,
+            )
+        | inr q ↦ absurd (let wrong : Wrong ≡ Go next = q.1 in cc)
+      ]
     ]
 
 no_end1 : (t : Bool) (s : InString) → cond t (Go s) Wrong ≡ End → ⊥
@@ -310,12 +319,12 @@ ends_plain Plain b e =
     elim (chosen (b == 34) End _ End e) [
       | inl p ↦ (refl, eqb-true b 34 p.0)
       | inr p ↦ elim (chosen (b == 92) (Go Slash) _ End p.1) [
-          | inl q ↦ absurd (let wrong : Go Slash ≡ End = q.1 in cc)
-          | inr q ↦ elim (chosen (is_plain b) (Go Plain) Wrong End q.1) [
-              | inl r ↦ absurd (let wrong : Go Plain ≡ End = r.1 in cc)
-              | inr r ↦ absurd (let wrong : Wrong ≡ End = r.1 in cc)
-            ]
+        | inl q ↦ absurd (let wrong : Go Slash ≡ End = q.1 in cc)
+        | inr q ↦ elim (chosen (is_plain b) (Go Plain) Wrong End q.1) [
+          | inl r ↦ absurd (let wrong : Go Plain ≡ End = r.1 in cc)
+          | inr r ↦ absurd (let wrong : Wrong ≡ End = r.1 in cc)
         ]
+      ]
     ]
 ends_plain Slash b e = absurd (no_end3 (is_short b) (b == 117) (is_hex b) Plain Brace Second e)
 ends_plain Second b e = absurd (no_end1 (is_hex b) Plain e)

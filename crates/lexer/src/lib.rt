@@ -12,7 +12,6 @@ mod reading;
 mod states;
 
 pub use list::{Token, Tokens};
-
 use reading::read_piece;
 use states::Fault;
 use std::alloc::{AllocFailed, Allocator};
@@ -71,8 +70,7 @@ pub fn tokens<A: Allocator>(alloc: A, text: &str) -> Result<Tokens<A>, LexRefusa
 /// A law: no text lexes to two lists of tokens.
 pub fn no_text_lexes_to_two_lists()
     ensures { LexesToOne }
-{
-}
+{}
 
 #[cfg(test)]
 mod tests;

@@ -260,7 +260,11 @@ fn are_digits(hexadecimal: bool, text: &[u8]) -> bool
 {
     let mut had = false;
     for b in text {
-        let is_digit = if hexadecimal { is_hexadecimal_digit(*b) } else { is_decimal_digit(*b) };
+        let is_digit = if hexadecimal {
+            is_hexadecimal_digit(*b)
+        } else {
+            is_decimal_digit(*b)
+        };
         if is_digit {
             had = true;
         } else if had && *b == b'_' {

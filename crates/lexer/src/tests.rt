@@ -140,14 +140,30 @@ fn each_kind_of_token(rt: HostRuntime) -> Result<(), Fail> {
 #[test]
 fn broken_texts(rt: HostRuntime) -> Result<(), Fail> {
     for (text, refusal) in BROKEN {
-        assert_eq!(rt; refusal_of(tokens(rt.alloc(), text)), Some(refusal), "in {text}");
+        assert_eq!(rt;
+            refusal_of(tokens(rt.alloc(), text)),
+            Some(refusal),
+            "in {text}"
+        );
     }
     Ok(())
 }
 
 #[test]
 fn texts_with_no_token(rt: HostRuntime) -> Result<(), Fail> {
-    for text in ["", " \t\r\n", ";;", ";; (; x", ";;\n;;\n", "(;;)", "(; ;; ;)", "(;);)", "(; ) ( ; ;)", "(;(;;)(;;);)", "(; \" ;)"] {
+    for text in [
+        "",
+        " \t\r\n",
+        ";;",
+        ";; (; x",
+        ";;\n;;\n",
+        "(;;)",
+        "(; ;; ;)",
+        "(;);)",
+        "(; ) ( ; ;)",
+        "(;(;;)(;;);)",
+        "(; \" ;)",
+    ] {
         assert_eq!(rt; tokens(rt.alloc(), text)?.items.len(), 0, "in {text}");
     }
     Ok(())

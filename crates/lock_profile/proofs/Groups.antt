@@ -1,5 +1,5 @@
 -- The groups after a position's entries.
-use Rattle.std.proofs.Common.{◌≡◌, ℕ, ◌+◌, ◌<◌, Bool, true, false, cond, ◌&&◌, T, Option, Some, None, List, [], ◌∷◌, ◌++◌, map, length, take, get_or, refl, sym, ◌∙◌, ap, subst}
+use Rattle.std.proofs.Common.{◌≡◌, ℕ, ◌+◌, ◌<◌, Bool, true, false, cond, ◌&&◌, T, Option, Some, None, List, [], ◌∷◌, ◌++◌, map, length, take, get_or, refl, sym, ◌∙◌, ap}
 use Rattle.std.proofs.lemmas.List.{take_more}
 use Rattle.std.specs.declared.cmp.Ordering.{Ordering}
 use Rattle.std.specs.declared.cmp.Ordering.TheVariants.{Less, Equal, Greater}
@@ -56,12 +56,12 @@ module _ {X : Type 0} where
   map_found f g (e ∷ es) h same =
       let head : f e ≡ g e = same e.0 e.1 (ap (λ r. cond (is_eq r) (Some e.1) (find lock_cmp e.0 es)) (tied_itself lock_cmp_total e.0)) in
       let rest : map f es ≡ map g es = map_found f g es (right _ _ h) (λ q v is. same q v (
-          elim (eq_by_cmp lock_cmp q e.0) as (λ b. eq_by_cmp lock_cmp q e.0 ≡ b → cond b (Some e.1) (find lock_cmp q es) ≡ Some v) [
-            | true ↦ λ t.
-                let none : find lock_cmp q es ≡ None = ap (λ k. find lock_cmp k es) (is_key lock_cmp_total lock_cmp-IsAntisymmetric q e.0 t) ∙ find_below e.0 es (left _ _ h) in
-                let no : None ≡ Some v = sym none ∙ is in cc
-            | false ↦ λ t. is
-          ] refl)) in
+      elim (eq_by_cmp lock_cmp q e.0) as (λ b. eq_by_cmp lock_cmp q e.0 ≡ b → cond b (Some e.1) (find lock_cmp q es) ≡ Some v) [
+        | true ↦ λ t.
+            let none : find lock_cmp q es ≡ None = ap (λ k. find lock_cmp k es) (is_key lock_cmp_total lock_cmp-IsAntisymmetric q e.0 t) ∙ find_below e.0 es (left _ _ h) in
+            let no : None ≡ Some v = sym none ∙ is in cc
+        | false ↦ λ t. is
+      ] refl)) in
       λ i. head i ∷ rest i
 
 module _ (last : Lock → Option Group) where
@@ -69,7 +69,7 @@ module _ (last : Lock → Option Group) where
   latest_none q [] old e = refl
   latest_none q (h ∷ hs) old e =
       elim (eq_by_cmp lock_cmp q h.lock) as (λ b. eq_by_cmp lock_cmp q h.lock ≡ b → cond b (Some h.mode) (find lock_cmp q (pairs hs)) ≡ None
-        → latest q (map (entry_of last) hs) (cond (eq_by_cmp lock_cmp h.lock q) (Some (record { mode = h.mode; turn = turn_next (last h.lock) h.mode })) old) ≡ old) [
+      → latest q (map (entry_of last) hs) (cond (eq_by_cmp lock_cmp h.lock q) (Some (record { mode = h.mode; turn = turn_next (last h.lock) h.mode })) old) ≡ old) [
         | true ↦ λ t is. cc
         | false ↦ λ t is.
             ap (λ b. latest q (map (entry_of last) hs) (cond b (Some (record { mode = h.mode; turn = turn_next (last h.lock) h.mode })) old)) (turned q h.lock false t)
@@ -81,8 +81,8 @@ module _ (last : Lock → Option Group) where
   groups_placed q [] s = refl
   groups_placed q (h ∷ hs) s =
       elim (eq_by_cmp lock_cmp q h.lock) as (λ b. eq_by_cmp lock_cmp q h.lock ≡ b
-        → latest q (map (entry_of last) hs) (cond (eq_by_cmp lock_cmp h.lock q) (Some (record { mode = h.mode; turn = turn_next (last h.lock) h.mode })) (last q))
-          ≡ group_of (last q) (cond b (Some h.mode) (find lock_cmp q (pairs hs)))) [
+      → latest q (map (entry_of last) hs) (cond (eq_by_cmp lock_cmp h.lock q) (Some (record { mode = h.mode; turn = turn_next (last h.lock) h.mode })) (last q))
+      ≡ group_of (last q) (cond b (Some h.mode) (find lock_cmp q (pairs hs)))) [
         | true ↦ λ t.
             let same : q ≡ h.lock = is_key lock_cmp_total lock_cmp-IsAntisymmetric q h.lock t in
             let none : find lock_cmp q (pairs hs) ≡ None = ap (λ k. find lock_cmp k (pairs hs)) same ∙ find_below h.lock (pairs hs) (left _ _ s) in

@@ -1,14 +1,13 @@
 -- The groups of an order, one position more.
-use Rattle.std.proofs.Common.{◌≡◌, ℕ, ◌+◌, ◌<◌, ◌≤◌, ◌^◌, Bool, true, false, cond, T, Option, Some, None, List, [], ◌∷◌, ◌++◌, map, length, take, get_or, refl, sym, ◌∙◌, ap, subst, arith}
-use Rattle.std.specs.List.{filter_map, cons_option}
+use Rattle.std.proofs.Common.{◌≡◌, ℕ, ◌+◌, ◌<◌, ◌≤◌, true, false, cond, Option, Some, None, List, [], ◌∷◌, ◌++◌, length, take, get_or, refl, sym, ◌∙◌, ap, arith}
+use Rattle.std.specs.List.{cons_option}
 use Rattle.std.proofs.lemmas.List.{take_more}
 use Rattle.std.proofs.lemmas.List.Elements.{filter_map-append}
-use Rattle.std.specs.FinMap.{find, is_sorted, get, entries, entries_sorted, get-entries, empty}
+use Rattle.std.specs.FinMap.{get, entries, entries_sorted, get-entries, empty}
 use Rattle.spec_ledger.specs.declared.Lock.{Lock}
 use Rattle.spec_ledger.specs.declared.Mode.{Mode}
-use Rattle.spec_ledger.specs.Cells.{lock_cmp}
 use Rattle.spec_ledger.specs.Modes.{Modes, goes_with}
-use Rattle.spec_ledger.specs.Order.{holders, groups_after, groups_before_last, turn_at}
+use Rattle.spec_ledger.specs.Order.{holders, groups_after, groups_before_last}
 use Rattle.lock_profile.specs.Turns.{profile_at}
 use Rattle.lock_profile.specs.declared.Group.{Group}
 use Rattle.lock_profile.specs.Groups.{held_at, last_group, group_of, turn_next, written, GroupsOf}
@@ -57,12 +56,12 @@ pub written_is : (touched : List Modes) (i : ℕ) (groups : Lock → Option Grou
     → written groups (get_or touched i empty) ≡ profile_at touched i
 written_is touched i groups below of =
     map_found _ _ (entries (get_or touched i empty)) (entries_sorted (get_or touched i empty)) (λ q m is.
-      let there : get (get_or touched i empty) q ≡ Some m = get-entries (get_or touched i empty) q ∙ is in
-      ap (λ t. record { lock = q; mode = m; turn = t })
-      (ap (λ g. turn_next g m) (of q) ∙ sym (next_is (last_group None (holders (held_at q) (take i touched))) m)
-        ∙ ap (λ o. turn_value (group_of (last_group None (holders (held_at q) (take i touched))) o)) (sym there)
-        ∙ ap turn_value (groups_step touched i empty q below)
-        ∙ turn_is (holders (held_at q) (take (i + 1) touched))))
+    let there : get (get_or touched i empty) q ≡ Some m = get-entries (get_or touched i empty) q ∙ is in
+    ap (λ t. record { lock = q; mode = m; turn = t })
+    (ap (λ g. turn_next g m) (of q) ∙ sym (next_is (last_group None (holders (held_at q) (take i touched))) m)
+    ∙ ap (λ o. turn_value (group_of (last_group None (holders (held_at q) (take i touched))) o)) (sym there)
+    ∙ ap turn_value (groups_step touched i empty q below)
+    ∙ turn_is (holders (held_at q) (take (i + 1) touched))))
 
 after-le-length : (m : Mode) (ms : List Mode) → groups_after m ms ≤ length ms
 after-le-length m [] = omega arith

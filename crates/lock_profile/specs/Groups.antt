@@ -1,5 +1,5 @@
 -- The last group of a lock, as an order goes on.
-use Rattle.std.specs.Prelude.{◌≡◌, ℕ, ◌+◌, ◌<◌, Option, Some, None, if◌then◌else◌, Bool, true, List, [], ◌∷◌, map, length, take}
+use Rattle.std.specs.Prelude.{◌≡◌, ℕ, ◌+◌, Option, Some, None, if◌then◌else◌, Bool, true, List, [], ◌∷◌, map}
 use Rattle.std.specs.FinMap.{entries, get}
 use Rattle.std.specs.Ordering.{eq_by_cmp, is_lt}
 use Rattle.spec_ledger.specs.declared.Lock.{Lock}

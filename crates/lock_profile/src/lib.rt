@@ -180,7 +180,11 @@ fn next_turn(last: Option<Group>, mode: Mode) -> u32
 }
 
 /// The entries of a call that comes after these groups.
-fn entries_after(alloc: Global, groups: &BTreeMap<Lock, Group>, held: &[Held]) -> Result<Vec<Entry>, NoMemory>
+fn entries_after(
+    alloc: Global,
+    groups: &BTreeMap<Lock, Group>,
+    held: &[Held],
+) -> Result<Vec<Entry>, NoMemory>
     requires { (lock : Lock) (mode : Mode) → turn_next (get lock_cmp groups.now lock) mode < 2 ^ 32 }
     ensures { IfOk result (λ es. es.items ≡ map (entry_of (get lock_cmp groups.now)) held.now) }
 {
@@ -220,7 +224,11 @@ fn write_groups(groups: &mut BTreeMap<Lock, Group>, entries: &[Entry]) -> Result
 }
 
 /// The profile of the next call of an order, and the groups after it.
-fn profile_after(alloc: Global, groups: &mut BTreeMap<Lock, Group>, touched: &Touched) -> Result<Profile, NoMemory>
+fn profile_after(
+    alloc: Global,
+    groups: &mut BTreeMap<Lock, Group>,
+    touched: &Touched,
+) -> Result<Profile, NoMemory>
     requires { (lock : Lock) (mode : Mode) → turn_next (get lock_cmp groups.old lock) mode < 2 ^ 32 }
     ensures ok { IfOk result (λ p. p ≡ written (get lock_cmp groups.old) touched.now) }
     ensures groups { OnOk result ((q : Lock) → get lock_cmp groups.new q ≡ group_of (get lock_cmp groups.old q) (finite.get touched.now q)) }

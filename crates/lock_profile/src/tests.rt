@@ -62,8 +62,14 @@ fn a_reader_and_a_writer_take_turns(rt: HostRuntime) -> Result<(), Fail> {
     order.push(touched(rt.alloc(), &[map(Mode::Excl)])?)?;
     let profiles = turns(rt.alloc(), &order)?;
     assert_eq!(rt; profiles.len(), 2);
-    assert_eq!(rt; profiles[0].entries(), [entry(map(Mode::Read), 0)].as_slice());
-    assert_eq!(rt; profiles[1].entries(), [entry(map(Mode::Excl), 1)].as_slice());
+    assert_eq!(rt;
+        profiles[0].entries(),
+        [entry(map(Mode::Read), 0)].as_slice()
+    );
+    assert_eq!(rt;
+        profiles[1].entries(),
+        [entry(map(Mode::Excl), 1)].as_slice()
+    );
     Ok(())
 }
 
@@ -75,9 +81,15 @@ fn turns_of_one_lock_leave_the_other_alone(rt: HostRuntime) -> Result<(), Fail> 
     order.push(touched(rt.alloc(), &[map(Mode::Excl), add(Mode::Add)])?)?;
     let profiles = turns(rt.alloc(), &order)?;
     assert_eq!(rt; profiles.len(), 3);
-    assert_eq!(rt; profiles[0].entries(), [entry(map(Mode::Excl), 0), entry(add(Mode::Add), 0)].as_slice());
+    assert_eq!(rt;
+        profiles[0].entries(),
+        [entry(map(Mode::Excl), 0), entry(add(Mode::Add), 0)].as_slice()
+    );
     assert_eq!(rt; profiles[1].entries().len(), 0);
-    assert_eq!(rt; profiles[2].entries(), [entry(map(Mode::Excl), 1), entry(add(Mode::Add), 0)].as_slice());
+    assert_eq!(rt;
+        profiles[2].entries(),
+        [entry(map(Mode::Excl), 1), entry(add(Mode::Add), 0)].as_slice()
+    );
     Ok(())
 }
 

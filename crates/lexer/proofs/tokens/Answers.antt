@@ -30,9 +30,10 @@ pub loop-bytes-preserved-in-Ok-None-default : goal.loop-bytes-preserved-in-Ok-No
 loop-bytes-preserved-in-Ok-None-default g c =
     let bytes = c.as_bytes-bytes.result.now in
     let n = c.in-Ok-None-default in
-    let less : length n.after.now < length c.loop-bytes.rest.now = piece_shorter c.loop-bytes.rest.now n.field-0-0 n.after.now (sym n.ensures) in
-    (half_blank bytes c.loop-bytes.rest.now (views bytes c.loop-bytes.items.items) n.field-0-0 n.after.now c.loop-bytes.invariant.0 (sym n.ensures) n.field-0-0-is,
-     spans_wider 0 c.loop-bytes.items.items (length bytes - length c.loop-bytes.rest.now) (length bytes - length n.after.now) c.loop-bytes.invariant.1 (omega arith))
+    let less : length n.after.now < length c.loop-bytes.rest.now = piece_shorter c.loop-bytes.rest.now n.field-0-0 n.after.now (sym n.ensures) in (
+      half_blank bytes c.loop-bytes.rest.now (views bytes c.loop-bytes.items.items) n.field-0-0 n.after.now c.loop-bytes.invariant.0 (sym n.ensures) n.field-0-0-is,
+      spans_wider 0 c.loop-bytes.items.items (length bytes - length c.loop-bytes.rest.now) (length bytes - length n.after.now) c.loop-bytes.invariant.1 (omega arith),
+    )
 
 pub overflow_sub-bytes : goal.overflow_sub-bytes
 overflow_sub-bytes g c =
@@ -47,15 +48,16 @@ pub loop-bytes-preserved : goal.loop-bytes-preserved
 loop-bytes-preserved g c =
     let bytes = c.as_bytes-bytes.result.now in
     let half = half_token bytes c.loop-bytes.rest.now (views bytes c.loop-bytes.items.items) c.in-Ok-Some-default.field-0-0 c.in-Ok-Some-default.kind c.in-Ok-Some-default.after.now
-        c.loop-bytes.invariant.0 (sym c.in-Ok-Some-default.ensures) c.in-Ok-Some-default.field-0-0-is in
+    c.loop-bytes.invariant.0 (sym c.in-Ok-Some-default.ensures) c.in-Ok-Some-default.field-0-0-is in
     let h = c.in_ok-push-in-Ok-Some-default.ensures.items in
     let s = c.in-Ok-Some-default in
     let less : length s.after.now < length c.loop-bytes.rest.now = piece_shorter c.loop-bytes.rest.now s.field-0-0 s.after.now (sym s.ensures) in
     let within = half_shorter bytes c.loop-bytes.rest.now (views bytes c.loop-bytes.items.items) c.loop-bytes.invariant.0 in
-    let t : Token = record { kind = s.kind; from = length bytes - length c.loop-bytes.rest.now; upto = length bytes - length s.after.now } in
-    (subst (λ (xs : List T.Token). Half bytes s.after.now xs) (sym (ap (views bytes) h ∙ map_push (view bytes) c.loop-bytes.items.items _)) half,
-     subst (λ (xs : List Token). SpansRise 0 xs (length bytes - length s.after.now)) (sym h)
-     (spans_push 0 c.loop-bytes.items.items (length bytes - length c.loop-bytes.rest.now) t c.loop-bytes.invariant.1 (omega arith) (omega arith)))
+    let t : Token = record { kind = s.kind; from = length bytes - length c.loop-bytes.rest.now; upto = length bytes - length s.after.now } in (
+      subst (λ (xs : List T.Token). Half bytes s.after.now xs) (sym (ap (views bytes) h ∙ map_push (view bytes) c.loop-bytes.items.items _)) half,
+      subst (λ (xs : List Token). SpansRise 0 xs (length bytes - length s.after.now)) (sym h)
+          (spans_push 0 c.loop-bytes.items.items (length bytes - length c.loop-bytes.rest.now) t c.loop-bytes.invariant.1 (omega arith) (omega arith)),
+    )
 
 pub returns-clause-lexes : goal.returns-clause-lexes
 returns-clause-lexes g c =

@@ -1,8 +1,7 @@
-use Rattle.std.proofs.Common.{◌≡◌, T, map, List, ap, subst, sym, ◌∙◌}
+use Rattle.std.proofs.Common.{T, map, ap, subst, sym, ◌∙◌}
 use Rattle.std.specs.BTreeMap.{get}
 use Rattle.std.specs.FinMap as finite
 use Rattle.spec_ledger.specs.Cells.{lock_cmp}
-use Rattle.spec_ledger.specs.Modes.{Modes}
 use Rattle.lock_profile.specs.Groups.{pairs, turn_next, entry_of, latest, group_of}
 use Rattle.lock_profile.proofs.Groups.{groups_placed, same_sorted, map_pairs}
 use Rattle.lock_profile.proofs.profile_after.Goals as goal
