@@ -11,7 +11,7 @@ ghost use Rattle.spec_block.specs.Worlds.{Block, Call, World, profiles_of};
 ghost use Rattle.spec_block.specs.Runs.{RunsAreUnique};
 ghost use Rattle.spec_execution.specs.Serial.{Ran};
 ghost use Rattle.spec_block.specs.Serial.{Serial};
-ghost use Rattle.spec_block.specs.Bytes.{IsCall, SpellsBlock, SpellsWorld, TreesAreUnique, calls_bytes};
+ghost use Rattle.spec_block.specs.Bytes.{IsCall, SpellsBlock, SpellsWorld, calls_bytes};
 ghost use Rattle.spec_block.specs.Verdicts.{IsVerdictOf, Verdict};
 ghost use Rattle.spec_block.specs.Headline.{AcceptsExactly, Headline};
 ghost use Rattle.spec_block.specs.Schedule.{HaveTurns, PathsJoin, WavesGoTogether};
@@ -21,12 +21,13 @@ pub fn accepts_exactly()
     ensures exactly { RunsAreUnique → (world : World) (calls : List Call) (fuel : ℕ) (bytes : List ℕ) → AcceptsExactly world calls fuel bytes }
 {}
 
-/// Bytes spell one block, one list of calls and, where they spell one tree, one world.
+/// Bytes spell one block, one list of calls and one world.
 pub fn one_block_a_spelling()
     ensures one { (bytes : List ℕ) (b c : Block) → SpellsBlock bytes b → SpellsBlock bytes c → b ≡ c }
     ensures calls { (xs ys : List Call) → length xs ≤ 65535 → length ys ≤ 65535 → AllByRecursion IsCall xs → AllByRecursion IsCall ys → calls_bytes xs ≡ calls_bytes ys → xs ≡ ys }
-    ensures worlds { TreesAreUnique → (bytes : List ℕ) (v w : World) → SpellsWorld bytes v → SpellsWorld bytes w → v ≡ w }
+    ensures worlds { (bytes : List ℕ) (v w : World) → SpellsWorld bytes v → SpellsWorld bytes w → v ≡ w }
 {
+    spec_module_laws::one_tree();
     spec_typing::resolved_once();
 }
 

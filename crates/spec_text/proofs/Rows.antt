@@ -24,7 +24,16 @@ no_type = record { params = []; results = [] }
 
 abbrev made : Module
 made = record {
-  types = no_type ∷ []; imports = []; funcs = record { type_index = 0; locals = []; body = S.seq (S.Plain P.Nop) S.nothing } ∷ []; tables = []; memories = []; globals = []; exports = []; start = None; elements = []; datas = [];
+  types = no_type ∷ [];
+  imports = [];
+  funcs = record { type_index = 0; locals = []; body = S.seq (S.Plain P.Nop) S.nothing } ∷ [];
+  tables = [];
+  memories = [];
+  globals = [];
+  exports = [];
+  start = None;
+  elements = [];
+  datas = [];
 }
 
 abbrev tokens : List Token
@@ -67,13 +76,18 @@ none_there : (i : ℕ) → R.FirstType no_type [] i → ⊥
 none_there i h = elim h [ ]
 
 resolved : R.Resolves fields made
-resolved =
-    (spaces,
-     record {
-       types = R.is_new none_there R.all_added;
-       type_names = (refl, R.no_names); funcs = (refl, R.unnamed R.no_names); tables = (refl, R.no_names); memories = (refl, R.no_names); globals = (refl, R.no_names);
-     },
-     R.func refl (R.inline (R.this_type refl)) R.no_names (R.plain (R.simply refl) R.nothing) R.end)
+resolved = (
+  spaces,
+  record {
+    types = R.is_new none_there R.all_added;
+    type_names = (refl, R.no_names);
+    funcs = (refl, R.unnamed R.no_names);
+    tables = (refl, R.no_names);
+    memories = (refl, R.no_names);
+    globals = (refl, R.no_names);
+  },
+  R.func refl (R.inline (R.this_type refl)) R.no_names (R.plain (R.simply refl) R.nothing) R.end,
+)
 
 pub spelled : Spelled (codes "(module (func nop))") made
 spelled = record { tokens = tokens; words = words; fields = fields; lexes = lexed; are_words = worded; grammar = parsed; resolves = resolved }

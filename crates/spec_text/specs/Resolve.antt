@@ -253,7 +253,7 @@ pub data Makes (s : Spaces) : (fs : List Field) (f : ℕ) → Module → Type 0 
   func : {fs : List Field} {f i : ℕ} {m : Module} {name : Option (List ℕ)} {items : List (List ℕ)} {w : TypeUse} {ns : Names} {locals : List Binding} {flats : List Flat} {body : Instrs}
       → m.imports ≡ [] → Uses s.type_names s.types w i ns → AreDistinct (ns ++ names_of locals) → Body s (ns ++ names_of locals) [] flats [] body → Makes s fs (suc f) m
       → Makes s (FuncField name items w locals flats ∷ fs) f
-        (record m { funcs = record { type_index = i; locals = types_of locals; body = body } ∷ m.funcs; exports = map (λ item. record { name = item; desc = S.ExportFunc f }) items ++ m.exports })
+      (record m { funcs = record { type_index = i; locals = types_of locals; body = body } ∷ m.funcs; exports = map (λ item. record { name = item; desc = S.ExportFunc f }) items ++ m.exports })
   table : {fs : List Field} {f : ℕ} {m : Module} {name : Option (List ℕ)} {b : Named.Bounds} {l : S.Limits} → m.imports ≡ [] → IsLimits b l → Makes s fs f m
       → Makes s (TableField name b ∷ fs) f (record m { tables = l ∷ m.tables })
   memory : {fs : List Field} {f : ℕ} {m : Module} {name : Option (List ℕ)} {b : Named.Bounds} {l : S.Limits} → m.imports ≡ [] → IsLimits b l → Makes s fs f m

@@ -1,0 +1,124 @@
+-- What the steps of the code do to the parts.
+use Rattle.std.proofs.Common.{◌≡◌, ℕ, ◌+◌, ◌≤◌, List, [], ◌∷◌, ◌++◌, length, map, drop, refl, sym, ap, ◌∙◌, subst, Vec, Global, Result, Ok, Err, IfOk, None, true, true≢false}
+use Rattle.std.proofs.lemmas.List.{reverse-append}
+use Rattle.wtypes.specs.declared.Value.{Value}
+use Rattle.wtypes.specs.declared.PlainInstr.{PlainInstr}
+use Rattle.wtypes.specs.declared.PlainInstr.TheVariants.{Call, Nop}
+use Rattle.spec_syntax.specs.Syntax.{Plain}
+use Rattle.module_tree.specs.declared.instr.Instr.{Instr}
+use Rattle.module_tree.specs.declared.instr.Instr as instr
+use Rattle.spec_syntax.specs.Syntax as syntax
+use Rattle.spec_execution.specs.Configuration.{Contract, State, End, Trap}
+use Rattle.spec_execution.specs.Reduction.{Goes, reduce, execute, execute_plain}
+use Rattle.spec_execution.specs.Run.{Reduces}
+use Rattle.interp.specs.declared.parts.Entry.{Entry}
+use Rattle.interp.specs.declared.parts.Parts.{Parts}
+use Rattle.interp.specs.declared.plain.After.{After}
+use Rattle.interp.specs.declared.plain.After.TheVariants as after
+use Rattle.interp.specs.Meaning.{Item, Open, Loop, behind, height, outermost, at, config, Stands, OnlyRun, IsOrdered, IsFine, calling, listed, frames}
+use Rattle.interp.specs.Forms.{operands, runs, runs_plain}
+use Rattle.interp.proofs.Finding.{ready_for}
+use Rattle.interp.specs.Plain.{onto, Did}
+use Rattle.interp.specs.Views.{item_of, items_of, open_of, opens_of, view}
+use Rattle.interp.specs.Steps.{IsReadyToRun, Led, LedView, IsOrderedParts, IsBehind, AllSettle, IsCounted}
+use Rattle.interp.proofs.Context.{values_onto}
+use Rattle.interp.proofs.Numbering.{plain_item}
+use Rattle.interp.proofs.Charging.{mk, local, fine_at, charged_ran, charged_fell}
+
+module _ (c : Contract) (b : State) (es : List Open) (stack locals : List Value) (n : ℕ) (op : PlainInstr) (is : List Item) (there : height es + operands op ≤ length stack) (o : IsOrdered (mk b es stack locals (record { ordinal = n; instr = Plain op } ∷ is))) where
+  pub led : (a : After) (stack' locals' : List Value) → Did op stack locals a stack' locals' → LedView c (mk b es stack locals (record { ordinal = n; instr = Plain op } ∷ is)) a (mk b es stack' locals' is)
+  unfolding reduce execute execute_plain
+  led after.Ran stack' locals' d =
+      let r = charged_ran c b es stack locals n op is there o.stands stack' locals' d in
+      record { reduces = r.0; ordered = record { stands = r.1; runs = o.runs.1; each = o.each } }
+  led (after.Fell t) stack' locals' d =
+      record { reduces = subst (λ (x : List Value). Reduces c (config (mk b es stack locals (record { ordinal = n; instr = Plain op } ∷ is))) 1 (Trap (at b (outermost es x)) t)) (sym d.same) (charged_fell c b es stack locals n op is there o.stands t locals' d) }
+  led (after.Calls f) stack' locals' d = record {
+    reduces =
+        subst (λ (p : PlainInstr). Reduces c (config (mk b es stack locals (record { ordinal = n; instr = Plain p } ∷ is))) 1 (calling (mk b es stack' locals' is) f)) (sym d.call)
+        (subst (λ (x : List Value). Reduces c (config (mk b es stack locals (record { ordinal = n; instr = Plain (Call f) } ∷ is))) 1 (calling (mk b es x locals' is) f)) (sym d.same)
+        (subst (λ (x : List Value). Reduces c (config (mk b es stack locals (record { ordinal = n; instr = Plain (Call f) } ∷ is))) 1 (calling (mk b es stack x is) f)) (sym d.same_locals)
+        (local c b b es stack stack locals locals 1 _ _ refl (ap (Goes 1 (at b locals)) (values_onto (drop (height es) stack) [] _)))));
+    ordered = record { stands = subst (λ (x : List Value). Stands es (length x)) (sym d.same) o.stands; runs = o.runs.1; each = o.each };
+  }
+
+-- the items of a list of instructions
+pub items_cons : {A : Type 0} (i : Instr A) (is xs : List (Instr A)) → xs ≡ i ∷ is → items_of xs ≡ item_of i ∷ items_of is
+items_cons i is xs e = ap items_of e
+
+-- what is open, one more
+pub opens_push : {A : Type 0} (es : List (Entry A)) (e : Entry A) → opens_of (es ++ e ∷ []) ≡ open_of e ∷ opens_of es
+opens_push es e = ap (map open_of) (reverse-append es (e ∷ []))
+
+pub behind_is : {A : Type 0} (is js : List (Instr A)) → IsBehind is js → items_of js ≡ behind Loop (items_of is)
+behind_is [] js h = ap items_of h
+behind_is (i ∷ is) js h = ap items_of h
+
+pub if_ok : {X E : Type 0} (r : Result X E) (P Q : X → Type 0) → ((x : X) → P x → Q x) → IfOk r P → IfOk r Q
+if_ok (Ok x) P Q f h = f x h
+if_ok (Err e) P Q f h = h
+
+pub led_parts : {A : Type 0} (p q : Parts A) (n : ℕ) (op : PlainInstr) (a : After) → IsOrderedParts p → items_of p.code.now ≡ record { ordinal = n; instr = Plain op } ∷ items_of q.code.now → q.entries ≡ p.entries →
+    height (opens_of p.entries.items) + operands op ≤ length p.stack.items → Did op p.stack.items p.locals.items a q.stack.items q.locals.items → Led p a q
+led_parts {A} p q n op a o here same there d c b =
+    let es : opens_of q.entries.items ≡ opens_of p.entries.items = ap (λ (v : Vec (Entry A) Global). opens_of v.items) same in
+    let oo : IsOrdered (mk b (opens_of p.entries.items) p.stack.items p.locals.items (record { ordinal = n; instr = Plain op } ∷ items_of q.code.now)) = subst (λ (x : List Item). IsOrdered (mk b (opens_of p.entries.items) p.stack.items p.locals.items x)) here (o b) in
+    subst (λ (x : List Open). LedView c (view b p) a (mk b x q.stack.items q.locals.items (items_of q.code.now))) (sym es)
+    (subst (λ (x : List Item). LedView c (mk b (opens_of p.entries.items) p.stack.items p.locals.items x) a (mk b (opens_of p.entries.items) q.stack.items q.locals.items (items_of q.code.now))) (sym here)
+    (led c b (opens_of p.entries.items) p.stack.items p.locals.items n op (items_of q.code.now) there oo a q.stack.items q.locals.items d))
+
+-- a contract of no functions
+abbrev pub none_at_all : Contract
+none_at_all = record { number = 0; deployed = record { tree = record { types = []; imports = []; funcs = []; tables = []; memories = []; globals = []; exports = []; start = None; elements = []; datas = [] }; hosts = [] } }
+
+pub settled_ordered : {A : Type 0} (p q : Parts A) → AllSettle p q → IsOrderedParts q
+settled_ordered p q s b = (s none_at_all b).ordered
+
+-- the operator of the first instruction
+abbrev op_in : syntax.Instr → PlainInstr
+op_in (syntax.Plain op) = op
+op_in _ = Nop
+
+abbrev op_at : List Item → PlainInstr
+op_at [] = Nop
+op_at (i ∷ is) = op_in i.instr
+
+pub led_first : {A : Type 0} (p q : Parts A) (i : Instr A) (rest : List (Instr A)) (n : ℕ) (op : PlainInstr) → IsReadyToRun p → p.code.now ≡ i ∷ rest → i ≡ instr.Plain n op → q.code.now ≡ rest → q.entries ≡ p.entries →
+    (a : After) → Did op p.stack.items p.locals.items a q.stack.items q.locals.items → Led p a q
+led_first {A} p q i rest n op r first is after same a did =
+    let here : items_of p.code.now ≡ record { ordinal = n; instr = Plain op } ∷ items_of rest = ap items_of first ∙ ap (λ i. item_of i ∷ items_of rest) is ∙ ap (λ x. x ∷ items_of rest) (plain_item A n op) in
+    let op_is : r.op ≡ op = ap op_at (sym r.here ∙ here) in
+    led_parts p q n op a r.ordered (here ∙ ap (λ js. record { ordinal = n; instr = Plain op } ∷ items_of js) (sym after)) same
+    (subst (λ (o : PlainInstr). height (opens_of p.entries.items) + operands o ≤ length p.stack.items) op_is r.enough) did
+
+pub items_nil : {A : Type 0} (is : List (Instr A)) → items_of is ≡ [] → is ≡ []
+items_nil [] e = refl
+items_nil (i ∷ is) e = absurd (cc)
+
+pub ordered_any : {A : Type 0} (b : State) (p : Parts A) → IsOrdered (view b p) → IsOrderedParts p
+ordered_any b p o x = record { stands = o.stands; runs = o.runs; each = o.each }
+
+-- the instruction to come finds what it takes, where it is not stuck
+module _ {A : Type 0} (c : Contract) (b : State) (p : Parts A) (o : IsOrdered (view b p)) (fine : IsFine c (view b p)) where
+  ready_plain : (n : ℕ) (op : PlainInstr) (is : List Item) → items_of p.code.now ≡ record { ordinal = n; instr = Plain op } ∷ is → runs_plain op ≡ true → IsReadyToRun p
+  unfolding reduce execute
+  ready_plain n op is here r =
+      let es = opens_of p.entries.items in
+      let found = ready_for c b es p.stack.items p.locals.items (listed is End) o.stands op r
+      (λ h. fine_at c b es p.stack.items p.locals.items (listed (items_of p.code.now) End) fine.not_stuck
+      (ap (λ (js : List Item). reduce c (frames es 0) (at b p.locals.items) (onto (drop (height es) p.stack.items) []) (listed js End)) here ∙ h)) in
+      record { ordinal = n; op = op; behind = is; here = here; enough = found.0; ready = found.1; ordered = ordered_any b p o }
+
+  ready_item : (n : ℕ) (x : syntax.Instr) (is : List Item) → items_of p.code.now ≡ record { ordinal = n; instr = x } ∷ is → runs x ≡ true → IsReadyToRun p
+  ready_item n (syntax.Plain op) is here r = ready_plain n op is here r
+  ready_item n _ is here r = absurd (true≢false (sym r))
+
+  ready_code : (is : List Item) → items_of p.code.now ≡ is → (p.code.now ≡ [] → ⊥) → IsReadyToRun p
+  ready_code [] e some = absurd (some (items_nil p.code.now e))
+  ready_code (i ∷ is) e some = ready_item i.ordinal i.instr is e (subst OnlyRun e o.runs).0
+
+  pub ready_to_run : (p.code.now ≡ [] → ⊥) → IsReadyToRun p
+  ready_to_run some = ready_code (items_of p.code.now) refl some
+
+pub counted_same : {A : Type 0} (p q : Parts A) → q.entries ≡ p.entries → q.depth ≡ p.depth → IsCounted p → IsCounted q
+counted_same p q e d k = record { count = d ∙ k.count ∙ ap (λ es. frames (opens_of es.items) 0) (sym e); few = subst (λ n. n ≤ 256) (sym d) k.few }

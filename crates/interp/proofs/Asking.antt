@@ -1,0 +1,282 @@
+-- A call of a function that was charged: of the module, or of the host.
+use Rattle.std.proofs.Common.{◌≡◌, ◌≢◌, ℕ, ◌+◌, ◌-◌, ◌<◌, ◌≤◌, Bool, true, false, nat_le, List, [], ◌∷◌, ◌++◌, length, reverse, take, drop, refl, sym, ap, ◌∙◌, subst, arith, Some, slice_get, length-append}
+use Rattle.std.specs.Prelude.{if◌then◌else◌, option_map, option_and_then}
+use mathlib.Core.Path.{fun_ext}
+use Rattle.std.proofs.lemmas.Bool.{lt-ltb, leb-true}
+use Rattle.std.proofs.lemmas.List.{length-take, length-drop, take-append-drop, take-append-le, drop-append-le}
+use Rattle.wtypes.specs.declared.Value.{Value}
+use Rattle.wtypes.specs.declared.HostCall.{HostCall}
+use Rattle.wtypes.specs.declared.HostCall.TheVariants as host
+use Rattle.wtypes.specs.declared.TrapCode.{TrapCode}
+use Rattle.spec_ledger.specs.declared.Op.{Op}
+use Rattle.spec_ledger.specs.declared.Reply.{Reply}
+use Rattle.spec_ledger.specs.declared.Reply.TheVariants as reply
+use Rattle.spec_ledger.specs.declared.Step.{Step}
+use Rattle.spec_execution.specs.Configuration.{Contract, Function, Hosted, defined, function_at, function_type, Seq, End, State, Config, Running, Trap, values, Invoke}
+use Rattle.spec_execution.specs.Reduction.{Next, Asks, Stuck, reduce, found, with_values, invoke, op_of, replied}
+use Rattle.spec_execution.specs.Run.{Reached, reduced, replied as gets, Reduces, next, IsReply}
+use Rattle.spec_execution.specs.Turns.{Frees, none, one_more, by_trap, not_asked}
+use Rattle.interp.specs.declared.turns.Turn.{Turn}
+use Rattle.interp.specs.declared.turns.Turn.TheVariants as turn
+use Rattle.interp.specs.declared.turns.Status.{Status}
+use Rattle.interp.specs.declared.turns.Status.TheVariants as status
+use Rattle.interp.specs.Meaning.{Open, View, listed, put, height, around, frames, at, state, whole, config, calling, invoking, Stands, IsOrdered, IsFineCall, IsReady, ChargedCall, Settles}
+use Rattle.interp.specs.Plain.{onto}
+use Rattle.interp.specs.Calls.{HasEntered}
+use Rattle.interp.specs.Progress.{HasStepped, HasAsked, HasAnswered, AnsweredAt, NextIs}
+use Rattle.interp.specs.Machine.{Seen, on, first_of, progress, Reaches, IsWaiting, IsAt, IsMachine, IsCalling, IsStarted, HasStarted, IsAskedFor, HasAskedFor, params_of, arity_of, going_on, value_of_reply}
+use Rattle.interp.proofs.Context.{values_onto, lift, lift_asks}
+use Rattle.interp.proofs.Charging.{next_whole, fine_at, above, Stands_at, length-onto, onto_top, put-append}
+use Rattle.interp.proofs.Finding.{onto_is}
+use Rattle.interp.proofs.Calling.{with_values_is, reverse_onto}
+use Rattle.interp.proofs.Rest.{at_rest}
+use Rattle.interp.proofs.Turning.{live_of, reached_by_frees, below}
+
+-- what a charged call leads to
+pub calling_of : (s : Seen) (f : ℕ) (w : View) → IsMachine s → s.status ≡ status.Running → s.used ≢ s.call.fuel → ChargedCall s.contract s.view f w → IsCalling (record s { used = s.used + 1; view = w }) f
+calling_of s f w m running left charge = record {
+  opens = m.opens;
+  safe = m.safe;
+  reached = reduced s.trace s.used (config s.view) 1 (calling w f) (live_of s m running).reached charge.reduces (below s m running left);
+  ordered = charge.ordered;
+  within = below s m running left;
+}
+
+pub fine_call : (s : Seen) (f : ℕ) → IsCalling s f → IsFineCall s.contract s.view f
+fine_call s f calls = record { not_stuck = calls.safe _ _ _ _ calls.reached }
+
+-- a turn of a charged call, once its function has started
+pub call_stepped : (s : Seen) (f : ℕ) (w : View) (t : Seen) → s.status ≡ status.Running → ChargedCall s.contract s.view f w → IsStarted (record s { used = s.used + 1; view = w }) f t → HasStepped (progress s) (progress t)
+call_stepped s f w t running charge started = subst (λ (x : Status). HasStepped (progress (on s x)) (progress t)) (sym running) (record {
+  same = record { contracts = started.same.contracts; call = started.same.call; contract = started.same.contract; func = started.same.func };
+  trace = started.same.trace;
+  used = started.same.used;
+  turn = record { charged = calling w f; one = charge.reduces; replied = calling w f; answer = not_asked (calling w f); free = started.frees; at_rest = started.at_rest };
+  goes_on = started.goes_on;
+})
+
+pub call_asked : (s : Seen) (f : ℕ) (w : View) (op : Op) (t : Seen) → s.status ≡ status.Running → ChargedCall s.contract s.view f w → IsAskedFor (record s { used = s.used + 1; view = w }) f op t → HasAsked (progress s) op (progress t)
+call_asked s f w op t running charge asked = subst (λ (x : Status). HasAsked (progress (on s x)) op (progress t)) (sym running) (record {
+  same = record { contracts = asked.same.contracts; call = asked.same.call; contract = asked.same.contract; func = asked.same.func };
+  trace = asked.same.trace;
+  used = asked.same.used;
+  charged = subst (λ (x : Config). Reduces s.contract (config s.view) 1 x) (sym asked.config) charge.reduces;
+  asking = asked.asking;
+})
+
+module _ (s : Seen) (f : ℕ) (calls : IsCalling s f) where
+  module _ (mid w : View) (enters : HasEntered s.contract s.view f mid) (settles : Settles s.contract mid w) (ready : IsReady w) where
+    abbrev started_seen : Seen
+    started_seen = record s { view = w; status = status.Running }
+
+    come : Reaches s (config w)
+    come = reached_by_frees _ _ _ _ _ _ _ calls.reached calls.within (one_more _ _ _ enters.reduces settles.frees)
+
+    pub machine_started : IsMachine started_seen
+    machine_started = record { opens = calls.opens; safe = calls.safe; at = record { reached = come; ordered = settles.ordered; ready = ready; within = calls.within } }
+
+    pub is_started : IsStarted s f started_seen
+    is_started = record {
+      same = record { contracts = refl; call = refl; contract = refl; func = refl; trace = refl; used = refl };
+      frees = one_more _ _ _ enters.reduces settles.frees;
+      at_rest = at_rest s.contract w settles.ordered (record { not_stuck = calls.safe _ _ _ _ come }) ready;
+      goes_on = tt;
+    }
+
+  module _ (w : View) (t : TrapCode) (falls : Reduces s.contract (calling s.view f) 0 (Trap (state s.view) t)) (same : w ≡ s.view) where
+    abbrev fallen_seen : View → Seen
+    fallen_seen v = record s { view = v; status = status.Fallen t }
+
+    pub machine_trapped : IsMachine (fallen_seen w)
+    machine_trapped = subst (λ (v : View). IsMachine (fallen_seen v)) (sym same) (record {
+      opens = calls.opens;
+      safe = calls.safe;
+      at = record { reached = reached_by_frees _ _ _ _ _ _ _ calls.reached calls.within (one_more _ _ _ falls (none _)); within = calls.within };
+    })
+
+    pub is_trapped : IsStarted s f (fallen_seen w)
+    is_trapped = subst (λ (v : View). IsStarted s f (fallen_seen v)) (sym same) (record {
+      same = record { contracts = refl; call = refl; contract = refl; func = refl; trace = refl; used = refl };
+      frees = one_more _ _ _ falls (none _);
+      at_rest = by_trap (state s.view) t;
+      goes_on = tt;
+    })
+
+  -- a function of the host
+  module _ (h : HostCall) (hosted : slice_get s.contract.deployed.hosts f ≡ Some h) (lt : f < length s.contract.deployed.hosts) where
+    abbrev v : View
+    v = s.view
+
+    abbrev c : Contract
+    c = s.contract
+
+    abbrev b : State
+    b = at v.base v.locals
+
+    abbrev rest : Seq
+    rest = listed v.code End
+
+    abbrev going : Function → Next
+    going g = with_values (length (function_type g).params) (onto (drop (height v.entries) v.stack) []) (λ top below. invoke c (frames v.entries 0) b f g (reverse top) below rest)
+
+    is_hosted : function_at c.deployed f ≡ Some (Hosted h)
+    is_hosted =
+        ap (λ x. if x then option_map Hosted (slice_get c.deployed.hosts f) else option_and_then (defined c.deployed.tree) (slice_get c.deployed.tree.funcs (f - length c.deployed.hosts))) (lt-ltb f (length c.deployed.hosts) lt)
+        ∙ ap (option_map Hosted) hosted
+
+    inner : reduce c (frames v.entries 0) b (onto (drop (height v.entries) v.stack) []) (Invoke f rest) ≡ going (Hosted h)
+    unfolding reduce
+    inner = ap (λ o. found o going) is_hosted
+
+    pub host_room : height v.entries + arity_of h ≤ length v.stack
+    host_room = by_test (nat_le (arity_of h) (length (onto (drop (height v.entries) v.stack) []))) refl
+      where
+        by_test : (x : Bool) → nat_le (arity_of h) (length (onto (drop (height v.entries) v.stack) [])) ≡ x → height v.entries + arity_of h ≤ length v.stack
+        by_test true x = above v.entries v.stack (arity_of h) calls.ordered.stands (leb-true _ _ x)
+        by_test false x = absurd (fine_at c v.base v.entries v.stack v.locals (Invoke f rest) (fine_call s f calls).not_stuck (inner
+            ∙ ap (λ y. if y then Asks (op_of c.number h (reverse (take (arity_of h) (onto (drop (height v.entries) v.stack) [])))) (λ r. values (drop (arity_of h) (onto (drop (height v.entries) v.stack) [])) (replied r rest)) else Stuck) x))
+
+    abbrev cut : ℕ
+    cut = length v.stack - arity_of h
+
+    abbrev op : Op
+    op = op_of c.number h (drop cut v.stack)
+
+    stands_cut : Stands v.entries (length (take cut v.stack))
+    stands_cut = Stands_at v.entries (length v.stack) _ (omega (arith, host_room, length-take cut v.stack)) calls.ordered.stands
+
+    local_asks : reduce c (frames v.entries 0) b (onto (drop (height v.entries) v.stack) []) (Invoke f rest) ≡ Asks op (λ r. values (onto (drop (height v.entries) (take cut v.stack)) []) (replied r rest))
+    local_asks =
+        inner
+        ∙ ap (λ vs. with_values (arity_of h) vs (λ top below. invoke c (frames v.entries 0) b f (Hosted h) (reverse top) below rest))
+        (ap (λ xs. onto (drop (height v.entries) xs) []) (sym (take-append-drop cut v.stack))
+        ∙ onto_top v.entries (take cut v.stack) (drop cut v.stack) stands_cut ∙ onto_is (drop cut v.stack) (onto (drop (height v.entries) (take cut v.stack)) []))
+        ∙ with_values_is (arity_of h) (onto (drop cut v.stack) []) (onto (drop (height v.entries) (take cut v.stack)) []) (λ top below. invoke c (frames v.entries 0) b f (Hosted h) (reverse top) below rest)
+        (length-onto (drop cut v.stack) [] ∙ (omega (arith, length-drop cut v.stack, host_room)))
+        ∙ ap (λ xs. invoke c (frames v.entries 0) b f (Hosted h) xs (onto (drop (height v.entries) (take cut v.stack)) []) rest) (reverse_onto (drop cut v.stack) [])
+
+    same_below : take (height v.entries) v.stack ≡ take (height v.entries) (take cut v.stack)
+    same_below = ap (take (height v.entries)) (sym (take-append-drop cut v.stack)) ∙ take-append-le (height v.entries) (take cut v.stack) (drop cut v.stack) (omega (arith, host_room, length-take cut v.stack))
+
+    asks_named : next c (state v) (invoking v f) ≡ Asks op (λ r. whole v.entries (take cut v.stack) v.locals (replied r rest))
+    asks_named =
+        next_whole c v.base v.entries v.stack v.locals (Invoke f rest)
+        ∙ ap (lift v.base v.entries (take (height v.entries) v.stack) v.locals) local_asks
+        ∙ lift_asks v.base v.entries (take (height v.entries) v.stack) v.locals op (λ r. values (onto (drop (height v.entries) (take cut v.stack)) []) (replied r rest))
+        ∙ ap (Asks op) (fun_ext (λ r.
+        ap (λ x. around v.entries x v.locals (values (onto (drop (height v.entries) (take cut v.stack)) []) (replied r rest))) same_below
+        ∙ ap (around v.entries (take (height v.entries) (take cut v.stack)) v.locals) (values_onto (drop (height v.entries) (take cut v.stack)) [] (replied r rest))))
+
+    op_params : (h : HostCall) (xs : List Value) → params_of (op_of c.number h xs) ≡ arity_of h
+    op_params host.Get [] = refl
+    op_params host.Get (x ∷ []) = refl
+    op_params host.Get (x ∷ (y ∷ ys)) = refl
+    op_params host.Has [] = refl
+    op_params host.Has (x ∷ []) = refl
+    op_params host.Has (x ∷ (y ∷ ys)) = refl
+    op_params host.Put [] = refl
+    op_params host.Put (x ∷ []) = refl
+    op_params host.Put (x ∷ (y ∷ ys)) = refl
+    op_params host.Del [] = refl
+    op_params host.Del (x ∷ []) = refl
+    op_params host.Del (x ∷ (y ∷ ys)) = refl
+    op_params host.Add [] = refl
+    op_params host.Add (x ∷ []) = refl
+    op_params host.Add (x ∷ (y ∷ ys)) = refl
+    op_params host.Total [] = refl
+    op_params host.Total (x ∷ []) = refl
+    op_params host.Total (x ∷ (y ∷ ys)) = refl
+
+    abbrev asked_seen : Op → Seen
+    asked_seen o = record s { status = status.Asking o; asked = f }
+
+    pub machine_asking : (o : Op) → o ≡ op → IsMachine (asked_seen o)
+    machine_asking o e = subst (λ (o : Op). IsMachine (asked_seen o)) (sym e) (record {
+      opens = calls.opens;
+      safe = calls.safe;
+      at = record {
+        reached = calls.reached;
+        ordered = calls.ordered;
+        within = calls.within;
+        room = subst (λ n. height v.entries + n ≤ length v.stack) (sym (op_params h (drop cut v.stack))) host_room;
+        asks = asks_named ∙ ap (λ n. Asks op (λ r. whole v.entries (take (length v.stack - n) v.stack) v.locals (replied r rest))) (sym (op_params h (drop cut v.stack)));
+      };
+    })
+
+    pub is_asked_for : (o : Op) → IsAskedFor s f o (asked_seen o)
+    is_asked_for o = record { same = record { contracts = refl; call = refl; contract = refl; func = refl; trace = refl; used = refl }; config = refl; asking = refl }
+
+-- ---- the host's reply
+
+replied_is : (r : Reply) (rest : Seq) → replied r rest ≡ put (value_of_reply r) rest
+replied_is reply.Nothing rest = refl
+replied_is (reply.I32 x) rest = refl
+replied_is (reply.I64 x) rest = refl
+
+-- values on top of a stack, and the same values before the rest
+pub whole_push : (es : List Open) (kept more locals : List Value) (x : Seq) → height es ≤ length kept → whole es (kept ++ more) locals x ≡ whole es kept locals (put more x)
+whole_push es kept more locals x le =
+    ap (λ b. around es b locals (put (drop (height es) (kept ++ more)) x)) (take-append-le (height es) kept more le)
+    ∙ ap (λ vs. around es (take (height es) kept) locals (put vs x)) (drop-append-le (height es) kept more le)
+    ∙ ap (around es (take (height es) kept) locals) (put-append (drop (height es) kept) more x)
+
+module _ (s : Seen) (op : Op) (r : Reply) (m : IsMachine s) (waits : s.status ≡ status.Asking op) (fit : IsReply op r) (stack : List Value) (taken : stack ≡ take (length s.view.stack - params_of op) s.view.stack ++ value_of_reply r) where
+  waiting : IsWaiting s op
+  waiting = subst (IsAt s) waits m.at
+
+  abbrev kept : List Value
+  kept = take (length s.view.stack - params_of op) s.view.stack
+
+  kept_high : height s.view.entries ≤ length kept
+  kept_high = let room = waiting.room in omega (arith, length-take (length s.view.stack - params_of op) s.view.stack)
+
+  -- the parts with the reply in the place of the arguments
+  pub ordered_reply : IsOrdered (record s.view { stack = stack })
+  ordered_reply =
+      subst (λ (x : List Value). IsOrdered (record s.view { stack = x })) (sym taken)
+      (record { stands = Stands_at s.view.entries (length s.view.stack) _ (omega (arith, kept_high, length-append kept (value_of_reply r))) waiting.ordered.stands; runs = waiting.ordered.runs; each = waiting.ordered.each })
+
+  same_config : config (record s.view { stack = stack }) ≡ Running (state s.view) (going_on s.view op r)
+  same_config =
+      ap (λ vs. config (record s.view { stack = vs })) taken
+      ∙ ap (Running (state s.view))
+      (whole_push s.view.entries kept (value_of_reply r) s.view.locals (listed s.view.code End) kept_high
+      ∙ ap (whole s.view.entries kept s.view.locals) (sym (replied_is r (listed s.view.code End))))
+
+  module _ (w : View) (settles : Settles s.contract (record s.view { stack = stack }) w) (ready : IsReady w) (trace : List Step) (recorded : trace ≡ s.trace ++ record { op = op; reply = r } ∷ []) where
+    freed : Frees s.contract (Running (state s.view) (going_on s.view op r)) (config w)
+    freed = subst (λ (x : Config). Frees s.contract x (config w)) same_config settles.frees
+
+    come_back : Reached s.contract (first_of s) s.call.fuel trace s.used (config w)
+    come_back = subst (λ (t : List Step). Reached s.contract (first_of s) s.call.fuel t s.used (config w)) (sym recorded)
+        (reached_by_frees _ _ _ _ _ _ _ (gets s.trace s.used _ _ op _ r waiting.reached waiting.asks fit) waiting.within freed)
+
+    abbrev answered_seen : Seen
+    answered_seen = record s { trace = trace; view = w; status = status.Running }
+
+    pub machine_answered : IsMachine answered_seen
+    machine_answered = record { opens = m.opens; safe = m.safe; at = record { reached = come_back; ordered = settles.ordered; ready = ready; within = waiting.within } }
+
+    pub has_answered : HasAnswered (progress s) r (progress answered_seen)
+    has_answered = subst (λ (x : Status). AnsweredAt (progress (on s x)) r (progress answered_seen) x) (sym waits) (record {
+      same = record { contracts = refl; call = refl; contract = refl; func = refl };
+      trace = recorded;
+      used = refl;
+      asked = record { state = state s.view; seq = invoking s.view s.asked; go = going_on s.view op; is = refl; asks = waiting.asks };
+      frees = freed;
+      at_rest = at_rest s.contract w settles.ordered (record { not_stuck = m.safe _ _ _ _ come_back }) ready;
+      running = refl;
+    })
+
+-- the turns of a charged call, by what they answer
+pub asked_turn : (s : Seen) (f : ℕ) (w : View) (a : Turn) (t : Seen) → s.status ≡ status.Running → ChargedCall s.contract s.view f w → HasAskedFor (record s { used = s.used + 1; view = w }) f a t → NextIs (progress s) a (progress t)
+asked_turn s f w turn.Stepped t running charge h = absurd h
+asked_turn s f w (turn.Host op) t running charge h = call_asked s f w op t running charge h
+asked_turn s f w turn.NoMemory t running charge h = h
+asked_turn s f w (turn.Done o) t running charge h = absurd h
+
+pub started_turn : (s : Seen) (f : ℕ) (w : View) (a : Turn) (t : Seen) → s.status ≡ status.Running → ChargedCall s.contract s.view f w → HasStarted (record s { used = s.used + 1; view = w }) f a t → NextIs (progress s) a (progress t)
+started_turn s f w turn.Stepped t running charge h = call_stepped s f w t running charge h
+started_turn s f w (turn.Host op) t running charge h = absurd h
+started_turn s f w turn.NoMemory t running charge h = h
+started_turn s f w (turn.Done o) t running charge h = absurd h

@@ -1,0 +1,13 @@
+pub mod Context
+pub mod Charging
+pub mod Finding
+pub mod Rest
+pub mod Leaving
+pub mod Doing
+pub mod Acting
+pub mod Calling
+pub mod Numbering
+pub mod Turning
+pub mod Asking
+pub mod Going
+pub mod Beginning

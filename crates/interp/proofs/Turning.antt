@@ -1,0 +1,131 @@
+-- What a turn keeps.
+use Rattle.std.proofs.Common.{◌≡◌, ◌≢◌, ℕ, ◌+◌, ◌-◌, ◌≤◌, List, [], ◌∷◌, length, refl, sym, ap, ◌∙◌, subst, arith, Option, slice_get, add-zero}
+use Rattle.wtypes.specs.declared.Value.{Value}
+use Rattle.wtypes.specs.declared.TrapCode.{TrapCode}
+use Rattle.spec_ledger.specs.declared.Step.{Step}
+use Rattle.spec_ledger.specs.declared.Outcome.{Outcome}
+use Rattle.spec_ledger.specs.declared.Outcome.TheVariants.{Returned, Trapped, OutOfFuel}
+use Rattle.spec_execution.specs.Configuration.{Contract, Config, Trap}
+use Rattle.spec_execution.specs.Run.{Reached, reduced, Reduces, Ends, returns, trapped, exhausted, result_of, IsCharged, next}
+use Rattle.spec_execution.specs.Turns.{Frees, none, one_more, by_trap, not_asked}
+use Rattle.interp.specs.declared.turns.Status.{Status}
+use Rattle.interp.specs.declared.turns.Status.TheVariants as status
+use Rattle.interp.specs.Meaning.{Item, View, config, sequence, state, IsOrdered, IsFine, IsReady}
+use Rattle.interp.specs.Plain.{onto}
+use Rattle.interp.specs.Progress.{HasStepped, IsDone}
+use Rattle.interp.specs.Machine.{Seen, on, first_of, progress, Reaches, IsLive, IsFallen, IsAt, IsMachine}
+use Rattle.interp.proofs.Rest.{at_rest, is_charged, is_ended}
+
+pub live_of : (s : Seen) → IsMachine s → s.status ≡ status.Running → IsLive s
+live_of s m e = subst (IsAt s) e m.at
+
+-- a run that has come to a configuration comes by free reductions to others
+pub reached_by_frees : (c : Contract) (first : Config) (limit : ℕ) (trace : List Step) (used : ℕ) (a b : Config) → Reached c first limit trace used a → used ≤ limit → Frees c a b → Reached c first limit trace used b
+reached_by_frees c first limit trace used a b r le (none x) = r
+reached_by_frees c first limit trace used a b r le (one_more x y z h f) =
+    reached_by_frees c first limit trace used y z (subst (λ n. Reached c first limit trace n y) (add-zero used) (reduced trace used x 0 y r h (omega arith))) le f
+
+module _ (s : Seen) (m : IsMachine s) (running : s.status ≡ status.Running) where
+  pub fine : IsFine s.contract s.view
+  fine = record { not_stuck = m.safe _ _ _ _ (live_of s m running).reached }
+
+  module _ (left : s.used ≢ s.call.fuel) where
+    pub below : s.used + 1 ≤ s.call.fuel
+    below = let within = (live_of s m running).within in omega arith
+
+    module _ (mid : Config) (one : Reduces s.contract (config s.view) 1 mid) where
+      pub come : Reached s.contract (first_of s) s.call.fuel s.trace (s.used + 1) mid
+      come = reduced s.trace s.used (config s.view) 1 mid (live_of s m running).reached one below
+
+      module _ (w : View) (frees : Frees s.contract mid (config w)) (ordered : IsOrdered w) (ready : IsReady w) where
+        abbrev t : Seen
+        t = record s { used = s.used + 1; view = w }
+
+        come_to : Reaches t (config w)
+        come_to = reached_by_frees _ _ _ _ _ _ _ come below frees
+
+        pub machine_stepped : IsMachine t
+        machine_stepped = record {
+          opens = m.opens;
+          safe = m.safe;
+          at = subst (IsAt t) (sym running) (let now : IsLive t = record { reached = come_to; ordered = ordered; ready = ready; within = below } in now);
+        }
+
+        pub has_stepped : HasStepped (progress s) (progress t)
+        has_stepped = subst (λ (x : Status). HasStepped (progress (on s x)) (progress (on t x))) (sym running) (record {
+          same = record { contracts = refl; call = refl; contract = refl; func = refl };
+          trace = refl;
+          used = refl;
+          turn = record { charged = mid; one = one; replied = mid; answer = not_asked mid; free = frees; at_rest = at_rest s.contract w ordered (record { not_stuck = m.safe _ _ _ _ come_to }) ready };
+          goes_on = tt;
+        })
+
+    module _ (w : View) (code : TrapCode) (one : Reduces s.contract (config s.view) 1 (Trap (state w) code)) where
+      abbrev u : Seen
+      u = record s { used = s.used + 1; view = w; status = status.Fallen code }
+
+      pub machine_fell : IsMachine u
+      machine_fell = record { opens = m.opens; safe = m.safe; at = record { reached = come (Trap (state w) code) one; within = below } }
+
+      pub has_fallen : HasStepped (progress s) (progress u)
+      has_fallen = subst (λ (x : Status). HasStepped (progress (on s x)) (progress u)) (sym running) (record {
+        same = record { contracts = refl; call = refl; contract = refl; func = refl };
+        trace = refl;
+        used = refl;
+        turn = record { charged = Trap (state w) code; one = one; replied = Trap (state w) code; answer = not_asked (Trap (state w) code); free = none (Trap (state w) code); at_rest = by_trap (state w) code };
+        goes_on = tt;
+      })
+
+  -- at the end
+  module _ (at_end : s.view.code ≡ []) where
+    ends_so : Ends s.contract s.call.fuel s.used (config s.view) (Returned (result_of (onto s.view.stack [])))
+    ends_so = returns s.used _ _ _ (is_ended s.contract s.view at_end ((live_of s m running).ready at_end))
+
+    pub machine_returned : (r : Option Value) → r ≡ result_of (onto s.view.stack []) → IsMachine (on s (status.Ended (Returned r)))
+    machine_returned r e = record {
+      opens = m.opens;
+      safe = m.safe;
+      at = record { reached = (live_of s m running).reached; ends = subst (λ (o : Option Value). Ends s.contract s.call.fuel s.used (config s.view) (Returned o)) (sym e) ends_so; within = (live_of s m running).within };
+    }
+
+    pub has_returned : (r : Option Value) → r ≡ result_of (onto s.view.stack []) → IsDone (progress s) (Returned r) (progress (on s (status.Ended (Returned r))))
+    has_returned r e = subst (λ (x : Status). IsDone (progress (on s x)) (Returned r) (progress (on s (status.Ended (Returned r))))) (sym running)
+        (record { same = refl; ends = subst (λ (o : Option Value). Ends s.contract s.call.fuel s.used (config s.view) (Returned o)) (sym e) ends_so })
+
+  module _ (some_left : s.view.code ≢ []) (full : s.used ≡ s.call.fuel) where
+    is_out : Ends s.contract s.call.fuel s.used (config s.view) OutOfFuel
+    is_out = subst (λ n. Ends s.contract s.call.fuel n (config s.view) OutOfFuel) (sym full) (exhausted _ _ (by_code s.view.code refl))
+      where
+        by_code : (is : List Item) → s.view.code ≡ is → IsCharged (next s.contract (state s.view) (sequence s.view))
+        by_code [] e = absurd (some_left e)
+        by_code (i ∷ is) e = is_charged s.contract s.view i is (live_of s m running).ordered fine e
+
+    pub machine_exhausted : IsMachine (on s (status.Ended OutOfFuel))
+    machine_exhausted = record { opens = m.opens; safe = m.safe; at = record { reached = (live_of s m running).reached; ends = is_out; within = (live_of s m running).within } }
+
+    pub has_exhausted : IsDone (progress s) OutOfFuel (progress (on s (status.Ended OutOfFuel)))
+    has_exhausted = subst (λ (x : Status). IsDone (progress (on s x)) OutOfFuel (progress (on s (status.Ended OutOfFuel)))) (sym running) (record { same = refl; ends = is_out })
+
+-- a trap is told
+module _ (s : Seen) (m : IsMachine s) (code : TrapCode) (fallen : s.status ≡ status.Fallen code) where
+  is_fallen : IsFallen s code
+  is_fallen = subst (IsAt s) fallen m.at
+
+  pub machine_told : IsMachine (on s (status.Ended (Trapped code)))
+  machine_told = record { opens = m.opens; safe = m.safe; at = record { reached = is_fallen.reached; ends = trapped s.used (state s.view) code; within = is_fallen.within } }
+
+  pub has_told : IsDone (progress s) (Trapped code) (progress (on s (status.Ended (Trapped code))))
+  has_told = subst (λ (x : Status). IsDone (progress (on s x)) (Trapped code) (progress (on s (status.Ended (Trapped code))))) (sym fallen) (record { same = refl; ends = trapped s.used (state s.view) code })
+
+-- an end is told again
+pub has_ended : (s : Seen) → IsMachine s → (o : Outcome) → s.status ≡ status.Ended o → IsDone (progress s) o (progress s)
+has_ended s m o e = subst (λ (x : Status). IsAt s x → IsDone (progress (on s x)) o (progress (on s x))) (sym e) (λ over. record { same = refl; ends = over.ends }) m.at
+
+-- the topmost value, or none
+pub result_last : (xs : List Value) → slice_get xs (length xs - 1) ≡ result_of (onto xs [])
+result_last [] = refl
+result_last (x ∷ xs) = ap (λ n. slice_get (x ∷ xs) n) (let e : length (x ∷ xs) - 1 ≡ length xs = omega arith in e) ∙ from x xs []
+  where
+    from : (x : Value) (xs acc : List Value) → slice_get (x ∷ xs) (length xs) ≡ result_of (onto xs (x ∷ acc))
+    from x [] acc = refl
+    from x (y ∷ xs) acc = from y xs (x ∷ acc)

@@ -1,0 +1,6 @@
+use Rattle.interp.specs.Run.{seen}
+use Rattle.interp.proofs.Going.{progress_of}
+use Rattle.interp.proofs.machine.Machine.answer.Goals as goal
+
+pub returns-clause-on_run : goal.returns-clause-on_run
+returns-clause-on_run g c = progress_of (seen c.take_answer.new.run) c.take_answer.ensures.kept.machine

@@ -1,0 +1,122 @@
+use Rattle.std.proofs.Common.{ap, ◌∙◌, sym, subst, true≢false, length}
+use Rattle.std.specs.Prelude.{◌==◌}
+use Rattle.interp.specs.declared.plain.After.{After}
+use Rattle.interp.specs.Calls.{base_of}
+use Rattle.interp.specs.Views.{view}
+use Rattle.interp.specs.Steps.{Led}
+use Rattle.interp.specs.Run.{seen}
+use Rattle.interp.proofs.Acting.{items_nil, ready_to_run, none_at_all, counted_same}
+use Rattle.interp.proofs.Turning.{live_of, fine, machine_exhausted, has_exhausted, machine_stepped, has_stepped, machine_fell, has_fallen}
+use Rattle.interp.proofs.Asking.{calling_of, asked_turn, started_turn}
+use Rattle.interp.proofs.machine.make_turn.Goals as goal
+
+pub returns-then-run-fuel-clause-kept : goal.returns-then-run-fuel-clause-kept
+returns-then-run-fuel-clause-kept g c =
+    let r = c.args.run.now in
+    let k = c.requires.kept in
+    record {
+      machine = machine_exhausted (seen r) k.machine c.requires.running
+          (λ e. true≢false (sym (ap (λ xs. length xs == 0) (items_nil r.parts.code.now e)) ∙ (sym c.is_empty.ensures ∙ c.if-is_empty.false))) (c.if-run-fuel.true ∙ c.fuel.ensures);
+      counted = k.counted;
+      runs = k.runs;
+      room = tt;
+    }
+
+pub returns-then-run-fuel-clause-turn : goal.returns-then-run-fuel-clause-turn
+returns-then-run-fuel-clause-turn g c =
+    let r = c.args.run.now in
+    has_exhausted (seen r) c.requires.kept.machine c.requires.running
+    (λ e. true≢false (sym (ap (λ xs. length xs == 0) (items_nil r.parts.code.now e)) ∙ (sym c.is_empty.ensures ∙ c.if-is_empty.false))) (c.if-run-fuel.true ∙ c.fuel.ensures)
+
+pub execute-requires : goal.execute-requires
+execute-requires g c =
+    let r = c.args.run.now in
+    let m = c.requires.kept.machine in
+    record {
+      ready = ready_to_run (seen r).contract (base_of r.lent) r.parts (live_of (seen r) m c.requires.running).ordered (fine (seen r) m c.requires.running)
+          (λ e. true≢false (sym (ap (λ xs. length xs == 0) e) ∙ (sym c.is_empty.ensures ∙ c.if-is_empty.false)));
+    }
+
+pub settle-requires-clause-ordered : goal.settle-requires-clause-ordered
+settle-requires-clause-ordered g c b =
+    (subst (λ (a : After). Led c.args.run.now.parts a c.execute.new.parts) c.in-Ok-Ran.field-0-is c.in-Ok-Ran.ensures.led none_at_all b).ordered
+
+pub ask-requires-clause-call : goal.ask-requires-clause-call
+ask-requires-clause-call g c =
+    let r = c.args.run.now in
+    let k = c.requires.kept in
+    record {
+      calling = calling_of (seen r) c.in-Ok-Calls.f (view (base_of r.lent) c.execute.new.parts) k.machine c.requires.running (λ e. c.if-run-fuel.false (e ∙ sym c.fuel.ensures))
+          (subst (λ (a : After). Led r.parts a c.execute.new.parts) c.in-Ok-Calls.field-0-is c.in-Ok-Calls.ensures.led (seen r).contract (base_of r.lent));
+      counted = counted_same r.parts c.execute.new.parts c.in-Ok-Calls.ensures.entries c.in-Ok-Calls.ensures.depth k.counted;
+      runs = k.runs;
+    }
+
+pub start_function-requires-clause-call : goal.start_function-requires-clause-call
+start_function-requires-clause-call g c =
+    let r = c.args.run.now in
+    let k = c.requires.kept in
+    record {
+      calling = calling_of (seen r) c.in-Ok-Calls.f (view (base_of r.lent) c.execute.new.parts) k.machine c.requires.running (λ e. c.if-run-fuel.false (e ∙ sym c.fuel.ensures))
+          (subst (λ (a : After). Led r.parts a c.execute.new.parts) c.in-Ok-Calls.field-0-is c.in-Ok-Calls.ensures.led (seen r).contract (base_of r.lent));
+      counted = counted_same r.parts c.execute.new.parts c.in-Ok-Calls.ensures.entries c.in-Ok-Calls.ensures.depth k.counted;
+      runs = k.runs;
+    }
+
+pub returns-in-Ok-Ran-clause-kept : goal.returns-in-Ok-Ran-clause-kept
+returns-in-Ok-Ran-clause-kept g c =
+    let r = c.args.run.now in
+    let k = c.requires.kept in
+    let b = base_of r.lent in
+    let charge = subst (λ (a : After). Led r.parts a c.execute.new.parts) c.in-Ok-Ran.field-0-is c.in-Ok-Ran.ensures.led (seen r).contract b in
+    let settled = c.settle.ensures.settles (seen r).contract b in
+    record {
+      machine = machine_stepped (seen r) k.machine c.requires.running (λ e. c.if-run-fuel.false (e ∙ sym c.fuel.ensures)) _ charge.reduces (view b c.settle.new.parts) settled.frees settled.ordered (λ e. c.settle.ensures.ready (items_nil c.settle.new.parts.code.now e));
+      counted = c.settle.ensures.counted;
+      runs = k.runs;
+      room = k.room;
+    }
+
+pub returns-in-Ok-Ran-clause-turn : goal.returns-in-Ok-Ran-clause-turn
+returns-in-Ok-Ran-clause-turn g c =
+    let r = c.args.run.now in
+    let k = c.requires.kept in
+    let b = base_of r.lent in
+    let charge = subst (λ (a : After). Led r.parts a c.execute.new.parts) c.in-Ok-Ran.field-0-is c.in-Ok-Ran.ensures.led (seen r).contract b in
+    let settled = c.settle.ensures.settles (seen r).contract b in
+    has_stepped (seen r) k.machine c.requires.running (λ e. c.if-run-fuel.false (e ∙ sym c.fuel.ensures)) _ charge.reduces (view b c.settle.new.parts) settled.frees settled.ordered (λ e. c.settle.ensures.ready (items_nil c.settle.new.parts.code.now e))
+
+pub returns-in-Ok-Fell-clause-kept : goal.returns-in-Ok-Fell-clause-kept
+returns-in-Ok-Fell-clause-kept g c =
+    let r = c.args.run.now in
+    let k = c.requires.kept in
+    let b = base_of r.lent in
+    let fell = subst (λ (a : After). Led r.parts a c.execute.new.parts) c.in-Ok-Fell.field-0-is c.in-Ok-Fell.ensures.led (seen r).contract b in
+    record {
+      machine = machine_fell (seen r) k.machine c.requires.running (λ e. c.if-run-fuel.false (e ∙ sym c.fuel.ensures)) (view b c.execute.new.parts) c.in-Ok-Fell.code fell.reduces;
+      counted = counted_same r.parts c.execute.new.parts c.in-Ok-Fell.ensures.entries c.in-Ok-Fell.ensures.depth k.counted;
+      runs = k.runs;
+      room = tt;
+    }
+
+pub returns-in-Ok-Fell-clause-turn : goal.returns-in-Ok-Fell-clause-turn
+returns-in-Ok-Fell-clause-turn g c =
+    let r = c.args.run.now in
+    let k = c.requires.kept in
+    let b = base_of r.lent in
+    let fell = subst (λ (a : After). Led r.parts a c.execute.new.parts) c.in-Ok-Fell.field-0-is c.in-Ok-Fell.ensures.led (seen r).contract b in
+    has_fallen (seen r) k.machine c.requires.running (λ e. c.if-run-fuel.false (e ∙ sym c.fuel.ensures)) (view b c.execute.new.parts) c.in-Ok-Fell.code fell.reduces
+
+pub returns-then-f-run-clause-turn : goal.returns-then-f-run-clause-turn
+returns-then-f-run-clause-turn g c =
+    let r = c.args.run.now in
+    let b = base_of r.lent in
+    asked_turn (seen r) c.in-Ok-Calls.f (view b c.execute.new.parts) c.ask.result (seen c.ask.new.run) c.requires.running
+    (subst (λ (a : After). Led r.parts a c.execute.new.parts) c.in-Ok-Calls.field-0-is c.in-Ok-Calls.ensures.led (seen r).contract b) c.ask.ensures.turn
+
+pub returns-else-f-run-clause-turn : goal.returns-else-f-run-clause-turn
+returns-else-f-run-clause-turn g c =
+    let r = c.args.run.now in
+    let b = base_of r.lent in
+    started_turn (seen r) c.in-Ok-Calls.f (view b c.execute.new.parts) c.start_function.result (seen c.start_function.new.run) c.requires.running
+    (subst (λ (a : After). Led r.parts a c.execute.new.parts) c.in-Ok-Calls.field-0-is c.in-Ok-Calls.ensures.led (seen r).contract b) c.start_function.ensures.turn

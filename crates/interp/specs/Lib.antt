@@ -1,0 +1,12 @@
+pub mod Forms
+pub mod Meaning
+pub mod Plain
+pub mod Views
+pub mod Steps
+pub mod Calls
+pub mod Codes
+pub mod Played
+pub mod Progress
+pub mod Machine
+pub mod Lent
+pub mod Run

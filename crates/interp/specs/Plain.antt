@@ -1,0 +1,52 @@
+-- What an instruction that holds no other one does to the values and the locals.
+use Rattle.std.specs.Prelude.{◌≡◌, ℕ, List, [], ◌∷◌, ◌++◌, length}
+use Rattle.wtypes.specs.declared.Value.{Value}
+use Rattle.wtypes.specs.declared.TrapCode.{TrapCode}
+use Rattle.wtypes.specs.declared.PlainInstr.{PlainInstr}
+use Rattle.spec_execution.specs.Configuration.{Contract, Seq, State, values}
+use Rattle.spec_execution.specs.Reduction.{Goes, Traps, execute_plain}
+use Rattle.interp.specs.Meaning.{at, put}
+use Rattle.wtypes.specs.declared.BinOp.{BinOp}
+use Rattle.wtypes.specs.declared.PlainInstr.TheVariants.{Call, Binary}
+use Rattle.interp.specs.Forms.{operands}
+use Rattle.interp.specs.declared.plain.After.{After}
+use Rattle.interp.specs.declared.plain.After.TheVariants as after
+
+-- values in reverse, before others
+abbrev pub onto : List Value → List Value → List Value
+onto [] acc = acc
+onto (v ∷ vs) acc = onto vs (v ∷ acc)
+
+-- it is a call of this function, which is to come
+pub record Called (op : PlainInstr) (stack locals : List Value) (f : ℕ) (stack' locals' : List Value) : Type 0 where
+  pub call : op ≡ Call f
+  pub same : stack' ≡ stack
+  pub same_locals : locals' ≡ locals
+
+-- it takes the topmost values and gives others, whatever stands below and behind
+pub record Ran (op : PlainInstr) (stack locals stack' locals' : List Value) : Type 0 where
+  pub kept : List Value
+  pub taken : List Value
+  pub given : List Value
+  pub before : stack ≡ kept ++ taken
+  pub count : length taken ≡ operands op
+  pub after : stack' ≡ kept ++ given
+  pub step : (c : Contract) (b : State) (vs : List Value) (rest : Seq) → execute_plain c (at b locals) 1 op (onto taken vs) rest ≡ Goes 1 (at b locals') (values vs (put given rest))
+
+-- it traps
+pub record Fell (op : PlainInstr) (stack locals : List Value) (t : TrapCode) (locals' : List Value) : Type 0 where
+  pub kept : List Value
+  pub taken : List Value
+  pub before : stack ≡ kept ++ taken
+  pub count : length taken ≡ operands op
+  pub same : locals' ≡ locals
+  pub step : (c : Contract) (b : State) (vs : List Value) (rest : Seq) → execute_plain c (at b locals) 1 op (onto taken vs) rest ≡ Traps 1 t
+
+abbrev pub Did : PlainInstr → List Value → List Value → After → List Value → List Value → Type 0
+Did op stack locals after.Ran stack' locals' = Ran op stack locals stack' locals'
+Did op stack locals (after.Fell t) stack' locals' = Fell op stack locals t locals'
+Did op stack locals (after.Calls f) stack' locals' = Called op stack locals f stack' locals'
+
+-- an operator of two operands
+abbrev pub DidBinary : BinOp → List Value → After → List Value → Type 0
+DidBinary o stack a stack' = (locals : List Value) → Did (Binary o) stack locals a stack' locals

@@ -1,0 +1,92 @@
+// A call that was run to its end.
+ghost use Rattle.std.specs.Prelude.{◌≡◌, Some, option_map};
+ghost use Rattle.interp.specs.Played.{IsPlayed};
+ghost use Rattle.interp.specs.Lent.{contracts_view};
+
+use crate::stand_in::Runnable;
+use call::Call;
+use spec_ledger::{Outcome, Step};
+use std::alloc::Allocator;
+use std::marker::Model;
+
+/// A lent call over lent contracts, with the operations that it asked for, their replies, its outcome and the fuel
+/// that it used. That these are a run of the call over the contracts is kept by the type.
+#[derive(Drop)]
+pub struct Finished<'a, A: Allocator> {
+    contracts: &'a [Runnable<A>],
+    call: &'a Call,
+    trace: Vec<Step>,
+    outcome: Outcome,
+    used: u64,
+}
+
+impl<'a, A: Allocator> Model for Finished<'a, A> {
+    ghost use Rattle.interp.specs.Played.{Played, coded_played, IsPlayed};
+    ghost use Rattle.interp.specs.Lent.{contracts_view};
+
+    ghost Value = { Played };
+
+    ghost coded = { coded_played };
+
+    ghost view = { λ f. record { contracts = contracts_view f.contracts.now; call = f.call.now; trace = f.trace.items; outcome = f.outcome; used = f.used } };
+
+    ghost invariant = { λ f. IsPlayed (record { contracts = contracts_view f.contracts.now; call = f.call.now; trace = f.trace.items; outcome = f.outcome; used = f.used }) };
+}
+
+impl<'a, A: Allocator> Finished<'a, A> {
+    /// The finished call of these parts, which are a run.
+    pub fn of(
+        contracts: &'a [Runnable<A>],
+        call: &'a Call,
+        trace: Vec<Step>,
+        outcome: Outcome,
+        used: u64,
+    ) -> Finished<'a, A>
+        requires { IsPlayed (record { contracts = contracts_view contracts.now; call = call.now; trace = trace.items; outcome = outcome; used = used }) }
+        ensures { result ≡ record { contracts = contracts_view contracts.now; call = call.now; trace = trace.items; outcome = outcome; used = used } }
+    {
+        Finished {
+            contracts,
+            call,
+            trace,
+            outcome,
+            used,
+        }
+    }
+
+    /// The contracts.
+    pub fn contracts(&self) -> &'a [Runnable<A>]
+        ensures { contracts_view result.now ≡ self.now.contracts }
+    {
+        self.contracts
+    }
+
+    /// The call.
+    pub fn call(&self) -> &'a Call
+        ensures { result.now ≡ self.now.call }
+    {
+        self.call
+    }
+
+    /// The operations that it asked for, with their replies, first to last.
+    pub fn trace(&self) -> &[Step]
+        ensures { result.now ≡ self.now.trace }
+    {
+        self.trace.as_slice()
+    }
+
+    /// How its run ended.
+    pub fn outcome(&self) -> Outcome
+        ensures { result ≡ self.now.outcome }
+    {
+        self.outcome
+    }
+
+    /// The fuel that it used.
+    pub fn used(&self) -> u64
+        ensures used { result ≡ self.now.used }
+        ensures run { IsPlayed self.now }
+    {
+        self.used
+    }
+}

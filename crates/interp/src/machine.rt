@@ -1,0 +1,402 @@
+// A machine: a call that runs over lent contracts, a turn at a time.
+ghost use Rattle.std.specs.Prelude.{◌≡◌, ◌≢◌, ◌<◌, ◌≤◌, ◌-◌, ◌++◌, ◌∷◌, [], length, take, drop, vec_len, vec_capacity};
+ghost use Rattle.spec_numeric.specs.Operators.{bits_of};
+ghost use Rattle.spec_execution.specs.Reduction.{op_of};
+ghost use Rattle.interp.specs.Machine.{progress, IsMachine, IsCalling, HasStarted, HasAskedFor, HasRoom, params_of, arity_of, value_of_reply};
+ghost use Rattle.interp.specs.Progress.{NextIs, IsFree, IsAwaited, HasAnswered, IsFinishOf};
+ghost use Rattle.interp.specs.Run.{seen, IsKept};
+
+use crate::calls::{Lent, enter};
+use crate::finished::Finished;
+use crate::parts::Parts;
+use crate::plain::After;
+use crate::stand_in::Runnable;
+use crate::steps::{execute, settle};
+use crate::turns::{Status, Turn};
+use call::Call;
+use soundness::deployed_calls_are_safe;
+use spec_ledger::{NoMemory, Op, Outcome, Place, Reply, Step};
+use std::alloc::{AllocError, Allocator, Global};
+use wtypes::{HostCall, TrapCode, Value};
+
+/// The fields of a machine.
+#[derive(Drop)]
+pub struct Run<'a, A: Allocator> {
+    pub alloc: Global,
+    pub contracts: &'a [Runnable<A>],
+    pub lent: Lent<'a, A>,
+    pub call: &'a Call,
+    pub func: u32,
+    pub trace: Vec<Step>,
+    pub used: u64,
+    pub parts: Parts<'a, A>,
+    pub status: Status,
+    pub asked: u32,
+}
+
+/// Makes a turn, where the run has not ended.
+pub fn next_turn<'a, A: Allocator>(run: &mut Run<'a, A>) -> Turn
+    requires kept { IsKept run.old }
+    requires free { IsFree run.old.status }
+    ensures kept { IsKept run.new }
+    ensures turn { NextIs (progress (seen run.old)) result (progress (seen run.new)) }
+{
+    match run.status {
+        Status::Ended(outcome) => Turn::Done(outcome),
+        Status::NoMemory => Turn::NoMemory,
+        Status::Asking(_) => unreachable!(),
+        Status::Fallen(code) => {
+            run.status = Status::Ended(Outcome::Trapped(code));
+            Turn::Done(Outcome::Trapped(code))
+        }
+        Status::Running => make_turn(run),
+    }
+}
+
+// The run goes on: it makes a turn, or it is found at its end.
+fn make_turn<'a, A: Allocator>(run: &mut Run<'a, A>) -> Turn
+    requires kept { IsKept run.old }
+    requires running { run.old.status ≡ Status.Running }
+    ensures kept { IsKept run.new }
+    ensures turn { NextIs (progress (seen run.old)) result (progress (seen run.new)) }
+{
+    if run.parts.code.is_empty() {
+        return give_result(run);
+    }
+    if run.used == run.call.fuel() {
+        run.status = Status::Ended(Outcome::OutOfFuel);
+        return Turn::Done(Outcome::OutOfFuel);
+    }
+    match execute(&mut run.parts) {
+        Ok(After::Ran) => {
+            run.used += 1;
+            settle(&mut run.parts);
+            Turn::Stepped
+        }
+        Ok(After::Fell(code)) => {
+            run.used += 1;
+            run.status = Status::Fallen(code);
+            Turn::Stepped
+        }
+        Ok(After::Calls(f)) => {
+            run.used += 1;
+            if (f as usize) < run.lent.hosts.len() {
+                ask(run, f)
+            } else {
+                start_function(run, f)
+            }
+        }
+        Err(_) => {
+            run.status = Status::NoMemory;
+            Turn::NoMemory
+        }
+    }
+}
+
+// The run has ended, with what is left.
+fn give_result<'a, A: Allocator>(run: &mut Run<'a, A>) -> Turn
+    requires kept { IsKept run.old }
+    requires running { run.old.status ≡ Status.Running }
+    requires at_end { run.old.parts.code.now ≡ [] }
+    ensures kept { IsKept run.new }
+    ensures turn { NextIs (progress (seen run.old)) result (progress (seen run.new)) }
+{
+    let outcome = Outcome::Returned(run.parts.stack.last().copied());
+    run.status = Status::Ended(outcome);
+    Turn::Done(outcome)
+}
+
+ghost use Rattle.interp.specs.Run.{IsToCall};
+
+// A function of the module is called.
+fn start_function<'a, A: Allocator>(run: &mut Run<'a, A>, func: u32) -> Turn
+    requires call { IsToCall run.old func }
+    requires defined { length run.old.lent.hosts.now ≤ func }
+    ensures kept { IsKept run.new }
+    ensures turn { HasStarted (seen run.old) func result (seen run.new) }
+{
+    match enter(run.alloc, &run.lent, func, &mut run.parts) {
+        Ok(true) => {
+            settle(&mut run.parts);
+            run.status = Status::Running;
+            Turn::Stepped
+        }
+        Ok(false) => {
+            run.status = Status::Fallen(TrapCode::CallDepth);
+            Turn::Stepped
+        }
+        Err(_) => {
+            run.parts.entries.clear();
+            run.parts.depth = 0;
+            run.status = Status::NoMemory;
+            Turn::NoMemory
+        }
+    }
+}
+
+// An import is called: the run waits for the reply to the operation.
+fn ask<'a, A: Allocator>(run: &mut Run<'a, A>, func: u32) -> Turn
+    requires call { IsToCall run.old func }
+    requires hosted { func < length run.old.lent.hosts.now }
+    ensures kept { IsKept run.new }
+    ensures turn { HasAskedFor (seen run.old) func result (seen run.new) }
+{
+    let host = run.lent.hosts[func as usize];
+    let op = operation(run.lent.number, host, &run.parts.stack);
+    if run.trace.reserve(1).is_err() {
+        run.status = Status::NoMemory;
+        return Turn::NoMemory;
+    }
+    run.status = Status::Asking(op);
+    run.asked = func;
+    Turn::Host(op)
+}
+
+// The operation that an import asks for, by the values on top.
+fn operation(contract: u32, host: HostCall, stack: &Vec<Value>) -> Op
+    requires { arity_of host ≤ vec_len stack.now }
+    ensures { result ≡ op_of contract host (drop (vec_len stack.now - arity_of host) stack.now.items) }
+{
+    let n = stack.len();
+    match host {
+        HostCall::Get => Op::Get(place(contract, stack[n - 1])),
+        HostCall::Has => Op::Has(place(contract, stack[n - 1])),
+        HostCall::Put => Op::Put(place(contract, stack[n - 2]), bits(stack[n - 1])),
+        HostCall::Del => Op::Del(place(contract, stack[n - 1])),
+        HostCall::Add => Op::Add(place(contract, stack[n - 2]), bits(stack[n - 1])),
+        HostCall::Total => Op::Total(place(contract, stack[n - 1])),
+    }
+}
+
+fn place(contract: u32, key: Value) -> Place
+    ensures { result ≡ record { contract = contract; key = bits_of key } }
+{
+    Place {
+        contract,
+        key: bits(key),
+    }
+}
+
+// The number that a value's bits spell.
+fn bits(value: Value) -> u64
+    ensures { result ≡ bits_of value }
+{
+    match value {
+        Value::I32(x) => x.cast_unsigned() as u64,
+        Value::I64(x) => x.cast_unsigned(),
+    }
+}
+
+/// Goes on with the reply to the operation that the host was asked for.
+pub fn take_answer<'a, A: Allocator>(run: &mut Run<'a, A>, reply: Reply)
+    requires kept { IsKept run.old }
+    requires awaited { IsAwaited run.old.status reply }
+    ensures kept { IsKept run.new }
+    ensures answered { HasAnswered (progress (seen run.old)) reply (progress (seen run.new)) }
+{
+    if let Status::Asking(op) = run.status {
+        take_reply(&mut run.parts.stack, op, reply);
+        record_step(&mut run.trace, Step { op, reply });
+        run.status = Status::Running;
+        settle(&mut run.parts);
+    }
+}
+
+// The value of a reply in the place of the arguments.
+fn take_reply(stack: &mut Vec<Value>, op: Op, reply: Reply)
+    requires { params_of op ≤ vec_len stack.old }
+    ensures { stack.new.items ≡ take (vec_len stack.old - params_of op) stack.old.items ++ value_of_reply reply }
+{
+    let cut = stack.len() - params(op);
+    match reply {
+        Reply::Nothing => stack.truncate(cut),
+        Reply::I32(x) => replace_at(stack, cut, Value::I32(x)),
+        Reply::I64(x) => replace_at(stack, cut, Value::I64(x)),
+    }
+}
+
+fn replace_at(stack: &mut Vec<Value>, at: usize, value: Value)
+    requires { at < vec_len stack.old }
+    ensures { stack.new.items ≡ take at stack.old.items ++ value ∷ [] }
+{
+    stack[at] = value;
+    stack.truncate(at + 1);
+}
+
+// How many arguments an operation takes.
+fn params(op: Op) -> usize
+    ensures value { result ≡ params_of op }
+    ensures some { 0 < result }
+{
+    match op {
+        Op::Put(_, _) => 2,
+        Op::Add(_, _) => 2,
+        Op::Get(_) => 1,
+        Op::Has(_) => 1,
+        Op::Del(_) => 1,
+        Op::Total(_) => 1,
+    }
+}
+
+// Puts a step where there is room.
+fn record_step(trace: &mut Vec<Step>, step: Step)
+    requires { vec_len trace.old < vec_capacity trace.old }
+    ensures { trace.new.items ≡ trace.old.items ++ step ∷ [] }
+{
+    match trace.push(step) {
+        Ok(()) => {}
+        Err(_) => unreachable!(),
+    }
+}
+
+/// What a run that has ended gives.
+pub fn finished<'a, A: Allocator>(run: Run<'a, A>, outcome: Outcome) -> Finished<'a, A>
+    requires kept { IsKept run }
+    requires ended { run.status ≡ Status.Ended outcome }
+    ensures { IsFinishOf (progress (seen run.entry)) result }
+{
+    let Run {
+        alloc: _,
+        contracts,
+        lent: _,
+        call,
+        func: _,
+        trace,
+        used,
+        parts: _,
+        status: _,
+        asked: _,
+    } = run;
+    Finished::of(contracts, call, trace, outcome, used)
+}
+
+ghost use Rattle.std.specs.Prelude.{MatchResult};
+ghost use Rattle.interp.specs.Progress.{IsProgress, IsUnfinished};
+
+use std::marker::Model;
+
+/// A call that runs over lent contracts, a turn at a time.
+#[derive(Drop)]
+pub struct Machine<'a, A: Allocator> {
+    run: Run<'a, A>,
+}
+
+impl<'a, A: Allocator> Model for Machine<'a, A> {
+    ghost use Rattle.interp.specs.Progress.{Progress, coded_progress};
+
+    ghost Value = { Progress };
+
+    ghost coded = { coded_progress };
+
+    ghost use Rattle.interp.specs.Machine.{progress};
+    ghost use Rattle.interp.specs.Run.{seen, IsKept};
+
+    ghost view = { λ m. progress (seen m.run) };
+
+    ghost invariant = { λ m. IsKept m.run };
+}
+
+impl<'a, A: Allocator> Machine<'a, A> {
+    /// Makes a turn: one charged reduction and the free ones that follow, or its trap. Where the run has ended it makes
+    /// none and answers Done. After want of memory it always answers NoMemory.
+    pub fn next(&mut self) -> Turn
+        requires { IsFree self.old.status }
+        ensures turn { NextIs self.old result self.new }
+        ensures on_run { IsProgress self.new }
+    {
+        next_turn(&mut self.run)
+    }
+
+    /// Goes on with the host's reply to the operation that was asked for. Takes no memory.
+    pub fn answer(&mut self, reply: Reply)
+        requires { IsAwaited self.old.status reply }
+        ensures answered { HasAnswered self.old reply self.new }
+        ensures on_run { IsProgress self.new }
+    {
+        take_answer(&mut self.run, reply)
+    }
+
+    /// The finished call, exactly where Done was answered; else the machine.
+    pub fn finish(self) -> Result<Finished<'a, A>, Machine<'a, A>>
+        ensures { MatchResult result (IsFinishOf self.entry) (λ m. (m ≡ self.entry) × IsUnfinished self.entry.status) }
+    {
+        match self.run.status {
+            Status::Ended(outcome) => {
+                let Machine { run } = self;
+                Ok(finished(run, outcome))
+            }
+            Status::Running => Err(self),
+            Status::Fallen(_) => Err(self),
+            Status::Asking(_) => Err(self),
+            Status::NoMemory => Err(self),
+        }
+    }
+}
+
+ghost use Rattle.link.specs.Parts.{hosts_of};
+ghost use Rattle.spec_execution.specs.Run.{opening, Opens};
+ghost use Rattle.interp.specs.Lent.{contract_view, contracts_view, deployed_in};
+ghost use Rattle.interp.specs.Progress.{IsStartOf};
+ghost use Rattle.std.specs.Prelude.{IfOk};
+
+impl<'a, A: Allocator> Machine<'a, A> {
+    ghost use Rattle.std.specs.Prelude.{◌≡◌, ◌≤◌, length, IfOk};
+    ghost use Rattle.link.specs.Parts.{hosts_of};
+    ghost use Rattle.spec_execution.specs.Run.{opening, Opens};
+    ghost use Rattle.interp.specs.Lent.{contract_view, contracts_view, deployed_in};
+    ghost use Rattle.interp.specs.Progress.{IsStartOf, IsProgress};
+
+    /// The machine of a call that opens with this function of this contract, before its first turn.
+    pub fn begin(
+        alloc: Global,
+        contracts: &'a [Runnable<A>],
+        call: &'a Call,
+        runnable: &'a Runnable<A>,
+        func: u32,
+    ) -> Result<Machine<'a, A>, NoMemory>
+        requires opens { opening (contracts_view contracts.now) call.now ≡ Opens (record { number = call.now.contract; deployed = contract_view runnable.now }) func }
+        requires defined { length (hosts_of (deployed_in runnable.now)) ≤ func }
+        ensures start { IfOk result (λ m. IsStartOf (contracts_view contracts.now) call.now m) }
+        ensures on_run { IfOk result (λ m. IsProgress m) }
+    {
+        deployed_calls_are_safe();
+        let deployed = runnable.deployed();
+        deployed.is_linked();
+        let stack = copy_of(alloc, call.args())?;
+        let mut run = Run {
+            alloc,
+            contracts,
+            lent: Lent {
+                number: call.contract(),
+                module: deployed.module(),
+                hosts: deployed.hosts(),
+            },
+            call,
+            func,
+            trace: Vec::new(alloc),
+            used: 0,
+            parts: Parts {
+                code: &[],
+                entries: Vec::new(alloc),
+                depth: 0,
+                stack,
+                locals: Vec::new(alloc),
+            },
+            status: Status::Running,
+            asked: 0,
+        };
+        match start_function(&mut run, func) {
+            Turn::Stepped => Ok(Machine { run }),
+            Turn::NoMemory => Err(NoMemory),
+            Turn::Host(_) => unreachable!(),
+            Turn::Done(_) => unreachable!(),
+        }
+    }
+}
+
+// The same values.
+fn copy_of(alloc: Global, values: &[Value]) -> Result<Vec<Value>, AllocError>
+    ensures { IfOk result (λ v. v.items ≡ values.now) }
+{
+    values.to_vec(alloc)
+}
