@@ -3,7 +3,7 @@ use Rattle.std.specs.Prelude.{◌≡◌, ℕ, ◌+◌, ◌*◌, ◌/◌, ◌<◌
 use Rattle.wtypes.specs.declared.TrapCode.TheVariants.{MemoryOutOfBounds}
 use Rattle.spec_syntax.specs.Profile.{page_size}
 use Rattle.spec_numeric.specs.Memory.{written}
-use Rattle.memory.specs.declared.NoMemory.{NoMemory}
+use Rattle.wtypes.specs.declared.NoMemory.{NoMemory}
 use Rattle.memory.specs.declared.StoreRefusal.{StoreRefusal}
 use Rattle.memory.specs.declared.StoreRefusal.TheVariants as refusal
 

@@ -11,6 +11,7 @@ ghost use Rattle.memory.specs.Pages.{byte_in, bytes_in, IsPage, IsEmptyPage, IsM
 
 use std::alloc::{AllocError, Allocator};
 use std::marker::Model;
+pub use wtypes::NoMemory;
 use wtypes::TrapCode;
 
 /// The bytes of a page.
@@ -18,10 +19,6 @@ pub const PAGE_SIZE: usize = 65_536;
 
 /// No memory has more pages.
 pub const PAGE_LIMIT: u32 = 256;
-
-/// There was no memory.
-#[derive(Clone, Copy, Debug, PartialEq, Eq)]
-pub struct NoMemory;
 
 /// Why a store is refused.
 #[derive(Clone, Copy, Debug, PartialEq, Eq)]
