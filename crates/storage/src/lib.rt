@@ -22,9 +22,12 @@ use std::collections::BTreeMap;
 use std::collections::btree_map::Iter;
 use std::marker::Model;
 
+/// What a store keeps at a lock.
 #[derive(Clone, Copy, Debug, PartialEq, Eq)]
 pub struct Slot {
+    /// The number in the cell, or None where the cell is absent.
     pub cell: Option<u64>,
+    /// How many changes of the cell may still be taken back.
     pub unsettled: u64,
 }
 
