@@ -4,7 +4,7 @@ ghost use Rattle.spec_binary.specs.Grammar.{expression};
 ghost use Rattle.spec_binary.specs.Spells.{ExpressionFits};
 ghost use Rattle.spec_binary_laws.specs.ReadingExpressions.{expression_at};
 ghost use Rattle.module_tree.specs.View.{instrs_view, ordinals};
-ghost use Rattle.module_tree.specs.ModuleView.{is_numbered};
+ghost use Rattle.spec_syntax.specs.Limits.{counts_from};
 ghost use Rattle.expr_reader.specs.Numbering.{Numbered};
 ghost use Rattle.expr_reader.specs.Outcome.{Gives, Unless, NoExpression};
 
@@ -24,7 +24,7 @@ fn expression_of<'b, A: Allocator + Clone>(
 ) -> Result<(Vec<Instr<A>, A>, &'b [u8]), LoadRefusal>
     requires { length bytes.now < 2 ^ 32 }
     ensures value { Gives (λ x. (instrs_view x.0.items, x.1.now)) result (expression_at 129 bytes.now) }
-    ensures numbered { IfOk result (λ x. is_numbered x.0.items ≡ true) }
+    ensures numbered { IfOk result (λ x. counts_from 0 (ordinals x.0.items) ≡ true) }
     ensures shorter { IfOk result (λ x. length x.1.now < length bytes.now) }
 {
     let (body, closing, rest, _next) = body_of(alloc, bytes, LEVELS, 0)?;
@@ -50,7 +50,7 @@ pub fn read_expr<A: Allocator + Clone>(
     ensures spelled { IfOk result
         (λ r. expression (instrs_view r.0.items) (slice_range bytes.now at r.1)) }
     ensures fits { IfOk result (λ r. ExpressionFits (instrs_view r.0.items)) }
-    ensures numbered { IfOk result (λ r. is_numbered r.0.items ≡ true) }
+    ensures numbered { IfOk result (λ r. counts_from 0 (ordinals r.0.items) ≡ true) }
     ensures only { IfErr result (Unless (NoExpression (slice_range bytes.now at end))) }
 {
     match expression_of(&alloc, &bytes[at..end]) {
