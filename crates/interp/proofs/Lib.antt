@@ -10,4 +10,6 @@ pub mod Numbering
 pub mod Turning
 pub mod Asking
 pub mod Going
+pub mod Accepting
+pub mod Opened
 pub mod Beginning

@@ -10,3 +10,4 @@ pub mod Progress
 pub mod Machine
 pub mod Lent
 pub mod Run
+pub mod Starting

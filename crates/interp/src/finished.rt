@@ -1,12 +1,15 @@
 // A call that was run to its end.
-ghost use Rattle.std.specs.Prelude.{◌≡◌, Some, option_map};
+ghost use Rattle.std.specs.Prelude.{◌≡◌, Some, option_map, IfSome, IfNone};
+ghost use Rattle.spec_execution.specs.Run.{opening};
 ghost use Rattle.interp.specs.Played.{IsPlayed};
+ghost use Rattle.interp.specs.Starting.{IsOpened, IsRejection};
 ghost use Rattle.interp.specs.Lent.{contracts_view};
 
 use crate::stand_in::Runnable;
+use crate::start::open_call;
 use call::Call;
 use spec_ledger::{Outcome, Step};
-use std::alloc::Allocator;
+use std::alloc::{Allocator, Global};
 use std::marker::Model;
 
 /// A lent call over lent contracts, with the operations that it asked for, their replies, its outcome and the fuel
@@ -34,8 +37,8 @@ impl<'a, A: Allocator> Model for Finished<'a, A> {
 }
 
 impl<'a, A: Allocator> Finished<'a, A> {
-    /// The finished call of these parts, which are a run.
-    pub fn of(
+    // The finished call of these parts, which are a run.
+    pub(crate) fn of(
         contracts: &'a [Runnable<A>],
         call: &'a Call,
         trace: Vec<Step>,
@@ -51,6 +54,25 @@ impl<'a, A: Allocator> Finished<'a, A> {
             trace,
             outcome,
             used,
+        }
+    }
+
+    /// The empty run of a call that does not start, with the number of the cause as its outcome. None where the call
+    /// opens. Takes no memory.
+    pub fn rejected(
+        alloc: Global,
+        contracts: &'a [Runnable<A>],
+        call: &'a Call,
+    ) -> Option<Finished<'a, A>>
+        ensures some { IfSome result (λ f. IsRejection (contracts_view contracts.now) call.now f) }
+        ensures none { IfNone result (IsOpened (opening (contracts_view contracts.now) call.now)) }
+    {
+        match open_call(contracts, call) {
+            Ok(_) => None,
+            Err(refusal) => {
+                let outcome = Outcome::Rejected(refusal.code());
+                Some(Finished::of(contracts, call, Vec::new(alloc), outcome, 0))
+            }
         }
     }
 

@@ -1,11 +1,12 @@
 // A machine that runs calls of contracts.
 #![tactic(auto)]
 
-pub mod calls;
+mod calls;
 pub mod finished;
 pub mod machine;
-pub mod parts;
-pub mod plain;
+mod parts;
+mod plain;
 pub mod stand_in;
-pub mod steps;
+pub mod start;
+mod steps;
 pub mod turns;

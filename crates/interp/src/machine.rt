@@ -11,6 +11,7 @@ use crate::finished::Finished;
 use crate::parts::Parts;
 use crate::plain::After;
 use crate::stand_in::Runnable;
+use crate::start::{Opened, StartRefusal, open_call, refusal_of};
 use crate::steps::{execute, settle};
 use crate::turns::{Status, Turn};
 use call::Call;
@@ -19,23 +20,23 @@ use spec_ledger::{NoMemory, Op, Outcome, Place, Reply, Step};
 use std::alloc::{AllocError, Allocator, Global};
 use wtypes::{HostCall, TrapCode, Value};
 
-/// The fields of a machine.
+// The fields of a machine.
 #[derive(Drop)]
-pub struct Run<'a, A: Allocator> {
-    pub alloc: Global,
-    pub contracts: &'a [Runnable<A>],
-    pub lent: Lent<'a, A>,
-    pub call: &'a Call,
-    pub func: u32,
-    pub trace: Vec<Step>,
-    pub used: u64,
-    pub parts: Parts<'a, A>,
-    pub status: Status,
-    pub asked: u32,
+struct Run<'a, A: Allocator> {
+    alloc: Global,
+    contracts: &'a [Runnable<A>],
+    lent: Lent<'a, A>,
+    call: &'a Call,
+    func: u32,
+    trace: Vec<Step>,
+    used: u64,
+    parts: Parts<'a, A>,
+    status: Status,
+    asked: u32,
 }
 
-/// Makes a turn, where the run has not ended.
-pub fn next_turn<'a, A: Allocator>(run: &mut Run<'a, A>) -> Turn
+// Makes a turn, where the run has not ended.
+fn next_turn<'a, A: Allocator>(run: &mut Run<'a, A>) -> Turn
     requires kept { IsKept run.old }
     requires free { IsFree run.old.status }
     ensures kept { IsKept run.new }
@@ -187,8 +188,8 @@ fn bits(value: Value) -> u64
     }
 }
 
-/// Goes on with the reply to the operation that the host was asked for.
-pub fn take_answer<'a, A: Allocator>(run: &mut Run<'a, A>, reply: Reply)
+// Goes on with the reply to the operation that the host was asked for.
+fn take_answer<'a, A: Allocator>(run: &mut Run<'a, A>, reply: Reply)
     requires kept { IsKept run.old }
     requires awaited { IsAwaited run.old.status reply }
     ensures kept { IsKept run.new }
@@ -249,8 +250,8 @@ fn record_step(trace: &mut Vec<Step>, step: Step)
     }
 }
 
-/// What a run that has ended gives.
-pub fn finished<'a, A: Allocator>(run: Run<'a, A>, outcome: Outcome) -> Finished<'a, A>
+// What a run that has ended gives.
+fn finished<'a, A: Allocator>(run: Run<'a, A>, outcome: Outcome) -> Finished<'a, A>
     requires kept { IsKept run }
     requires ended { run.status ≡ Status.Ended outcome }
     ensures { IsFinishOf (progress (seen run.entry)) result }
@@ -340,14 +341,41 @@ ghost use Rattle.interp.specs.Progress.{IsStartOf};
 ghost use Rattle.std.specs.Prelude.{IfOk};
 
 impl<'a, A: Allocator> Machine<'a, A> {
-    ghost use Rattle.std.specs.Prelude.{◌≡◌, ◌≤◌, length, IfOk};
+    ghost use Rattle.std.specs.Prelude.{◌≡◌, ◌≤◌, length, IfOk, IfErr};
     ghost use Rattle.link.specs.Parts.{hosts_of};
     ghost use Rattle.spec_execution.specs.Run.{opening, Opens};
     ghost use Rattle.interp.specs.Lent.{contract_view, contracts_view, deployed_in};
     ghost use Rattle.interp.specs.Progress.{IsStartOf, IsProgress};
+    ghost use Rattle.interp.specs.Starting.{IsRefusedFor};
 
-    /// The machine of a call that opens with this function of this contract, before its first turn.
-    pub fn begin(
+    /// The machine of a call before its first turn.
+    ///
+    /// # Errors
+    ///
+    /// Why the call does not start. Of several causes it is the first of: the contract, the export, the function, the
+    /// number of arguments, their types, memory.
+    pub fn start(
+        alloc: Global,
+        contracts: &'a [Runnable<A>],
+        call: &'a Call,
+    ) -> Result<Machine<'a, A>, StartRefusal>
+        ensures start { IfOk result (λ m. IsStartOf (contracts_view contracts.now) call.now m) }
+        ensures on_run { IfOk result (λ m. IsProgress m) }
+        ensures refused { IfErr result (λ refusal. IsRefusedFor refusal (opening (contracts_view contracts.now) call.now)) }
+    {
+        match open_call(contracts, call) {
+            Ok(Opened { runnable, func }) => {
+                match Machine::begin(alloc, contracts, call, runnable, func) {
+                    Ok(machine) => Ok(machine),
+                    Err(NoMemory) => Err(StartRefusal::NoMemory),
+                }
+            }
+            Err(refusal) => Err(refusal_of(refusal)),
+        }
+    }
+
+    // The machine of a call that opens with this function of this contract, before its first turn.
+    fn begin(
         alloc: Global,
         contracts: &'a [Runnable<A>],
         call: &'a Call,

@@ -1,11 +1,17 @@
 // Deployed modules whose bodies have only the forms that the machine executes.
-ghost use Rattle.std.specs.Prelude.{◌≡◌, true};
+ghost use Rattle.std.specs.Prelude.{◌≡◌, true, map};
+ghost use Rattle.std.specs.List.{list_all};
 ghost use Rattle.link.specs.Parts.{tree_of};
 ghost use Rattle.module_tree.specs.Modules.{module_view};
-ghost use Rattle.interp.specs.Forms.{module_runs};
+ghost use Rattle.module_tree.specs.ModuleView.{func_view};
+ghost use Rattle.module_tree.specs.View.{instr_view, instrs_view};
+ghost use Rattle.interp.specs.Forms.{module_runs, func_runs, all_run, runs, runs_plain};
 
 use link::deployed::Deployed;
+use module_tree::instr::Instr;
+use module_tree::module::{Func, Module};
 use std::alloc::Allocator;
+use wtypes::PlainInstr;
 
 /// A deployed module without a start function, whose bodies have only the forms that the machine executes.
 #[derive(Drop)]
@@ -15,11 +21,27 @@ pub struct Runnable<A: Allocator> {
 }
 
 impl<A: Allocator> Runnable<A> {
-    ghost use Rattle.std.specs.Prelude.{◌≡◌, true};
+    ghost use Rattle.std.specs.Prelude.{◌≡◌, true, is_ok, MatchResult};
     ghost use Rattle.module_tree.specs.Modules.{module_view};
     ghost use Rattle.link.specs.Parts.{tree_of};
     ghost use Rattle.interp.specs.Forms.{module_runs};
     ghost use Rattle.interp.specs.Lent.{deployed_in};
+
+    /// The deployed module, as one of these.
+    ///
+    /// # Errors
+    ///
+    /// The deployed module as it was, exactly where it has a start function or a body has another form.
+    pub fn accept(deployed: Deployed<A>) -> Result<Runnable<A>, Deployed<A>>
+        ensures accepted { is_ok result ≡ module_runs (module_view (tree_of deployed)) }
+        ensures same { MatchResult result (λ runnable. deployed_in runnable ≡ deployed) (λ refused. refused ≡ deployed) }
+    {
+        if module_is_run(deployed.module()) {
+            Ok(Runnable { deployed })
+        } else {
+            Err(deployed)
+        }
+    }
 
     /// The deployed module.
     pub fn deployed(&self) -> &Deployed<A>
@@ -28,4 +50,55 @@ impl<A: Allocator> Runnable<A> {
     {
         &self.deployed
     }
+}
+
+// Whether the machine executes the module: it has no start function, and each body has its forms.
+fn module_is_run<A: Allocator>(tree: &Module<A>) -> bool
+    ensures { result ≡ module_runs (module_view tree.now) }
+{
+    tree.start.is_none() && functions_are_run(&tree.funcs)
+}
+
+fn functions_are_run<A: Allocator>(functions: &[Func<A>]) -> bool
+    ensures { result ≡ list_all func_runs (map func_view functions.now) }
+{
+    for function in functions {
+        if !body_is_run(&function.body) {
+            return false;
+        }
+    }
+    true
+}
+
+fn body_is_run<A: Allocator>(body: &[Instr<A>]) -> bool
+    ensures { result ≡ all_run (instrs_view body.now) }
+{
+    for instr in body {
+        if !instr_is_run(instr) {
+            return false;
+        }
+    }
+    true
+}
+
+fn instr_is_run<A: Allocator>(instr: &Instr<A>) -> bool
+    ensures { result ≡ runs (instr_view instr.now) }
+{
+    match instr {
+        Instr::Plain(_, op) => plain_is_run(op),
+        _ => false,
+    }
+}
+
+fn plain_is_run(op: &PlainInstr) -> bool
+    ensures { result ≡ runs_plain op.now }
+{
+    matches!(
+        op,
+        PlainInstr::Const(_)
+            | PlainInstr::LocalGet(_)
+            | PlainInstr::Drop
+            | PlainInstr::Binary(_)
+            | PlainInstr::Call(_)
+    )
 }

@@ -1,0 +1,6 @@
+pub mod Added
+pub mod Calls
+pub mod Constants
+pub mod Faults
+pub mod Linked
+pub mod Told

@@ -19,6 +19,15 @@ impl<A: Allocator> Deployed<A> {
     ghost use Rattle.std.specs.Prelude.{◌≡◌, slice_get};
     ghost use Rattle.link.specs.Parts.{tree_of, hosts_of};
 
+    /// A module that is linked to these host calls.
+    pub fn of_linked(tree: Module<A>, hosts: Vec<HostCall, A>) -> Deployed<A>
+        requires { IsLinked (module_view tree) hosts.items }
+        ensures tree { tree_of result ≡ tree }
+        ensures hosts { hosts_of result ≡ hosts.items }
+    {
+        Deployed { tree, hosts }
+    }
+
     /// The module.
     pub fn module(&self) -> &Module<A>
         ensures { result.now ≡ tree_of self.now }

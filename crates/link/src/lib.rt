@@ -1,4 +1,8 @@
 // Linking of modules: a `Deployed` keeps in its type that its imports are resolved and its segments are in range.
 #![tactic(auto)]
 
+pub mod deploy;
 pub mod deployed;
+mod imports;
+pub mod refusal;
+mod segments;

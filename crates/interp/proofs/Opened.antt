@@ -1,0 +1,39 @@
+-- With what function a call opens.
+use Rattle.std.proofs.Common.{◌≡◌, ℕ, Bool, true, false, List, Option, Some, None, length, option_map, refl, subst}
+use Rattle.std.specs.Prelude.{if◌then◌else◌, nat_lt}
+use Rattle.wtypes.specs.declared.Value.{Value}
+use Rattle.wtypes.specs.declared.HostCall.{HostCall}
+use Rattle.spec_syntax.specs.Syntax.{ExportDesc, ExportFunc, ExportTable, ExportMemory, ExportGlobal}
+use Rattle.spec_execution.specs.Configuration.{Deployed, Contract, Function, Hosted, Defined, function_at}
+use Rattle.spec_execution.specs.Run.{ContractCall, Opens, Refused, by_wrong, by_function, by_export, by_contract, wrong_argument, exported}
+
+wrong_same : (c k : Contract) (f func : ℕ) (o : Option ℕ) → by_wrong c f o ≡ Opens k func → f ≡ func
+wrong_same c k f func None e = cc
+wrong_same c k f func (Some n) e = absurd (cc)
+
+count_same : (c k : Contract) (f func : ℕ) (o : Option ℕ) (b : Bool) → (if b then by_wrong c f o else Refused 3) ≡ Opens k func → f ≡ func
+count_same c k f func o true e = wrong_same c k f func o e
+count_same c k f func o false e = absurd (cc)
+
+function_same : (c k : Contract) (f func : ℕ) (args : List Value) (found : Option Function) → by_function c f args found ≡ Opens k func → f ≡ func
+function_same c k f func args None e = absurd (cc)
+function_same c k f func args (Some (Hosted h)) e = absurd (cc)
+function_same c k f func args (Some (Defined t g)) e = count_same c k f func (wrong_argument t.params args) _ e
+
+export_found : (c k : Contract) (args : List Value) (func : ℕ) (desc : Option ExportDesc) → by_export c args desc ≡ Opens k func → by_function c func args (function_at c.deployed func) ≡ Opens k func
+export_found c k args func None e = absurd (cc)
+export_found c k args func (Some (ExportFunc f)) e = subst (λ (n : ℕ). by_function c n args (function_at c.deployed n) ≡ Opens k func) (function_same c k f func args (function_at c.deployed f) e) e
+export_found c k args func (Some (ExportTable x)) e = absurd (cc)
+export_found c k args func (Some (ExportMemory x)) e = absurd (cc)
+export_found c k args func (Some (ExportGlobal x)) e = absurd (cc)
+
+not_hosted : (c k : Contract) (f func : ℕ) (args : List Value) (b : Bool) (h : Option HostCall) (o : Option Function) → by_function c f args (if b then option_map Hosted h else o) ≡ Opens k func → b ≡ false
+not_hosted c k f func args false h o e = refl
+not_hosted c k f func args true None o e = absurd (cc)
+not_hosted c k f func args true (Some h) o e = absurd (cc)
+
+-- the function is the module's own
+pub entry_defined : (d : Deployed) (call : ContractCall) (k : Contract) (func : ℕ) → by_contract call (Some d) ≡ Opens k func → nat_lt func (length d.hosts) ≡ false
+entry_defined d call k func e =
+    let c : Contract = record { number = call.contract; deployed = d } in
+    not_hosted c k func func call.args (nat_lt func (length d.hosts)) _ _ (export_found c k call.args func (exported call.entry d.tree.exports) e)

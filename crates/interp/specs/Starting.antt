@@ -1,0 +1,32 @@
+-- Whether a call starts.
+use Rattle.std.specs.Prelude.{◌≡◌, ℕ, List, []}
+use Rattle.spec_ledger.specs.declared.Outcome.TheVariants.{Rejected}
+use Rattle.spec_execution.specs.Configuration.{Deployed}
+use Rattle.spec_execution.specs.Run.{ContractCall, Opening, Opens, Refused, opening}
+use Rattle.interp.specs.declared.start.StartRefusal.{StartRefusal}
+use Rattle.interp.specs.declared.start.StartRefusal.TheVariants.{NoContract, NoExport, NotFunction, ArgCount, ArgType, NoMemory}
+use Rattle.interp.specs.Played.{Played}
+
+-- the call opens with a function
+abbrev pub IsOpened : Opening → Type 0
+IsOpened (Opens c func) = Unit {0}
+IsOpened (Refused code) = ⊥
+
+-- the call is refused for this cause; or it opens, and memory was refused
+abbrev pub IsRefusedFor : StartRefusal → Opening → Type 0
+IsRefusedFor NoExport o = o ≡ Refused 1
+IsRefusedFor NotFunction o = o ≡ Refused 2
+IsRefusedFor ArgCount o = o ≡ Refused 3
+IsRefusedFor (ArgType i) o = o ≡ Refused 4
+IsRefusedFor NoContract o = o ≡ Refused 6
+IsRefusedFor NoMemory o = IsOpened o
+
+-- the empty run of a call that is refused
+pub record IsRejection (contracts : List Deployed) (call : ContractCall) (f : Played) : Type 0 where
+  pub lent : f.contracts ≡ contracts
+  pub call_is : f.call ≡ call
+  pub trace : f.trace ≡ []
+  pub used : f.used ≡ 0
+  pub code : ℕ
+  pub outcome : f.outcome ≡ Rejected code
+  pub refused : opening contracts call ≡ Refused code

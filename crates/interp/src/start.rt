@@ -1,0 +1,68 @@
+// Whether a call starts.
+ghost use Rattle.std.specs.Prelude.{◌≡◌, ◌≤◌, length, IfOk, IfErr};
+ghost use Rattle.spec_execution.specs.Run.{opening, Opens, Refused};
+ghost use Rattle.link.specs.Parts.{hosts_of};
+ghost use Rattle.opening.specs.Views.{code_of};
+ghost use Rattle.interp.specs.Lent.{contract_view, contracts_view, deployed_in};
+ghost use Rattle.interp.specs.Starting.{IsRefusedFor};
+
+use crate::stand_in::Runnable;
+use call::Call;
+use opening::{Refusal, entry_of};
+use std::alloc::Allocator;
+
+/// Why a call does not start.
+#[derive(Clone, Copy, Debug, PartialEq, Eq)]
+pub enum StartRefusal {
+    /// There is no such contract.
+    NoContract,
+    /// Nothing is exported under the name.
+    NoExport,
+    /// What is exported is no function of the module's own.
+    NotFunction,
+    /// There are too many arguments, or too few.
+    ArgCount,
+    /// The argument of this place, from 0, is the first of another type.
+    ArgType(u32),
+    /// Memory was refused.
+    NoMemory,
+}
+
+// The refusal of a call that does not open.
+pub(crate) fn refusal_of(refusal: Refusal) -> StartRefusal
+    ensures { IsRefusedFor result (Refused (code_of refusal)) }
+{
+    match refusal {
+        Refusal::NoContract => StartRefusal::NoContract,
+        Refusal::NoExport => StartRefusal::NoExport,
+        Refusal::NotFunction => StartRefusal::NotFunction,
+        Refusal::ArgCount => StartRefusal::ArgCount,
+        Refusal::ArgType(place) => StartRefusal::ArgType(place),
+    }
+}
+
+/// The contract of a call, and the number of the function that the call starts with.
+#[derive(Drop)]
+pub(crate) struct Opened<'a, A: Allocator> {
+    pub(crate) runnable: &'a Runnable<A>,
+    pub(crate) func: u32,
+}
+
+// What a call opens with. Of several causes of a refusal it answers the first of: the contract, the export, the
+// function, the number of arguments, their types.
+pub(crate) fn open_call<'a, A: Allocator>(
+    contracts: &'a [Runnable<A>],
+    call: &Call,
+) -> Result<Opened<'a, A>, Refusal>
+    ensures opens { IfOk result (λ opened. opening (contracts_view contracts.now) call.now ≡ Opens (record { number = call.now.contract; deployed = contract_view opened.runnable.now }) opened.func) }
+    ensures defined { IfOk result (λ opened. length (hosts_of (deployed_in opened.runnable.now)) ≤ opened.func) }
+    ensures refused { IfErr result (λ refusal. opening (contracts_view contracts.now) call.now ≡ Refused (code_of refusal)) }
+{
+    let Some(runnable) = contracts.get(call.contract() as usize) else {
+        return Err(Refusal::NoContract);
+    };
+    match entry_of(runnable.deployed(), call) {
+        Ok(func) => Ok(Opened { runnable, func }),
+        Err(refusal) => Err(refusal),
+    }
+}

@@ -1,0 +1,19 @@
+-- A refusal of a segment says that it is out of range.
+use Rattle.std.proofs.Common.{◌≡◌, ℕ, List, [], ◌∷◌, map, length, refl, ap, suc}
+use Rattle.spec_syntax.specs.Syntax as syntax
+use Rattle.spec_typing.specs.Linking as linking
+use Rattle.link.specs.declared.refusal.LinkRefusal.{LinkRefusal}
+use Rattle.link.specs.declared.refusal.LinkRefusal.TheVariants as refusal
+use Rattle.link.specs.Refusals.{Says, OutAt}
+
+pub told : (m : syntax.Module) (r : LinkRefusal) (place : ℕ) → OutAt r place → ((n : ℕ) → n ≡ place → linking.SegmentRange m n) → Says r m
+told m (refusal.UnknownImport n) place at k = absurd at
+told m (refusal.ImportType n) place at k = absurd at
+told m (refusal.SegmentRange n) place at k = k n at
+told m refusal.TooManyPages place at k = absurd at
+told m refusal.TableTooLarge place at k = absurd at
+told m refusal.NoMemory place at k = tt
+
+pub map_length : {X Y : Type 0} (f : X → Y) (xs : List X) → length (map f xs) ≡ length xs
+map_length f [] = refl
+map_length f (x ∷ xs) = ap suc (map_length f xs)
