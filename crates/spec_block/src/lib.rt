@@ -31,10 +31,12 @@ pub fn one_block_a_spelling()
     spec_typing::resolved_once();
 }
 
-/// An order has one serial run, where a call has one.
+/// An order has one serial run.
 pub fn one_serial_run()
-    ensures one { RunsAreUnique → (world : World) (calls : List Call) (order : List ℕ) (cells : Cells) (rs ss : List Ran) (l m : Cells) → Serial world calls order cells rs l → Serial world calls order cells ss m → (rs ≡ ss) × (l ≡ m) }
-{}
+    ensures one { (world : World) (calls : List Call) (order : List ℕ) (cells : Cells) (rs ss : List Ran) (l m : Cells) → Serial world calls order cells rs l → Serial world calls order cells ss m → (rs ≡ ss) × (l ≡ m) }
+{
+    spec_execution::runs_are_unique();
+}
 
 /// Positions whose modes at a lock do not go together are joined by a path, the earlier first; those of one wave go together.
 pub fn paths_join()
