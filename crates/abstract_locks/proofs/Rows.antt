@@ -227,10 +227,13 @@ module _ (locks : Sharings) (rows : List Modes) (call : ℕ) (below : call < len
   joined_there : joined ≡ join_held mode (get (get_or rows call empty) l)
   joined_there = joined_is ∙ ap (join_held mode) (held_is ∙ ap (λ m. get m l) (sym first_row))
 
+  pub take_asked : AllShare (get_or rows call empty) l mode (take call rows ++ drop (call + 1) rows) → MayJoin shared (count_in shared - held_once held) joined
+  take_asked share =
+      may_here (asked_all locks (take call rows) row (drop (call + 1) rows) are_round l joined
+      (subst (λ (j : Mode). AllByRecursion (Shares l j) (take call rows ++ drop (call + 1) rows)) (sym joined_there) share))
+
   pub take_conflict : ¬ (MayJoin shared (count_in shared - held_once held) joined) → ¬ (AllShare (get_or rows call empty) l mode (take call rows ++ drop (call + 1) rows))
-  take_conflict not_may share =
-      not_may (may_here (asked_all locks (take call rows) row (drop (call + 1) rows) are_round l joined
-      (subst (λ (j : Mode). AllByRecursion (Shares l j) (take call rows ++ drop (call + 1) rows)) (sym joined_there) share)))
+  take_conflict not_may share = not_may (take_asked share)
 
   module _ (may : MayJoin shared (count_in shared - held_once held) joined) where
     pub take_granted : AllShare (get_or rows call empty) l mode (take call rows ++ drop (call + 1) rows)

@@ -160,6 +160,18 @@ impl Table {
         Ok(())
     }
 
+    /// Whether a call may take a lock: whether the mode asked for, joined to the one that it holds, goes with what each other call holds.
+    pub fn may_take(&self, call: u32, lock: Lock, mode: Mode) -> bool
+        requires { call < length self.now }
+        ensures { IsTrue result ↔ AllShare (row_at self.now call) lock mode (others self.now call) }
+    {
+        let held = self.holders[call as usize].mode(lock);
+        let shared = self.locks.at(lock);
+        let joined = join_to(mode, held);
+        let others = count_others(shared, held);
+        may_join(shared, others, joined)
+    }
+
     /// Lets all of a call's locks go.
     pub fn release(&mut self, call: u32)
         requires { call < length self.old }

@@ -10,7 +10,7 @@ use Rattle.spec_ledger.specs.Cells.{Cells, lock_cmp, counter, number, update, ma
 use Rattle.spec_ledger.specs.Book.{Attempt, back_all}
 use Rattle.spec_ledger.proofs.Maps.{get-update, update_comm, update_back, key_itself, lock_cmp_total, lock_cmp-IsAntisymmetric}
 use Rattle.storage.specs.Counts.{Counts, count_at, opened, closed, IsUnsettled}
-use Rattle.boost.specs.Counted.{opened_all, closed_all, AreUnsettled, live_counts}
+use Rattle.boost.specs.Counted.{opened_all, closed_all, AreUnsettled, live_counts, AreCounts}
 
 pub back_all-push : (is : List Inverse) (i : Inverse) (m : Cells) → back_all (is ++ i ∷ []) m ≡ back_all is (back i m)
 back_all-push [] i m = refl
@@ -31,10 +31,6 @@ AreUnsettled-push (j ∷ is) i m h =
 number-counter : (n : ℕ) → number (counter n) ≡ n
 number-counter zero = refl
 number-counter (suc n) = refl
-
--- a count is never there with 0
-pub record AreCounts (m : Counts) : Type 0 where
-  pub each : (l : Lock) → counter (number (finite.get m l)) ≡ finite.get m l
 
 less_one : (c : Option ℕ) → counter (number c) ≡ c → counter (number (counter (number c + 1)) - 1) ≡ c
 less_one c e = ap (λ x. counter (x - 1)) (number-counter (number c + 1)) ∙ ap counter (omega arith) ∙ e

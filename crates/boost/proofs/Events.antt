@@ -6,25 +6,84 @@ use Rattle.std.proofs.Common.{eqb, ◌||◌, map, ◌≢◌, ◌^◌}
 use Rattle.std.proofs.lemmas.Bool.{false≢true, eqb-true}
 use Rattle.std.proofs.lemmas.Bool.Decides.{eqb_tells}
 use Rattle.std.proofs.lemmas.Map.Steps.{length-le_from_distinct_below}
-use Rattle.std.proofs.lemmas.List.{length-map, append-nil}
-use Rattle.std.proofs.Common.{⊎_elim, arith}
-use Rattle.std.specs.Bool.{IsTrue}
+use Rattle.std.proofs.lemmas.List.{length-map, append-nil, length-set, length-replicate, set-set, set-get_or}
+use Rattle.std.proofs.Common.{⊎_elim, arith, replicate}
+use Rattle.spec_ledger.specs.declared.Lock.{Lock}
+use Rattle.spec_ledger.specs.declared.Mode.{Mode}
+use Rattle.spec_ledger.specs.Modes.{Modes, mode_of, touched}
+use Rattle.abstract_locks.specs.Table.{AllShare, asked, others}
 use Rattle.spec_ledger.specs.declared.Op.{Op}
 use Rattle.spec_ledger.specs.declared.Reply.{Reply}
 use Rattle.spec_ledger.specs.declared.Step.{Step}
 use Rattle.spec_ledger.specs.declared.Outcome.{Outcome}
 use Rattle.spec_ledger.specs.declared.Inverse.{Inverse}
-use Rattle.spec_ledger.specs.Cells.{Cells, cells_after, reply_to, inverse_to}
-use Rattle.spec_ledger.specs.Book.{Attempt, Entry, Content, IsKept, IsEntry, AreDistinct, call_is_new, IsGranted, extended, after_op, after_undo, after_commit, entry_of, has_returned, back_all, fresh, after_begin}
-use Rattle.spec_ledger.specs.Events.{IsFound, OpDone, IsConflict, UndoDone, CommitDone, IsOther, IsUndoneLast}
-use Rattle.spec_ledger.proofs.Kept.{IsKept-op, IsKept-undo, IsKept-commit, IsKept-begin}
+use Rattle.spec_ledger.specs.Cells.{Cells, lock_of, cells_after, reply_to, inverse_to}
+use Rattle.spec_ledger.specs.Book.{Attempt, Entry, Content, settled, IsLive, IsKept, IsEntry, AreDistinct, call_is_new, IsGranted, extended, after_op, after_undo, after_commit, entry_of, has_returned, back_all, fresh, after_begin}
+use Rattle.spec_ledger.specs.Events.{HasNoAttempt, BeginDone, IsFound, OpDone, IsConflict, UndoDone, CommitDone, IsOther, IsUndoneLast}
+use Rattle.spec_ledger.proofs.Kept.{All-right, live_here, live_others, beside, others_apart, IsKept-op, IsKept-undo, IsKept-commit, IsKept-begin}
+use Rattle.spec_ledger.proofs.Traces.{All-weaken}
 use Rattle.storage.specs.Counts.{Counts, opened}
-use Rattle.boost.specs.Counted.{live_counts, opened_all, closed_all, AreUnsettled}
-use Rattle.boost.specs.Kept.{IsBook, IsPlace}
+use Rattle.boost.specs.Counted.{live_counts, opened_all, closed_all, AreUnsettled, AreCounts}
+use Rattle.boost.specs.Kept.{IsBook, IsPlace, rows_with, marks_with}
+use Rattle.boost.proofs.Held.{AreBelow, no_other, rows_out, rows_with-append, length-rows_with, emptied, empty_row, own_row, share_to, share_from, touched-push, marks_with-append, length-marks_with, marked_is_old, unmarked_is_new}
 use Rattle.boost.proofs.Counted.{live_counts-append, live_counts_out, opened_all-push, closed_all-opened_all, AreUnsettled-opened_all, AreCounts-live, AreCounts-empty}
 use Rattle.boost.proofs.Lists.{set_split, at_split}
 
-module _ (b : Content) (counts : Counts) (book : IsBook b counts) (call number i : ℕ) (xs : List Attempt) (same : xs ≡ b.attempts) (place : IsPlace xs i call number) where
+-- ---- the table of locks and the marks beside the attempts
+
+module _ (b : Content) (counts : Counts) (rows : List Modes) (marks : List Bool) (book : IsBook b counts rows marks) where
+  pub length-rows : length rows ≡ length b.begun
+  length-rows = ap length book.locked ∙ length-rows_with b.attempts (replicate (length b.begun) empty) ∙ length-replicate (length b.begun) empty
+
+  pub length-marks : length marks ≡ length b.begun
+  length-marks = ap length book.marked ∙ length-marks_with b.entries (replicate (length b.begun) false) ∙ length-replicate (length b.begun) false
+
+  module _ (p : List Attempt) (a : Attempt) (q : List Attempt) (split : b.attempts ≡ p ++ a ∷ q) where
+    idle_there : HasNoAttempt a.call (p ++ q)
+    idle_there = no_other a (p ++ q) (beside b p a q book.kept split)
+
+    pub known_there : a.call < length b.begun
+    known_there = (live_here b p a q book.kept split).known
+
+    others_known : AreBelow (length b.begun) (p ++ q)
+    others_known = All-weaken (IsLive (settled b.opening b.entries) b.begun b.entries) (λ x. x.call < length b.begun) (λ x h. h.known) (p ++ q) (live_others b p a q book.kept split)
+
+    rows_there : rows ≡ set (rows_with (p ++ q) (replicate (length b.begun) empty)) a.call a.modes
+    rows_there =
+        book.locked ∙ ap (λ ys. rows_with ys (replicate (length b.begun) empty)) split
+        ∙ rows_out p a q (replicate (length b.begun) empty) (All-right (λ c. c.call ≢ a.call) p q idle_there)
+
+    -- the attempt's locks let go
+    rows_left : set rows a.call empty ≡ rows_with (p ++ q) (replicate (length b.begun) empty)
+    rows_left =
+        ap (λ x. set x a.call empty) rows_there
+        ∙ emptied (rows_with (p ++ q) (replicate (length b.begun) empty)) a.call a.modes (empty_row a.call (length b.begun) (p ++ q) known_there idle_there)
+
+    abbrev IsShared : ℕ × (Lock × Mode) → Type 0
+    IsShared (k, (l, m)) = AllShare (get_or rows k empty) l m (others rows k)
+
+    granted_there : (op : Op) (k : ℕ) (l : Lock) (m : Mode) → a.call ≡ k → l ≡ lock_of op → m ≡ mode_of op
+        → (AllShare (get_or rows k empty) l m (others rows k) → IsGranted a op (p ++ q)) × (IsGranted a op (p ++ q) → AllShare (get_or rows k empty) l m (others rows k))
+    granted_there op k l m e f g =
+        let path : ◌≡◌ {A = ℕ × (Lock × Mode)} (k, (l, m)) (a.call, (lock_of op, mode_of op)) = λ j. (sym e j, (f j, g j)) in (
+          λ h. share_to (length b.begun) a (p ++ q) known_there others_known idle_there (others_apart b p a q book.kept split) rows rows_there (lock_of op) (mode_of op) (subst IsShared path h),
+          λ h. subst IsShared (sym path) (share_from (length b.begun) a (p ++ q) known_there others_known idle_there (others_apart b p a q book.kept split) rows rows_there (lock_of op) (mode_of op) h),
+        )
+
+    -- the attempt's locks after one more operation
+    rows_more : (op : Op) → set rows a.call (asked (get_or rows a.call empty) (lock_of op) (mode_of op)) ≡ rows_with (p ++ extended a op b.now ∷ q) (replicate (length b.begun) empty)
+    rows_more op =
+        ap (λ r. set rows a.call (asked r (lock_of op) (mode_of op)))
+        (own_row (length b.begun) a (p ++ q) known_there others_known idle_there (others_apart b p a q book.kept split) rows rows_there (lock_of op) (mode_of op)
+        ∙ (live_here b p a q book.kept split).modes)
+        ∙ ap (λ x. set x a.call (asked (touched a.trace) (lock_of op) (mode_of op))) rows_there
+        ∙ set-set (rows_with (p ++ q) (replicate (length b.begun) empty)) a.call a.modes (asked (touched a.trace) (lock_of op) (mode_of op))
+        ∙ ap (set (rows_with (p ++ q) (replicate (length b.begun) empty)) a.call) (sym (touched-push a.trace (record { op = op; reply = reply_to op b.now })))
+        ∙ sym (rows_out p (extended a op b.now) q (replicate (length b.begun) empty) (All-right (λ c. c.call ≢ a.call) p q idle_there))
+
+-- ---- an attempt at its place
+
+module _ (b : Content) (counts : Counts) (rows : List Modes) (marks : List Bool) (book : IsBook b counts rows marks) (call number i : ℕ) (xs : List Attempt) (same : xs ≡ b.attempts) (place : IsPlace xs i call number) where
   pub here : Attempt
   here = place.attempt
 
@@ -47,12 +106,25 @@ module _ (b : Content) (counts : Counts) (book : IsBook b counts) (call number i
   pub counts_closed : closed_all place.attempt.inverses counts ≡ live_counts (take i b.attempts ++ drop (i + 1) b.attempts) empty
   counts_closed = ap (closed_all place.attempt.inverses) counts_out ∙ closed_all-opened_all place.attempt.inverses _ (AreCounts-live (take i b.attempts ++ drop (i + 1) b.attempts) empty AreCounts-empty)
 
-  pub granted_here : (op : Op) (r : Bool) (ys : List Attempt) → ys ≡ b.attempts
-      → ((a : Attempt) → ys ≡ take i ys ++ a ∷ drop (i + 1) ys → (IsTrue r → IsGranted a op (take i ys ++ drop (i + 1) ys)) × (IsGranted a op (take i ys ++ drop (i + 1) ys) → IsTrue r))
-      → (IsTrue r → IsGranted place.attempt op (take i b.attempts ++ drop (i + 1) b.attempts)) × (IsGranted place.attempt op (take i b.attempts ++ drop (i + 1) b.attempts) → IsTrue r)
-  granted_here op r ys e h =
-      let P : List Attempt → Type 0 = λ zs. (a : Attempt) → zs ≡ take i zs ++ a ∷ drop (i + 1) zs → (IsTrue r → IsGranted a op (take i zs ++ drop (i + 1) zs)) × (IsGranted a op (take i zs ++ drop (i + 1) zs) → IsTrue r) in
-      (subst P e h) place.attempt split
+  pub call_known : call < length b.begun
+  call_known = subst (λ k. k < length b.begun) place.call_is (known_there b counts rows marks book (take i b.attempts) place.attempt (drop (i + 1) b.attempts) split)
+
+  pub call_row : call < length rows
+  call_row = subst (λ n. call < n) (sym (length-rows b counts rows marks book)) call_known
+
+  pub call_mark : call < length marks
+  call_mark = subst (λ n. call < n) (sym (length-marks b counts rows marks book)) call_known
+
+  pub granted_here : (op : Op) (l : Lock) (m : Mode) → l ≡ lock_of op → m ≡ mode_of op
+      → (AllShare (get_or rows call empty) l m (others rows call) → IsGranted place.attempt op (take i b.attempts ++ drop (i + 1) b.attempts))
+      × (IsGranted place.attempt op (take i b.attempts ++ drop (i + 1) b.attempts) → AllShare (get_or rows call empty) l m (others rows call))
+  granted_here op l m e f = granted_there b counts rows marks book (take i b.attempts) place.attempt (drop (i + 1) b.attempts) split op call l m place.call_is e f
+
+  pub row_of : (z : Attempt) → z ≡ get_or b.attempts i z → z.call < length rows
+  row_of z e = subst (λ k. k < length rows) (sym place.call_is ∙ ap (λ (x : Attempt). x.call) (at_split b.attempts i place.attempt z below_here e split)) call_row
+
+  pub AreCounts-here : AreCounts counts
+  AreCounts-here = subst AreCounts (sym book.counted) (AreCounts-live b.attempts empty AreCounts-empty)
 
   pub extended_here : (op : Op) (y z : Attempt) → z ≡ get_or b.attempts i z → y ≡ extended z op b.now → y ≡ extended place.attempt op b.now
   extended_here op y z e f = f ∙ ap (λ x. extended x op b.now) (sym (at_split b.attempts i place.attempt z below_here e split))
@@ -60,18 +132,25 @@ module _ (b : Content) (counts : Counts) (book : IsBook b counts) (call number i
   pub conflict_here : (op : Op) → ¬ (IsGranted place.attempt op (take i b.attempts ++ drop (i + 1) b.attempts)) → IsConflict b call number op
   conflict_here op refused = record { before = take i b.attempts; attempt = place.attempt; later = drop (i + 1) b.attempts; found = found_here; refused = refused }
 
-  module _ (op : Op) (granted : IsGranted place.attempt op (take i b.attempts ++ drop (i + 1) b.attempts)) (y : Attempt) (is : y ≡ extended place.attempt op b.now) (now : Cells) (now_is : now ≡ cells_after op b.now) (counts' : Counts) (counts_is : counts' ≡ opened (inverse_to op b.now) counts) where
+  module _ (op : Op) (granted : IsGranted place.attempt op (take i b.attempts ++ drop (i + 1) b.attempts)) (y : Attempt) (is : y ≡ extended place.attempt op b.now) (now : Cells) (now_is : now ≡ cells_after op b.now) where
     moved : ◌≡◌ {A = Content} (record b { now = now; attempts = set b.attempts i y }) (after_op b (take i b.attempts) place.attempt (drop (i + 1) b.attempts) op)
     moved = λ k. record b { now = now_is k; attempts = (set_split b.attempts i y below_here ∙ ap (λ z. take i b.attempts ++ z ∷ drop (i + 1) b.attempts) is) k }
 
-    pub IsBook-op : IsBook (record b { now = now; attempts = set b.attempts i y }) counts'
-    IsBook-op = record {
+    pub IsBook-op : (counts' : Counts) → counts' ≡ opened (inverse_to op b.now) counts → (z : Attempt) → z ≡ get_or b.attempts i z
+        → (rows' : List Modes) → rows' ≡ set rows z.call (asked (get_or rows z.call empty) (lock_of op) (mode_of op)) → IsBook (record b { now = now; attempts = set b.attempts i y }) counts' rows' marks
+    IsBook-op counts' counts_is z z_is rows' rows_is = record {
       kept = subst (λ x. IsKept x) (sym moved) (IsKept-op b (take i b.attempts) place.attempt (drop (i + 1) b.attempts) book.kept split op granted);
       counted =
           counts_is ∙ ap (opened (inverse_to op b.now)) counts_out
           ∙ sym (ap (λ (x : Content). live_counts x.attempts empty) moved
           ∙ live_counts_out (take i b.attempts) (extended place.attempt op b.now) (drop (i + 1) b.attempts) empty
           ∙ opened_all-push place.attempt.inverses (inverse_to op b.now) (live_counts (take i b.attempts ++ drop (i + 1) b.attempts) empty));
+      locked =
+          rows_is
+          ∙ ap (λ (x : Attempt). set rows x.call (asked (get_or rows x.call empty) (lock_of op) (mode_of op))) (sym (at_split b.attempts i place.attempt z below_here z_is split))
+          ∙ rows_more b counts rows marks book (take i b.attempts) place.attempt (drop (i + 1) b.attempts) split op
+          ∙ sym (ap (λ (x : Content). rows_with x.attempts (replicate (length b.begun) empty)) moved);
+      marked = book.marked;
     }
 
     pub OpDone-op : (reply : Reply) → reply ≡ reply_to op b.now → OpDone b (record b { now = now; attempts = set b.attempts i y }) call number op reply
@@ -92,21 +171,30 @@ module _ (b : Content) (counts : Counts) (book : IsBook b counts) (call number i
     pub may_close_of : (is : List Inverse) → is ≡ z.inverses → AreUnsettled is counts
     may_close_of is e = subst (λ x. AreUnsettled x counts) (sym (e ∙ ap (λ (a : Attempt). a.inverses) (sym same_here))) may_close
 
-    module _ (is : List Inverse) (is_is : is ≡ z.inverses) (counts' : Counts) (counts_is : counts' ≡ closed_all is counts) (rest : List Attempt) (rest_is : rest ≡ take i b.attempts ++ drop (i + 1) b.attempts) where
+    module _ (is : List Inverse) (is_is : is ≡ z.inverses) (counts' : Counts) (counts_is : counts' ≡ closed_all is counts) (rest : List Attempt) (rest_is : rest ≡ take i b.attempts ++ drop (i + 1) b.attempts)
+        (rows' : List Modes) (rows_is : rows' ≡ set rows call empty) where
       inverses_here : is ≡ place.attempt.inverses
       inverses_here = is_is ∙ ap (λ (a : Attempt). a.inverses) (sym same_here)
 
       counted_here : counts' ≡ live_counts rest empty
       counted_here = counts_is ∙ ap (λ x. closed_all x counts) inverses_here ∙ counts_closed ∙ ap (λ x. live_counts x empty) (sym rest_is)
 
+      locked_here : rows' ≡ rows_with rest (replicate (length b.begun) empty)
+      locked_here =
+          rows_is ∙ ap (λ k. set rows k empty) (sym place.call_is)
+          ∙ rows_left b counts rows marks book (take i b.attempts) place.attempt (drop (i + 1) b.attempts) split
+          ∙ ap (λ x. rows_with x (replicate (length b.begun) empty)) (sym rest_is)
+
       module _ (now : Cells) (now_is : now ≡ back_all is b.now) where
         undone : ◌≡◌ {A = Content} (record b { now = now; attempts = rest }) (after_undo b (take i b.attempts) place.attempt (drop (i + 1) b.attempts))
         undone = λ k. record b { now = (now_is ∙ ap (λ x. back_all x b.now) inverses_here) k; attempts = rest_is k }
 
-        pub IsBook-undo : IsBook (record b { now = now; attempts = rest }) counts'
+        pub IsBook-undo : IsBook (record b { now = now; attempts = rest }) counts' rows' marks
         IsBook-undo = record {
           kept = subst (λ x. IsKept x) (sym undone) (IsKept-undo b (take i b.attempts) place.attempt (drop (i + 1) b.attempts) book.kept split);
           counted = counted_here;
+          locked = locked_here;
+          marked = book.marked;
         }
 
         pub UndoDone-undo : UndoDone b (record b { now = now; attempts = rest }) call number
@@ -120,10 +208,17 @@ module _ (b : Content) (counts : Counts) (book : IsBook b counts) (call number i
           attempts = rest_is k;
         }
 
-        pub IsBook-commit : IsBook (record b { now = now; entries = entries; attempts = rest }) counts'
-        IsBook-commit = record {
+        call_there : call ≡ e.call
+        call_there = sym (ap (λ (x : Entry). x.call) e_is ∙ ap (λ (x : Attempt). x.call) (sym same_here) ∙ place.call_is)
+
+        pub IsBook-commit : (marks' : List Bool) → marks' ≡ set marks call true → IsBook (record b { now = now; entries = entries; attempts = rest }) counts' rows' marks'
+        IsBook-commit marks' marks_is = record {
           kept = subst (λ x. IsKept x) (sym committed) (IsKept-commit b (take i b.attempts) place.attempt (drop (i + 1) b.attempts) book.kept split outcome);
           counted = counted_here;
+          locked = locked_here;
+          marked =
+              marks_is ∙ ap (λ x. set x call true) book.marked ∙ ap (λ k. set (marks_with b.entries (replicate (length b.begun) false)) k true) call_there
+              ∙ sym (ap (λ es. marks_with es (replicate (length b.begun) false)) entries_is ∙ marks_with-append b.entries (e ∷ []) (replicate (length b.begun) false));
         }
 
         pub CommitDone-commit : (trace : List Step) → z.trace ≡ trace → (position : ℕ) → position ≡ length b.entries → CommitDone b (record b { now = now; entries = entries; attempts = rest }) call number trace outcome position
@@ -182,20 +277,44 @@ few_entries b kept =
 
 -- ---- a begin
 
-pub IsBook-begin : (b : Content) (counts : Counts) → IsBook b counts → (call : ℕ) → call < length b.begun → AllByRecursion (λ c. c.call ≢ call) b.attempts → call_is_new call b.entries
-    → (attempts : List Attempt) (begun : List ℕ) (a : Attempt) (number : ℕ) → number ≡ get_or b.begun call 0 → a ≡ fresh call number → attempts ≡ b.attempts ++ a ∷ [] → begun ≡ set b.begun call (number + 1)
-    → IsBook (record b { attempts = attempts; begun = begun }) counts
-IsBook-begin b counts book call below none new attempts begun a number n f e g =
-    let is : ◌≡◌ {A = Content} (record b { attempts = attempts; begun = begun }) (after_begin b call) =
-    λ k. record b { attempts = (e ∙ ap (λ x. b.attempts ++ x ∷ []) (f ∙ ap (fresh call) n)) k; begun = (g ∙ ap (λ x. set b.begun call (x + 1)) n) k } in
-    record {
-      kept = subst (λ x. IsKept x) (sym is) (IsKept-begin b call book.kept below none new);
-      counted = book.counted ∙ sym (ap (λ (x : Content). live_counts x.attempts empty) is ∙ live_counts-append b.attempts (fresh call (get_or b.begun call 0) ∷ []) empty);
-    }
+module _ (b : Content) (counts : Counts) (rows : List Modes) (marks : List Bool) (book : IsBook b counts rows marks) (call : ℕ) (below : call < length b.begun) where
+  pub mark_below : call < length marks
+  mark_below = subst (λ n. call < n) (sym (length-marks b counts rows marks book)) below
+
+  pub committed_before : (mark : Bool) → mark ≡ get_or marks call mark → mark ≡ true → ¬ (call_is_new call b.entries)
+  committed_before mark is = marked_is_old call (length b.begun) b.entries marks book.marked below mark is
+
+  pub never_committed : (mark : Bool) → mark ≡ get_or marks call mark → mark ≡ false → call_is_new call b.entries
+  never_committed mark is =
+      unmarked_is_new call (length b.begun) b.entries marks book.marked below mark is (All-weaken (IsEntry b.begun) (λ e. e.call < length b.begun) (λ e h. h.known) b.entries book.kept.each_entry)
+
+  module _ (none : HasNoAttempt call b.attempts) (new : call_is_new call b.entries) (attempts : List Attempt) (begun : List ℕ) (a : Attempt) (number : ℕ)
+      (n : number ≡ get_or b.begun call 0) (f : a ≡ fresh call number) (e : attempts ≡ b.attempts ++ a ∷ []) (g : begun ≡ set b.begun call (number + 1)) where
+    begins : ◌≡◌ {A = Content} (record b { attempts = attempts; begun = begun }) (after_begin b call)
+    begins = λ k. record b { attempts = (e ∙ ap (λ x. b.attempts ++ x ∷ []) (f ∙ ap (fresh call) n)) k; begun = (g ∙ ap (λ x. set b.begun call (x + 1)) n) k }
+
+    pub IsBook-begin : IsBook (record b { attempts = attempts; begun = begun }) counts rows marks
+    IsBook-begin =
+        let wide : length (set b.begun call (get_or b.begun call 0 + 1)) ≡ length b.begun = length-set b.begun call (get_or b.begun call 0 + 1) in
+        record {
+          kept = subst (λ x. IsKept x) (sym begins) (IsKept-begin b call book.kept below none new);
+          counted = book.counted ∙ sym (ap (λ (x : Content). live_counts x.attempts empty) begins ∙ live_counts-append b.attempts (fresh call (get_or b.begun call 0) ∷ []) empty);
+          locked =
+              book.locked
+              ∙ sym (ap (λ (x : Content). rows_with x.attempts (replicate (length x.begun) empty)) begins
+              ∙ ap (λ m. rows_with (b.attempts ++ fresh call (get_or b.begun call 0) ∷ []) (replicate m empty)) wide
+              ∙ rows_with-append b.attempts (fresh call (get_or b.begun call 0) ∷ []) (replicate (length b.begun) empty)
+              ∙ ap (set (rows_with b.attempts (replicate (length b.begun) empty)) call) (sym (empty_row call (length b.begun) b.attempts below none))
+              ∙ set-get_or (rows_with b.attempts (replicate (length b.begun) empty)) call empty);
+          marked = book.marked ∙ sym (ap (λ (x : Content). marks_with x.entries (replicate (length x.begun) false)) begins ∙ ap (λ m. marks_with b.entries (replicate m false)) wide);
+        }
+
+    pub BeginDone-begin : BeginDone b (record b { attempts = attempts; begun = begun }) call number
+    BeginDone-begin = record { known = below; not_live = none; not_committed = new; number_is = n; new_is = begins }
 
 -- ---- the newest attempt undone
 
-module _ (b : Content) (counts : Counts) (book : IsBook b counts) (p : List Attempt) (a : Attempt) (split : b.attempts ≡ p ++ a ∷ []) where
+module _ (b : Content) (counts : Counts) (rows : List Modes) (marks : List Bool) (book : IsBook b counts rows marks) (p : List Attempt) (a : Attempt) (split : b.attempts ≡ p ++ a ∷ []) where
   rest_is : p ++ [] ≡ p
   rest_is = append-nil p
 
@@ -205,14 +324,19 @@ module _ (b : Content) (counts : Counts) (book : IsBook b counts) (p : List Atte
   pub last_may_close : (is : List Inverse) → is ≡ a.inverses → AreUnsettled is counts
   last_may_close is e = subst (λ x. AreUnsettled x counts) (sym e) (subst (AreUnsettled a.inverses) (sym last_out) (AreUnsettled-opened_all a.inverses _ (AreCounts-live p empty AreCounts-empty)))
 
+  pub last_row : (k : ℕ) → k ≡ a.call → k < length rows
+  last_row k e = subst (λ n. k < n) (sym (length-rows b counts rows marks book)) (subst (λ x. x < length b.begun) (sym e) (known_there b counts rows marks book p a [] split))
+
   module _ (is : List Inverse) (is_is : is ≡ a.inverses) (counts' : Counts) (counts_is : counts' ≡ closed_all is counts) (now : Cells) (now_is : now ≡ back_all is b.now) where
     last_undone : ◌≡◌ {A = Content} (record b { now = now; attempts = p }) (after_undo b p a [])
     last_undone = λ k. record b { now = (now_is ∙ ap (λ x. back_all x b.now) is_is) k; attempts = sym rest_is k }
 
-    pub IsBook-undo_last : IsBook (record b { now = now; attempts = p }) counts'
-    IsBook-undo_last = record {
+    pub IsBook-undo_last : (k : ℕ) → k ≡ a.call → (rows' : List Modes) → rows' ≡ set rows k empty → IsBook (record b { now = now; attempts = p }) counts' rows' marks
+    IsBook-undo_last k k_is rows' rows_is' = record {
       kept = subst (λ x. IsKept x) (sym last_undone) (IsKept-undo b p a [] book.kept split);
       counted = counts_is ∙ ap (λ x. closed_all x counts) is_is ∙ ap (closed_all a.inverses) last_out ∙ closed_all-opened_all a.inverses _ (AreCounts-live p empty AreCounts-empty);
+      locked = rows_is' ∙ ap (λ x. set rows x empty) k_is ∙ rows_left b counts rows marks book p a [] split ∙ ap (λ x. rows_with x (replicate (length b.begun) empty)) rest_is;
+      marked = book.marked;
     }
 
     pub IsUndoneLast-undo : IsUndoneLast b (record b { now = now; attempts = p })

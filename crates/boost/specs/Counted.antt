@@ -1,6 +1,9 @@
 -- The unsettled changes of live attempts.
-use Rattle.std.specs.Prelude.{List, [], ◌∷◌}
+use Rattle.std.specs.Prelude.{◌≡◌, List, [], ◌∷◌}
+use Rattle.std.specs.FinMap as finite
+use Rattle.spec_ledger.specs.declared.Lock.{Lock}
 use Rattle.spec_ledger.specs.declared.Inverse.{Inverse}
+use Rattle.spec_ledger.specs.Cells.{counter, number}
 use Rattle.spec_ledger.specs.Book.{Attempt}
 use Rattle.storage.specs.Counts.{Counts, opened, closed, IsUnsettled}
 
@@ -23,3 +26,7 @@ AreUnsettled (i ∷ is) counts = AreUnsettled is counts × IsUnsettled i (closed
 abbrev pub live_counts : List Attempt → Counts → Counts
 live_counts [] counts = counts
 live_counts (a ∷ rest) counts = live_counts rest (opened_all a.inverses counts)
+
+-- a count is never there with 0
+pub record AreCounts (m : Counts) : Type 0 where
+  pub each : (l : Lock) → counter (number (finite.get m l)) ≡ finite.get m l

@@ -1,14 +1,19 @@
 // What the book keeps of a call: its live attempt, or its committed entry.
-ghost use Rattle.std.specs.Prelude.{◌≡◌, ◌+◌, ◌<◌, ◌≤◌, ℕ, ◌∷◌, [], ◌++◌, IfOk, OnOk, OnErr, IsTrue, ◌↔◌, if◌then◌else◌};
+ghost use Rattle.std.specs.Prelude.{◌≡◌, ◌+◌, ◌<◌, ◌≤◌, ℕ, ◌∷◌, [], ◌++◌, IfOk, OnOk, OnErr, IsTrue, ◌↔◌, if◌then◌else◌, length, slice_set};
 ghost use Rattle.spec_ledger.specs.Cells.{reply_to, cells_after, inverse_to};
 ghost use Rattle.spec_ledger.specs.Book.{back_all, extended, entry_of, has_returned, fresh as fresh_of};
 ghost use Rattle.storage.specs.Counts.{opened};
-ghost use Rattle.boost.specs.Counted.{closed_all, AreUnsettled};
+ghost use Rattle.spec_ledger.specs.Cells.{lock_of};
+ghost use Rattle.spec_ledger.specs.Modes.{mode_of};
+ghost use Rattle.abstract_locks.specs.Table.{asked, row_at};
+ghost use Rattle.boost.specs.Counted.{closed_all, AreUnsettled, AreCounts};
 
-use spec_ledger::{Inverse, Op, Outcome, Reply, Step};
+use crate::trace::same_trace;
+use abstract_locks::Table;
+use spec_ledger::{Inverse, Mode, Op, Outcome, Reply, Step};
 use std::alloc::Global;
 use std::marker::Model;
-use storage::{Cells, NoMemory};
+use storage::{Cells, NoMemory, lock};
 
 /// A committed call.
 #[derive(Drop)]
@@ -73,19 +78,44 @@ pub(crate) fn settle_all(cells: &mut Cells, mut inverses: Vec<Inverse>)
     }
 }
 
+/// The mode that an operation asks for.
+pub(crate) fn mode(op: Op) -> Mode
+    ensures { result ≡ mode_of op }
+{
+    match op {
+        Op::Get(_) | Op::Has(_) | Op::Total(_) => Mode::Read,
+        Op::Put(_, _) | Op::Del(_) => Mode::Excl,
+        Op::Add(_, _) => Mode::Add,
+    }
+}
+
 impl Attempt {
-    /// Does an operation and notes it. An attempt that met want of memory is as it was.
-    pub(crate) fn act(&mut self, cells: &mut Cells, op: Op) -> Result<Reply, NoMemory>
+    /// Does an operation, takes its lock and notes it. The lock comes second: a change can be taken back without memory, one lock of a call cannot. Where memory is refused, all is as it was.
+    pub(crate) fn act(
+        &mut self,
+        cells: &mut Cells,
+        locks: &mut Table,
+        op: Op,
+    ) -> Result<Reply, NoMemory>
+        requires call { self.old.call < length locks.old }
+        requires counts { AreCounts cells.old.unsettled }
         ensures reply { IfOk result (λ reply. reply ≡ reply_to op cells.old.cells) }
         ensures attempt { OnOk result (self.new ≡ extended self.old op cells.old.cells) }
         ensures cells { OnOk result (cells.new.cells ≡ cells_after op cells.old.cells) }
         ensures unsettled { OnOk result (cells.new.unsettled ≡ opened (inverse_to op cells.old.cells) cells.old.unsettled) }
+        ensures locks { OnOk result (locks.new ≡ slice_set locks.old self.old.call (asked (row_at locks.old self.old.call) (lock_of op) (mode_of op))) }
         ensures err { OnErr result (self.new ≡ self.old) }
         ensures err_cells { OnErr result (cells.new ≡ cells.old) }
+        ensures err_locks { OnErr result (locks.new ≡ locks.old) }
     {
+        cells.hold();
         self.trace.reserve(1).map_err(|_| NoMemory)?;
         self.inverses.reserve(1).map_err(|_| NoMemory)?;
         let (reply, inverse) = cells.apply(op)?;
+        let Ok(()) = locks.take(self.call, lock(op), mode(op)) else {
+            cells.take_back(inverse);
+            return Err(NoMemory);
+        };
         match self.trace.push(Step { op, reply }) {
             Ok(()) => (),
             Err(_) => unreachable!(),
@@ -165,6 +195,12 @@ impl Attempt {
         }
     }
 
+    pub(crate) fn call(&self) -> u32
+        ensures { result ≡ self.now.call }
+    {
+        self.call
+    }
+
     pub(crate) fn number(&self) -> u64
         ensures { result ≡ self.now.number }
     {
@@ -176,12 +212,16 @@ impl Attempt {
     {
         self.call == call
     }
-}
 
-impl Entry {
-    pub(crate) fn is_call(&self, call: u32) -> bool
-        ensures { IsTrue result ↔ (self.now.call ≡ call) }
+    pub(crate) fn has_trace(&self, trace: &[Step]) -> bool
+        ensures { IsTrue result ↔ (self.now.trace ≡ trace.now) }
     {
-        self.call == call
+        same_trace(&self.trace, trace)
+    }
+
+    pub(crate) fn is_of(&self, call: u32, number: u64) -> bool
+        ensures { IsTrue result ↔ ((self.now.call ≡ call) × (self.now.number ≡ number)) }
+    {
+        self.call == call && self.number == number
     }
 }

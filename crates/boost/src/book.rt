@@ -5,14 +5,11 @@ ghost use Rattle.spec_ledger.specs.Book.{IsKept, IsGranted, extended, after_undo
 ghost use Rattle.spec_ledger.specs.Facts.{CellsAreSettledButForHolders, EntriesAreSerialRun, LiveAttemptsGoTogether, LiveTracesGetReplies};
 ghost use Rattle.spec_ledger.specs.Events.{IsStale, BeginDone, HasNoAttempt, OpDone, IsConflict, UndoDone, CommitDone, IsOther, IsUndoneLast};
 ghost use Rattle.boost.specs.Kept.{IsBook, IsPlace};
-ghost use Rattle.spec_ledger.specs.Modes.{may_share};
 ghost use Rattle.std.specs.FinMap as finite;
-ghost use Rattle.spec_ledger.specs.Book.{Attempt as TheAttempt};
 
-use crate::attempt::{Attempt, Entry, end_all, returned, take_all_back};
-use crate::locks::{all_let, mode};
-use abstract_locks::join_to;
-use spec_ledger::{Lock, Mode, Op, Outcome, Reply, Step};
+use crate::attempt::{Attempt, Entry, end_all, mode, returned, take_all_back};
+use abstract_locks::Table;
+use spec_ledger::{Lock, Op, Outcome, Reply, Step};
 use std::alloc::Global;
 use std::marker::Model;
 use storage::{Cells, NoMemory, lock};
@@ -87,6 +84,8 @@ pub struct Book {
     entries: Vec<Entry>,
     attempts: Vec<Attempt>,
     begun: Vec<u64>,
+    locks: Table,
+    committed: Vec<bool>,
 }
 
 impl Model for Book {
@@ -100,7 +99,7 @@ impl Model for Book {
 
     ghost view = { λ b. record { opening = b.opening.cells; now = b.cells.cells; entries = b.entries.items; attempts = b.attempts.items; begun = b.begun.items } };
 
-    ghost invariant = { λ b. IsBook (record { opening = b.opening.cells; now = b.cells.cells; entries = b.entries.items; attempts = b.attempts.items; begun = b.begun.items }) b.cells.unsettled };
+    ghost invariant = { λ b. IsBook (record { opening = b.opening.cells; now = b.cells.cells; entries = b.entries.items; attempts = b.attempts.items; begun = b.begun.items }) b.cells.unsettled b.locks b.committed.items };
 }
 
 /// Where the attempt of a ticket stands, if it lives.
@@ -116,23 +115,6 @@ fn find(attempts: &[Attempt], ticket: &Ticket) -> Option<usize>
     None
 }
 
-/// Whether all of these let another hold a lock in a mode.
-fn both_let(before: &[Attempt], later: &[Attempt], wanted: Lock, mode: Mode) -> bool
-    ensures { IsTrue result ↔ AllByRecursion (λ c. may_share (Some mode) (finite.get c.modes wanted) ≡ true) (before.now ++ later.now) }
-{
-    all_let(before, wanted, mode) && all_let(later, wanted, mode)
-}
-
-/// Whether the attempt at a place may do an operation.
-fn granted(attempts: &[Attempt], i: usize, op: Op) -> bool
-    requires { i < length attempts.now }
-    ensures { (a : TheAttempt) → attempts.now ≡ take i attempts.now ++ a ∷ drop (i + 1) attempts.now → (IsTrue result ↔ IsGranted a op (take i attempts.now ++ drop (i + 1) attempts.now)) }
-{
-    let wanted = lock(op);
-    let mode = join_to(mode(op), attempts[i].held(wanted));
-    both_let(&attempts[..i], &attempts[i + 1..], wanted, mode)
-}
-
 impl Book {
     /// Does an operation for a live attempt.
     pub fn op(&mut self, ticket: &Ticket, op: Op) -> Result<Reply, OpRefusal>
@@ -144,10 +126,10 @@ impl Book {
         let Some(i) = find(&self.attempts, ticket) else {
             return Err(OpRefusal::Stale);
         };
-        if !granted(&self.attempts, i, op) {
+        if !self.locks.may_take(ticket.call, lock(op), mode(op)) {
             return Err(OpRefusal::Conflict);
         }
-        let Ok(reply) = self.attempts[i].act(&mut self.cells, op) else {
+        let Ok(reply) = self.attempts[i].act(&mut self.cells, &mut self.locks, op) else {
             return Err(OpRefusal::NoMemory);
         };
         Ok(reply)
@@ -162,6 +144,7 @@ impl Book {
             return;
         };
         let attempt = self.attempts.remove(i);
+        self.locks.release(ticket.call);
         take_all_back(&mut self.cells, attempt.into_inverses());
     }
 
@@ -184,6 +167,8 @@ impl Book {
         }
         let position = self.entries.len() as u32;
         let attempt = self.attempts.remove(i);
+        self.locks.release(ticket.call);
+        self.committed[ticket.call as usize] = true;
         let (entry, inverses) = attempt.into_entry(run.outcome);
         end_all(&mut self.cells, inverses, returned(run.outcome));
         match self.entries.push(entry) {
@@ -205,6 +190,10 @@ impl Book {
         let Ok(begun) = vec![in alloc; 0u64; calls as usize] else {
             return Err(NoMemory);
         };
+        let Ok(committed) = vec![in alloc; false; calls as usize] else {
+            return Err(NoMemory);
+        };
+        let locks = Table::open(alloc, calls)?;
         Ok(Book {
             alloc,
             opening,
@@ -212,6 +201,8 @@ impl Book {
             entries: Vec::new(alloc),
             attempts: Vec::new(alloc),
             begun,
+            locks,
+            committed,
         })
     }
 
@@ -223,6 +214,7 @@ impl Book {
         let Some(attempt) = self.attempts.pop() else {
             return false;
         };
+        self.locks.release(attempt.call());
         take_all_back(&mut self.cells, attempt.into_inverses());
         true
     }
@@ -241,6 +233,8 @@ impl Book {
             entries,
             attempts: _,
             begun: _,
+            locks: _,
+            committed: _,
         } = self;
         Closed {
             opening,
@@ -288,7 +282,7 @@ impl Book {
         if !none_of(&self.attempts, call) {
             return Err(BeginRefusal::Live);
         }
-        if !is_new(&self.entries, call) {
+        if self.committed[call as usize] {
             return Err(BeginRefusal::Committed);
         }
         let number = self.begun[call as usize];
@@ -320,18 +314,6 @@ fn none_of(attempts: &[Attempt], call: u32) -> bool
     true
 }
 
-/// Whether no entry is of a call.
-fn is_new(entries: &[Entry], call: u32) -> bool
-    ensures { IsTrue result ↔ call_is_new call entries.now }
-{
-    for entry in entries {
-        if entry.is_call(call) {
-            return false;
-        }
-    }
-    true
-}
-
 impl Drop for Book {
     fn drop(self) {
         let Book {
@@ -341,6 +323,8 @@ impl Drop for Book {
             entries: _,
             attempts: _,
             begun: _,
+            locks: _,
+            committed: _,
         } = self;
     }
 }

@@ -3,7 +3,7 @@
 
 pub mod attempt;
 pub mod book;
-pub mod locks;
 pub mod play;
 #[cfg(test)]
 mod tests;
+mod trace;

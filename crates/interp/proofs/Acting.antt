@@ -1,36 +1,50 @@
 -- What the steps of the code do to the parts.
-use Rattle.std.proofs.Common.{◌≡◌, ℕ, ◌+◌, ◌≤◌, List, [], ◌∷◌, ◌++◌, length, map, drop, refl, sym, ap, ◌∙◌, subst, Vec, Global, Result, Ok, Err, IfOk, None, true, true≢false}
+use Rattle.std.proofs.Common.{◌≡◌, ℕ, ◌+◌, ◌≤◌, List, [], ◌∷◌, ◌++◌, length, map, drop, refl, sym, ap, ◌∙◌, subst, Vec, Global, Result, Ok, Err, IfOk, None, true, false, true≢false, arith, length-append}
 use Rattle.std.proofs.lemmas.List.{reverse-append}
 use Rattle.wtypes.specs.declared.Value.{Value}
 use Rattle.wtypes.specs.declared.PlainInstr.{PlainInstr}
-use Rattle.wtypes.specs.declared.PlainInstr.TheVariants.{Call, Nop}
+use Rattle.wtypes.specs.declared.PlainInstr.TheVariants.{Call, LocalTee}
 use Rattle.spec_syntax.specs.Syntax.{Plain}
 use Rattle.module_tree.specs.declared.instr.Instr.{Instr}
 use Rattle.module_tree.specs.declared.instr.Instr as instr
 use Rattle.spec_syntax.specs.Syntax as syntax
-use Rattle.spec_execution.specs.Configuration.{Contract, State, End, Trap}
+use Rattle.spec_execution.specs.Configuration.{Contract, State, Config, End, Trap}
 use Rattle.spec_execution.specs.Reduction.{Goes, reduce, execute, execute_plain}
 use Rattle.spec_execution.specs.Run.{Reduces}
 use Rattle.interp.specs.declared.parts.Entry.{Entry}
 use Rattle.interp.specs.declared.parts.Parts.{Parts}
 use Rattle.interp.specs.declared.plain.After.{After}
 use Rattle.interp.specs.declared.plain.After.TheVariants as after
-use Rattle.interp.specs.Meaning.{Item, Open, Loop, behind, height, outermost, at, config, Stands, OnlyRun, IsOrdered, IsFine, calling, listed, frames}
-use Rattle.interp.specs.Forms.{operands, runs, runs_plain}
+use Rattle.interp.specs.Meaning.{Item, Open, Loop, behind, height, outermost, at, config, Stands, OnlyRun, IsOrdered, calling, listed, frames}
+use Rattle.interp.specs.Forms.{operands, runs, runs_plain, IsReadyFor}
+use Rattle.module_tree.specs.View.{instr_view}
 use Rattle.interp.proofs.Finding.{ready_for}
-use Rattle.interp.specs.Plain.{onto, Did}
+use Rattle.interp.specs.Plain.{onto, Did, at_once, by_two}
+use Rattle.spec_execution.specs.Turns.{Frees, none}
 use Rattle.interp.specs.Views.{item_of, items_of, open_of, opens_of, view}
 use Rattle.interp.specs.Steps.{IsReadyToRun, Led, LedView, IsOrderedParts, IsBehind, AllSettle, IsCounted}
 use Rattle.interp.proofs.Context.{values_onto}
 use Rattle.interp.proofs.Numbering.{plain_item}
-use Rattle.interp.proofs.Charging.{mk, local, fine_at, charged_ran, charged_fell}
+use Rattle.interp.proofs.Charging.{mk, local, fine_at, fine_after_at, charged_ran, charged_fell, charged_teed, between, Stands_at}
 
 module _ (c : Contract) (b : State) (es : List Open) (stack locals : List Value) (n : ℕ) (op : PlainInstr) (is : List Item) (there : height es + operands op ≤ length stack) (o : IsOrdered (mk b es stack locals (record { ordinal = n; instr = Plain op } ∷ is))) where
   pub led : (a : After) (stack' locals' : List Value) → Did op stack locals a stack' locals' → LedView c (mk b es stack locals (record { ordinal = n; instr = Plain op } ∷ is)) a (mk b es stack' locals' is)
   unfolding reduce execute execute_plain
-  led after.Ran stack' locals' d =
+  led after.Ran stack' locals' (at_once d) =
       let r = charged_ran c b es stack locals n op is there o.stands stack' locals' d in
-      record { reduces = r.0; ordered = record { stands = r.1; runs = o.runs.1; each = o.each } }
+      record { middle = _; reduces = r.0; frees = none _; ordered = record { stands = r.1; runs = o.runs.1; each = o.each } }
+  led after.Ran stack' locals' (by_two d) =
+      let op_is : operands op ≡ 1 = ap operands d.tees in
+      let h : Stands es (length d.kept) = Stands_at es (length stack) (length d.kept) (omega (arith, there, op_is, ap length d.before, length-append d.kept (d.value ∷ []))) o.stands in
+      let r = charged_teed c b es d.kept d.value d.old locals n d.local is h d.there in
+      let mid : Config = between c b es d.kept d.value d.old locals n d.local is h d.there in
+      record {
+        middle = mid;
+        reduces = subst (λ (p : PlainInstr). Reduces c (config (mk b es stack locals (record { ordinal = n; instr = Plain p } ∷ is))) 1 mid) (sym d.tees)
+            (subst (λ (x : List Value). Reduces c (config (mk b es x locals (record { ordinal = n; instr = Plain (LocalTee d.local) } ∷ is))) 1 mid) (sym d.before) r.0);
+        frees = subst (λ (x : List Value). Frees c mid (config (mk b es x locals' is))) (sym (d.same ∙ d.before)) (subst (λ (x : List Value). Frees c mid (config (mk b es (d.kept ++ d.value ∷ []) x is))) (sym d.set) r.1);
+        ordered = record { stands = subst (λ (x : List Value). Stands es (length x)) (sym d.same) o.stands; runs = o.runs.1; each = o.each };
+      }
   led (after.Fell t) stack' locals' d =
       record { reduces = subst (λ (x : List Value). Reduces c (config (mk b es stack locals (record { ordinal = n; instr = Plain op } ∷ is))) 1 (Trap (at b (outermost es x)) t)) (sym d.same) (charged_fell c b es stack locals n op is there o.stands t locals' d) }
   led (after.Calls f) stack' locals' d = record {
@@ -74,23 +88,6 @@ none_at_all = record { number = 0; deployed = record { tree = record { types = [
 pub settled_ordered : {A : Type 0} (p q : Parts A) → AllSettle p q → IsOrderedParts q
 settled_ordered p q s b = (s none_at_all b).ordered
 
--- the operator of the first instruction
-abbrev op_in : syntax.Instr → PlainInstr
-op_in (syntax.Plain op) = op
-op_in _ = Nop
-
-abbrev op_at : List Item → PlainInstr
-op_at [] = Nop
-op_at (i ∷ is) = op_in i.instr
-
-pub led_first : {A : Type 0} (p q : Parts A) (i : Instr A) (rest : List (Instr A)) (n : ℕ) (op : PlainInstr) → IsReadyToRun p → p.code.now ≡ i ∷ rest → i ≡ instr.Plain n op → q.code.now ≡ rest → q.entries ≡ p.entries →
-    (a : After) → Did op p.stack.items p.locals.items a q.stack.items q.locals.items → Led p a q
-led_first {A} p q i rest n op r first is after same a did =
-    let here : items_of p.code.now ≡ record { ordinal = n; instr = Plain op } ∷ items_of rest = ap items_of first ∙ ap (λ i. item_of i ∷ items_of rest) is ∙ ap (λ x. x ∷ items_of rest) (plain_item A n op) in
-    let op_is : r.op ≡ op = ap op_at (sym r.here ∙ here) in
-    led_parts p q n op a r.ordered (here ∙ ap (λ js. record { ordinal = n; instr = Plain op } ∷ items_of js) (sym after)) same
-    (subst (λ (o : PlainInstr). height (opens_of p.entries.items) + operands o ≤ length p.stack.items) op_is r.enough) did
-
 pub items_nil : {A : Type 0} (is : List (Instr A)) → items_of is ≡ [] → is ≡ []
 items_nil [] e = refl
 items_nil (i ∷ is) e = absurd (cc)
@@ -99,26 +96,30 @@ pub ordered_any : {A : Type 0} (b : State) (p : Parts A) → IsOrdered (view b p
 ordered_any b p o x = record { stands = o.stands; runs = o.runs; each = o.each }
 
 -- the instruction to come finds what it takes, where it is not stuck
-module _ {A : Type 0} (c : Contract) (b : State) (p : Parts A) (o : IsOrdered (view b p)) (fine : IsFine c (view b p)) where
-  ready_plain : (n : ℕ) (op : PlainInstr) (is : List Item) → items_of p.code.now ≡ record { ordinal = n; instr = Plain op } ∷ is → runs_plain op ≡ true → IsReadyToRun p
-  unfolding reduce execute
-  ready_plain n op is here r =
-      let es = opens_of p.entries.items in
-      let found = ready_for c b es p.stack.items p.locals.items (listed is End) o.stands op r
-      (λ h. fine_at c b es p.stack.items p.locals.items (listed (items_of p.code.now) End) fine.not_stuck
-      (ap (λ (js : List Item). reduce c (frames es 0) (at b p.locals.items) (onto (drop (height es) p.stack.items) []) (listed js End)) here ∙ h)) in
-      record { ordinal = n; op = op; behind = is; here = here; enough = found.0; ready = found.1; ordered = ordered_any b p o }
+module _ {A : Type 0} (p q : Parts A) (i : Instr A) (rest : List (Instr A)) (r : IsReadyToRun p) (is_first : p.code.now ≡ i ∷ rest) where
+  pub no_other : (x : syntax.Instr) → instr_view i ≡ x → runs x ≡ false → ⊥
+  no_other x e refused = true≢false (sym (subst OnlyRun (ap items_of is_first) (r.ordered r.base).runs).0 ∙ ap runs e ∙ refused)
 
-  ready_item : (n : ℕ) (x : syntax.Instr) (is : List Item) → items_of p.code.now ≡ record { ordinal = n; instr = x } ∷ is → runs x ≡ true → IsReadyToRun p
-  ready_item n (syntax.Plain op) is here r = ready_plain n op is here r
-  ready_item n _ is here r = absurd (true≢false (sym r))
+  module _ (n : ℕ) (op : PlainInstr) (is : i ≡ instr.Plain n op) where
+    abbrev es : List Open
+    es = opens_of p.entries.items
 
-  ready_code : (is : List Item) → items_of p.code.now ≡ is → (p.code.now ≡ [] → ⊥) → IsReadyToRun p
-  ready_code [] e some = absurd (some (items_nil p.code.now e))
-  ready_code (i ∷ is) e some = ready_item i.ordinal i.instr is e (subst OnlyRun e o.runs).0
+    pub plain_here : items_of p.code.now ≡ record { ordinal = n; instr = Plain op } ∷ items_of rest
+    plain_here = ap items_of is_first ∙ ap (λ i. item_of i ∷ items_of rest) is ∙ ap (λ x. x ∷ items_of rest) (plain_item A n op)
 
-  pub ready_to_run : (p.code.now ≡ [] → ⊥) → IsReadyToRun p
-  ready_to_run some = ready_code (items_of p.code.now) refl some
+    pub plain_runs : runs_plain op ≡ true
+    plain_runs = (subst OnlyRun plain_here (r.ordered r.base).runs).0
+
+    pub ready_plain : (height es + operands op ≤ length p.stack.items) × IsReadyFor op p.stack.items p.locals.items
+    unfolding reduce execute
+    ready_plain = ready_for r.contract r.base es p.stack.items p.locals.items (listed (items_of rest) End) (r.ordered r.base).stands op plain_runs
+        (λ h. fine_at r.contract r.base es p.stack.items p.locals.items (listed (items_of p.code.now) End) r.fine.not_stuck
+        (ap (λ (js : List Item). reduce r.contract (frames es 0) (at r.base p.locals.items) (onto (drop (height es) p.stack.items) []) (listed js End)) plain_here ∙ h))
+        (λ s y e. fine_after_at r.contract r.base s es p.stack.items p.locals.items s.locals (listed (items_of p.code.now) End) y r.after.not_stuck
+        (ap (λ (js : List Item). reduce r.contract (frames es 0) (at r.base p.locals.items) (onto (drop (height es) p.stack.items) []) (listed js End)) plain_here ∙ e))
+
+    pub led_first : q.code.now ≡ rest → q.entries ≡ p.entries → (a : After) → Did op p.stack.items p.locals.items a q.stack.items q.locals.items → Led p a q
+    led_first after same a did = led_parts p q n op a r.ordered (plain_here ∙ ap (λ js. record { ordinal = n; instr = Plain op } ∷ items_of js) (sym after)) same ready_plain.0 did
 
 pub counted_same : {A : Type 0} (p q : Parts A) → q.entries ≡ p.entries → q.depth ≡ p.depth → IsCounted p → IsCounted q
 counted_same p q e d k = record { count = d ∙ k.count ∙ ap (λ es. frames (opens_of es.items) 0) (sym e); few = subst (λ n. n ≤ 256) (sym d) k.few }

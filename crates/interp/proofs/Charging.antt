@@ -1,5 +1,6 @@
 -- What one instruction of the code does to the parts is a charged reduction.
-use Rattle.std.proofs.Common.{◌≡◌, ℕ, ◌+◌, ◌≤◌, List, [], ◌∷◌, ◌++◌, length, take, drop, refl, sym, ap, ◌∙◌, subst, arith, length-append}
+use Rattle.std.proofs.Common.{◌≡◌, ℕ, ◌+◌, ◌≤◌, List, [], ◌∷◌, ◌++◌, length, take, drop, refl, sym, ap, ◌∙◌, subst, arith, length-append, append_assoc, Some, slice_get}
+use Rattle.std.specs.Prelude.{slice_set}
 use Rattle.std.proofs.lemmas.List.{take-append-le, drop-append-le, length-drop}
 use Rattle.wtypes.specs.declared.Value.{Value}
 use Rattle.wtypes.specs.declared.TrapCode.{TrapCode}
@@ -9,8 +10,10 @@ use Rattle.interp.specs.Forms.{operands}
 use Rattle.interp.specs.Meaning.{Item, Open, listed, put, height, around, frames, outermost, at, whole, Stands, View, config}
 use Rattle.interp.specs.Plain.{onto, Ran, Fell}
 use Rattle.interp.proofs.Context.{values_onto, reduce_put, reduce_around, lift, lift_goes, lift_stuck, lift_traps}
-use Rattle.spec_execution.specs.Configuration.{Contract, Seq, Val, End, State, Running, Trap, values}
-use Rattle.spec_execution.specs.Reduction.{Goes, Traps, Stuck, reduce, execute, execute_plain}
+use Rattle.spec_execution.specs.Configuration.{Contract, Seq, Val, Free, End, State, Config, Running, Trap, values}
+use Rattle.spec_execution.specs.Reduction.{Goes, Traps, Stuck, reduce, execute, execute_plain, found}
+use Rattle.spec_execution.specs.Turns.{Frees, none, one_more}
+use Rattle.wtypes.specs.declared.PlainInstr.TheVariants.{LocalSet, LocalTee}
 use Rattle.spec_execution.specs.Run.{Reduces, goes, traps, next, IsStuck}
 
 pub put-append : (xs ys : List Value) (rest : Seq) → put (xs ++ ys) rest ≡ put xs (put ys rest)
@@ -49,6 +52,21 @@ fine_at c b es stack locals x fine e =
     fine (subst IsStuck (sym (next_whole c b es stack locals x
     ∙ ap (lift b es (take (height es) stack) locals) e
     ∙ lift_stuck b es (take (height es) stack) locals)) tt)
+
+-- what a reduction in the innermost leads to, in the whole
+pub next_after : (c : Contract) (b b' : State) (es : List Open) (stack locals locals' : List Value) (y : Seq) →
+    next c (at b' (outermost es locals')) (around es (take (height es) stack) locals' y) ≡ lift b' es (take (height es) stack) locals' (reduce c (frames es 0) (at b' locals') [] y)
+next_after c b b' es stack locals locals' y = reduce_around c 0 b' es (take (height es) stack) locals' y
+
+-- where the whole is not stuck after a reduction, the innermost is not
+pub fine_after_at : (c : Contract) (b b' : State) (es : List Open) (stack locals locals' : List Value) (x y : Seq) →
+    ((s : State) (seq : Seq) → Reduces c (Running (at b (outermost es locals)) (whole es stack locals x)) 1 (Running s seq) → IsStuck (next c s seq) → ⊥) →
+    reduce c (frames es 0) (at b locals) (onto (drop (height es) stack) []) x ≡ Goes 1 (at b' locals') y →
+    reduce c (frames es 0) (at b' locals') [] y ≡ Stuck → ⊥
+fine_after_at c b b' es stack locals locals' x y fine e stuck =
+    fine (at b' (outermost es locals')) (around es (take (height es) stack) locals' y)
+    (goes _ _ _ _ _ (next_whole c b es stack locals x ∙ ap (lift b es (take (height es) stack) locals) e ∙ lift_goes b es (take (height es) stack) locals 1 (at b' locals') y))
+    (subst IsStuck (sym (next_after c b b' es stack locals locals' y ∙ ap (lift b' es (take (height es) stack) locals') stuck ∙ lift_stuck b' es (take (height es) stack) locals')) tt)
 
 -- a reduction in the innermost is one of the whole
 pub local : (c : Contract) (b b' : State) (es : List Open) (stack stack' locals locals' : List Value) (charge : ℕ) (x y : Seq) →
@@ -132,3 +150,34 @@ module _ (c : Contract) (b : State) (es : List Open) (stack locals : List Value)
       subst (λ (x : List Value). Reduces c (config (mk b es x locals (record { ordinal = n; instr = Plain op } ∷ is))) 1 (Trap (at b (outermost es locals)) t)) (sym r.before)
       (local_trap c b es (r.kept ++ r.taken) locals 1 _ t
       (ap (λ vs. execute_plain c (at b locals) 1 op vs (listed is End)) (onto_top es r.kept r.taken h) ∙ r.step c b (onto (drop (height es) r.kept) []) (listed is End)))
+
+-- a local that is written while its value stays: the write is a reduction of its own
+module _ (c : Contract) (b : State) (es : List Open) (kept : List Value) (v old : Value) (locals : List Value) (n x : ℕ) (is : List Item) (h : Stands es (length kept)) (there : slice_get locals x ≡ Some old) where
+  abbrev on : List Value
+  on = kept ++ v ∷ []
+
+  abbrev before : Config
+  before = config (mk b es on locals (record { ordinal = n; instr = Plain (LocalTee x) } ∷ is))
+
+  abbrev pub between : Config
+  between = Running (at b (outermost es locals)) (whole es (on ++ v ∷ []) locals (Free (Plain (LocalSet x)) (listed is End)))
+
+  below_same : take (height es) (on ++ v ∷ []) ≡ take (height es) on
+  below_same = take_push es on (v ∷ []) (Stands_push es kept (v ∷ []) h)
+
+  tee_copies : Reduces c before 1 between
+  unfolding reduce execute execute_plain
+  tee_copies = local c b b es on (on ++ v ∷ []) locals locals 1 _ _ below_same
+      (ap (λ vs. execute_plain c (at b locals) 1 (LocalTee x) vs (listed is End)) (onto_top es kept (v ∷ []) h)
+      ∙ ap (Goes 1 (at b locals)) (values_put (drop (height es) kept) (v ∷ v ∷ []) (Free (Plain (LocalSet x)) (listed is End))
+      ∙ ap (λ vs. put vs (Free (Plain (LocalSet x)) (listed is End))) (sym (drop_push es kept (v ∷ v ∷ []) h) ∙ ap (drop (height es)) (sym (append_assoc kept (v ∷ []) (v ∷ []))))))
+
+  tee_writes : Reduces c between 0 (config (mk b es on (slice_set locals x v) is))
+  unfolding reduce execute execute_plain
+  tee_writes = local c b b es (on ++ v ∷ []) on locals (slice_set locals x v) 0 _ _ (sym below_same)
+      (ap (λ vs. execute_plain c (at b locals) 0 (LocalSet x) vs (listed is End)) (onto_top es on (v ∷ []) (Stands_push es kept (v ∷ []) h))
+      ∙ ap (λ o. found o (λ old. Goes 0 (at b (slice_set locals x v)) (values (onto (drop (height es) on) []) (listed is End)))) there
+      ∙ ap (Goes 0 (at b (slice_set locals x v))) (values_onto (drop (height es) on) [] (listed is End)))
+
+  pub charged_teed : Reduces c before 1 between × Frees c between (config (mk b es on (slice_set locals x v) is))
+  charged_teed = (tee_copies, one_more _ _ _ tee_writes (none _))

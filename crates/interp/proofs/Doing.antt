@@ -1,17 +1,22 @@
 -- What each instruction that holds no other one does.
 use Rattle.std.proofs.Common.{◌≡◌, ℕ, List, [], ◌∷◌, ◌++◌, refl, sym, ap, ◌∙◌, subst, true, Some, Result, Ok, Err, slice_get, append_assoc}
-use Rattle.std.specs.Prelude.{if◌then◌else◌, reverse}
+use Rattle.std.specs.Prelude.{if◌then◌else◌, reverse, ◌==◌, slice_set}
 use Rattle.std.proofs.lemmas.List.{reverse-append}
 use Rattle.wtypes.specs.declared.ValType.{ValType}
 use Rattle.wtypes.specs.declared.ValType.TheVariants.{I32, I64}
 use Rattle.wtypes.specs.declared.Value.{Value}
 use Rattle.wtypes.specs.declared.TrapCode.{TrapCode}
+use Rattle.wtypes.specs.declared.UnOp.{UnOp}
 use Rattle.wtypes.specs.declared.BinOp.{BinOp}
+use Rattle.wtypes.specs.declared.TestOp.{TestOp}
+use Rattle.wtypes.specs.declared.RelOp.{RelOp}
+use Rattle.wtypes.specs.declared.CvtOp.{CvtOp}
 use Rattle.wtypes.specs.declared.PlainInstr.{PlainInstr}
-use Rattle.wtypes.specs.declared.PlainInstr.TheVariants.{Drop, LocalGet, Const, Binary}
-use Rattle.spec_numeric.specs.Operators.{same_type, type_of, bits_of, value_of, word, binary, binary_type, binary_of, answer_of}
+use Rattle.wtypes.specs.declared.TrapCode.TheVariants as trap
+use Rattle.wtypes.specs.declared.PlainInstr.TheVariants.{Unreachable, Nop, Drop, Select, LocalGet, LocalSet, Const, Unary, Binary, Test, Compare, Convert}
+use Rattle.spec_numeric.specs.Operators.{same_type, type_of, bits_of, value_of, word, truth, unary, unary_type, unary_of, binary, binary_type, binary_of, answer_of, test, test_type, test_of, compare, compare_type, compare_of, convert, convert_from, convert_to, convert_of}
 use Rattle.spec_execution.specs.Configuration.{Contract, Seq, Val, State, values}
-use Rattle.spec_execution.specs.Reduction.{Next, Goes, Traps, Stuck, with_number, found, answered, execute_plain}
+use Rattle.spec_execution.specs.Reduction.{Next, Goes, Traps, Stuck, with_number, with_value, found, answered, execute_plain}
 use Rattle.interp.specs.Meaning.{at}
 use Rattle.interp.specs.Plain.{Ran, Fell}
 use Rattle.interp.proofs.Finding.{append-nil}
@@ -37,6 +42,101 @@ pub did_drop : (op : PlainInstr) (v : Value) (stack stack' locals : List Value) 
 unfolding execute_plain
 did_drop op v stack stack' locals e before = subst (λ (o : PlainInstr). Ran o stack locals stack' locals) (sym e)
     (record { kept = stack'; taken = v ∷ []; given = []; before = before; count = refl; after = sym (append-nil stack'); step = λ c b vs rest. refl })
+
+pub did_nop : (op : PlainInstr) (stack locals : List Value) → op ≡ Nop → Ran op stack locals stack locals
+unfolding execute_plain
+did_nop op stack locals e = subst (λ (o : PlainInstr). Ran o stack locals stack locals) (sym e)
+    (record { kept = stack; taken = []; given = []; before = sym (append-nil stack); count = refl; after = sym (append-nil stack); step = λ c b vs rest. refl })
+
+pub fell_unreachable : (op : PlainInstr) (stack locals : List Value) → op ≡ Unreachable → Fell op stack locals trap.Unreachable locals
+unfolding execute_plain
+fell_unreachable op stack locals e = subst (λ (o : PlainInstr). Fell o stack locals trap.Unreachable locals) (sym e)
+    (record { kept = stack; taken = []; before = sym (append-nil stack); count = refl; same = refl; step = λ c b vs rest. refl })
+
+pub did_local_set : (op : PlainInstr) (x : ℕ) (v old : Value) (stack stack' locals locals' : List Value) → op ≡ LocalSet x → stack ≡ stack' ++ v ∷ [] → slice_get locals x ≡ Some old → locals' ≡ slice_set locals x v → Ran op stack locals stack' locals'
+unfolding execute_plain
+did_local_set op x v old stack stack' locals locals' e before there set = subst (λ (o : PlainInstr). Ran o stack locals stack' locals') (sym e)
+    (record {
+      kept = stack';
+      taken = v ∷ [];
+      given = [];
+      before = before;
+      count = refl;
+      after = sym (append-nil stack');
+      step = λ c b vs rest. ap (λ o. found o (λ old. Goes 1 (at b (slice_set locals x v)) (values vs rest))) there ∙ ap (λ ls. Goes 1 (at b ls) (values vs rest)) (sym set);
+    })
+
+pub did_select : (kept : List Value) (a b k v : Value) (number : type_of k ≡ I32) (stack stack' locals : List Value) → stack ≡ kept ++ a ∷ b ∷ k ∷ [] → v ≡ (if bits_of k == 0 then b else a) → stack' ≡ kept ++ v ∷ [] → Ran Select stack locals stack' locals
+unfolding execute_plain
+did_select kept a b k v number stack stack' locals before is after =
+    record {
+      kept = kept;
+      taken = a ∷ b ∷ k ∷ [];
+      given = v ∷ [];
+      before = before;
+      count = refl;
+      after = after;
+      step = λ c s vs rest.
+          number_is I32 k (b ∷ a ∷ vs) (λ k vs. with_value vs (λ b vs. with_value vs (λ a vs. Goes 1 (at s locals) (values vs (Val (if k == 0 then b else a) rest))))) number
+          ∙ ap (λ v. Goes 1 (at s locals) (values vs (Val v rest))) (sym is);
+    }
+
+pub did_unary : (o : UnOp) (kept : List Value) (a : Value) (first : type_of a ≡ unary_type o) (stack stack' locals : List Value) → stack ≡ kept ++ a ∷ [] → stack' ≡ kept ++ unary_of o a ∷ [] → Ran (Unary o) stack locals stack' locals
+unfolding execute_plain
+did_unary o kept a first stack stack' locals before after =
+    record {
+      kept = kept;
+      taken = a ∷ [];
+      given = unary_of o a ∷ [];
+      before = before;
+      count = refl;
+      after = after;
+      step = λ c s vs rest. number_is (unary_type o) a vs (λ x ws. Goes 1 (at s locals) (values ws (Val (value_of (unary_type o) (unary (word (unary_type o)) o x)) rest))) first;
+    }
+
+pub did_test : (o : TestOp) (kept : List Value) (a : Value) (first : type_of a ≡ test_type o) (stack stack' locals : List Value) → stack ≡ kept ++ a ∷ [] → stack' ≡ kept ++ test_of o a ∷ [] → Ran (Test o) stack locals stack' locals
+unfolding execute_plain
+did_test o kept a first stack stack' locals before after =
+    record {
+      kept = kept;
+      taken = a ∷ [];
+      given = test_of o a ∷ [];
+      before = before;
+      count = refl;
+      after = after;
+      step = λ c s vs rest. number_is (test_type o) a vs (λ x ws. Goes 1 (at s locals) (values ws (Val (truth (test o x)) rest))) first;
+    }
+
+pub did_convert : (o : CvtOp) (kept : List Value) (a : Value) (first : type_of a ≡ convert_from o) (stack stack' locals : List Value) → stack ≡ kept ++ a ∷ [] → stack' ≡ kept ++ convert_of o a ∷ [] → Ran (Convert o) stack locals stack' locals
+unfolding execute_plain
+did_convert o kept a first stack stack' locals before after =
+    record {
+      kept = kept;
+      taken = a ∷ [];
+      given = convert_of o a ∷ [];
+      before = before;
+      count = refl;
+      after = after;
+      step = λ c s vs rest. number_is (convert_from o) a vs (λ x ws. Goes 1 (at s locals) (values ws (Val (value_of (convert_to o) (convert o x)) rest))) first;
+    }
+
+pub did_compare : (o : RelOp) (kept : List Value) (a b : Value) (first : type_of a ≡ compare_type o) (second : type_of b ≡ compare_type o) (stack stack' locals : List Value) → stack ≡ kept ++ a ∷ b ∷ [] → stack' ≡ kept ++ compare_of o a b ∷ [] → Ran (Compare o) stack locals stack' locals
+unfolding execute_plain
+did_compare o kept a b first second stack stack' locals before after =
+    record {
+      kept = kept;
+      taken = a ∷ b ∷ [];
+      given = compare_of o a b ∷ [];
+      before = before;
+      count = refl;
+      after = after;
+      step = λ c s vs rest.
+          number_is t b (a ∷ vs) (λ y ws. with_number t ws (λ x us. Goes 1 (at s locals) (values us (Val (truth (compare (word t) o x y)) rest)))) second
+          ∙ number_is t a vs (λ x us. Goes 1 (at s locals) (values us (Val (truth (compare (word t) o x (bits_of b))) rest))) first;
+    }
+  where
+    t : ValType
+    t = compare_type o
 
 -- two values that are taken one after the other
 pub two_popped : (stack one two : List Value) (a b : Value) → stack ≡ one ++ b ∷ [] → one ≡ two ++ a ∷ [] → stack ≡ two ++ a ∷ b ∷ []
@@ -73,3 +173,17 @@ pub last_two : (kept kept' : List Value) (a b a' b' : Value) → kept ++ a ∷ b
 last_two kept kept' a b a' b' e =
     let r : b ∷ a ∷ reverse kept ≡ b' ∷ a' ∷ reverse kept' = sym (reverse-append kept (a ∷ b ∷ [])) ∙ ap reverse e ∙ reverse-append kept' (a' ∷ b' ∷ []) in
     (cc, cc)
+
+pub last_one : (kept kept' : List Value) (a a' : Value) → kept ++ a ∷ [] ≡ kept' ++ a' ∷ [] → a ≡ a'
+last_one kept kept' a a' e =
+    let r : a ∷ reverse kept ≡ a' ∷ reverse kept' = sym (reverse-append kept (a ∷ [])) ∙ ap reverse e ∙ reverse-append kept' (a' ∷ []) in
+    cc
+
+pub three_popped : (stack one two three : List Value) (a b k : Value) → stack ≡ one ++ k ∷ [] → one ≡ two ++ b ∷ [] → two ≡ three ++ a ∷ [] → stack ≡ three ++ a ∷ b ∷ k ∷ []
+three_popped stack one two three a b k p q r = p ∙ ap (λ xs. xs ++ k ∷ []) (two_popped one two three a b q r) ∙ append_assoc three (a ∷ b ∷ []) (k ∷ [])
+
+-- the last three of a list end with its last one
+pub last_three : (kept kept' : List Value) (a b k a' b' k' : Value) → kept ++ a ∷ b ∷ k ∷ [] ≡ kept' ++ a' ∷ b' ∷ k' ∷ [] → k ≡ k'
+last_three kept kept' a b k a' b' k' e =
+    let r : k ∷ b ∷ a ∷ reverse kept ≡ k' ∷ b' ∷ a' ∷ reverse kept' = sym (reverse-append kept (a ∷ b ∷ k ∷ [])) ∙ ap reverse e ∙ reverse-append kept' (a' ∷ b' ∷ k' ∷ []) in
+    cc

@@ -1,12 +1,13 @@
 -- The ordinals of a body.
-use Rattle.std.proofs.Common.{◌≡◌, ℕ, zero, suc, ◌+◌, Bool, true, List, [], ◌∷◌, ◌++◌, length, map, refl, sym, ap, ap₂, ◌∙◌, Some, slice_get, true≢false, subst, rules, ◌<◌, arith}
+use Rattle.std.proofs.Common.{◌≡◌, ℕ, zero, suc, ◌+◌, Bool, true, List, [], ◌∷◌, ◌++◌, length, map, refl, sym, ap, ap₂, ◌∙◌, Some, slice_get, true≢false, subst, rules, ◌<◌, arith, Vec, Option}
+use Rattle.wtypes.specs.declared.ValType.{ValType}
 use Rattle.std.specs.Prelude.{slice_index_or}
 use Rattle.std.specs.List.{list_all}
 use Rattle.spec_syntax.specs.Syntax as syntax
 use Rattle.spec_syntax.specs.Limits.{counts_from, first, second}
 use Rattle.std.proofs.lemmas.Bool.{eqb-true}
 use Rattle.wtypes.specs.declared.PlainInstr.{PlainInstr}
-use Rattle.module_tree.specs.declared.instr.Instr.{Instr, Plain, out-Instr, fold_out-Instr, fold-Instr, map-Instr, the_lemmas}
+use Rattle.module_tree.specs.declared.instr.Instr.{Instr, Plain, BrTable, Block, Loop, If, out-Instr, fold_out-Instr, fold-Instr, map-Instr, the_lemmas}
 use Rattle.module_tree.specs.declared.instr.Instr.TheOpen.{Instr-F}
 use Rattle.module_tree.specs.declared.module.Func.{Func}
 use Rattle.module_tree.specs.declared.module.Module.{Module}
@@ -50,6 +51,18 @@ plain_item A n op =
     let v : instr_view {A = A} (Plain n op) ≡ syntax.Plain op = search (rules, the_lemmas) in
     let o : ordinal_of {A = A} (Plain n op) ≡ n = search (rules, the_lemmas) in
     ap₂ (λ (m : ℕ) (i : syntax.Instr). record { ordinal = m; instr = i }) o v
+
+pub table_view : (A : Type 0) (n : ℕ) (ls : Vec ℕ A) (l : ℕ) → instr_view {A = A} (BrTable n ls l) ≡ syntax.BrTable ls.items l
+table_view A n ls l = search (rules, the_lemmas)
+
+pub block_view : (A : Type 0) (n : ℕ) (t : Option ValType) (b : Vec (Instr A) A) → instr_view {A = A} (Block n t b) ≡ syntax.Block t (instrs_view b.items)
+block_view A n t b = search (rules, the_lemmas)
+
+pub loop_view : (A : Type 0) (n : ℕ) (t : Option ValType) (b : Vec (Instr A) A) → instr_view {A = A} (Loop n t b) ≡ syntax.Loop t (instrs_view b.items)
+loop_view A n t b = search (rules, the_lemmas)
+
+pub if_view : (A : Type 0) (n : ℕ) (t : Option ValType) (a b : Vec (Instr A) A) → instr_view {A = A} (If n t a b) ≡ syntax.If t (instrs_view a.items) (instrs_view b.items)
+if_view A n t a b = search (rules, the_lemmas)
 
 pub items_run : {A : Type 0} (is : List (Instr A)) → all_run (instrs_view is) ≡ true → OnlyRun (items_of is)
 items_run [] r = tt

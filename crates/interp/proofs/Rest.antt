@@ -1,11 +1,12 @@
 -- Where no label and no frame is at its end, an instruction of the code is to come, or the run has ended.
 use Rattle.std.proofs.Common.{◌≡◌, ℕ, zero, suc, Bool, true, false, nat_le, List, [], ◌∷◌, length, take, drop, refl, sym, subst, Option, Some, None, Result, Ok, Err, slice_get, IsTrue, true≢false}
-use Rattle.std.specs.Prelude.{if◌then◌else◌}
+use Rattle.std.specs.Prelude.{if◌then◌else◌, ◌==◌}
+use Rattle.wtypes.specs.declared.ValType.TheVariants.{I32}
 use Rattle.wtypes.specs.declared.Value.{Value}
 use Rattle.wtypes.specs.declared.ValType.{ValType}
 use Rattle.wtypes.specs.declared.TrapCode.{TrapCode}
 use Rattle.wtypes.specs.declared.PlainInstr.{PlainInstr}
-use Rattle.wtypes.specs.declared.PlainInstr.TheVariants.{Call, Drop, LocalGet, Const, Binary}
+use Rattle.wtypes.specs.declared.PlainInstr.TheVariants.{Unreachable, Nop, Call, Drop, Select, LocalGet, LocalSet, LocalTee, Const, Unary, Binary, Test, Compare, Convert}
 use Rattle.spec_syntax.specs.Syntax.{Instr, Plain, Instrs, nothing}
 use Rattle.spec_numeric.specs.Operators.{same_type, type_of, bits_of, value_of, word, binary, binary_type}
 use Rattle.interp.specs.Forms.{runs, runs_plain}
@@ -58,6 +59,15 @@ plain_charge c s n (LocalGet x) vs rest r = of_found n (slice_get s.locals x) _ 
 plain_charge c s n (Const k) vs rest r = refl
 plain_charge c s n (Binary o) vs rest r = of_number n _ vs _ (λ x ws. of_number n _ ws _ (λ y us. of_answer n (binary (word (binary_type o)) o y x) (λ z. Goes n s (values us (Val (value_of (binary_type o) z) rest))) (λ z. refl)))
 plain_charge c s n Drop vs rest r = of_value n vs _ (λ v ws. refl)
+plain_charge c s n Unreachable vs rest r = refl
+plain_charge c s n Nop vs rest r = refl
+plain_charge c s n Select vs rest r = of_number n I32 vs _ (λ k ws. of_value n ws _ (λ b us. of_value n us (λ a ts. Goes n s (values ts (Val (if k == 0 then b else a) rest))) (λ a ts. refl)))
+plain_charge c s n (LocalSet x) vs rest r = of_value n vs _ (λ v ws. of_found n (slice_get s.locals x) _ (λ old. refl))
+plain_charge c s n (LocalTee x) vs rest r = of_value n vs _ (λ v ws. refl)
+plain_charge c s n (Unary o) vs rest r = of_number n _ vs _ (λ x ws. refl)
+plain_charge c s n (Test o) vs rest r = of_number n _ vs _ (λ x ws. refl)
+plain_charge c s n (Compare o) vs rest r = of_number n _ vs _ (λ x ws. of_number n _ ws _ (λ y us. refl))
+plain_charge c s n (Convert o) vs rest r = of_number n _ vs _ (λ x ws. refl)
 plain_charge c s n (Call f) vs rest r = refl
 plain_charge c s n _ vs rest r = absurd (true≢false (sym r))
 

@@ -10,7 +10,7 @@ use Rattle.spec_execution.specs.Run.{Reached, reduced, Reduces, Ends, returns, t
 use Rattle.spec_execution.specs.Turns.{Frees, none, one_more, by_trap, not_asked}
 use Rattle.interp.specs.declared.turns.Status.{Status}
 use Rattle.interp.specs.declared.turns.Status.TheVariants as status
-use Rattle.interp.specs.Meaning.{Item, View, config, sequence, state, IsOrdered, IsFine, IsReady}
+use Rattle.interp.specs.Meaning.{Item, View, config, sequence, state, IsOrdered, IsFine, IsFineAfter, IsReady}
 use Rattle.interp.specs.Plain.{onto}
 use Rattle.interp.specs.Progress.{HasStepped, IsDone}
 use Rattle.interp.specs.Machine.{Seen, on, first_of, progress, Reaches, IsLive, IsFallen, IsAt, IsMachine}
@@ -32,6 +32,9 @@ module _ (s : Seen) (m : IsMachine s) (running : s.status ≡ status.Running) wh
   module _ (left : s.used ≢ s.call.fuel) where
     pub below : s.used + 1 ≤ s.call.fuel
     below = let within = (live_of s m running).within in omega arith
+
+    pub fine_after : IsFineAfter s.contract s.view
+    fine_after = record { not_stuck = λ t seq one. m.safe _ _ _ _ (reduced s.trace s.used (config s.view) 1 _ (live_of s m running).reached one below) }
 
     module _ (mid : Config) (one : Reduces s.contract (config s.view) 1 mid) where
       pub come : Reached s.contract (first_of s) s.call.fuel s.trace (s.used + 1) mid

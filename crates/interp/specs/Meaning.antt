@@ -149,13 +149,19 @@ pub record IsOrdered (v : View) : Type 0 where
 pub record IsFine (k : Contract) (v : View) : Type 0 where
   pub not_stuck : IsStuck (next k (state v) (sequence v)) → ⊥
 
+-- No configuration that one charged reduction leads to is stuck.
+pub record IsFineAfter (k : Contract) (v : View) : Type 0 where
+  pub not_stuck : (s : State) (seq : Seq) → Reduces k (config v) 1 (Running s seq) → IsStuck (next k s seq) → ⊥
+
 -- the same where a function is called
 pub record IsFineCall (k : Contract) (v : View) (f : ℕ) : Type 0 where
   pub not_stuck : IsStuck (next k (state v) (invoking v f)) → ⊥
 
--- one charged reduction
+-- one charged reduction, and free ones
 pub record Charged (k : Contract) (v w : View) : Type 0 where
-  pub reduces : Reduces k (config v) 1 (config w)
+  pub middle : Config
+  pub reduces : Reduces k (config v) 1 middle
+  pub frees : Frees k middle (config w)
   pub ordered : IsOrdered w
 
 pub record ChargedCall (k : Contract) (v : View) (f : ℕ) (w : View) : Type 0 where

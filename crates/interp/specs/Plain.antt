@@ -1,13 +1,12 @@
 -- What an instruction that holds no other one does to the values and the locals.
-use Rattle.std.specs.Prelude.{◌≡◌, ℕ, List, [], ◌∷◌, ◌++◌, length}
+use Rattle.std.specs.Prelude.{◌≡◌, ℕ, List, [], ◌∷◌, ◌++◌, length, Some, slice_get, slice_set}
 use Rattle.wtypes.specs.declared.Value.{Value}
 use Rattle.wtypes.specs.declared.TrapCode.{TrapCode}
 use Rattle.wtypes.specs.declared.PlainInstr.{PlainInstr}
 use Rattle.spec_execution.specs.Configuration.{Contract, Seq, State, values}
 use Rattle.spec_execution.specs.Reduction.{Goes, Traps, execute_plain}
 use Rattle.interp.specs.Meaning.{at, put}
-use Rattle.wtypes.specs.declared.BinOp.{BinOp}
-use Rattle.wtypes.specs.declared.PlainInstr.TheVariants.{Call, Binary}
+use Rattle.wtypes.specs.declared.PlainInstr.TheVariants.{Call, LocalTee}
 use Rattle.interp.specs.Forms.{operands}
 use Rattle.interp.specs.declared.plain.After.{After}
 use Rattle.interp.specs.declared.plain.After.TheVariants as after
@@ -33,6 +32,23 @@ pub record Ran (op : PlainInstr) (stack locals stack' locals' : List Value) : Ty
   pub after : stack' ≡ kept ++ given
   pub step : (c : Contract) (b : State) (vs : List Value) (rest : Seq) → execute_plain c (at b locals) 1 op (onto taken vs) rest ≡ Goes 1 (at b locals') (values vs (put given rest))
 
+-- it writes the topmost value to a local and keeps it; the write is a reduction of its own, which is free
+pub record Teed (op : PlainInstr) (stack locals stack' locals' : List Value) : Type 0 where
+  pub local : ℕ
+  pub kept : List Value
+  pub value : Value
+  pub old : Value
+  pub tees : op ≡ LocalTee local
+  pub before : stack ≡ kept ++ value ∷ []
+  pub there : slice_get locals local ≡ Some old
+  pub same : stack' ≡ stack
+  pub set : locals' ≡ slice_set locals local value
+
+-- it did its work
+pub data Done (op : PlainInstr) (stack locals stack' locals' : List Value) : Type 0 where
+  at_once : Ran op stack locals stack' locals' → Done op stack locals stack' locals'
+  by_two : Teed op stack locals stack' locals' → Done op stack locals stack' locals'
+
 -- it traps
 pub record Fell (op : PlainInstr) (stack locals : List Value) (t : TrapCode) (locals' : List Value) : Type 0 where
   pub kept : List Value
@@ -43,10 +59,10 @@ pub record Fell (op : PlainInstr) (stack locals : List Value) (t : TrapCode) (lo
   pub step : (c : Contract) (b : State) (vs : List Value) (rest : Seq) → execute_plain c (at b locals) 1 op (onto taken vs) rest ≡ Traps 1 t
 
 abbrev pub Did : PlainInstr → List Value → List Value → After → List Value → List Value → Type 0
-Did op stack locals after.Ran stack' locals' = Ran op stack locals stack' locals'
+Did op stack locals after.Ran stack' locals' = Done op stack locals stack' locals'
 Did op stack locals (after.Fell t) stack' locals' = Fell op stack locals t locals'
 Did op stack locals (after.Calls f) stack' locals' = Called op stack locals f stack' locals'
 
--- an operator of two operands
-abbrev pub DidBinary : BinOp → List Value → After → List Value → Type 0
-DidBinary o stack a stack' = (locals : List Value) → Did (Binary o) stack locals a stack' locals
+-- the locals are not read
+abbrev pub DidAny : PlainInstr → List Value → After → List Value → Type 0
+DidAny op stack a stack' = (locals : List Value) → Did op stack locals a stack' locals

@@ -1,14 +1,11 @@
 -- What a step does to the parts of a machine.
-use Rattle.std.specs.Prelude.{◌≡◌, ℕ, ◌+◌, ◌≤◌, List, [], ◌∷◌, length}
-use Rattle.wtypes.specs.declared.PlainInstr.{PlainInstr}
-use Rattle.spec_syntax.specs.Syntax.{Plain}
+use Rattle.std.specs.Prelude.{◌≡◌, ◌≢◌, ◌≤◌, List, [], ◌∷◌}
 use Rattle.spec_execution.specs.Configuration.{Contract, State}
 use Rattle.interp.specs.declared.parts.Parts.{Parts}
 use Rattle.interp.specs.declared.plain.After.{After}
 use Rattle.interp.specs.declared.plain.After.TheVariants as after
-use Rattle.interp.specs.Meaning.{Item, View, height, frames, IsOrdered, Charged, ChargedCall, ChargedTrap, Settles}
-use Rattle.interp.specs.Forms.{operands, IsReadyFor}
-use Rattle.interp.specs.Views.{view, items_of, opens_of}
+use Rattle.interp.specs.Meaning.{View, frames, IsOrdered, IsFine, IsFineAfter, Charged, ChargedCall, ChargedTrap, Settles}
+use Rattle.interp.specs.Views.{view, opens_of}
 
 -- the same whatever the state beside the locals is
 abbrev pub IsOrderedParts : {A : Type 0} → Parts A → Type 0
@@ -17,15 +14,14 @@ IsOrderedParts p = (b : State) → IsOrdered (view b p)
 abbrev pub IsReadyParts : {A : Type 0} → Parts A → Type 0
 IsReadyParts p = (p.code.now ≡ []) → opens_of p.entries.items ≡ []
 
--- the instruction to come finds what it takes
+-- An instruction is to come, and neither it nor what it becomes is stuck.
 pub record IsReadyToRun {A : Type 0} (p : Parts A) : Type 0 where
-  pub ordinal : ℕ
-  pub op : PlainInstr
-  pub behind : List Item
-  pub here : items_of p.code.now ≡ record { ordinal = ordinal; instr = Plain op } ∷ behind
-  pub enough : height (opens_of p.entries.items) + operands op ≤ length p.stack.items
-  pub ready : IsReadyFor op p.stack.items p.locals.items
+  pub contract : Contract
+  pub base : State
+  pub some : p.code.now ≢ []
   pub ordered : IsOrderedParts p
+  pub fine : IsFine contract (view base p)
+  pub after : IsFineAfter contract (view base p)
 
 abbrev pub LedView : Contract → View → After → View → Type 0
 LedView c v after.Ran w = Charged c v w

@@ -10,3 +10,4 @@ pub mod stand_in;
 pub mod start;
 mod steps;
 pub mod turns;
+mod values;

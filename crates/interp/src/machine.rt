@@ -14,6 +14,7 @@ use crate::stand_in::Runnable;
 use crate::start::{Opened, StartRefusal, open_call, refusal_of};
 use crate::steps::{execute, settle};
 use crate::turns::{Status, Turn};
+use crate::values::bits;
 use call::Call;
 use soundness::deployed_calls_are_safe;
 use spec_ledger::{NoMemory, Op, Outcome, Place, Reply, Step};
@@ -175,16 +176,6 @@ fn place(contract: u32, key: Value) -> Place
     Place {
         contract,
         key: bits(key),
-    }
-}
-
-// The number that a value's bits spell.
-fn bits(value: Value) -> u64
-    ensures { result ≡ bits_of value }
-{
-    match value {
-        Value::I32(x) => x.cast_unsigned() as u64,
-        Value::I64(x) => x.cast_unsigned(),
     }
 }
 

@@ -1,11 +1,15 @@
-// Instructions that hold no other one.
-ghost use Rattle.std.specs.Prelude.{◌≡◌, ◌<◌, ◌++◌, ◌∷◌, [], IfOk, vec_len, vec_capacity};
-ghost use Rattle.interp.specs.Forms.{IsReadyFor, HasTwo};
-ghost use Rattle.interp.specs.Plain.{Did, DidBinary};
+// Instructions that hold no other one and leave the order of the code as it is.
+ghost use Rattle.std.specs.Prelude.{◌≡◌, ◌<◌, ◌++◌, ◌∷◌, [], IfOk, if◌then◌else◌, ◌==◌};
+ghost use Rattle.wtypes.specs.declared.PlainInstr.TheVariants.{Select, Unary, Binary, Test, Compare, Convert};
+ghost use Rattle.spec_numeric.specs.Operators.{bits_of, unary_type, binary_type, test_type, compare_type, convert_from};
+ghost use Rattle.interp.specs.declared.plain.After.TheVariants as after;
+ghost use Rattle.interp.specs.Forms.{IsReadyFor, HasOne, HasTwo, HasChoice};
+ghost use Rattle.interp.specs.Plain.{Did, DidAny};
 
-use numeric::binary;
+use crate::values::{bits, pop_top, put_back, top};
+use numeric::{binary, compare, convert, test, unary};
 use std::alloc::AllocError;
-use wtypes::{BinOp, PlainInstr, TrapCode, Value};
+use wtypes::{BinOp, CvtOp, PlainInstr, RelOp, TestOp, TrapCode, UnOp, Value};
 
 /// What an instruction leads to.
 #[derive(Drop)]
@@ -28,28 +32,64 @@ pub fn execute_plain(
     ensures { IfOk result (λ a. Did op.now stack.old.items locals.old.items a stack.new.items locals.new.items) }
 {
     match op {
-        PlainInstr::Const(value) => {
-            stack.push(*value)?;
-            Ok(After::Ran)
-        }
+        PlainInstr::Unreachable => return Ok(After::Fell(TrapCode::Unreachable)),
+        PlainInstr::Nop => {}
+        PlainInstr::Call(f) => return Ok(After::Calls(*f)),
+        PlainInstr::Const(value) => stack.push(*value)?,
         PlainInstr::LocalGet(x) => {
             let value = locals[*x as usize];
             stack.push(value)?;
-            Ok(After::Ran)
+        }
+        PlainInstr::LocalSet(x) => {
+            let value = pop_top(stack);
+            locals[*x as usize] = value;
+        }
+        PlainInstr::LocalTee(x) => {
+            let value = top(stack);
+            locals[*x as usize] = value;
         }
         PlainInstr::Drop => {
             let _dropped = pop_top(stack);
-            Ok(After::Ran)
         }
-        PlainInstr::Binary(operator) => Ok(execute_binary(*operator, stack)),
-        PlainInstr::Call(f) => Ok(After::Calls(*f)),
+        PlainInstr::Select => select(stack),
+        PlainInstr::Unary(operator) => execute_unary(*operator, stack),
+        PlainInstr::Binary(operator) => return Ok(execute_binary(*operator, stack)),
+        PlainInstr::Test(operator) => execute_test(*operator, stack),
+        PlainInstr::Compare(operator) => execute_compare(*operator, stack),
+        PlainInstr::Convert(operator) => execute_convert(*operator, stack),
         _ => unreachable!(),
     }
+    Ok(After::Ran)
+}
+
+fn select(stack: &mut Vec<Value>)
+    requires { HasChoice stack.old.items }
+    ensures { DidAny Select stack.old.items after.Ran stack.new.items }
+{
+    let choice = pop_top(stack);
+    let second = pop_top(stack);
+    let first = pop_top(stack);
+    put_back(stack, chosen(choice, first, second));
+}
+
+// The first where the number is not 0, else the second.
+fn chosen(choice: Value, first: Value, second: Value) -> Value
+    ensures { result ≡ (if bits_of choice == 0 then second else first) }
+{
+    if bits(choice) == 0 { second } else { first }
+}
+
+fn execute_unary(operator: UnOp, stack: &mut Vec<Value>)
+    requires { HasOne (unary_type operator) stack.old.items }
+    ensures { DidAny (Unary operator) stack.old.items after.Ran stack.new.items }
+{
+    let operand = pop_top(stack);
+    put_back(stack, unary(operator, operand));
 }
 
 fn execute_binary(operator: BinOp, stack: &mut Vec<Value>) -> After
     requires { HasTwo (binary_type operator) stack.old.items }
-    ensures { DidBinary operator stack.old.items result stack.new.items }
+    ensures { DidAny (Binary operator) stack.old.items result stack.new.items }
 {
     let second = pop_top(stack);
     let first = pop_top(stack);
@@ -62,27 +102,27 @@ fn execute_binary(operator: BinOp, stack: &mut Vec<Value>) -> After
     }
 }
 
-ghost use Rattle.spec_numeric.specs.Operators.{binary_type};
-
-// Takes the topmost value.
-fn pop_top(stack: &mut Vec<Value>) -> Value
-    requires { 0 < vec_len stack.old }
-    ensures items { stack.old.items ≡ stack.new.items ++ result ∷ [] }
-    ensures capacity { vec_capacity stack.new ≡ vec_capacity stack.old }
+fn execute_test(operator: TestOp, stack: &mut Vec<Value>)
+    requires { HasOne (test_type operator) stack.old.items }
+    ensures { DidAny (Test operator) stack.old.items after.Ran stack.new.items }
 {
-    match stack.pop() {
-        Some(value) => value,
-        None => unreachable!(),
-    }
+    let operand = pop_top(stack);
+    put_back(stack, test(operator, operand));
 }
 
-// Puts a value where there is room.
-fn put_back(stack: &mut Vec<Value>, value: Value)
-    requires { vec_len stack.old < vec_capacity stack.old }
-    ensures { stack.new.items ≡ stack.old.items ++ value ∷ [] }
+fn execute_compare(operator: RelOp, stack: &mut Vec<Value>)
+    requires { HasTwo (compare_type operator) stack.old.items }
+    ensures { DidAny (Compare operator) stack.old.items after.Ran stack.new.items }
 {
-    match stack.push(value) {
-        Ok(()) => {}
-        Err(_) => unreachable!(),
-    }
+    let second = pop_top(stack);
+    let first = pop_top(stack);
+    put_back(stack, compare(operator, first, second));
+}
+
+fn execute_convert(operator: CvtOp, stack: &mut Vec<Value>)
+    requires { HasOne (convert_from operator) stack.old.items }
+    ensures { DidAny (Convert operator) stack.old.items after.Ran stack.new.items }
+{
+    let operand = pop_top(stack);
+    put_back(stack, convert(operator, operand));
 }

@@ -95,10 +95,19 @@ fn plain_is_run(op: &PlainInstr) -> bool
 {
     matches!(
         op,
-        PlainInstr::Const(_)
-            | PlainInstr::LocalGet(_)
-            | PlainInstr::Drop
-            | PlainInstr::Binary(_)
+        PlainInstr::Unreachable
+            | PlainInstr::Nop
             | PlainInstr::Call(_)
+            | PlainInstr::Drop
+            | PlainInstr::Select
+            | PlainInstr::LocalGet(_)
+            | PlainInstr::LocalSet(_)
+            | PlainInstr::LocalTee(_)
+            | PlainInstr::Const(_)
+            | PlainInstr::Unary(_)
+            | PlainInstr::Binary(_)
+            | PlainInstr::Test(_)
+            | PlainInstr::Compare(_)
+            | PlainInstr::Convert(_)
     )
 }

@@ -21,7 +21,10 @@ pub fn execute<'a, A: Allocator>(parts: &mut Parts<'a, A>) -> Result<After, Allo
             parts.code = rest;
             execute_plain(op, &mut parts.stack, &mut parts.locals)
         }
-        _ => unreachable!(),
+        Instr::BrTable(_, _, _) => unreachable!(),
+        Instr::Block(_, _, _) => unreachable!(),
+        Instr::Loop(_, _, _) => unreachable!(),
+        Instr::If(_, _, _, _) => unreachable!(),
     }
 }
 

@@ -7,13 +7,14 @@ use Rattle.std.proofs.lemmas.List.Elements.{All-head, All-tail}
 use Rattle.wtypes.specs.declared.ValType.{ValType}
 use Rattle.wtypes.specs.declared.HostCall.{HostCall}
 use Rattle.wtypes.specs.declared.HostCall.TheVariants.{Get, Has, Put, Del, Add, Total}
-use Rattle.spec_syntax.specs.Syntax.{FuncType, Name, Import, ImportDesc, ImportFunc, ImportTable, ImportMemory, ImportGlobal}
+use Rattle.spec_syntax.specs.Syntax.{FuncType, Name, Import, ImportDesc, ImportFunc, ImportTable, ImportMemory, ImportGlobal, Module}
 use Rattle.spec_syntax.specs.Profile.{host_module, host_name, host_type}
 use Rattle.spec_typing.specs.Principal.{same_type}
 use Rattle.spec_typing.specs.Linking.{Names, IsCall, Resolves}
 use Rattle.spec_typing.proofs.Sound.{same_type_eq, both}
 use Rattle.spec_typing.proofs.Complete.{same_type_of, join_true}
-use Rattle.link.specs.Tests.{pick, named, same_types, is_type, declared_type, is_function, when, call_named, typed_as, call_of, is_there, is_call}
+use Rattle.link.specs.Tests.{pick, named, same_types, is_type, declared_type, is_function, when, call_named, typed_as, call_of, is_there, is_call, AllCalls}
+use Rattle.link.specs.Refusals.{ImportsPass}
 
 -- ---- Types
 
@@ -135,6 +136,9 @@ all_resolve types [] h = tt
 all_resolve types (i ∷ is) h =
     let (c, e) = there_is (call_of types i) (All-head (λ i. is_call types i ≡ true) i is h) in
     subst (λ o. Resolves types (i ∷ is) (cons_option o (filter_map (call_of types) is))) (sym e) (call_is types i c e, all_resolve types is (All-tail (λ i. is_call types i ≡ true) i is h))
+
+pub resolved : (m : Module) → AllCalls m → ImportsPass m
+resolved m h = (filter_map (call_of m.types) m.imports, all_resolve m.types m.imports h)
 
 module _ {X : Type 0} (f : ImportDesc → Option X) (k : (index : ℕ) → f (ImportFunc index) ≡ None) where
   pub none_else : (types : List FuncType) (is : List Import) → All (λ i. is_call types i ≡ true) is → filter_map (λ (i : Import). f i.desc) is ≡ []

@@ -1,12 +1,12 @@
 // The linking of a module.
 
-ghost use Rattle.std.specs.Prelude.{◌≡◌, ◌+◌, true, is_none, length, IfSome, IfOk, IfErr, All};
+ghost use Rattle.std.specs.Prelude.{◌≡◌, ◌+◌, true, is_none, length, IfSome, IfOk, IfErr};
 ghost use Rattle.spec_typing.specs.Modules.{ModuleTyped};
-ghost use Rattle.spec_typing.specs.Linking.{InRange, segments, IsLinked};
+ghost use Rattle.spec_typing.specs.Linking.{IsLinked};
 ghost use Rattle.module_tree.specs.Modules.{module_view};
 ghost use Rattle.typing.specs.Parts;
 ghost use Rattle.link.specs.Parts.{tree_of};
-ghost use Rattle.link.specs.Refusals.{Says, OutAt};
+ghost use Rattle.link.specs.Refusals.{Says, PassedBefore, SegmentsPass, OutAt};
 ghost use Rattle.link.specs.Tests.{AllCalls, Sized};
 
 use crate::deployed::Deployed;
@@ -31,6 +31,7 @@ fn number_at(before: usize, place: usize) -> Option<u32>
 // Why the imports are refused.
 fn import_refusal<A: Allocator>(tree: &Module<A>) -> Option<LinkRefusal>
     ensures says { IfSome result (λ e. Says e (module_view tree.now)) }
+    ensures passed { IfSome result (λ e. PassedBefore e (module_view tree.now)) }
     ensures passes { is_none result ≡ true → AllCalls (module_view tree.now) }
 {
     match import_fault(&tree.types, &tree.imports) {
@@ -59,7 +60,8 @@ fn segment_refusal<A: Allocator>(tree: &Module<A>) -> Option<LinkRefusal>
     requires calls { AllCalls (module_view tree.now) }
     requires typed { ModuleTyped (module_view tree.now) }
     ensures says { IfSome result (λ e. Says e (module_view tree.now)) }
-    ensures passes { is_none result ≡ true → All (InRange (module_view tree.now)) (segments (module_view tree.now)) }
+    ensures passed { IfSome result (λ e. PassedBefore e (module_view tree.now)) }
+    ensures passes { is_none result ≡ true → SegmentsPass (module_view tree.now) }
 {
     match element_fault(&tree.tables, &tree.elements) {
         Some(place) => Some(out_of_range(0, place)),
@@ -72,8 +74,10 @@ fn segment_refusal<A: Allocator>(tree: &Module<A>) -> Option<LinkRefusal>
 
 // Why the memories and the tables are refused.
 fn size_refusal<A: Allocator>(tree: &Module<A>) -> Option<LinkRefusal>
-    requires { AllCalls (module_view tree.now) }
+    requires calls { AllCalls (module_view tree.now) }
+    requires in_range { SegmentsPass (module_view tree.now) }
     ensures says { IfSome result (λ e. Says e (module_view tree.now)) }
+    ensures passed { IfSome result (λ e. PassedBefore e (module_view tree.now)) }
     ensures passes { is_none result ≡ true → Sized (module_view tree.now) }
 {
     if !all_within(&tree.memories, 256) {
@@ -93,6 +97,7 @@ fn link_module<A: Allocator + Clone>(
     requires { ModuleTyped (module_view tree.now) }
     ensures linked { IfOk result (λ calls. IsLinked (module_view tree.now) calls.items) }
     ensures says { IfErr result (λ e. Says e (module_view tree.now)) }
+    ensures passed { IfErr result (λ e. PassedBefore e (module_view tree.now)) }
 {
     if let Some(refusal) = import_refusal(tree) {
         return Err(refusal);
@@ -110,8 +115,9 @@ fn link_module<A: Allocator + Clone>(
 }
 
 /// Links a module that is typed (Core Specification, 4.5.4 Instantiation). What passes is the tree that was handed in,
-/// and is linked by its type. A refused module is handed back, and what the refusal says is true of it. The imports are
-/// judged first, then the segments, the memory and the table. The list of the host calls is from `alloc`.
+/// and is linked by its type. A refused module is handed back, what the refusal says is true of it, and what is judged
+/// before has passed: the imports are judged first, then the segments, the memory and the table. So there is one
+/// answer, want of memory aside. The list of the host calls is from `alloc`.
 pub fn deploy<A: Allocator + Clone>(
     alloc: &A,
     valid: Valid<A>,
@@ -119,6 +125,7 @@ pub fn deploy<A: Allocator + Clone>(
     ensures same { IfOk result (λ d. tree_of d ≡ Parts.tree_of valid) }
     ensures back { IfErr result (λ e. e.0 ≡ valid) }
     ensures says { IfErr result (λ e. Says e.1 (module_view (Parts.tree_of valid))) }
+    ensures passed { IfErr result (λ e. PassedBefore e.1 (module_view (Parts.tree_of valid))) }
 {
     match link_module(alloc, valid.module()) {
         Ok(hosts) => Ok(Deployed::of_linked(valid.into_module(), hosts)),

@@ -4,7 +4,7 @@ ghost use Rattle.module_tree.specs.Modules.{module_view};
 
 use module_tree::module::Module;
 use std::alloc::Allocator;
-use wtypes::HostCall;
+use wtypes::{HostCall, NoMemory};
 
 /// A module that can be instantiated (Core Specification, 4.5.4 Instantiation): it is typed, each of its imports is a
 /// host call of its type, its segments are in range, and its memory and its table keep the limits of the profile.
@@ -16,7 +16,7 @@ pub struct Deployed<A: Allocator> {
 }
 
 impl<A: Allocator> Deployed<A> {
-    ghost use Rattle.std.specs.Prelude.{◌≡◌, slice_get};
+    ghost use Rattle.std.specs.Prelude.{◌≡◌, slice_get, IfOk};
     ghost use Rattle.link.specs.Parts.{tree_of, hosts_of};
 
     /// A module that is linked to these host calls.
@@ -47,6 +47,20 @@ impl<A: Allocator> Deployed<A> {
         ensures { result ≡ slice_get (hosts_of self.now) i }
     {
         self.hosts.get(i as usize).copied()
+    }
+
+    /// The same module with the same host calls under another allocator. It is linked by its type.
+    ///
+    /// # Errors
+    ///
+    /// There is no memory for the copy.
+    pub fn copy_in<B: Allocator + Clone>(&self, alloc: B) -> Result<Deployed<B>, NoMemory>
+        ensures same_tree { IfOk result (λ d. module_view (tree_of d) ≡ module_view (tree_of self.now)) }
+        ensures same_hosts { IfOk result (λ d. hosts_of d ≡ hosts_of self.now) }
+    {
+        let hosts = Vec::from_slice(alloc.clone()?, self.hosts())?;
+        let tree = self.tree.copy_in(alloc)?;
+        Ok(Deployed { tree, hosts })
     }
 
     /// A law: the module is typed, its imports are these host calls, and its segments are in range.

@@ -1,5 +1,5 @@
 -- Whether locks strictly rise, one at a time from the front.
-use Rattle.std.proofs.Common.{◌≡◌, Bool, true, false, ◌&&◌, T, List, [], ◌∷◌, refl, sym, ap, ◌∙◌, subst, arith, ℕ, ◌-◌, ◌≤◌, length, take, drop}
+use Rattle.std.proofs.Common.{◌≡◌, Bool, true, false, ◌&&◌, T, List, [], ◌∷◌, refl, sym, ap, ◌∙◌, subst, arith, ℕ, ◌-◌, ◌≤◌, length, take, drop, map}
 use Rattle.std.proofs.lemmas.List.{take_at, append-nil}
 use Rattle.std.specs.declared.cmp.Ordering.TheVariants.{Less}
 use Rattle.std.specs.Ordering.{is_lt}
@@ -8,20 +8,24 @@ use Rattle.std.specs.FinMap.{is_sorted}
 use Rattle.spec_ledger.specs.declared.Lock.{Lock}
 use Rattle.spec_ledger.specs.Cells.{lock_cmp}
 use Rattle.spec_ledger.proofs.Maps.{lock_cmp_total}
-use Rattle.lock_profile.specs.declared.Held.{Held}
-use Rattle.lock_profile.specs.Groups.{pairs, is_below_next}
+use Rattle.spec_ledger.specs.declared.Entry.{Entry}
+use Rattle.lock_profile.specs.Turns.{IsProfile}
 use Rattle.lock_profile.proofs.Groups.{left, right, less}
 
 both : (a b : Bool) → T a → T b → T (a && b)
 both true b p q = q
 both false b p q = p
 
+-- items with their locks
+abbrev pub keyed : {A V : Type 0} → (A → Lock) → (A → V) → List A → List (Lock × V)
+keyed lock value xs = map (λ x. (lock x, value x)) xs
+
 -- what is below a lock is below those above it
-below_more : (a b : Lock) → lock_cmp a b ≡ Less → (hs : List Held) → T (below_all lock_cmp b (pairs hs)) → T (below_all lock_cmp a (pairs hs))
-below_more a b l [] h = tt
-below_more a b l (x ∷ hs) h =
-    let further : lock_cmp a x.lock ≡ Less = lock_cmp_total.trans a b x.lock l (less _ (left _ _ h)) in
-    both (is_lt (lock_cmp a x.lock)) (below_all lock_cmp a (pairs hs)) (subst (λ o. T (is_lt o)) (sym further) tt) (below_more a b l hs (right _ _ h))
+below_more : {A V : Type 0} (lock : A → Lock) (value : A → V) (a b : Lock) → lock_cmp a b ≡ Less → (xs : List A) → T (below_all lock_cmp b (keyed lock value xs)) → T (below_all lock_cmp a (keyed lock value xs))
+below_more lock value a b l [] h = tt
+below_more lock value a b l (x ∷ xs) h =
+    let further : lock_cmp a (lock x) ≡ Less = lock_cmp_total.trans a b (lock x) l (less _ (left _ _ h)) in
+    both (is_lt (lock_cmp a (lock x))) (below_all lock_cmp a (keyed lock value xs)) (subst (λ o. T (is_lt o)) (sym further) tt) (below_more lock value a b l xs (right _ _ h))
 
 absorbed : (x y s : Bool) → (T y → T x) → x && (y && s) ≡ y && s
 absorbed true y s f = refl
@@ -32,21 +36,38 @@ dropped : (a x y s : Bool) → (T a → T y → T x) → (a && x) && (y && s) �
 dropped true x y s f = absorbed x y s (f tt)
 dropped false x y s f = refl
 
-step : (one : Held) (more : List Held) → is_sorted lock_cmp (pairs (one ∷ more)) ≡ is_below_next (one ∷ more) && is_sorted lock_cmp (pairs more)
-step one [] = refl
-step one (next ∷ more) =
-    dropped (is_lt (lock_cmp one.lock next.lock)) (below_all lock_cmp one.lock (pairs more)) (below_all lock_cmp next.lock (pairs more)) (is_sorted lock_cmp (pairs more))
-    (λ l h. below_more one.lock next.lock (less _ l) more h)
+-- whether the first lock is below the next
+abbrev pub is_below_second : {A : Type 0} → (A → Lock) → List A → Bool
+is_below_second lock [] = true
+is_below_second lock (one ∷ []) = true
+is_below_second lock (one ∷ next ∷ more) = is_lt (lock_cmp (lock one) (lock next))
 
-behind_first : (one : Held) (more : List Held) (n : ℕ) → n ≡ length more → take n (drop 1 (one ∷ more)) ≡ more
-behind_first one more n e = ap (λ (xs : List Held). take n xs) (sym (append-nil more)) ∙ take_at more [] n (sym e)
+pub step : {A V : Type 0} (lock : A → Lock) (value : A → V) (one : A) (more : List A) → is_sorted lock_cmp (keyed lock value (one ∷ more)) ≡ is_below_second lock (one ∷ more) && is_sorted lock_cmp (keyed lock value more)
+step lock value one [] = refl
+step lock value one (next ∷ more) =
+    dropped (is_lt (lock_cmp (lock one) (lock next))) (below_all lock_cmp (lock one) (keyed lock value more)) (below_all lock_cmp (lock next) (keyed lock value more)) (is_sorted lock_cmp (keyed lock value more))
+    (λ l h. below_more lock value (lock one) (lock next) (less _ l) more h)
 
-pub rises_on : (held : List Held) → 1 ≤ length held → is_below_next held ≡ true → is_sorted lock_cmp (pairs (take (length held - 1) (drop 1 held))) ≡ is_sorted lock_cmp (pairs held)
-rises_on [] l e = absurd (omega arith)
-rises_on (one ∷ more) l e =
-    ap (λ (xs : List Held). is_sorted lock_cmp (pairs xs)) (behind_first one more (length (one ∷ more) - 1) (omega arith))
-    ∙ sym (step one more ∙ ap (λ b. b && is_sorted lock_cmp (pairs more)) e)
+behind_first : {A : Type 0} (one : A) (more : List A) (n : ℕ) → n ≡ length more → take n (drop 1 (one ∷ more)) ≡ more
+behind_first {A = A} one more n e = ap (λ (xs : List A). take n xs) (sym (append-nil more)) ∙ take_at more [] n (sym e)
 
-pub rises_not : (held : List Held) → 1 ≤ length held → is_below_next held ≡ false → false ≡ is_sorted lock_cmp (pairs held)
-rises_not [] l e = absurd (omega arith)
-rises_not (one ∷ more) l e = sym (step one more ∙ ap (λ b. b && is_sorted lock_cmp (pairs more)) e)
+pub rises_on : {A V : Type 0} (lock : A → Lock) (value : A → V) (xs : List A) → 1 ≤ length xs → is_below_second lock xs ≡ true → is_sorted lock_cmp (keyed lock value (take (length xs - 1) (drop 1 xs))) ≡ is_sorted lock_cmp (keyed lock value xs)
+rises_on lock value [] l e = absurd (omega arith)
+rises_on {A = A} lock value (one ∷ more) l e =
+    ap (λ (xs : List A). is_sorted lock_cmp (keyed lock value xs)) (behind_first one more (length (one ∷ more) - 1) (omega arith))
+    ∙ sym (step lock value one more ∙ ap (λ b. b && is_sorted lock_cmp (keyed lock value more)) e)
+
+pub rises_not : {A V : Type 0} (lock : A → Lock) (value : A → V) (xs : List A) → 1 ≤ length xs → is_below_second lock xs ≡ false → false ≡ is_sorted lock_cmp (keyed lock value xs)
+rises_not lock value [] l e = absurd (omega arith)
+rises_not lock value (one ∷ more) l e = sym (step lock value one more ∙ ap (λ b. b && is_sorted lock_cmp (keyed lock value more)) e)
+
+-- ---- neighbours decide
+
+pub neighbours_below : (one next : Entry) (more : List Entry) → IsProfile (one ∷ next ∷ more) → (lock_cmp one.lock next.lock ≡ Less) × IsProfile (next ∷ more)
+neighbours_below one next more h =
+    let both_hold = subst T (step (λ e. e.lock) (λ e. e) one (next ∷ more)) h in
+    (less _ (left (is_lt (lock_cmp one.lock next.lock)) _ both_hold), right (is_lt (lock_cmp one.lock next.lock)) _ both_hold)
+
+pub from_neighbours : (one next : Entry) (more : List Entry) → (lock_cmp one.lock next.lock ≡ Less) × IsProfile (next ∷ more) → IsProfile (one ∷ next ∷ more)
+from_neighbours one next more h =
+    subst T (sym (step (λ e. e.lock) (λ e. e) one (next ∷ more))) (both (is_lt (lock_cmp one.lock next.lock)) _ (subst (λ o. T (is_lt o)) (sym h.0) tt) h.1)

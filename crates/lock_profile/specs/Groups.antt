@@ -23,6 +23,12 @@ is_below_next [] = true
 is_below_next (one ∷ []) = true
 is_below_next (one ∷ next ∷ more) = is_lt (lock_cmp one.lock next.lock)
 
+-- the same of entries
+abbrev pub is_next_above : List Entry → Bool
+is_next_above [] = true
+is_next_above (one ∷ []) = true
+is_next_above (one ∷ next ∷ more) = is_lt (lock_cmp one.lock next.lock)
+
 -- what a call holds of a lock
 abbrev pub held_at : Lock → Modes → Option Mode
 held_at q modes = get modes q

@@ -10,8 +10,11 @@ ghost use Rattle.spec_ledger.specs.Cells.{lock_cmp};
 ghost use Rattle.spec_ledger.specs.Modes.{goes_with, Modes};
 ghost use Rattle.spec_ledger.specs.declared.Entry.{Entry};
 ghost use Rattle.lock_profile.specs.Turns.{AreTurns, IsProfile};
-ghost use Rattle.lock_profile.specs.Groups.{turn_next, entry_of, pairs, pair_of, written, group_of, GroupsOf, latest, is_below_next};
+ghost use Rattle.lock_profile.specs.Groups.{turn_next, entry_of, pairs, pair_of, written, group_of, GroupsOf, latest, is_below_next, is_next_above};
 
+mod laws;
+
+pub use laws::neighbours_decide;
 use spec_ledger::{Entry, Lock, Mode};
 use std::alloc::Global;
 use std::cmp::Ordering;
@@ -95,6 +98,18 @@ impl Model for Profile {
 }
 
 impl Profile {
+    /// The profile of these entries. There is none if their locks do not strictly rise.
+    pub fn from_sorted(entries: Vec<Entry>) -> Option<Profile>
+        ensures there { IsSome result ↔ IsProfile entries.items }
+        ensures is { IfSome result (λ profile. profile ≡ entries.items) }
+    {
+        if entries_rise(&entries) {
+            Some(Profile { entries })
+        } else {
+            None
+        }
+    }
+
     /// The entries in lock order.
     pub fn entries(&self) -> &[Entry]
         ensures { result.now ≡ self.now }
@@ -131,6 +146,28 @@ fn locks_rise(held: &[Held]) -> bool
     let mut rest = held;
     while let [_, more @ ..] = rest {
         if !first_rises(rest) {
+            return false;
+        }
+        rest = more;
+    }
+    true
+}
+
+fn first_entry_rises(entries: &[Entry]) -> bool
+    ensures { result ≡ is_next_above entries.now }
+{
+    match entries {
+        [one, next, ..] => is_below(one.lock, next.lock),
+        _ => true,
+    }
+}
+
+fn entries_rise(entries: &[Entry]) -> bool
+    ensures { IsTrue result ↔ IsProfile entries.now }
+{
+    let mut rest = entries;
+    while let [_, more @ ..] = rest {
+        if !first_entry_rises(rest) {
             return false;
         }
         rest = more;

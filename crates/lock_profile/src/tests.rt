@@ -1,4 +1,4 @@
-use super::{Held, Touched, turns};
+use super::{Held, Profile, Touched, turns};
 use spec_ledger::{Entry, Kind, Lock, Mode};
 use std::alloc::Global;
 use std::test::Fail;
@@ -103,5 +103,23 @@ fn locks_that_do_not_rise_are_no_map(rt: HostRuntime) -> Result<(), Fail> {
     twice.push(add(Mode::Add))?;
     twice.push(add(Mode::Read))?;
     assert_eq!(rt; Touched::from_sorted(twice).is_none(), true);
+    Ok(())
+}
+
+#[test]
+fn a_profile_has_each_lock_once_in_their_order(rt: HostRuntime) -> Result<(), Fail> {
+    let (first, last) = (entry(map(Mode::Read), 2), entry(add(Mode::Add), 0));
+    for (entries, rise) in [
+        ([first, last], true),
+        ([last, first], false),
+        ([first, first], false),
+    ] {
+        let profile = Profile::from_sorted(entries.to_vec(rt.alloc())?);
+        assert_eq!(rt; profile.is_some(), rise);
+        if let Some(profile) = profile {
+            assert_eq!(rt; profile.entries(), entries.as_slice());
+        }
+    }
+    assert!(rt; Profile::from_sorted(Vec::new(rt.alloc())).is_some());
     Ok(())
 }

@@ -5,8 +5,9 @@ use Rattle.link.specs.declared.deployed.Deployed.{Deployed}
 use Rattle.link.specs.Parts.{tree_of, hosts_of}
 use Rattle.module_tree.specs.Modules.{module_view}
 use Rattle.spec_execution.specs.Configuration as spec
-use Rattle.spec_execution.specs.Configuration.{Contract, function_at}
-use Rattle.spec_execution.specs.Run.{Opening, Opens, Refused, by_function}
+use Rattle.spec_syntax.specs.Syntax.{ExportDesc, ExportFunc}
+use Rattle.spec_execution.specs.Configuration.{Contract, Function, Defined, function_at}
+use Rattle.spec_execution.specs.Run.{ContractCall, Opening, Opens, Refused, by_function, exported, wrong_argument}
 use Rattle.opening.specs.declared.Refusal.{Refusal}
 use Rattle.opening.specs.declared.Refusal.TheVariants.{NoExport, NotFunction, ArgCount, ArgType, NoContract}
 
@@ -28,3 +29,21 @@ by_code c func (Some code) = Refused code
 abbrev pub Enters : {A : Type 0} → Deployed A → ℕ → List Value → Option ℕ → Type 0
 Enters d func args code = (number : ℕ) → let c : Contract = record { number = number; deployed = deployed_view d } in
     by_function c func args (function_at c.deployed func) ≡ by_code c func code
+
+-- the least argument that is not of its parameter's type, in a call of this function
+abbrev pub wrong_for : List Value → Option Function → Option ℕ
+wrong_for args (Some (Defined t f)) = wrong_argument t.params args
+wrong_for args _ = None
+
+abbrev pub wrong_by : spec.Deployed → List Value → Option ExportDesc → Option ℕ
+wrong_by d args (Some (ExportFunc func)) = wrong_for args (function_at d func)
+wrong_by d args _ = None
+
+-- the least argument that is not of its parameter's type, in a call of this contract
+abbrev pub wrong_of : ContractCall → spec.Deployed → Option ℕ
+wrong_of call d = wrong_by d call.args (exported call.entry d.tree.exports)
+
+-- a refusal for an argument's type has this argument's place
+abbrev pub HasPlace : Option ℕ → Refusal → Type 0
+HasPlace wrong (ArgType place) = wrong ≡ Some place
+HasPlace wrong _ = Unit {0}

@@ -1,12 +1,12 @@
 // Whether a call starts, and with which function of its contract.
 #![tactic(auto)]
 
-ghost use Rattle.std.specs.Prelude.{◌≡◌, ◌+◌, ◌<◌, map, length, slice_get, Some, None, IfOk, IfErr, IfSome, IfNone, option_map, string_bytes, MatchOption};
+ghost use Rattle.std.specs.Prelude.{◌≡◌, ◌+◌, ◌<◌, ◌≤◌, map, length, slice_get, Some, None, IfOk, IfErr, IfSome, IfNone, option_map, string_bytes, MatchOption};
 ghost use Rattle.spec_execution.specs.Run.{by_contract, Opens, Refused, exported, wrong_argument};
 ghost use Rattle.module_tree.specs.ModuleView.{export_view, export_desc_view};
 ghost use Rattle.spec_numeric.specs.Operators.{same_type, type_of};
-ghost use Rattle.std.specs.Prelude.{◌≤◌};
-ghost use Rattle.opening.specs.Views.{deployed_view, code_of, Enters};
+ghost use Rattle.opening.specs.Views.{deployed_view, code_of, Enters, HasPlace, wrong_for, wrong_of};
+ghost use Rattle.spec_execution.specs.Configuration.{function_at};
 
 use call::Call;
 use link::deployed::Deployed;
@@ -53,6 +53,7 @@ impl Refusal {
 pub fn entry_of<A: Allocator>(contract: &Deployed<A>, call: &Call) -> Result<u32, Refusal>
     ensures opens { IfOk result (λ func. by_contract call.now (Some (deployed_view contract.now)) ≡ Opens (record { number = call.now.contract; deployed = deployed_view contract.now }) func) }
     ensures refused { IfErr result (λ r. by_contract call.now (Some (deployed_view contract.now)) ≡ Refused (code_of r)) }
+    ensures place { IfErr result (λ r. HasPlace (wrong_of call.now (deployed_view contract.now)) r) }
 {
     match exported_as(&contract.module().exports, call.entry()) {
         None => Err(Refusal::NoExport),
@@ -111,6 +112,7 @@ fn check_args<A: Allocator>(
     requires { length args.now ≤ 1024 }
     ensures passes { IfOk result (λ _. Enters contract.now func args.now None) }
     ensures refused { IfErr result (λ r. Enters contract.now func args.now (Some (code_of r))) }
+    ensures place { IfErr result (λ r. HasPlace (wrong_for args.now (function_at (deployed_view contract.now) func)) r) }
 {
     let imports = contract.hosts().len();
     let module = contract.module();

@@ -1,5 +1,5 @@
 -- A module passes the tests exactly where it is typed.
-use Rattle.std.proofs.Common.{◌≡◌, ◌≢◌, ℕ, zero, suc, ◌+◌, ◌<◌, ◌≤◌, nat_le, nat_lt, Bool, true, false, not, ◌&&◌, ◌||◌, get_or, List, [], ◌∷◌, ◌++◌, Option, Some, None, IfSome, length, slice_get, map, option_and_then, refl, sym, ap, subst, ◌∙◌, arith, All, append_assoc}
+use Rattle.std.proofs.Common.{◌≡◌, ◌≢◌, ℕ, suc, ◌<◌, ◌≤◌, nat_le, nat_lt, Bool, true, false, not, ◌&&◌, ◌||◌, get_or, List, [], ◌∷◌, ◌++◌, Option, Some, None, IfSome, length, slice_get, map, option_and_then, refl, sym, ap, subst, ◌∙◌, arith, All}
 use Rattle.std.specs.Prelude.{filter_map, AllPairs}
 use Rattle.std.specs.List.{list_all, list_any, cons_option}
 use Rattle.std.specs.Str.{bytes_eq}
@@ -9,12 +9,11 @@ use Rattle.std.proofs.lemmas.List.Elements.{All-nil, All-cons, All-head, All-tai
 use Rattle.std.proofs.lemmas.List.Kept.{AllPairs-cons}
 use Rattle.wtypes.specs.declared.ValType.{ValType}
 use Rattle.wtypes.specs.declared.ValType.TheVariants.{I32}
-use Rattle.wtypes.specs.declared.PlainInstr.{PlainInstr}
-use Rattle.wtypes.specs.declared.PlainInstr.TheVariants.{Unreachable, Nop, Br, BrIf, Return, Call, CallIndirect, Drop, Select, LocalGet, LocalSet, LocalTee, GlobalGet, GlobalSet, Load, Store, MemorySize, MemoryGrow, Const, Unary, Binary, Test, Compare, Convert}
-use Rattle.spec_syntax.specs.Syntax.{Instr, Instrs, Plain, BrTable, Block, Loop, If, nothing, seq, FuncType, Limits, GlobalType, Name, Import, ImportDesc, ImportFunc, ImportTable, ImportMemory, ImportGlobal, Export, ExportDesc, ExportFunc, ExportTable, ExportMemory, ExportGlobal, Func, Global, Element, DataSegment, Module}
+use Rattle.wtypes.specs.declared.PlainInstr.TheVariants.{GlobalGet, Const}
+use Rattle.spec_syntax.specs.Syntax.{Instrs, Plain, nothing, seq, FuncType, Limits, GlobalType, Name, Import, ImportDesc, ImportFunc, ImportTable, ImportMemory, ImportGlobal, Export, ExportDesc, ExportFunc, ExportTable, ExportMemory, ExportGlobal, Func, Element, DataSegment, Module}
 use Rattle.spec_numeric.specs.Operators.{type_of}
 use Rattle.spec_typing.specs.Typing.{Typed, of}
-use Rattle.spec_typing.specs.Principal.{same_type, passes, run, empty}
+use Rattle.spec_typing.specs.Principal.{same_type, run, empty}
 use Rattle.spec_typing.specs.Modules.{Spaces, func_of, table_of, memory_of, func_type_indices, tables, memories, imported_globals, globals, type_at, is_not_empty, result_of, spaces_of, context_of, IsConstant, LimitsTyped, MemoryTyped, BodyTyped, GlobalTyped, ExportTyped, ElementTyped, DataTyped, StartTyped, ModuleTyped}
 use Rattle.spec_typing.proofs.Sound.{run_some, ended, same_type_eq, both}
 use Rattle.spec_typing.proofs.Complete.{run_gives, ends_gives, join_true, same_type_of}

@@ -1,7 +1,8 @@
 -- What the check of globals, segments, the start function and exports is given.
-use Rattle.std.proofs.Common.{◌≡◌, ℕ, zero, suc, Bool, true, false, ◌&&◌, List, [], ◌∷◌, ◌++◌, Option, Some, None, is_none, map, length, take, refl, sym, ap, ◌∙◌}
+use Rattle.std.specs.Prelude.{Result, Ok, Err, IfOk}
+use Rattle.std.proofs.Common.{◌≡◌, ℕ, zero, suc, Bool, true, false, ◌&&◌, List, [], ◌∷◌, ◌++◌, Option, Some, None, is_none, map, length, take, refl, ap, ◌∙◌}
 use Rattle.std.specs.List.{list_all}
-use Rattle.spec_syntax.specs.Syntax.{GlobalType, Element, DataSegment, Export, Name}
+use Rattle.spec_syntax.specs.Syntax.{GlobalType, Element, DataSegment, Export}
 use Rattle.typing.specs.Tests.{element_passes, data_passes, export_passes, exports_pass}
 
 map_take : {X Y : Type 0} (f : X → Y) (n : ℕ) (xs : List X) → map f (take n xs) ≡ take n (map f xs)
@@ -36,3 +37,8 @@ last_of_five false b c d e x p q r s h = cc
 last_of_five true false c d e x p q r s h = cc
 last_of_five true true false d e x p q r s h = cc
 last_of_five true true true false e x p q r s h = cc
+
+-- what is true of each value is true of the one that is there
+pub of_value : {X E : Type 0} (P Q : X → Type 0) → ((x : X) → P x → Q x) → (r : Result X E) → IfOk r P → IfOk r Q
+of_value P Q k (Ok x) h = k x h
+of_value P Q k (Err e) h = h

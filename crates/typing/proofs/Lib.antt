@@ -1,4 +1,5 @@
 pub mod Bodies
 pub mod Constants
 pub mod Decides
+pub mod Exported
 pub mod Gathered

@@ -1,3 +1,4 @@
 pub mod Judged
+pub mod Names
 pub mod Parts
 pub mod Tests

@@ -53,13 +53,17 @@ fn imported<'s, A: Allocator, W: Allocator>(
 }
 
 // The first fault of the globals, the segments, the start function and the exports.
-fn uses_fault<A: Allocator, W: Allocator>(tree: &Module<A>, spaces: &Spaces<W>) -> Option<Fault>
+fn uses_fault<A: Allocator, W: Allocator + Clone>(
+    alloc: &W,
+    tree: &Module<A>,
+    spaces: &Spaces<W>,
+) -> Result<Option<Fault>, AllocError>
     requires { AreSpaces spaces.now (module_view tree.now) }
-    ensures { is_none result ≡ uses_pass (module_view tree.now) }
+    ensures { IfOk result (λ fault. is_none fault ≡ uses_pass (module_view tree.now)) }
 {
     let constants = imported(tree, spaces);
     if let Some(fault) = global_fault(constants, &tree.globals) {
-        return Some(fault);
+        return Ok(Some(fault));
     }
     if let Some(fault) = element_fault(
         spaces.tables.len(),
@@ -67,15 +71,15 @@ fn uses_fault<A: Allocator, W: Allocator>(tree: &Module<A>, spaces: &Spaces<W>) 
         constants,
         &tree.elements,
     ) {
-        return Some(fault);
+        return Ok(Some(fault));
     }
     if let Some(fault) = data_fault(spaces.memories.len(), constants, &tree.datas) {
-        return Some(fault);
+        return Ok(Some(fault));
     }
     if let Some(fault) = start_fault(&tree.types, &spaces.funcs, tree.start) {
-        return Some(fault);
+        return Ok(Some(fault));
     }
-    export_fault(spaces, &tree.exports)
+    export_fault(alloc, spaces, &tree.exports)
 }
 
 // Checks the bodies.
@@ -120,10 +124,11 @@ fn check_module<A: Allocator, W: Allocator + Clone>(
             if let Some(fault) = heads_fault(tree) {
                 return Err(broken(fault));
             }
-            if let Some(fault) = uses_fault(tree, &spaces) {
-                return Err(broken(fault));
+            match uses_fault(alloc, tree, &spaces) {
+                Err(AllocError) => Err(TypeRefusal::NoMemory),
+                Ok(Some(fault)) => Err(broken(fault)),
+                Ok(None) => check_bodies(alloc, tree, &spaces),
             }
-            check_bodies(alloc, tree, &spaces)
         }
     }
 }

@@ -162,11 +162,11 @@ mod tests {
         };
         let twice = vec![in a; export(ExportDesc::Func(0))?, export(ExportDesc::Func(1))?]?;
         assert_eq!(rt;
-            export_fault(&spaces, &twice),
+            export_fault(&a, &spaces, &twice)?,
             Some(Fault { place: 1, rule: 6 })
         );
         assert_eq!(rt;
-            export_fault(&spaces, &vec![in a; export(ExportDesc::Memory(0))?]?),
+            export_fault(&a, &spaces, &vec![in a; export(ExportDesc::Memory(0))?]?)?,
             Some(Fault { place: 0, rule: 7 })
         );
         Ok(())

@@ -1,13 +1,14 @@
 // The rules of globals, segments, the start function and exports.
 
-ghost use Rattle.std.specs.Prelude.{◌≡◌, ℕ, nat_lt, map, length, is_none, List, [], Some};
-ghost use Rattle.std.specs.List.{list_all, list_any};
+ghost use Rattle.std.specs.Prelude.{◌≡◌, ◌||◌, ℕ, nat_lt, map, length, is_none, not, List, [], Some, IfOk, OnOk};
+ghost use Rattle.std.specs.List.{list_all};
 ghost use Rattle.std.specs.Str.{bytes_eq};
 ghost use Rattle.spec_syntax.specs.Syntax as syntax;
 ghost use Rattle.spec_numeric.specs.Operators;
 ghost use Rattle.spec_typing.specs.Principal;
 ghost use Rattle.module_tree.specs.View.{instrs_view};
 ghost use Rattle.module_tree.specs.ModuleView.{func_type_view, global_type_view, global_view, element_view, data_view, export_view, export_desc_view};
+ghost use Rattle.typing.specs.Names.{has_name};
 ghost use Rattle.typing.specs.Tests;
 ghost use Rattle.typing.specs.Tests.{constant_passes, global_passes, element_passes, data_passes, start_passes, export_passes, exports_pass};
 
@@ -15,7 +16,8 @@ use crate::rules::Fault;
 use body_typing::spaces::Spaces;
 use module_tree::instr::Instr;
 use module_tree::module::{DataSegment, Element, Export, ExportDesc, Global, GlobalType};
-use std::alloc::Allocator;
+use std::alloc::{AllocError, Allocator};
+use std::collections::BTreeSet;
 use wtypes::{FuncType, PlainInstr, ValType, Value};
 
 fn same_type(a: ValType, b: ValType) -> bool
@@ -195,35 +197,38 @@ fn is_there<W: Allocator>(spaces: &Spaces<W>, desc: ExportDesc) -> bool
     }
 }
 
-// Whether one of these exports has this name.
-fn is_named<A: Allocator>(exports: &[Export<A>], name: &str) -> bool
-    ensures { result ≡ list_any (λ n. bytes_eq n name.now) (map (λ e. e.name) (map export_view exports.now)) }
+// Adds a name to those before it. Answers whether it is none of these.
+fn add_name<'n, W: Allocator + Clone>(
+    names: &mut BTreeSet<&'n str, W>,
+    name: &'n str,
+) -> Result<bool, AllocError>
+    ensures is_new { IfOk result (λ is_new. is_new ≡ not (has_name names.old name.now)) }
+    ensures names { OnOk result ((n : List ℕ) → has_name names.new n ≡ (bytes_eq name.now n || has_name names.old n)) }
 {
-    for export in exports {
-        if export.name.as_str() == name {
-            return true;
-        }
-    }
-    false
+    let is_new = names.insert(name)?;
+    Ok(is_new)
 }
 
-/// The first export with the name of an earlier one, or of an index that is not there.
-pub fn export_fault<A: Allocator, W: Allocator>(
+/// The first export with the name of an earlier one, or of an index that is not there. The set of the names is from
+/// `alloc`.
+pub fn export_fault<A: Allocator, W: Allocator + Clone>(
+    alloc: &W,
     spaces: &Spaces<W>,
     exports: &Vec<Export<A>, A>,
-) -> Option<Fault>
-    ensures { is_none result ≡ exports_pass (export_passes (length spaces.now.funcs.items) (length spaces.now.tables.items) (length spaces.now.memories.items) (length spaces.now.globals.items)) [] (map export_view exports.now.items) }
+) -> Result<Option<Fault>, AllocError>
+    ensures { IfOk result (λ fault. is_none fault ≡ exports_pass (export_passes (length spaces.now.funcs.items) (length spaces.now.tables.items) (length spaces.now.memories.items) (length spaces.now.globals.items)) [] (map export_view exports.now.items)) }
 {
+    let mut names: BTreeSet<&str, W> = BTreeSet::new(alloc.clone()?);
     let mut place: u32 = 0;
-    for i in 0..exports.len() {
-        let export = &exports[i];
-        if is_named(&exports[..i], export.name.as_str()) {
-            return Some(Fault { place, rule: 6 });
+    for export in exports {
+        let is_new = add_name(&mut names, export.name.as_str())?;
+        if !is_new {
+            return Ok(Some(Fault { place, rule: 6 }));
         }
         if !is_there(spaces, export.desc) {
-            return Some(Fault { place, rule: 7 });
+            return Ok(Some(Fault { place, rule: 7 }));
         }
         place = place.saturating_add(1);
     }
-    None
+    Ok(None)
 }

@@ -1,10 +1,11 @@
 // Modules that are typed.
-ghost use Rattle.std.specs.Prelude.{◌≡◌, true};
+ghost use Rattle.std.specs.Prelude.{◌≡◌, true, IfOk};
 ghost use Rattle.module_tree.specs.Modules.{module_view};
 ghost use Rattle.typing.specs.Tests.{module_passes};
 
 use module_tree::module::Module;
 use std::alloc::Allocator;
+use wtypes::NoMemory;
 
 /// A module that is typed (Core Specification, 3.4 Modules).
 #[derive(Drop)]
@@ -39,5 +40,17 @@ impl<A: Allocator> Valid<A> {
         ensures typed { ModuleTyped (module_view result) }
     {
         self.tree
+    }
+
+    /// The same module under another allocator. It is typed by its type.
+    ///
+    /// # Errors
+    ///
+    /// There is no memory for the copy.
+    pub fn copy_in<B: Allocator + Clone>(&self, alloc: B) -> Result<Valid<B>, NoMemory>
+        ensures same_tree { IfOk result (λ v. module_view (tree_of v) ≡ module_view (tree_of self.now)) }
+    {
+        let tree = self.tree.copy_in(alloc)?;
+        Ok(Valid { tree })
     }
 }

@@ -5,8 +5,9 @@ use Rattle.interp.specs.Calls.{base_of}
 use Rattle.interp.specs.Views.{view}
 use Rattle.interp.specs.Steps.{Led}
 use Rattle.interp.specs.Run.{seen}
-use Rattle.interp.proofs.Acting.{items_nil, ready_to_run, none_at_all, counted_same}
-use Rattle.interp.proofs.Turning.{live_of, fine, machine_exhausted, has_exhausted, machine_stepped, has_stepped, machine_fell, has_fallen}
+use Rattle.interp.proofs.Acting.{items_nil, ordered_any, none_at_all, counted_same}
+use Rattle.interp.proofs.Turning.{live_of, fine, fine_after, machine_exhausted, has_exhausted, machine_stepped, has_stepped, machine_fell, has_fallen}
+use Rattle.interp.proofs.Rest.{Frees_join}
 use Rattle.interp.proofs.Asking.{calling_of, asked_turn, started_turn}
 use Rattle.interp.proofs.machine.make_turn.Goals as goal
 
@@ -33,8 +34,14 @@ execute-requires g c =
     let r = c.args.run.now in
     let m = c.requires.kept.machine in
     record {
-      ready = ready_to_run (seen r).contract (base_of r.lent) r.parts (live_of (seen r) m c.requires.running).ordered (fine (seen r) m c.requires.running)
-          (λ e. true≢false (sym (ap (λ xs. length xs == 0) e) ∙ (sym c.is_empty.ensures ∙ c.if-is_empty.false)));
+      ready = record {
+        contract = (seen r).contract;
+        base = base_of r.lent;
+        some = λ e. true≢false (sym (ap (λ xs. length xs == 0) e) ∙ (sym c.is_empty.ensures ∙ c.if-is_empty.false));
+        ordered = ordered_any (base_of r.lent) r.parts (live_of (seen r) m c.requires.running).ordered;
+        fine = fine (seen r) m c.requires.running;
+        after = fine_after (seen r) m c.requires.running (λ e. c.if-run-fuel.false (e ∙ sym c.fuel.ensures));
+      };
     }
 
 pub settle-requires-clause-ordered : goal.settle-requires-clause-ordered
@@ -71,7 +78,7 @@ returns-in-Ok-Ran-clause-kept g c =
     let charge = subst (λ (a : After). Led r.parts a c.execute.new.parts) c.in-Ok-Ran.field-0-is c.in-Ok-Ran.ensures.led (seen r).contract b in
     let settled = c.settle.ensures.settles (seen r).contract b in
     record {
-      machine = machine_stepped (seen r) k.machine c.requires.running (λ e. c.if-run-fuel.false (e ∙ sym c.fuel.ensures)) _ charge.reduces (view b c.settle.new.parts) settled.frees settled.ordered (λ e. c.settle.ensures.ready (items_nil c.settle.new.parts.code.now e));
+      machine = machine_stepped (seen r) k.machine c.requires.running (λ e. c.if-run-fuel.false (e ∙ sym c.fuel.ensures)) _ charge.reduces (view b c.settle.new.parts) (Frees_join _ _ _ _ charge.frees settled.frees) settled.ordered (λ e. c.settle.ensures.ready (items_nil c.settle.new.parts.code.now e));
       counted = c.settle.ensures.counted;
       runs = k.runs;
       room = k.room;
@@ -84,7 +91,7 @@ returns-in-Ok-Ran-clause-turn g c =
     let b = base_of r.lent in
     let charge = subst (λ (a : After). Led r.parts a c.execute.new.parts) c.in-Ok-Ran.field-0-is c.in-Ok-Ran.ensures.led (seen r).contract b in
     let settled = c.settle.ensures.settles (seen r).contract b in
-    has_stepped (seen r) k.machine c.requires.running (λ e. c.if-run-fuel.false (e ∙ sym c.fuel.ensures)) _ charge.reduces (view b c.settle.new.parts) settled.frees settled.ordered (λ e. c.settle.ensures.ready (items_nil c.settle.new.parts.code.now e))
+    has_stepped (seen r) k.machine c.requires.running (λ e. c.if-run-fuel.false (e ∙ sym c.fuel.ensures)) _ charge.reduces (view b c.settle.new.parts) (Frees_join _ _ _ _ charge.frees settled.frees) settled.ordered (λ e. c.settle.ensures.ready (items_nil c.settle.new.parts.code.now e))
 
 pub returns-in-Ok-Fell-clause-kept : goal.returns-in-Ok-Fell-clause-kept
 returns-in-Ok-Fell-clause-kept g c =

@@ -1,5 +1,6 @@
 use Rattle.std.proofs.Common.{◌∙◌, sym, ap}
 use Rattle.spec_numeric.specs.Operators.{type_of}
+use Rattle.interp.specs.Plain.{at_once}
 use Rattle.interp.proofs.Doing.{two_popped, last_two, did_binary, fell_binary}
 use Rattle.interp.proofs.plain.execute_binary.Goals as goal
 
@@ -17,7 +18,7 @@ pub returns-in-Ok : goal.returns-in-Ok
 returns-in-Ok c locals =
     let here = two_popped _ _ _ _ _ c.pop_top-second.ensures.items c.pop_top-first.ensures.items in
     let types = last_two _ _ _ _ _ _ (sym here ∙ c.requires.before) in
-    did_binary c.args.operator _ c.pop_top-first.result c.pop_top-second.result (ap type_of types.0 ∙ c.requires.first) (ap type_of types.1 ∙ c.requires.second) _ _ locals c.in-Ok.value here (sym c.binary.ensures ∙ c.in-Ok.is) c.put_back.ensures
+    at_once (did_binary c.args.operator _ c.pop_top-first.result c.pop_top-second.result (ap type_of types.0 ∙ c.requires.first) (ap type_of types.1 ∙ c.requires.second) _ _ locals c.in-Ok.value here (sym c.binary.ensures ∙ c.in-Ok.is) c.put_back.ensures)
 
 pub returns-in-Err : goal.returns-in-Err
 returns-in-Err c locals =

@@ -19,3 +19,8 @@ returns-in-Ok-clause-linked g c =
       pages = sizes.0;
       elements = sizes.1;
     }
+
+pub size_refusal-requires-clause-in_range : goal.size_refusal-requires-clause-in_range
+size_refusal-requires-clause-in_range g c =
+    let n2 : is_none c.segment_refusal.result ≡ true = search rules in
+    c.segment_refusal.ensures.passes n2

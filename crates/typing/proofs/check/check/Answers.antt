@@ -1,4 +1,3 @@
-use Rattle.std.proofs.Common.{ap, sym, ◌∙◌}
 use Rattle.module_tree.specs.Modules.{module_view}
 use Rattle.typing.proofs.Decides.{typed_of}
 use Rattle.typing.proofs.Bodies.{denied}

@@ -1,11 +1,11 @@
-use Rattle.std.proofs.Common.{◌≡◌, Bool, true, is_none, length, map, ap, sym, ◌∙◌, rules}
+use Rattle.std.proofs.Common.{◌≡◌, true, is_none, length, map, ap, sym, ◌∙◌, rules}
 use Rattle.std.specs.List.{list_all}
 use Rattle.spec_typing.specs.Modules.{func_type_indices, tables, memories, globals, imported_globals}
 use Rattle.module_tree.specs.ModuleView.{limits_view, global_type_view}
 use Rattle.module_tree.specs.Modules.{module_view}
 use Rattle.body_typing.proofs.Placed.{map_length}
 use Rattle.typing.specs.Tests.{global_passes, start_passes}
-use Rattle.typing.proofs.Gathered.{elements_at, datas_at, exports_at, last_of_five}
+use Rattle.typing.proofs.Gathered.{elements_at, datas_at, exports_at, last_of_five, of_value}
 use Rattle.typing.proofs.check.uses_fault.Goals as goal
 
 pub returns : goal.returns
@@ -25,9 +25,11 @@ returns g c =
     let n2 : is_none c.element_fault.result ≡ true = search rules in
     let n3 : is_none c.data_fault.result ≡ true = search rules in
     let n4 : is_none c.start_fault.result ≡ true = search rules in
+    of_value _ _ (λ fault told.
     last_of_five _ _ _ _ _ _
     (ap (λ i. list_all (global_passes i) m.globals) same ∙ (sym c.global_fault.ensures ∙ n1))
     (elements_at _ _ _ _ _ _ m.elements (ts ∙ l1) (fs ∙ l2) same ∙ (sym c.element_fault.ensures ∙ n2))
     (datas_at _ _ _ _ m.datas (ms ∙ l3) same ∙ (sym c.data_fault.ensures ∙ n3))
     (ap (λ fs. start_passes m.types fs m.start) (sym c.requires.funcs) ∙ (sym c.start_fault.ensures ∙ n4))
-    (c.export_fault.ensures ∙ sym (exports_at _ _ _ _ _ _ _ _ m.exports fs ts ms gs))
+    (told ∙ sym (exports_at _ _ _ _ _ _ _ _ m.exports fs ts ms gs)))
+    c.export_fault.result c.export_fault.ensures

@@ -1,5 +1,4 @@
-use Rattle.std.proofs.Common.{◌≡◌, ℕ, length, get_or, map, refl, ap, ◌∙◌, arith, rules}
-use Rattle.spec_syntax.specs.Syntax as syntax
+use Rattle.std.proofs.Common.{◌≡◌, length, get_or, map, refl, ap, ◌∙◌, arith, rules}
 use Rattle.module_tree.specs.View.{instr_view}
 use Rattle.module_tree.specs.ModuleView.{global_type_view}
 use Rattle.typing.proofs.Constants.{not_one, constant_at, view_Plain, view_BrTable, view_Block, view_Loop, view_If}

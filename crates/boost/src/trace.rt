@@ -1,0 +1,42 @@
+// Whether two traces are the same.
+ghost use Rattle.std.specs.Prelude.{◌≡◌, IsTrue, ◌↔◌};
+
+use spec_ledger::{Op, Place, Reply, Step};
+
+fn same_place(a: Place, b: Place) -> bool
+    ensures { IsTrue result ↔ (a ≡ b) }
+{
+    a == b
+}
+
+fn same_op(a: Op, b: Op) -> bool
+    ensures { IsTrue result ↔ (a ≡ b) }
+{
+    a == b
+}
+
+fn same_reply(a: Reply, b: Reply) -> bool
+    ensures { IsTrue result ↔ (a ≡ b) }
+{
+    a == b
+}
+
+fn same_step(a: Step, b: Step) -> bool
+    ensures { IsTrue result ↔ (a ≡ b) }
+{
+    same_op(a.op, b.op) && same_reply(a.reply, b.reply)
+}
+
+pub(crate) fn same_trace(a: &[Step], b: &[Step]) -> bool
+    ensures { IsTrue result ↔ (a.now ≡ b.now) }
+{
+    if a.len() != b.len() {
+        return false;
+    }
+    for (i, step) in a.iter().enumerate() {
+        if !same_step(*step, b[i]) {
+            return false;
+        }
+    }
+    true
+}

@@ -1,0 +1,24 @@
+//! Appending a field at the end. Where memory is refused nothing is appended.
+
+ghost use Rattle.std.specs.Prelude.{◌≡◌, ◌++◌, OnOk, OnErr};
+ghost use Rattle.std.specs.Int.{w32, w64, to_le_bytes};
+
+use std::alloc::AllocError;
+
+/// Appends a number as 4 bytes, the low byte first.
+pub fn append_u32(out: &mut Vec<u8>, number: u32) -> Result<(), AllocError>
+    ensures bytes { OnOk result (out.new.items ≡ out.old.items ++ to_le_bytes w32 number) }
+    ensures unchanged { OnErr result (out.new.items ≡ out.old.items) }
+{
+    let bytes: [u8; 4] = number.to_le_bytes();
+    out.extend_from_slice(&bytes)
+}
+
+/// Appends a number as 8 bytes, the low byte first.
+pub fn append_u64(out: &mut Vec<u8>, number: u64) -> Result<(), AllocError>
+    ensures bytes { OnOk result (out.new.items ≡ out.old.items ++ to_le_bytes w64 number) }
+    ensures unchanged { OnErr result (out.new.items ≡ out.old.items) }
+{
+    let bytes: [u8; 8] = number.to_le_bytes();
+    out.extend_from_slice(&bytes)
+}

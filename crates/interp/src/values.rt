@@ -1,0 +1,46 @@
+// Values on the stack.
+ghost use Rattle.std.specs.Prelude.{◌≡◌, ◌<◌, ◌++◌, ◌∷◌, [], ◌-◌, length, take, vec_len, vec_capacity};
+ghost use Rattle.spec_numeric.specs.Operators.{bits_of};
+
+use wtypes::Value;
+
+/// The number that a value's bits spell.
+pub fn bits(value: Value) -> u64
+    ensures { result ≡ bits_of value }
+{
+    match value {
+        Value::I32(x) => x.cast_unsigned() as u64,
+        Value::I64(x) => x.cast_unsigned(),
+    }
+}
+
+/// The topmost value.
+pub fn top(stack: &Vec<Value>) -> Value
+    requires { 0 < vec_len stack.now }
+    ensures { stack.now.items ≡ take (length stack.now.items - 1) stack.now.items ++ result ∷ [] }
+{
+    stack[stack.len() - 1]
+}
+
+/// Takes the topmost value.
+pub fn pop_top(stack: &mut Vec<Value>) -> Value
+    requires { 0 < vec_len stack.old }
+    ensures items { stack.old.items ≡ stack.new.items ++ result ∷ [] }
+    ensures capacity { vec_capacity stack.new ≡ vec_capacity stack.old }
+{
+    match stack.pop() {
+        Some(value) => value,
+        None => unreachable!(),
+    }
+}
+
+/// Puts a value where there is room.
+pub fn put_back(stack: &mut Vec<Value>, value: Value)
+    requires { vec_len stack.old < vec_capacity stack.old }
+    ensures { stack.new.items ≡ stack.old.items ++ value ∷ [] }
+{
+    match stack.push(value) {
+        Ok(()) => {}
+        Err(_) => unreachable!(),
+    }
+}

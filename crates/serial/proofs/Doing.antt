@@ -1,0 +1,48 @@
+-- One operation more.
+use Rattle.std.proofs.Common.{◌≡◌, List, [], ◌∷◌, ◌++◌, refl, sym, ◌∙◌, ap, subst}
+use Rattle.spec_ledger.specs.declared.Inverse.{Inverse}
+use Rattle.spec_ledger.specs.declared.Op.{Op}
+use Rattle.spec_ledger.specs.declared.Reply.{Reply}
+use Rattle.spec_ledger.specs.declared.Step.{Step}
+use Rattle.spec_ledger.specs.Cells.{cells_after, reply_to, inverse_to}
+use Rattle.spec_ledger.specs.Book.{after, GetsReplies, inverses_of}
+use Rattle.spec_ledger.proofs.Traces.{after-append, GetsReplies-push, inverses_of-push}
+use Rattle.storage.specs.Counts.{Store, opened}
+use Rattle.boost.specs.Counted.{opened_all}
+use Rattle.boost.proofs.Counted.{opened_all-push}
+use Rattle.interp.specs.declared.turns.Status.{Status}
+use Rattle.interp.specs.declared.turns.Status.TheVariants as status
+use Rattle.interp.specs.Progress.{Progress, HasAsked, HasReplied, HasAnswered, AnsweredAt, GoesOn, IsFree}
+use Rattle.serial.specs.Playing.{AreDone, IsOnItsWay}
+
+pub done_none : (start : Store) → AreDone start [] start []
+done_none start = record { replies = tt; cells = refl; inverses_are = refl; unsettled = refl }
+
+module _ (start now next : Store) (t u : List Step) (is js : List Inverse) (op : Op) (r : Reply) (d : AreDone start t now is)
+    (trace : u ≡ t ++ record { op = op; reply = r } ∷ []) (reply : r ≡ reply_to op now.cells)
+    (cells : next.cells ≡ cells_after op now.cells) (unsettled : next.unsettled ≡ opened (inverse_to op now.cells) now.unsettled)
+    (inverses : js ≡ is ++ inverse_to op now.cells ∷ []) where
+  pub done_more : AreDone start u next js
+  done_more = record {
+    replies = subst (λ x. GetsReplies x start.cells) (sym trace) (GetsReplies-push t (record { op = op; reply = r }) start.cells d.replies (reply ∙ ap (reply_to op) d.cells));
+    cells = cells ∙ ap (cells_after op) d.cells ∙ sym (ap (λ x. after x start.cells) trace ∙ after-append t (record { op = op; reply = r } ∷ []) start.cells);
+    inverses_are = inverses ∙ (λ k. d.inverses_are k ++ inverse_to op (d.cells k) ∷ [])
+        ∙ sym (ap (λ x. inverses_of x start.cells) trace ∙ inverses_of-push t (record { op = op; reply = r }) start.cells);
+    unsettled = unsettled ∙ ap (opened (inverse_to op now.cells)) d.unsettled
+        ∙ sym (ap (λ x. opened_all x start.unsettled) inverses ∙ opened_all-push is (inverse_to op now.cells) start.unsettled);
+  }
+
+-- an operation that the run asked for
+pub asked_more : (start now next : Store) (p q s : Progress) (is js : List Inverse) (op : Op) (r : Reply) → HasAsked p op q → HasAnswered q r s → r ≡ reply_to op now.cells → next.cells ≡ cells_after op now.cells
+    → next.unsettled ≡ opened (inverse_to op now.cells) now.unsettled → js ≡ is ++ inverse_to op now.cells ∷ [] → IsOnItsWay start p now is → IsOnItsWay start s next js
+asked_more start now next p q s is js op r asks answers reply cells unsettled inverses d =
+    let replied : HasReplied q op r s = subst (λ x. AnsweredAt q r s x) asks.asking answers in
+    done_more start now next p.trace s.trace is js op r d (replied.trace ∙ ap (λ t. t ++ record { op = op; reply = r } ∷ []) asks.trace) reply cells unsettled inverses
+
+-- a run that starts is not waiting for a reply
+pub free_first : (x : Status) → GoesOn x → IsFree x
+free_first status.Running h = tt
+free_first (status.Fallen t) h = tt
+free_first (status.Asking op) h = absurd h
+free_first (status.Ended o) h = absurd h
+free_first status.NoMemory h = absurd h

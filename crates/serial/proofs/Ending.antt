@@ -1,0 +1,47 @@
+-- The end of a call: its changes stand, or the cells are as they were.
+use Rattle.std.proofs.Common.{◌≡◌, ℕ, Bool, true, false, cond, List, sym, ◌∙◌, ap, subst}
+use Rattle.std.specs.FinMap.{empty}
+use Rattle.spec_ledger.specs.declared.Inverse.{Inverse}
+use Rattle.spec_ledger.specs.declared.Outcome.{Outcome}
+use Rattle.spec_ledger.specs.declared.Step.{Step}
+use Rattle.spec_ledger.specs.Cells.{Cells, AreCells}
+use Rattle.spec_ledger.specs.Modes.{Modes, touched}
+use Rattle.spec_ledger.specs.Book.{after, back_all, has_returned}
+use Rattle.spec_ledger.proofs.Traces.{back_all-inverses}
+use Rattle.storage.specs.Counts.{Store}
+use Rattle.boost.specs.Counted.{opened_all, closed_all, AreUnsettled}
+use Rattle.boost.proofs.Counted.{AreCounts-empty, AreUnsettled-opened_all, closed_all-opened_all}
+use Rattle.spec_execution.specs.Configuration.{Deployed}
+use Rattle.spec_execution.specs.Run.{ContractCall, RunsWith}
+use Rattle.spec_execution.specs.Exec.{Executes}
+use Rattle.interp.specs.Played.{Played, IsPlayed}
+use Rattle.serial.specs.Playing.{AreDone, IsPlayedOver}
+
+module _ (start now : Store) (t : List Step) (is : List Inverse) (d : AreDone start t now is) (settled : start.unsettled ≡ empty) where
+  counted : now.unsettled ≡ opened_all is empty
+  counted = d.unsettled ∙ ap (opened_all is) settled
+
+  pub may_end : AreUnsettled is now.unsettled
+  may_end = subst (AreUnsettled is) (sym counted) (AreUnsettled-opened_all is empty AreCounts-empty)
+
+  pub ended : closed_all is now.unsettled ≡ empty
+  ended = ap (closed_all is) counted ∙ closed_all-opened_all is empty AreCounts-empty
+
+  pub undone : AreCells start.cells → back_all is now.cells ≡ start.cells
+  undone are = (λ k. back_all (d.inverses_are k) (d.cells k)) ∙ back_all-inverses t start.cells are
+
+  pub left_is : AreCells start.cells → (b : Bool) → cond b now.cells (back_all is now.cells) ≡ cond b (after t start.cells) start.cells
+  left_is are true = d.cells
+  left_is are false = undone are
+
+module _ (lent : List Deployed) (call : ContractCall) (start now : Store) (f : Played) (is : List Inverse) (p : IsPlayedOver lent call start f now is) (run : IsPlayed f) (settled : start.unsettled ≡ empty) (are : AreCells start.cells) where
+  pub executed : (o : Outcome) → o ≡ f.outcome → (used : ℕ) → used ≡ f.used → (stand : Bool) → stand ≡ has_returned o → (later : Cells) → later ≡ cond stand now.cells (back_all is now.cells)
+      → (t : List Step) → t ≡ f.trace → (locks : Modes) → locks ≡ touched t → Executes lent call start.cells later o used locks
+  executed o o_is used used_is stand stand_is later later_is t t_is locks locks_are = record {
+    trace = f.trace;
+    run = subst (λ x. RunsWith lent call f.trace x used) (sym o_is) (subst (λ n. RunsWith lent call f.trace f.outcome n) (sym used_is)
+        (subst (λ c. RunsWith lent c f.trace f.outcome f.used) p.call_is (subst (λ ds. RunsWith ds f.call f.trace f.outcome f.used) p.lent run)));
+    replies = p.done.replies;
+    later_is = later_is ∙ ap (λ b. cond b now.cells (back_all is now.cells)) stand_is ∙ left_is start now f.trace is p.done settled are (has_returned o);
+    locks_are = locks_are ∙ ap touched t_is;
+  }

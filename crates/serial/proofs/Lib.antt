@@ -1,0 +1,5 @@
+pub mod Replies
+pub mod Doing
+pub mod Ending
+pub mod Modes
+pub mod Orders

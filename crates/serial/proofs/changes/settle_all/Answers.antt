@@ -1,0 +1,16 @@
+use Rattle.std.proofs.Common.{◌∙◌, ap, sym, subst}
+use Rattle.boost.specs.Counted.{closed_all, AreUnsettled}
+use Rattle.boost.proofs.Counted.{closed_all_popped, unsettled_popped}
+use Rattle.serial.proofs.changes.settle_all.Goals as goal
+
+pub settle-requires : goal.settle-requires
+settle-requires c = (unsettled_popped c.loop-inverse.inverses.items c.pop.new.self.items c.in-Some.inverse c.in-Some.ensures.items c.loop-inverse.cells.unsettled c.loop-inverse.invariant.unsettled).0
+
+pub loop-inverse-preserved : goal.loop-inverse-preserved
+loop-inverse-preserved c = record {
+  cells = c.settle.ensures.cells ∙ c.loop-inverse.invariant.cells;
+  counts = ap (closed_all c.pop.new.self.items) c.settle.ensures.unsettled
+      ∙ closed_all_popped c.loop-inverse.inverses.items c.pop.new.self.items c.in-Some.inverse c.in-Some.ensures.items c.loop-inverse.cells.unsettled ∙ c.loop-inverse.invariant.counts;
+  unsettled = subst (AreUnsettled c.pop.new.self.items) (sym c.settle.ensures.unsettled)
+      (unsettled_popped c.loop-inverse.inverses.items c.pop.new.self.items c.in-Some.inverse c.in-Some.ensures.items c.loop-inverse.cells.unsettled c.loop-inverse.invariant.unsettled).1;
+}

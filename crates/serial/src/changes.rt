@@ -1,0 +1,49 @@
+// The end of a call's changes: they stand, or are taken back.
+ghost use Rattle.std.specs.Prelude.{◌≡◌, if◌then◌else◌};
+ghost use Rattle.spec_ledger.specs.Book.{back_all, has_returned};
+ghost use Rattle.boost.specs.Counted.{closed_all, AreUnsettled};
+
+use spec_ledger::{Inverse, Outcome};
+use storage::Cells;
+
+/// Takes inverses back, last first.
+fn take_all_back(cells: &mut Cells, mut inverses: Vec<Inverse>)
+    requires { AreUnsettled inverses.items cells.old.unsettled }
+    ensures cells { cells.new.cells ≡ back_all inverses.items cells.old.cells }
+    ensures unsettled { cells.new.unsettled ≡ closed_all inverses.items cells.old.unsettled }
+{
+    while let Some(inverse) = inverses.pop() {
+        cells.take_back(inverse);
+    }
+}
+
+/// Lets changes stand.
+fn settle_all(cells: &mut Cells, mut inverses: Vec<Inverse>)
+    requires { AreUnsettled inverses.items cells.old.unsettled }
+    ensures cells { cells.new.cells ≡ cells.old.cells }
+    ensures unsettled { cells.new.unsettled ≡ closed_all inverses.items cells.old.unsettled }
+{
+    while let Some(inverse) = inverses.pop() {
+        cells.settle(inverse);
+    }
+}
+
+/// Ends the changes of a call: they stand if it returned, and else are taken back.
+pub(crate) fn end_all(cells: &mut Cells, inverses: Vec<Inverse>, stand: bool)
+    requires { AreUnsettled inverses.items cells.old.unsettled }
+    ensures cells { cells.new.cells ≡ (if stand then cells.old.cells else back_all inverses.items cells.old.cells) }
+    ensures unsettled { cells.new.unsettled ≡ closed_all inverses.items cells.old.unsettled }
+{
+    if stand {
+        settle_all(cells, inverses);
+    } else {
+        take_all_back(cells, inverses);
+    }
+}
+
+/// Whether a run returned.
+pub(crate) fn returned(outcome: Outcome) -> bool
+    ensures { result ≡ has_returned outcome }
+{
+    matches!(outcome, Outcome::Returned(_))
+}

@@ -1,0 +1,59 @@
+// The locks that a call asked for.
+ghost use Rattle.std.specs.Prelude.{◌≡◌, IfOk, OnOk};
+ghost use Rattle.spec_ledger.specs.Modes.{mode_of, touched};
+ghost use Rattle.serial.specs.Asking.{modes_in, asked};
+
+use abstract_locks::join_to;
+use lock_profile::{Held, Touched};
+use spec_ledger::{Lock, Mode, NoMemory, Op, Step};
+use std::alloc::Global;
+use std::collections::BTreeMap;
+use storage::lock;
+
+/// The mode that an operation asks for.
+fn mode(op: Op) -> Mode
+    ensures { result ≡ mode_of op }
+{
+    match op {
+        Op::Get(_) | Op::Has(_) | Op::Total(_) => Mode::Read,
+        Op::Put(_, _) | Op::Del(_) => Mode::Excl,
+        Op::Add(_, _) => Mode::Add,
+    }
+}
+
+/// Joins the mode that an operation asks for to what is held of its lock.
+fn ask(held: &mut BTreeMap<Lock, Mode>, op: Op) -> Result<(), NoMemory>
+    ensures { OnOk result (modes_in held.new.entries ≡ asked (modes_in held.old.entries) op) }
+{
+    let wanted = lock(op);
+    let joined = join_to(mode(op), held.get(&wanted).copied());
+    let Ok(_) = held.insert(wanted, joined) else {
+        return Err(NoMemory);
+    };
+    Ok(())
+}
+
+/// The locks of a map, with their modes.
+fn listed(alloc: Global, modes: BTreeMap<Lock, Mode>) -> Result<Touched, NoMemory>
+    ensures { IfOk result (λ touched. touched ≡ modes_in modes.entries) }
+{
+    let mut held = Vec::new(alloc);
+    for (lock, mode) in modes {
+        held.push(Held { lock, mode })?;
+    }
+    match Touched::from_sorted(held) {
+        Some(touched) => Ok(touched),
+        None => unreachable!(),
+    }
+}
+
+/// Each lock that a trace asks for, with the join of its modes.
+pub(crate) fn touched_by(alloc: Global, trace: &[Step]) -> Result<Touched, NoMemory>
+    ensures { IfOk result (λ locks. locks ≡ touched trace.now) }
+{
+    let mut held = BTreeMap::new(alloc);
+    for step in trace {
+        ask(&mut held, step.op)?;
+    }
+    listed(alloc, held)
+}

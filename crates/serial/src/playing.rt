@@ -1,0 +1,106 @@
+// A call that runs over cells, which answer its operations.
+ghost use Rattle.std.specs.Prelude.{◌≡◌, ◌+◌, ◌≤◌, ◌∷◌, ◌++◌, [], Ok, true, false, IfOk, OnOk};
+ghost use Rattle.spec_execution.specs.Run.{IsReply, opening};
+ghost use Rattle.spec_ledger.specs.Cells.{cells_after, inverse_to, reply_to};
+ghost use Rattle.storage.specs.Counts.{Store, opened};
+ghost use Rattle.interp.specs.Lent.{contracts_view};
+ghost use Rattle.interp.specs.Starting.{IsOpened, IsRejection};
+ghost use Rattle.interp.specs.Progress.{IsFree, IsSameCall};
+ghost use Rattle.serial.specs.Playing.{HasTurned, IsOnItsWay, IsPlayedOver, IsEnded};
+
+use call::Call;
+use interp::finished::Finished;
+use interp::machine::Machine;
+use interp::stand_in::Runnable as Contract;
+use interp::start::StartRefusal;
+use interp::turns::Turn;
+use spec_ledger::{Inverse, NoMemory, Op, Reply};
+use std::alloc::{Allocator, Global};
+use storage::Cells;
+
+/// Does an operation, and keeps its inverse.
+fn act(cells: &mut Cells, inverses: &mut Vec<Inverse>, op: Op) -> Result<Reply, NoMemory>
+    ensures reply { IfOk result (λ reply. reply ≡ reply_to op cells.old.cells) }
+    ensures is_reply { IfOk result (λ reply. IsReply op reply) }
+    ensures cells { OnOk result (cells.new.cells ≡ cells_after op cells.old.cells) }
+    ensures unsettled { OnOk result (cells.new.unsettled ≡ opened (inverse_to op cells.old.cells) cells.old.unsettled) }
+    ensures inverses { OnOk result (inverses.new.items ≡ inverses.old.items ++ inverse_to op cells.old.cells ∷ []) }
+{
+    cells.hold();
+    let (reply, inverse) = cells.apply(op)?;
+    inverses.push(inverse)?;
+    Ok(reply)
+}
+
+/// Makes a turn, with the operation that it asks for. Answers whether the run goes on.
+fn make_turn<'a, A: Allocator>(
+    machine: &mut Machine<'a, A>,
+    cells: &mut Cells,
+    inverses: &mut Vec<Inverse>,
+) -> Result<bool, NoMemory>
+    requires { IsFree machine.old.status }
+    ensures same { OnOk result (IsSameCall machine.old machine.new) }
+    ensures way { OnOk result ((start : Store) → IsOnItsWay start machine.old cells.old inverses.old.items → IsOnItsWay start machine.new cells.new inverses.new.items) }
+    ensures goes_on { result ≡ Ok true → HasTurned machine.old machine.new }
+    ensures ended { result ≡ Ok false → IsEnded machine.new.status }
+{
+    match machine.next() {
+        Turn::Stepped => Ok(true),
+        Turn::Host(op) => {
+            let reply = act(cells, inverses, op)?;
+            machine.answer(reply);
+            Ok(true)
+        }
+        Turn::Done(_) => Ok(false),
+        Turn::NoMemory => Err(NoMemory),
+    }
+}
+
+/// The run of a call that starts, with the inverses of its operations, first to last.
+fn run<'a, A: Allocator>(
+    alloc: Global,
+    mut machine: Machine<'a, A>,
+    cells: &mut Cells,
+) -> Result<(Finished<'a, A>, Vec<Inverse>), NoMemory>
+    requires free { IsFree machine.status }
+    requires first { machine.trace ≡ [] }
+    ensures { IfOk result (λ r. IsPlayedOver machine.entry.contracts machine.entry.call cells.old r.0 cells.new r.1.items) }
+{
+    let mut inverses = Vec::new(alloc);
+    'turns: while make_turn(&mut machine, cells, &mut inverses)? {}
+    match machine.finish() {
+        Ok(finished) => Ok((finished, inverses)),
+        Err(_) => unreachable!(),
+    }
+}
+
+/// The empty run of a call that does not start.
+fn rejected<'a, A: Allocator>(
+    alloc: Global,
+    contracts: &'a [Contract<A>],
+    call: &'a Call,
+) -> Finished<'a, A>
+    requires { ¬ IsOpened (opening (contracts_view contracts.now) call.now) }
+    ensures { IsRejection (contracts_view contracts.now) call.now result }
+{
+    match Finished::rejected(alloc, contracts, call) {
+        Some(finished) => finished,
+        None => unreachable!(),
+    }
+}
+
+/// Runs a call over the cells, and answers its run with the inverses of its operations, first to last.
+pub(crate) fn play<'a, A: Allocator>(
+    alloc: Global,
+    contracts: &'a [Contract<A>],
+    call: &'a Call,
+    cells: &mut Cells,
+) -> Result<(Finished<'a, A>, Vec<Inverse>), NoMemory>
+    ensures { IfOk result (λ r. IsPlayedOver (contracts_view contracts.now) call.now cells.old r.0 cells.new r.1.items) }
+{
+    match Machine::start(alloc, contracts, call) {
+        Ok(machine) => run(alloc, machine, cells),
+        Err(StartRefusal::NoMemory) => Err(NoMemory),
+        Err(_) => Ok((rejected(alloc, contracts, call), Vec::new(alloc))),
+    }
+}
