@@ -1,9 +1,10 @@
 -- What is known of a step of reading that did not fail.
-use Rattle.std.proofs.Common.{◌≡◌, ℕ, suc, Bool, true, false, cond, List, [], ◌∷◌, ◌++◌, length, Option, Some, None, Result, Ok, Err, refl, sym, ap, subst, ◌∙◌, ◌⊎◌, ◌==◌, append_assoc, append-nil, inl, inr}
+use Rattle.std.proofs.Common.{◌≡◌, ℕ, suc, Bool, true, false, cond, List, [], ◌∷◌, ◌++◌, length, Option, Some, None, Result, Ok, Err, refl, sym, ap, ap₂, subst, take, ◌∙◌, ◌⊎◌, ◌==◌, append_assoc, append-nil, inl, inr}
 use Rattle.std.proofs.lemmas.Bool.{eqb-true}
 use Rattle.std.proofs.lemmas.List.{nil_from_length}
 use Rattle.fields.specs.declared.fault.Fault.{Fault}
-use Rattle.fields.specs.Reading.{Read, ◌>>=◌, found, whole}
+use Rattle.std.specs.Prelude.{IfOk}
+use Rattle.fields.specs.Reading.{Read, ◌>>=◌, Gives, IsRead, found, whole}
 use Rattle.fields.specs.Exact.{AreBytes, Takes, ReadsExactly}
 
 pub rest_are_bytes : (b : ℕ) (bytes : List ℕ) → AreBytes (b ∷ bytes) → AreBytes bytes
@@ -70,3 +71,30 @@ pub whole_again : {A : Type 0} (at : List ℕ → Read A) (text : A → List ℕ
 whole_again at text Is exact x is =
     let all : at (text x) ≡ Ok (x, []) = ap at (sym (append-nil (text x))) ∙ exact.again x [] is in
     ap whole all
+
+-- ---- what a function returned
+
+pub is_spelled : {X A : Type 0} (at : List ℕ → Read A) (text : A → List ℕ) (Is : A → Type 0) → ReadsExactly at text Is
+    → (view : X → A × List ℕ) (r : Result X Fault) (bytes : List ℕ) → AreBytes bytes → Gives view r (at bytes) → IfOk r (λ x. Is (view x).0 × (bytes ≡ text (view x).0 ++ (view x).1))
+is_spelled at text Is exact view (Ok x) bytes bounded given = (exact.fits bytes (view x) bounded given, (exact.takes bytes (view x) bounded given).parts)
+is_spelled at text Is exact view (Err e) bytes bounded given = tt
+
+pub is_read : {X A : Type 0} (at : List ℕ → Read A) (text : A → List ℕ) (Is : A → Type 0) → ReadsExactly at text Is
+    → (view : X → A × List ℕ) (r : Result X Fault) (bytes : List ℕ) → Gives view r (at bytes) → (x : A) (rest : List ℕ) → Is x → bytes ≡ text x ++ rest → IsRead view r x rest
+is_read at text Is exact view r bytes given x rest is e = subst (λ read. Gives view r read) (ap at e ∙ exact.again x rest is) given
+
+-- ---- what is appended
+
+-- what stood in front of what stands in front
+pub front_on : (old mid new rest : List ℕ) → mid ≡ old ++ rest → take (length mid) new ≡ mid → take (length old) new ≡ old
+front_on [] mid new rest e f = refl
+front_on (x ∷ old) [] new rest e f = absurd cc
+front_on (x ∷ old) (y ∷ mid) [] rest e f = absurd cc
+front_on (x ∷ old) (y ∷ mid) (z ∷ new) rest e f =
+    let h : z ≡ x = cc in let t : mid ≡ old ++ rest = cc in let u : take (length mid) new ≡ mid = cc in
+    ap₂ (λ a b. a ∷ b) h (front_on old mid new rest t u)
+
+-- three pieces, one after the other
+pub appended : (old one two new a b c : List ℕ) → one ≡ old ++ a → two ≡ one ++ b → new ≡ two ++ c → new ≡ old ++ (a ++ b ++ c)
+appended old one two new a b c p q r =
+    r ∙ (ap (λ (s : List ℕ). s ++ c) (q ∙ (ap (λ (s : List ℕ). s ++ b) p ∙ append_assoc old a b)) ∙ append_assoc old (a ++ b) c)

@@ -25,6 +25,10 @@ abbrev pub Gives : {X Y : Type 0} → (X → Y) → Result X Fault → Result Y 
 Gives view (Ok x) read = read ≡ Ok (view x)
 Gives view (Err e) read = Fails e read
 
+-- what a function returned, seen by view, is this value and this rest, unless memory was refused
+abbrev pub IsRead : {X A : Type 0} → (X → A × List ℕ) → Result X Fault → A → List ℕ → Type 0
+IsRead view result x rest = Gives view result (Ok (x, rest))
+
 -- ---- single fields
 
 abbrev pub byte_at : List ℕ → Read ℕ

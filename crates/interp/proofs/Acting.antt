@@ -1,13 +1,11 @@
 -- What the steps of the code do to the parts.
-use Rattle.std.proofs.Common.{◌≡◌, ℕ, ◌+◌, ◌≤◌, List, [], ◌∷◌, ◌++◌, length, map, drop, refl, sym, ap, ◌∙◌, subst, Vec, Global, Result, Ok, Err, IfOk, None, true, false, true≢false, arith, length-append}
+use Rattle.std.proofs.Common.{◌≡◌, ℕ, ◌+◌, ◌≤◌, List, [], ◌∷◌, ◌++◌, length, map, drop, refl, sym, ap, ◌∙◌, subst, Vec, Global, Result, Ok, Err, IfOk, None, true, arith, length-append}
 use Rattle.std.proofs.lemmas.List.{reverse-append}
 use Rattle.wtypes.specs.declared.Value.{Value}
 use Rattle.wtypes.specs.declared.PlainInstr.{PlainInstr}
-use Rattle.wtypes.specs.declared.PlainInstr.TheVariants.{Call, LocalTee}
+use Rattle.wtypes.specs.declared.PlainInstr.TheVariants.{Call, Br, BrIf, Return, GlobalGet, GlobalSet, LocalTee}
 use Rattle.spec_syntax.specs.Syntax.{Plain}
 use Rattle.module_tree.specs.declared.instr.Instr.{Instr}
-use Rattle.module_tree.specs.declared.instr.Instr as instr
-use Rattle.spec_syntax.specs.Syntax as syntax
 use Rattle.spec_execution.specs.Configuration.{Contract, State, Config, End, Trap}
 use Rattle.spec_execution.specs.Reduction.{Goes, reduce, execute, execute_plain}
 use Rattle.spec_execution.specs.Run.{Reduces}
@@ -15,16 +13,16 @@ use Rattle.interp.specs.declared.parts.Entry.{Entry}
 use Rattle.interp.specs.declared.parts.Parts.{Parts}
 use Rattle.interp.specs.declared.plain.After.{After}
 use Rattle.interp.specs.declared.plain.After.TheVariants as after
-use Rattle.interp.specs.Meaning.{Item, Open, Loop, behind, height, outermost, at, config, Stands, OnlyRun, IsOrdered, calling, listed, frames}
-use Rattle.interp.specs.Forms.{operands, runs, runs_plain, IsReadyFor}
-use Rattle.module_tree.specs.View.{instr_view}
+use Rattle.interp.specs.Meaning.{Item, Open, Loop, behind, height, outermost, at, config, Stands, IsOrdered, calling, listed, frames}
+use Rattle.interp.specs.Forms.{operands, runs_on, runs_plain, IsReadyFor}
 use Rattle.interp.proofs.Finding.{ready_for}
 use Rattle.interp.specs.Plain.{onto, Did, at_once, by_two}
 use Rattle.spec_execution.specs.Turns.{Frees, none}
+use Rattle.interp.specs.declared.instance.Instance.{Instance}
+use Rattle.interp.specs.Instances.{based}
 use Rattle.interp.specs.Views.{item_of, items_of, open_of, opens_of, view}
-use Rattle.interp.specs.Steps.{IsReadyToRun, Led, LedView, IsOrderedParts, IsBehind, AllSettle, IsCounted}
+use Rattle.interp.specs.Steps.{IsReadyToRun, Led, LedView, IsOrderedParts, IsBehind, AllSettle, IsCounted, AreNumbered, EachNumbered}
 use Rattle.interp.proofs.Context.{values_onto}
-use Rattle.interp.proofs.Numbering.{plain_item}
 use Rattle.interp.proofs.Charging.{mk, local, fine_at, fine_after_at, charged_ran, charged_fell, charged_teed, between, Stands_at}
 
 module _ (c : Contract) (b : State) (es : List Open) (stack locals : List Value) (n : ℕ) (op : PlainInstr) (is : List Item) (there : height es + operands op ≤ length stack) (o : IsOrdered (mk b es stack locals (record { ordinal = n; instr = Plain op } ∷ is))) where
@@ -72,14 +70,16 @@ pub if_ok : {X E : Type 0} (r : Result X E) (P Q : X → Type 0) → ((x : X) �
 if_ok (Ok x) P Q f h = f x h
 if_ok (Err e) P Q f h = h
 
-pub led_parts : {A : Type 0} (p q : Parts A) (n : ℕ) (op : PlainInstr) (a : After) → IsOrderedParts p → items_of p.code.now ≡ record { ordinal = n; instr = Plain op } ∷ items_of q.code.now → q.entries ≡ p.entries →
+pub led_parts : {A : Type 0} (p q : Parts A) (n : ℕ) (op : PlainInstr) (a : After) → IsOrderedParts p → items_of p.code.now ≡ record { ordinal = n; instr = Plain op } ∷ items_of q.code.now → q.entries ≡ p.entries → q.instance ≡ p.instance →
     height (opens_of p.entries.items) + operands op ≤ length p.stack.items → Did op p.stack.items p.locals.items a q.stack.items q.locals.items → Led p a q
-led_parts {A} p q n op a o here same there d c b =
+led_parts {A} p q n op a o here same untouched there d c b safe =
+    let u : State = based b p.instance in
     let es : opens_of q.entries.items ≡ opens_of p.entries.items = ap (λ (v : Vec (Entry A) Global). opens_of v.items) same in
-    let oo : IsOrdered (mk b (opens_of p.entries.items) p.stack.items p.locals.items (record { ordinal = n; instr = Plain op } ∷ items_of q.code.now)) = subst (λ (x : List Item). IsOrdered (mk b (opens_of p.entries.items) p.stack.items p.locals.items x)) here (o b) in
-    subst (λ (x : List Open). LedView c (view b p) a (mk b x q.stack.items q.locals.items (items_of q.code.now))) (sym es)
-    (subst (λ (x : List Item). LedView c (mk b (opens_of p.entries.items) p.stack.items p.locals.items x) a (mk b (opens_of p.entries.items) q.stack.items q.locals.items (items_of q.code.now))) (sym here)
-    (led c b (opens_of p.entries.items) p.stack.items p.locals.items n op (items_of q.code.now) there oo a q.stack.items q.locals.items d))
+    let oo : IsOrdered (mk u (opens_of p.entries.items) p.stack.items p.locals.items (record { ordinal = n; instr = Plain op } ∷ items_of q.code.now)) = subst (λ (x : List Item). IsOrdered (mk u (opens_of p.entries.items) p.stack.items p.locals.items x)) here (o b) in
+    subst (λ (i : Instance). LedView c (view b p) a (mk (based b i) (opens_of q.entries.items) q.stack.items q.locals.items (items_of q.code.now))) (sym untouched)
+    (subst (λ (x : List Open). LedView c (view b p) a (mk u x q.stack.items q.locals.items (items_of q.code.now))) (sym es)
+    (subst (λ (x : List Item). LedView c (mk u (opens_of p.entries.items) p.stack.items p.locals.items x) a (mk u (opens_of p.entries.items) q.stack.items q.locals.items (items_of q.code.now))) (sym here)
+    (led c u (opens_of p.entries.items) p.stack.items p.locals.items n op (items_of q.code.now) there oo a q.stack.items q.locals.items d)))
 
 -- a contract of no functions
 abbrev pub none_at_all : Contract
@@ -96,30 +96,39 @@ pub ordered_any : {A : Type 0} (b : State) (p : Parts A) → IsOrdered (view b p
 ordered_any b p o x = record { stands = o.stands; runs = o.runs; each = o.each }
 
 -- the instruction to come finds what it takes, where it is not stuck
-module _ {A : Type 0} (p q : Parts A) (i : Instr A) (rest : List (Instr A)) (r : IsReadyToRun p) (is_first : p.code.now ≡ i ∷ rest) where
-  pub no_other : (x : syntax.Instr) → instr_view i ≡ x → runs x ≡ false → ⊥
-  no_other x e refused = true≢false (sym (subst OnlyRun (ap items_of is_first) (r.ordered r.base).runs).0 ∙ ap runs e ∙ refused)
-
-  module _ (n : ℕ) (op : PlainInstr) (is : i ≡ instr.Plain n op) where
+module _ {A : Type 0} (p q : Parts A) (rest : List (Instr A)) (r : IsReadyToRun p) where
+  module _ (n : ℕ) (op : PlainInstr) (is : items_of p.code.now ≡ record { ordinal = n; instr = Plain op } ∷ items_of rest) (on : runs_on op ≡ true) where
     abbrev es : List Open
     es = opens_of p.entries.items
 
-    pub plain_here : items_of p.code.now ≡ record { ordinal = n; instr = Plain op } ∷ items_of rest
-    plain_here = ap items_of is_first ∙ ap (λ i. item_of i ∷ items_of rest) is ∙ ap (λ x. x ∷ items_of rest) (plain_item A n op)
-
-    pub plain_runs : runs_plain op ≡ true
-    plain_runs = (subst OnlyRun plain_here (r.ordered r.base).runs).0
-
     pub ready_plain : (height es + operands op ≤ length p.stack.items) × IsReadyFor op p.stack.items p.locals.items
     unfolding reduce execute
-    ready_plain = ready_for r.contract r.base es p.stack.items p.locals.items (listed (items_of rest) End) (r.ordered r.base).stands op plain_runs
-        (λ h. fine_at r.contract r.base es p.stack.items p.locals.items (listed (items_of p.code.now) End) r.fine.not_stuck
-        (ap (λ (js : List Item). reduce r.contract (frames es 0) (at r.base p.locals.items) (onto (drop (height es) p.stack.items) []) (listed js End)) plain_here ∙ h))
-        (λ s y e. fine_after_at r.contract r.base s es p.stack.items p.locals.items s.locals (listed (items_of p.code.now) End) y r.after.not_stuck
-        (ap (λ (js : List Item). reduce r.contract (frames es 0) (at r.base p.locals.items) (onto (drop (height es) p.stack.items) []) (listed js End)) plain_here ∙ e))
+    ready_plain = ready_for r.contract (based r.base p.instance) es p.stack.items p.locals.items (listed (items_of rest) End) (r.ordered r.base).stands op on
+        (λ h. fine_at r.contract (based r.base p.instance) es p.stack.items p.locals.items (listed (items_of p.code.now) End) r.safe.fine.not_stuck
+        (ap (λ (js : List Item). reduce r.contract (frames es 0) (at (based r.base p.instance) p.locals.items) (onto (drop (height es) p.stack.items) []) (listed js End)) is ∙ h))
+        (λ s y e. fine_after_at r.contract (based r.base p.instance) s es p.stack.items p.locals.items s.locals (listed (items_of p.code.now) End) y r.safe.after.not_stuck
+        (ap (λ (js : List Item). reduce r.contract (frames es 0) (at (based r.base p.instance) p.locals.items) (onto (drop (height es) p.stack.items) []) (listed js End)) is ∙ e))
 
-    pub led_first : q.code.now ≡ rest → q.entries ≡ p.entries → (a : After) → Did op p.stack.items p.locals.items a q.stack.items q.locals.items → Led p a q
-    led_first after same a did = led_parts p q n op a r.ordered (plain_here ∙ ap (λ js. record { ordinal = n; instr = Plain op } ∷ items_of js) (sym after)) same ready_plain.0 did
+    pub led_first : q.code.now ≡ rest → q.entries ≡ p.entries → q.instance ≡ p.instance → (a : After) → Did op p.stack.items p.locals.items a q.stack.items q.locals.items → Led p a q
+    led_first after same untouched a did = led_parts p q n op a r.ordered (is ∙ ap (λ js. record { ordinal = n; instr = Plain op } ∷ items_of js) (sym after)) same untouched ready_plain.0 did
 
-pub counted_same : {A : Type 0} (p q : Parts A) → q.entries ≡ p.entries → q.depth ≡ p.depth → IsCounted p → IsCounted q
-counted_same p q e d k = record { count = d ∙ k.count ∙ ap (λ es. frames (opens_of es.items) 0) (sym e); few = subst (λ n. n ≤ 256) (sym d) k.few }
+pub counted_rest : {A : Type 0} (p q : Parts A) → q.entries ≡ p.entries → q.depth ≡ p.depth → AreNumbered q.code.now → IsCounted p → IsCounted q
+counted_rest {A} p q e d h k = record {
+  count = d ∙ k.count ∙ ap (λ (es : Vec (Entry A) Global). frames (opens_of es.items) 0) (sym e);
+  few = subst (λ n. n ≤ 256) (sym d) k.few;
+  code = h;
+  each = subst (λ (es : Vec (Entry A) Global). EachNumbered es.items) (sym e) k.each;
+}
+
+-- the instruction to come
+pub item_of_first : {A : Type 0} (p : Parts A) (i : Instr A) (rest : List (Instr A)) (x : Item) → p.code.now ≡ i ∷ rest → item_of i ≡ x → items_of p.code.now ≡ x ∷ items_of rest
+item_of_first p i rest x e f = ap items_of e ∙ ap (λ (y : Item). y ∷ items_of rest) f
+
+-- an operator that leaves the order of the code as it is, and touches no more than the values and the locals
+pub operator_runs : (op : PlainInstr) → runs_plain op ≡ true → ((l : ℕ) → op ≡ Br l → ⊥) → ((l : ℕ) → op ≡ BrIf l → ⊥) → (op ≡ Return → ⊥) → ((x : ℕ) → op ≡ GlobalGet x → ⊥) → ((x : ℕ) → op ≡ GlobalSet x → ⊥) → runs_on op ≡ true
+operator_runs (Br l) r f g h i j = absurd (f l refl)
+operator_runs (BrIf l) r f g h i j = absurd (g l refl)
+operator_runs Return r f g h i j = absurd (h refl)
+operator_runs (GlobalGet x) r f g h i j = absurd (i x refl)
+operator_runs (GlobalSet x) r f g h i j = absurd (j x refl)
+operator_runs op r f g h i j = r

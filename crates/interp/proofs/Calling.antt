@@ -17,7 +17,7 @@ use Rattle.spec_execution.specs.Configuration.{Deployed, Contract, Function, Def
 use Rattle.spec_execution.specs.Configuration as cfg
 use Rattle.spec_execution.specs.Reduction.{Next, Goes, Traps, Stuck, reduce, found, with_values, invoke, zero_of}
 use Rattle.spec_execution.specs.Run.{Reduces}
-use Rattle.interp.specs.Meaning.{Item, Frame, Open, listed, numbered, item, outer, height, frames, outermost, at, state, whole, Stands, View, config, calling, IsOrdered, IsFineCall, OnlyRun, EachRun}
+use Rattle.interp.specs.Meaning.{Item, Scope, Begins, Frame, Open, listed, numbered, item, outer, height, frames, outermost, at, state, whole, Stands, View, config, calling, IsOrdered, IsFineCall, OnlyRun, EachRun}
 use Rattle.interp.specs.Calls.{HasEntered}
 use Rattle.interp.specs.Plain.{onto}
 use Rattle.interp.proofs.Context.{values_onto}
@@ -119,7 +119,7 @@ module _ (c : Contract) (b : State) (es : List Open) (kept args locals : List Va
         (local c b b es (kept ++ args) kept locals locals 0 _ _ (sym (take-append-le (height es) kept args (height-le es _ stands)))
         (call_local ∙ ap (λ x. if x then Goes 0 (at b locals) (values (onto (drop (height es) kept) []) made) else Traps 0 CallDepth) (lt-ltb (frames es 0) 256 shallow)
         ∙ ap (Goes 0 (at b locals)) (values_onto (drop (height es) kept) [] made)));
-    ordered = record { stands = (omega arith, subst (λ n. Stands es n) (sym eh) stands); runs = runs; each = (subst OnlyRun (sym ef) behind, each) };
+    ordered = record { stands = (omega arith, subst (λ n. Stands es n) (sym eh) stands); runs = runs; each = ((subst OnlyRun (sym ef) behind, subst (λ (k : Scope). Begins k e.ordinal e.from) (sym ek) tt), each) };
   }
     where
       same_outer : outer e.scope locals' ≡ locals

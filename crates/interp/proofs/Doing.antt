@@ -25,7 +25,7 @@ same_self : (t : ValType) → same_type t t ≡ true
 same_self I32 = refl
 same_self I64 = refl
 
-number_is : (t : ValType) (v : Value) (vs : List Value) (go : ℕ → List Value → Next) → type_of v ≡ t → with_number t (v ∷ vs) go ≡ go (bits_of v) vs
+pub number_is : (t : ValType) (v : Value) (vs : List Value) (go : ℕ → List Value → Next) → type_of v ≡ t → with_number t (v ∷ vs) go ≡ go (bits_of v) vs
 number_is t v vs go e = ap (λ b. if b then go (bits_of v) vs else Stuck) (ap (same_type t) e ∙ same_self t)
 
 pub did_const : (op : PlainInstr) (v : Value) (stack stack' locals : List Value) → op ≡ Const v → stack' ≡ stack ++ v ∷ [] → Ran op stack locals stack' locals

@@ -8,7 +8,7 @@ use Rattle.wtypes.specs.declared.Value.{Value}
 use Rattle.wtypes.specs.declared.PlainInstr.{PlainInstr}
 use Rattle.wtypes.specs.declared.PlainInstr.TheVariants.{Unreachable, Nop, Call, Drop, Select, LocalGet, LocalSet, LocalTee, Const, Unary, Binary, Test, Compare, Convert}
 use Rattle.spec_numeric.specs.Operators.{same_type, type_of, bits_of, unary_type, binary_type, test_type, compare_type, convert_from}
-use Rattle.interp.specs.Forms.{runs_plain, operands, HasOne, HasTwo, HasChoice, CanSet, IsReadyFor}
+use Rattle.interp.specs.Forms.{runs_on, operands, HasOne, HasTwo, HasChoice, CanSet, IsReadyFor}
 use Rattle.interp.specs.Meaning.{Open, Stands, height, frames, at}
 use Rattle.interp.specs.Plain.{onto}
 use Rattle.interp.proofs.Charging.{above, height-le}
@@ -100,7 +100,7 @@ module _ (c : Contract) (b : State) (es : List Open) (stack locals : List Value)
         },
       )
 
-  one_taken : (t : ValType) (go : ℕ → List Value → Next) → (with_number t vs go ≡ Stuck → ⊥) → (height es + 1 ≤ length stack) × HasOne t stack
+  pub one_taken : (t : ValType) (go : ℕ → List Value → Next) → (with_number t vs go ≡ Stuck → ⊥) → (height es + 1 ≤ length stack) × HasOne t stack
   one_taken t go f =
       let top : TookNumber t vs go = number_taken t vs go f in (
         above es stack 1 stands (omega (arith, ap length top.is)),
@@ -152,7 +152,7 @@ module _ (c : Contract) (b : State) (es : List Open) (stack locals : List Value)
         },
       )
 
-  pub ready_for : (op : PlainInstr) → IsTrue (runs_plain op) → (execute_plain c (at b locals) 1 op vs rest ≡ Stuck → ⊥) →
+  pub ready_for : (op : PlainInstr) → IsTrue (runs_on op) → (execute_plain c (at b locals) 1 op vs rest ≡ Stuck → ⊥) →
       ((s : State) (y : Seq) → execute_plain c (at b locals) 1 op vs rest ≡ Goes 1 s y → reduce c (frames es 0) s [] y ≡ Stuck → ⊥) → (height es + operands op ≤ length stack) × IsReadyFor op stack locals
   unfolding execute_plain
   ready_for (Const v) r f after = (omega (arith, height-le es (length stack) stands), tt)

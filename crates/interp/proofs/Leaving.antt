@@ -82,7 +82,7 @@ settles k b es e stack locals h r =
           (ap (λ z. around es z (outer e.scope locals) (put (drop (height es) (take e.height stack) ++ drop e.height stack) (listed (behind e.scope e.from) End))) (take_take (height es) e.height stack le h.0)
           ∙ ap (λ vs. around es (take (height es) stack) (outer e.scope locals) (put vs (listed (behind e.scope e.from) End))) (drop_take (height es) e.height stack le h.0))
           (leaving k b es e.scope e.ordinal e.arity e.from (take (height es) (take e.height stack)) (drop (height es) (take e.height stack)) (drop e.height stack) locals);
-      ordered = record { stands = Stands-le es e.height (length stack) h.0 h.1; runs = behind_runs e.scope e.from r.0; each = r.1 };
+      ordered = record { stands = Stands-le es e.height (length stack) h.0 h.1; runs = behind_runs e.scope e.from r.0.0; each = r.1 };
     }
 
 -- the same, where the views are given by their fields

@@ -13,3 +13,7 @@ pub mod Going
 pub mod Accepting
 pub mod Opened
 pub mod Beginning
+pub mod Branching
+pub mod Jumping
+pub mod Controlling
+pub mod Constants

@@ -6,8 +6,9 @@ use Rattle.wtypes.specs.declared.Value.{Value}
 use Rattle.wtypes.specs.declared.ValType.{ValType}
 use Rattle.wtypes.specs.declared.TrapCode.{TrapCode}
 use Rattle.wtypes.specs.declared.PlainInstr.{PlainInstr}
-use Rattle.wtypes.specs.declared.PlainInstr.TheVariants.{Unreachable, Nop, Call, Drop, Select, LocalGet, LocalSet, LocalTee, Const, Unary, Binary, Test, Compare, Convert}
-use Rattle.spec_syntax.specs.Syntax.{Instr, Plain, Instrs, nothing}
+use Rattle.wtypes.specs.declared.PlainInstr.TheVariants.{Unreachable, Nop, Br, BrIf, Return, Call, Drop, Select, LocalGet, LocalSet, LocalTee, GlobalGet, GlobalSet, Const, Unary, Binary, Test, Compare, Convert}
+use Rattle.spec_syntax.specs.Syntax.{Instr, Plain, BrTable, If, Instrs, nothing}
+use Rattle.spec_syntax.specs.Syntax as syntax
 use Rattle.spec_numeric.specs.Operators.{same_type, type_of, bits_of, value_of, word, binary, binary_type}
 use Rattle.interp.specs.Forms.{runs, runs_plain}
 use Rattle.interp.specs.Meaning.{Item, Scope, Block, Loop, Frame, Open, listed, outer, behind, continuation, height, frames, outermost, at, state, whole, View, sequence, config, IsOrdered, IsFine, IsReady, Settles, OnlyRun}
@@ -69,12 +70,20 @@ plain_charge c s n (Test o) vs rest r = of_number n _ vs _ (λ x ws. refl)
 plain_charge c s n (Compare o) vs rest r = of_number n _ vs _ (λ x ws. of_number n _ ws _ (λ y us. refl))
 plain_charge c s n (Convert o) vs rest r = of_number n _ vs _ (λ x ws. refl)
 plain_charge c s n (Call f) vs rest r = refl
+plain_charge c s n (Br l) vs rest r = refl
+plain_charge c s n (BrIf l) vs rest r = of_number n I32 vs _ (λ k ws. refl)
+plain_charge c s n Return vs rest r = refl
+plain_charge c s n (GlobalGet x) vs rest r = of_found n (slice_get s.globals x) _ (λ v. refl)
+plain_charge c s n (GlobalSet x) vs rest r = of_value n vs _ (λ v ws. of_found n (slice_get s.globals x) _ (λ old. refl))
 plain_charge c s n _ vs rest r = absurd (true≢false (sym r))
 
 charge_of : (c : Contract) (s : State) (n o : ℕ) (i : Instr) (vs : List Value) (rest : Seq) → IsTrue (runs i) → HasCharge n (execute c s n o i vs rest)
 unfolding execute
 charge_of c s n o (Plain op) vs rest r = plain_charge c s n op vs rest r
-charge_of c s n o _ vs rest r = absurd (true≢false (sym r))
+charge_of c s n o (BrTable ls l) vs rest r = of_number n I32 vs _ (λ k ws. refl)
+charge_of c s n o (syntax.Block t b) vs rest r = refl
+charge_of c s n o (syntax.Loop t b) vs rest r = refl
+charge_of c s n o (If t a b) vs rest r = of_number n I32 vs _ (λ k ws. refl)
 
 in_label_charge : (m : ℕ) (s : State) (n o : ℕ) (k : Instrs) (vs : List Value) (rest : Seq) (step : Next) → HasCharge m step → HasCharge m (in_label s n o k vs rest step)
 in_label_charge m s n o k vs rest (Goes charge s' x) h = h

@@ -10,7 +10,7 @@ use Rattle.spec_execution.specs.Run.{Reached, reduced, Reduces, Ends, returns, t
 use Rattle.spec_execution.specs.Turns.{Frees, none, one_more, by_trap, not_asked}
 use Rattle.interp.specs.declared.turns.Status.{Status}
 use Rattle.interp.specs.declared.turns.Status.TheVariants as status
-use Rattle.interp.specs.Meaning.{Item, View, config, sequence, state, IsOrdered, IsFine, IsFineAfter, IsReady}
+use Rattle.interp.specs.Meaning.{Item, View, config, sequence, state, IsOrdered, IsFine, IsFineAfter, IsSafeAt, IsReady}
 use Rattle.interp.specs.Plain.{onto}
 use Rattle.interp.specs.Progress.{HasStepped, IsDone}
 use Rattle.interp.specs.Machine.{Seen, on, first_of, progress, Reaches, IsLive, IsFallen, IsAt, IsMachine}
@@ -35,6 +35,9 @@ module _ (s : Seen) (m : IsMachine s) (running : s.status ≡ status.Running) wh
 
     pub fine_after : IsFineAfter s.contract s.view
     fine_after = record { not_stuck = λ t seq one. m.safe _ _ _ _ (reduced s.trace s.used (config s.view) 1 _ (live_of s m running).reached one below) }
+
+    pub safe_at : IsSafeAt s.contract s.view
+    safe_at = record { fine = fine; after = fine_after }
 
     module _ (mid : Config) (one : Reduces s.contract (config s.view) 1 mid) where
       pub come : Reached s.contract (first_of s) s.call.fuel s.trace (s.used + 1) mid

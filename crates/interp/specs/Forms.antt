@@ -4,31 +4,48 @@ use Rattle.wtypes.specs.declared.ValType.{ValType}
 use Rattle.wtypes.specs.declared.ValType.TheVariants.{I32}
 use Rattle.wtypes.specs.declared.Value.{Value}
 use Rattle.wtypes.specs.declared.PlainInstr.{PlainInstr}
-use Rattle.wtypes.specs.declared.PlainInstr.TheVariants.{Unreachable, Nop, Call, Drop, Select, LocalGet, LocalSet, LocalTee, Const, Unary, Binary, Test, Compare, Convert}
+use Rattle.wtypes.specs.declared.PlainInstr.TheVariants.{Unreachable, Nop, Br, BrIf, Return, Call, Drop, Select, LocalGet, LocalSet, LocalTee, GlobalGet, GlobalSet, Const, Unary, Binary, Test, Compare, Convert}
 use Rattle.std.specs.List.{list_all}
-use Rattle.spec_syntax.specs.Syntax.{Instr, Plain, Instrs, nothing, seq, Func, Module}
+use Rattle.spec_syntax.specs.Syntax.{Instr, Plain, BrTable, Block, Loop, If, Instrs, nothing, seq, Func, Module}
 use Rattle.spec_numeric.specs.Operators.{type_of, unary_type, binary_type, test_type, compare_type, convert_from}
 
-abbrev pub runs_plain : PlainInstr → Bool
-runs_plain Unreachable = true
-runs_plain Nop = true
-runs_plain (Call f) = true
-runs_plain Drop = true
-runs_plain Select = true
-runs_plain (LocalGet x) = true
-runs_plain (LocalSet x) = true
-runs_plain (LocalTee x) = true
-runs_plain (Const v) = true
-runs_plain (Unary o) = true
-runs_plain (Binary o) = true
-runs_plain (Test o) = true
-runs_plain (Compare o) = true
-runs_plain (Convert o) = true
-runs_plain _ = false
+-- the next instruction is the one behind it, or it is a call
+abbrev pub runs_on : PlainInstr → Bool
+runs_on Unreachable = true
+runs_on Nop = true
+runs_on (Call f) = true
+runs_on Drop = true
+runs_on Select = true
+runs_on (LocalGet x) = true
+runs_on (LocalSet x) = true
+runs_on (LocalTee x) = true
+runs_on (Const v) = true
+runs_on (Unary o) = true
+runs_on (Binary o) = true
+runs_on (Test o) = true
+runs_on (Compare o) = true
+runs_on (Convert o) = true
+runs_on _ = false
 
-abbrev pub runs : Instr → Bool
-runs (Plain op) = runs_plain op
-runs _ = false
+abbrev pub runs_plain : PlainInstr → Bool
+runs_plain (Br l) = true
+runs_plain (BrIf l) = true
+runs_plain Return = true
+runs_plain (GlobalGet x) = true
+runs_plain (GlobalSet x) = true
+runs_plain op = runs_on op
+
+abbrev mutual
+  pub runs : Instr → Bool
+  runs (Plain op) = runs_plain op
+  runs (BrTable ls l) = true
+  runs (Block r b) = all_run b
+  runs (Loop r b) = all_run b
+  runs (If r a b) = all_run a && all_run b
+
+  pub all_run : Instrs → Bool
+  all_run nothing = true
+  all_run (seq i is) = runs i && all_run is
 
 -- how many values an instruction takes
 abbrev pub operands : PlainInstr → ℕ
@@ -90,10 +107,6 @@ IsReadyFor (Test o) stack locals = HasOne (test_type o) stack
 IsReadyFor (Compare o) stack locals = HasTwo (compare_type o) stack
 IsReadyFor (Convert o) stack locals = HasOne (convert_from o) stack
 IsReadyFor _ stack locals = ⊥
-
-abbrev pub all_run : Instrs → Bool
-all_run nothing = true
-all_run (seq i is) = runs i && all_run is
 
 abbrev pub func_runs : Func → Bool
 func_runs f = all_run f.body

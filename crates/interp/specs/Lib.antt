@@ -11,3 +11,5 @@ pub mod Machine
 pub mod Lent
 pub mod Run
 pub mod Starting
+pub mod Branches
+pub mod Instances

@@ -136,9 +136,16 @@ abbrev pub OnlyRun : List Item → Type 0
 OnlyRun [] = Unit {0}
 OnlyRun (i ∷ is) = IsTrue (runs i.instr) × OnlyRun is
 
+-- a loop has the ordinal of its instruction
+abbrev pub Begins : Scope → ℕ → List Item → Type 0
+Begins Loop n (i ∷ is) = n ≡ i.ordinal
+Begins Loop n [] = Unit {0}
+Begins Block n is = Unit {0}
+Begins (Frame f saved) n is = Unit {0}
+
 abbrev pub EachRun : List Open → Type 0
 EachRun [] = Unit {0}
-EachRun (e ∷ es) = OnlyRun e.from × EachRun es
+EachRun (e ∷ es) = (OnlyRun e.from × Begins e.scope e.ordinal e.from) × EachRun es
 
 pub record IsOrdered (v : View) : Type 0 where
   pub stands : Stands v.entries (length v.stack)
@@ -152,6 +159,11 @@ pub record IsFine (k : Contract) (v : View) : Type 0 where
 -- No configuration that one charged reduction leads to is stuck.
 pub record IsFineAfter (k : Contract) (v : View) : Type 0 where
   pub not_stuck : (s : State) (seq : Seq) → Reduces k (config v) 1 (Running s seq) → IsStuck (next k s seq) → ⊥
+
+-- neither is stuck
+pub record IsSafeAt (k : Contract) (v : View) : Type 0 where
+  pub fine : IsFine k v
+  pub after : IsFineAfter k v
 
 -- the same where a function is called
 pub record IsFineCall (k : Contract) (v : View) (f : ℕ) : Type 0 where

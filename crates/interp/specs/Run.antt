@@ -7,7 +7,8 @@ use Rattle.interp.specs.Views.{view}
 use Rattle.interp.specs.Calls.{contract_of, base_of}
 use Rattle.interp.specs.Steps.{IsCounted}
 use Rattle.interp.specs.Lent.{contracts_view}
-use Rattle.interp.specs.Machine.{Seen, IsMachine, IsCalling, HasRoom}
+use Rattle.spec_execution.specs.Run.{opening, Opens, IsSafe}
+use Rattle.interp.specs.Machine.{Seen, first_of, IsMachine, IsCalling, HasRoom}
 
 abbrev pub seen : {A : Type 0} → Run A → Seen
 seen r = record {
@@ -27,6 +28,12 @@ pub record IsKept {A : Type 0} (r : Run A) : Type 0 where
   pub counted : IsCounted r.parts
   pub runs : module_runs (module_view r.lent.module.now) ≡ true
   pub room : HasRoom r.status r.trace
+
+-- its call opens, and is safe
+pub record IsBegun {A : Type 0} (r : Run A) : Type 0 where
+  pub opens : opening (seen r).contracts (seen r).call ≡ Opens (seen r).contract (seen r).func
+  pub safe : IsSafe (seen r).contract (first_of (seen r)) (seen r).call.fuel
+  pub runs : module_runs (module_view r.lent.module.now) ≡ true
 
 -- a call of a function is to come
 pub record IsToCall {A : Type 0} (r : Run A) (f : ℕ) : Type 0 where

@@ -8,6 +8,7 @@ use Rattle.interp.specs.declared.parts.Kind.{Kind}
 use Rattle.interp.specs.declared.parts.Kind.TheVariants as kind
 use Rattle.interp.specs.declared.parts.Entry.{Entry}
 use Rattle.interp.specs.declared.parts.Parts.{Parts}
+use Rattle.interp.specs.Instances.{based}
 use Rattle.interp.specs.Meaning.{Item, Scope, Block, Loop, Frame, Open, View}
 
 abbrev pub ordinal_step : {A : Type 0} → Instr-F A ℕ → ℕ
@@ -38,4 +39,4 @@ abbrev pub opens_of : {A : Type 0} → List (Entry A) → List Open
 opens_of es = map open_of (reverse es)
 
 abbrev pub view : {A : Type 0} → State → Parts A → View
-view b p = record { base = b; entries = opens_of p.entries.items; stack = p.stack.items; locals = p.locals.items; code = items_of p.code.now }
+view b p = record { base = based b p.instance; entries = opens_of p.entries.items; stack = p.stack.items; locals = p.locals.items; code = items_of p.code.now }

@@ -1,8 +1,10 @@
 // A machine that runs calls of contracts.
 #![tactic(auto)]
 
+mod branches;
 mod calls;
 pub mod finished;
+mod instance;
 pub mod machine;
 mod parts;
 mod plain;

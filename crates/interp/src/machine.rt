@@ -4,10 +4,11 @@ ghost use Rattle.spec_numeric.specs.Operators.{bits_of};
 ghost use Rattle.spec_execution.specs.Reduction.{op_of};
 ghost use Rattle.interp.specs.Machine.{progress, IsMachine, IsCalling, HasStarted, HasAskedFor, HasRoom, params_of, arity_of, value_of_reply};
 ghost use Rattle.interp.specs.Progress.{NextIs, IsFree, IsAwaited, HasAnswered, IsFinishOf};
-ghost use Rattle.interp.specs.Run.{seen, IsKept};
+ghost use Rattle.interp.specs.Run.{seen, IsKept, IsBegun};
 
 use crate::calls::{Lent, enter};
 use crate::finished::Finished;
+use crate::instance::open_instance;
 use crate::parts::Parts;
 use crate::plain::After;
 use crate::stand_in::Runnable;
@@ -88,11 +89,22 @@ fn make_turn<'a, A: Allocator>(run: &mut Run<'a, A>) -> Turn
                 start_function(run, f)
             }
         }
-        Err(_) => {
-            run.status = Status::NoMemory;
-            Turn::NoMemory
-        }
+        Err(_) => give_up(run),
     }
+}
+
+// Memory was refused: what is open is let go.
+fn give_up<'a, A: Allocator>(run: &mut Run<'a, A>) -> Turn
+    requires beginning { IsBegun run.old }
+    ensures kept { IsKept run.new }
+    ensures no_memory { run.new.status ≡ Status.NoMemory }
+    ensures turn { result ≡ Turn.NoMemory }
+{
+    run.parts.entries.clear();
+    run.parts.depth = 0;
+    run.parts.code = &[];
+    run.status = Status::NoMemory;
+    Turn::NoMemory
 }
 
 // The run has ended, with what is left.
@@ -127,12 +139,7 @@ fn start_function<'a, A: Allocator>(run: &mut Run<'a, A>, func: u32) -> Turn
             run.status = Status::Fallen(TrapCode::CallDepth);
             Turn::Stepped
         }
-        Err(_) => {
-            run.parts.entries.clear();
-            run.parts.depth = 0;
-            run.status = Status::NoMemory;
-            Turn::NoMemory
-        }
+        Err(_) => give_up(run),
     }
 }
 
@@ -381,13 +388,15 @@ impl<'a, A: Allocator> Machine<'a, A> {
         deployed_calls_are_safe();
         let deployed = runnable.deployed();
         deployed.is_linked();
+        let tree = deployed.module();
+        let instance = open_instance(alloc, tree)?;
         let stack = copy_of(alloc, call.args())?;
         let mut run = Run {
             alloc,
             contracts,
             lent: Lent {
                 number: call.contract(),
-                module: deployed.module(),
+                module: tree,
                 hosts: deployed.hosts(),
             },
             call,
@@ -400,6 +409,7 @@ impl<'a, A: Allocator> Machine<'a, A> {
                 depth: 0,
                 stack,
                 locals: Vec::new(alloc),
+                instance,
             },
             status: Status::Running,
             asked: 0,

@@ -1,5 +1,6 @@
 // The parts of a machine: the code that is left, what is open round it, the values and the locals.
 
+use crate::instance::Instance;
 use module_tree::instr::Instr;
 use std::alloc::Allocator;
 use wtypes::Value;
@@ -43,4 +44,6 @@ pub struct Parts<'a, A: Allocator> {
     pub stack: Vec<Value>,
     /// The locals of the innermost frame.
     pub locals: Vec<Value>,
+    /// The instance.
+    pub instance: Instance,
 }

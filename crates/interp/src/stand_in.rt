@@ -70,8 +70,9 @@ fn functions_are_run<A: Allocator>(functions: &[Func<A>]) -> bool
     true
 }
 
-fn body_is_run<A: Allocator>(body: &[Instr<A>]) -> bool
-    ensures { result ≡ all_run (instrs_view body.now) }
+#[cycle(forms)]
+fn body_is_run<A: Allocator>(body: &Vec<Instr<A>, A>) -> bool
+    ensures { result ≡ all_run (instrs_view body.now.items) }
 {
     for instr in body {
         if !instr_is_run(instr) {
@@ -81,12 +82,16 @@ fn body_is_run<A: Allocator>(body: &[Instr<A>]) -> bool
     true
 }
 
+#[cycle(forms)]
 fn instr_is_run<A: Allocator>(instr: &Instr<A>) -> bool
     ensures { result ≡ runs (instr_view instr.now) }
 {
     match instr {
         Instr::Plain(_, op) => plain_is_run(op),
-        _ => false,
+        Instr::BrTable(_, _, _) => true,
+        Instr::Block(_, _, body) => body_is_run(body),
+        Instr::Loop(_, _, body) => body_is_run(body),
+        Instr::If(_, _, met, unmet) => body_is_run(met) && body_is_run(unmet),
     }
 }
 
@@ -97,12 +102,17 @@ fn plain_is_run(op: &PlainInstr) -> bool
         op,
         PlainInstr::Unreachable
             | PlainInstr::Nop
+            | PlainInstr::Br(_)
+            | PlainInstr::BrIf(_)
+            | PlainInstr::Return
             | PlainInstr::Call(_)
             | PlainInstr::Drop
             | PlainInstr::Select
             | PlainInstr::LocalGet(_)
             | PlainInstr::LocalSet(_)
             | PlainInstr::LocalTee(_)
+            | PlainInstr::GlobalGet(_)
+            | PlainInstr::GlobalSet(_)
             | PlainInstr::Const(_)
             | PlainInstr::Unary(_)
             | PlainInstr::Binary(_)

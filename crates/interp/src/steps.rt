@@ -1,31 +1,146 @@
 // One instruction of the code, and the ends of blocks, loops and calls.
 ghost use Rattle.std.specs.Prelude.{◌≡◌, ◌+◌, ◌<◌, ◌∷◌, [], length, IfOk, vec_len};
-ghost use Rattle.interp.specs.Views.{items_of};
-ghost use Rattle.interp.specs.Steps.{IsReadyToRun, Led, IsOrderedParts, IsReadyParts, AllSettle, IsBehind, IsCounted};
+ghost use Rattle.std.specs.Prelude.{false, slice_get, unwrap_or};
+ghost use Rattle.spec_numeric.specs.Operators.{bits_of};
+ghost use Rattle.spec_execution.specs.Reduction.{arity as arity_of};
+ghost use Rattle.interp.specs.Views.{scope_of};
+ghost use Rattle.interp.specs.Branches.{is_frame};
+ghost use Rattle.interp.specs.Steps.{AreNumbered, IsOperator, HasOpened, IsReadyToRun, Led, IsOrderedParts, IsReadyParts, AllSettle, IsBehind, IsCounted};
 
+use crate::branches::{branch, leave_call};
 use crate::parts::{Entry, Kind, Parts};
 use crate::plain::{After, execute_plain};
+use crate::values::{bits, pop_top};
 use module_tree::instr::Instr;
 use std::alloc::{AllocError, Allocator};
+use wtypes::{PlainInstr, ValType, Value};
 
-/// Makes the charged reduction of the instruction to come.
+/// Makes the charged reduction of the instruction to come, and the free ones of what it becomes.
 pub fn execute<'a, A: Allocator>(parts: &mut Parts<'a, A>) -> Result<After, AllocError>
     requires ready { IsReadyToRun parts.old }
+    requires counted { IsCounted parts.old }
     ensures led { IfOk result (λ a. Led parts.old a parts.new) }
-    ensures entries { parts.new.entries ≡ parts.old.entries }
-    ensures depth { parts.new.depth ≡ parts.old.depth }
+    ensures counted { IfOk result (λ a. IsCounted parts.new) }
 {
     let (instr, rest) = first(parts.code);
     match instr {
-        Instr::Plain(_, op) => {
+        Instr::Plain(_, op) => execute_operator(parts, op, rest),
+        Instr::BrTable(_, labels, fallback) => {
+            let choice = pop_top(&mut parts.stack);
+            branch(parts, chosen_label(labels, *fallback, choice));
+            Ok(After::Ran)
+        }
+        Instr::Block(at, result, body) => {
+            open(parts, Kind::Block, *at, arity(result), rest, body)
+        }
+        Instr::Loop(at, _, body) => open(parts, Kind::Loop, *at, 0, parts.code, body),
+        Instr::If(at, result, met, unmet) => {
+            let choice = pop_top(&mut parts.stack);
+            let count = arity(result);
+            if bits(choice) == 0 {
+                open(parts, Kind::Block, *at, count, rest, unmet)
+            } else {
+                open(parts, Kind::Block, *at, count, rest, met)
+            }
+        }
+    }
+}
+
+// The same for an instruction that holds no other one, with those behind it.
+fn execute_operator<'a, A: Allocator>(
+    parts: &mut Parts<'a, A>,
+    op: &PlainInstr,
+    rest: &'a [Instr<A>],
+) -> Result<After, AllocError>
+    requires ready { IsReadyToRun parts.old }
+    requires counted { IsCounted parts.old }
+    requires here { IsOperator parts.old op.now rest.now }
+    ensures led { IfOk result (λ a. Led parts.old a parts.new) }
+    ensures counted { IfOk result (λ a. IsCounted parts.new) }
+{
+    match op {
+        PlainInstr::Br(label) => {
+            branch(parts, *label);
+            Ok(After::Ran)
+        }
+        PlainInstr::BrIf(label) => {
+            let choice = pop_top(&mut parts.stack);
+            if bits(choice) == 0 {
+                parts.code = rest;
+            } else {
+                branch(parts, *label);
+            }
+            Ok(After::Ran)
+        }
+        PlainInstr::Return => {
+            leave_call(parts);
+            Ok(After::Ran)
+        }
+        PlainInstr::GlobalGet(x) => {
+            let value = parts.instance.globals[*x as usize];
+            parts.stack.push(value)?;
+            parts.code = rest;
+            Ok(After::Ran)
+        }
+        PlainInstr::GlobalSet(x) => {
+            let value = pop_top(&mut parts.stack);
+            parts.instance.globals[*x as usize] = value;
+            parts.code = rest;
+            Ok(After::Ran)
+        }
+        _ => {
             parts.code = rest;
             execute_plain(op, &mut parts.stack, &mut parts.locals)
         }
-        Instr::BrTable(_, _, _) => unreachable!(),
-        Instr::Block(_, _, _) => unreachable!(),
-        Instr::Loop(_, _, _) => unreachable!(),
-        Instr::If(_, _, _, _) => unreachable!(),
     }
+}
+
+// The label of this number, or else the default one.
+fn chosen_label(labels: &[u32], fallback: u32, choice: Value) -> u32
+    ensures { result ≡ unwrap_or (slice_get labels.now (bits_of choice)) fallback }
+{
+    labels
+        .get(bits(choice) as usize)
+        .copied()
+        .unwrap_or(fallback)
+}
+
+// How many values a block leaves.
+fn arity(block: &Option<ValType>) -> usize
+    ensures { result ≡ arity_of block.now }
+{
+    match block {
+        Some(_) => 1,
+        None => 0,
+    }
+}
+
+// Opens a block or a loop above all values.
+fn open<'a, A: Allocator>(
+    parts: &mut Parts<'a, A>,
+    kind: Kind,
+    ordinal: u32,
+    arity: usize,
+    from: &'a [Instr<A>],
+    body: &'a [Instr<A>],
+) -> Result<After, AllocError>
+    requires counted { IsCounted parts.old }
+    requires label { is_frame (scope_of kind) ≡ false }
+    requires from_numbered { AreNumbered from.now }
+    requires body_numbered { AreNumbered body.now }
+    ensures opened { IfOk result (λ a. HasOpened parts.old kind ordinal arity from.now body.now a parts.new) }
+    ensures counted { IfOk result (λ a. IsCounted parts.new) }
+{
+    let height = parts.stack.len();
+    parts.entries.push(Entry {
+        kind,
+        ordinal,
+        arity,
+        height,
+        from,
+    })?;
+    parts.code = body;
+    Ok(After::Ran)
 }
 
 /// Leaves blocks, loops and calls as long as they are at their end.

@@ -6,12 +6,14 @@ ghost use Rattle.spec_text.specs.Lexical.{Lexes, LexesToOne};
 ghost use Rattle.lexer.specs.Views.{views, SpansRise};
 ghost use Rattle.lexer.specs.declared.LexRefusal.TheVariants.{NoMemory};
 ghost use Rattle.lexer.specs.Refused.{IsRightly};
+ghost use Rattle.lexer.specs.Reading.{UnsignedIsTested};
 
 mod list;
 mod reading;
 mod states;
 
 pub use list::{Token, Tokens};
+pub use reading::is_unsigned_integer;
 use reading::read_piece;
 use states::Fault;
 use std::alloc::{AllocFailed, Allocator};
@@ -70,6 +72,11 @@ pub fn tokens<A: Allocator>(alloc: A, text: &str) -> Result<Tokens<A>, LexRefusa
 /// A law: no text lexes to two lists of tokens.
 pub fn no_text_lexes_to_two_lists()
     ensures { LexesToOne }
+{}
+
+/// A law: the test of `is_unsigned_integer` passes the texts that are integers without a sign, and no others.
+pub fn unsigned_integers_are_tested()
+    ensures { UnsignedIsTested }
 {}
 
 #[cfg(test)]

@@ -276,8 +276,8 @@ fn are_digits(hexadecimal: bool, text: &[u8]) -> bool
     had
 }
 
-/// Whether the run is an integer without a sign.
-fn is_unsigned_integer(text: &[u8]) -> bool
+/// Whether the text is an integer without a sign (Core Specification, 6.3.1 Integers).
+pub fn is_unsigned_integer(text: &[u8]) -> bool
     ensures { result ≡ is_unsigned text.now }
 {
     match text {

@@ -3,4 +3,5 @@ pub mod Calls
 pub mod Constants
 pub mod Faults
 pub mod Linked
+pub mod Once
 pub mod Told

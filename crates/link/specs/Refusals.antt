@@ -1,5 +1,5 @@
 -- What a refusal says of a module.
-use Rattle.std.specs.Prelude.{◌≡◌, ◌≤◌, ℕ, List, All}
+use Rattle.std.specs.Prelude.{◌≡◌, ◌≢◌, ◌≤◌, ℕ, List, All}
 use Rattle.wtypes.specs.declared.HostCall.{HostCall}
 use Rattle.spec_syntax.specs.Syntax as syntax
 use Rattle.spec_syntax.specs.Profile.{page_limit}
@@ -43,3 +43,7 @@ abbrev pub OutAt : LinkRefusal → ℕ → Type 0
 OutAt (refusal.SegmentRange n) place = n ≡ place
 OutAt refusal.NoMemory place = Unit {0}
 OutAt _ place = ⊥
+
+-- Want of memory aside, a module has one refusal.
+abbrev pub IsRefusedOnce : Type 0
+IsRefusedOnce = (m : syntax.Module) (e f : LinkRefusal) → e ≢ refusal.NoMemory → f ≢ refusal.NoMemory → Says e m → PassedBefore e m → Says f m → PassedBefore f m → e ≡ f

@@ -6,7 +6,7 @@ ghost use Rattle.spec_typing.specs.Linking.{IsLinked};
 ghost use Rattle.module_tree.specs.Modules.{module_view};
 ghost use Rattle.typing.specs.Parts;
 ghost use Rattle.link.specs.Parts.{tree_of};
-ghost use Rattle.link.specs.Refusals.{Says, PassedBefore, SegmentsPass, OutAt};
+ghost use Rattle.link.specs.Refusals.{Says, PassedBefore, SegmentsPass, OutAt, IsRefusedOnce};
 ghost use Rattle.link.specs.Tests.{AllCalls, Sized};
 
 use crate::deployed::Deployed;
@@ -117,7 +117,7 @@ fn link_module<A: Allocator + Clone>(
 /// Links a module that is typed (Core Specification, 4.5.4 Instantiation). What passes is the tree that was handed in,
 /// and is linked by its type. A refused module is handed back, what the refusal says is true of it, and what is judged
 /// before has passed: the imports are judged first, then the segments, the memory and the table. So there is one
-/// answer, want of memory aside. The list of the host calls is from `alloc`.
+/// answer, want of memory aside (`refused_once`). The list of the host calls is from `alloc`.
 pub fn deploy<A: Allocator + Clone>(
     alloc: &A,
     valid: Valid<A>,
@@ -132,3 +132,8 @@ pub fn deploy<A: Allocator + Clone>(
         Err(refusal) => Err((valid, refusal)),
     }
 }
+
+/// A law: want of memory aside, what `deploy` says of a module that it refuses holds for one refusal alone.
+pub fn refused_once()
+    ensures { IsRefusedOnce }
+{}

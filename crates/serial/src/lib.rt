@@ -35,7 +35,7 @@ pub struct Core {
     pub receipts: Vec<Receipt>,
     /// The locks that the call at each position asked for, each with the join of its modes.
     pub touched: Vec<Touched>,
-    /// The cells after the last call.
+    /// The cells after the last call, in which nothing is unsettled.
     pub cells: Cells,
 }
 
@@ -86,6 +86,7 @@ pub fn serial_core<A: Allocator>(
     ensures serial { IfOk result (λ core. Serial (contracts_view contracts.now) calls.now order.now cells.now.cells (positions core.receipts.items core.touched.items) core.cells.cells) }
     ensures receipts { IfOk result (λ core. length core.receipts.items ≡ length order.now) }
     ensures touched { IfOk result (λ core. length core.touched.items ≡ length order.now) }
+    ensures settled { IfOk result (λ core. core.cells.unsettled ≡ finite.empty) }
 {
     let mut receipts = Vec::new(alloc);
     let mut touched = Vec::new(alloc);

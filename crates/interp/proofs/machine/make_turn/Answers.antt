@@ -5,8 +5,8 @@ use Rattle.interp.specs.Calls.{base_of}
 use Rattle.interp.specs.Views.{view}
 use Rattle.interp.specs.Steps.{Led}
 use Rattle.interp.specs.Run.{seen}
-use Rattle.interp.proofs.Acting.{items_nil, ordered_any, none_at_all, counted_same}
-use Rattle.interp.proofs.Turning.{live_of, fine, fine_after, machine_exhausted, has_exhausted, machine_stepped, has_stepped, machine_fell, has_fallen}
+use Rattle.interp.proofs.Acting.{items_nil, ordered_any}
+use Rattle.interp.proofs.Turning.{live_of, safe_at, machine_exhausted, has_exhausted, machine_stepped, has_stepped, machine_fell, has_fallen}
 use Rattle.interp.proofs.Rest.{Frees_join}
 use Rattle.interp.proofs.Asking.{calling_of, asked_turn, started_turn}
 use Rattle.interp.proofs.machine.make_turn.Goals as goal
@@ -39,14 +39,16 @@ execute-requires g c =
         base = base_of r.lent;
         some = λ e. true≢false (sym (ap (λ xs. length xs == 0) e) ∙ (sym c.is_empty.ensures ∙ c.if-is_empty.false));
         ordered = ordered_any (base_of r.lent) r.parts (live_of (seen r) m c.requires.running).ordered;
-        fine = fine (seen r) m c.requires.running;
-        after = fine_after (seen r) m c.requires.running (λ e. c.if-run-fuel.false (e ∙ sym c.fuel.ensures));
+        safe = safe_at (seen r) m c.requires.running (λ e. c.if-run-fuel.false (e ∙ sym c.fuel.ensures));
       };
+      counted = c.requires.kept.counted;
     }
 
 pub settle-requires-clause-ordered : goal.settle-requires-clause-ordered
-settle-requires-clause-ordered g c b =
-    (subst (λ (a : After). Led c.args.run.now.parts a c.execute.new.parts) c.in-Ok-Ran.field-0-is c.in-Ok-Ran.ensures.led none_at_all b).ordered
+settle-requires-clause-ordered g c =
+    let r = c.args.run.now in
+    let safe = safe_at (seen r) c.requires.kept.machine c.requires.running (λ e. c.if-run-fuel.false (e ∙ sym c.fuel.ensures)) in
+    ordered_any (base_of r.lent) c.execute.new.parts (subst (λ (a : After). Led r.parts a c.execute.new.parts) c.in-Ok-Ran.field-0-is c.in-Ok-Ran.ensures.led (seen r).contract (base_of r.lent) safe).ordered
 
 pub ask-requires-clause-call : goal.ask-requires-clause-call
 ask-requires-clause-call g c =
@@ -54,8 +56,8 @@ ask-requires-clause-call g c =
     let k = c.requires.kept in
     record {
       calling = calling_of (seen r) c.in-Ok-Calls.f (view (base_of r.lent) c.execute.new.parts) k.machine c.requires.running (λ e. c.if-run-fuel.false (e ∙ sym c.fuel.ensures))
-          (subst (λ (a : After). Led r.parts a c.execute.new.parts) c.in-Ok-Calls.field-0-is c.in-Ok-Calls.ensures.led (seen r).contract (base_of r.lent));
-      counted = counted_same r.parts c.execute.new.parts c.in-Ok-Calls.ensures.entries c.in-Ok-Calls.ensures.depth k.counted;
+          (subst (λ (a : After). Led r.parts a c.execute.new.parts) c.in-Ok-Calls.field-0-is c.in-Ok-Calls.ensures.led (seen r).contract (base_of r.lent) (safe_at (seen r) c.requires.kept.machine c.requires.running (λ e. c.if-run-fuel.false (e ∙ sym c.fuel.ensures))));
+      counted = c.in-Ok-Calls.ensures.counted;
       runs = k.runs;
     }
 
@@ -65,8 +67,8 @@ start_function-requires-clause-call g c =
     let k = c.requires.kept in
     record {
       calling = calling_of (seen r) c.in-Ok-Calls.f (view (base_of r.lent) c.execute.new.parts) k.machine c.requires.running (λ e. c.if-run-fuel.false (e ∙ sym c.fuel.ensures))
-          (subst (λ (a : After). Led r.parts a c.execute.new.parts) c.in-Ok-Calls.field-0-is c.in-Ok-Calls.ensures.led (seen r).contract (base_of r.lent));
-      counted = counted_same r.parts c.execute.new.parts c.in-Ok-Calls.ensures.entries c.in-Ok-Calls.ensures.depth k.counted;
+          (subst (λ (a : After). Led r.parts a c.execute.new.parts) c.in-Ok-Calls.field-0-is c.in-Ok-Calls.ensures.led (seen r).contract (base_of r.lent) (safe_at (seen r) c.requires.kept.machine c.requires.running (λ e. c.if-run-fuel.false (e ∙ sym c.fuel.ensures))));
+      counted = c.in-Ok-Calls.ensures.counted;
       runs = k.runs;
     }
 
@@ -75,7 +77,7 @@ returns-in-Ok-Ran-clause-kept g c =
     let r = c.args.run.now in
     let k = c.requires.kept in
     let b = base_of r.lent in
-    let charge = subst (λ (a : After). Led r.parts a c.execute.new.parts) c.in-Ok-Ran.field-0-is c.in-Ok-Ran.ensures.led (seen r).contract b in
+    let charge = subst (λ (a : After). Led r.parts a c.execute.new.parts) c.in-Ok-Ran.field-0-is c.in-Ok-Ran.ensures.led (seen r).contract b (safe_at (seen r) c.requires.kept.machine c.requires.running (λ e. c.if-run-fuel.false (e ∙ sym c.fuel.ensures))) in
     let settled = c.settle.ensures.settles (seen r).contract b in
     record {
       machine = machine_stepped (seen r) k.machine c.requires.running (λ e. c.if-run-fuel.false (e ∙ sym c.fuel.ensures)) _ charge.reduces (view b c.settle.new.parts) (Frees_join _ _ _ _ charge.frees settled.frees) settled.ordered (λ e. c.settle.ensures.ready (items_nil c.settle.new.parts.code.now e));
@@ -89,7 +91,7 @@ returns-in-Ok-Ran-clause-turn g c =
     let r = c.args.run.now in
     let k = c.requires.kept in
     let b = base_of r.lent in
-    let charge = subst (λ (a : After). Led r.parts a c.execute.new.parts) c.in-Ok-Ran.field-0-is c.in-Ok-Ran.ensures.led (seen r).contract b in
+    let charge = subst (λ (a : After). Led r.parts a c.execute.new.parts) c.in-Ok-Ran.field-0-is c.in-Ok-Ran.ensures.led (seen r).contract b (safe_at (seen r) c.requires.kept.machine c.requires.running (λ e. c.if-run-fuel.false (e ∙ sym c.fuel.ensures))) in
     let settled = c.settle.ensures.settles (seen r).contract b in
     has_stepped (seen r) k.machine c.requires.running (λ e. c.if-run-fuel.false (e ∙ sym c.fuel.ensures)) _ charge.reduces (view b c.settle.new.parts) (Frees_join _ _ _ _ charge.frees settled.frees) settled.ordered (λ e. c.settle.ensures.ready (items_nil c.settle.new.parts.code.now e))
 
@@ -98,10 +100,10 @@ returns-in-Ok-Fell-clause-kept g c =
     let r = c.args.run.now in
     let k = c.requires.kept in
     let b = base_of r.lent in
-    let fell = subst (λ (a : After). Led r.parts a c.execute.new.parts) c.in-Ok-Fell.field-0-is c.in-Ok-Fell.ensures.led (seen r).contract b in
+    let fell = subst (λ (a : After). Led r.parts a c.execute.new.parts) c.in-Ok-Fell.field-0-is c.in-Ok-Fell.ensures.led (seen r).contract b (safe_at (seen r) c.requires.kept.machine c.requires.running (λ e. c.if-run-fuel.false (e ∙ sym c.fuel.ensures))) in
     record {
       machine = machine_fell (seen r) k.machine c.requires.running (λ e. c.if-run-fuel.false (e ∙ sym c.fuel.ensures)) (view b c.execute.new.parts) c.in-Ok-Fell.code fell.reduces;
-      counted = counted_same r.parts c.execute.new.parts c.in-Ok-Fell.ensures.entries c.in-Ok-Fell.ensures.depth k.counted;
+      counted = c.in-Ok-Fell.ensures.counted;
       runs = k.runs;
       room = tt;
     }
@@ -111,7 +113,7 @@ returns-in-Ok-Fell-clause-turn g c =
     let r = c.args.run.now in
     let k = c.requires.kept in
     let b = base_of r.lent in
-    let fell = subst (λ (a : After). Led r.parts a c.execute.new.parts) c.in-Ok-Fell.field-0-is c.in-Ok-Fell.ensures.led (seen r).contract b in
+    let fell = subst (λ (a : After). Led r.parts a c.execute.new.parts) c.in-Ok-Fell.field-0-is c.in-Ok-Fell.ensures.led (seen r).contract b (safe_at (seen r) c.requires.kept.machine c.requires.running (λ e. c.if-run-fuel.false (e ∙ sym c.fuel.ensures))) in
     has_fallen (seen r) k.machine c.requires.running (λ e. c.if-run-fuel.false (e ∙ sym c.fuel.ensures)) (view b c.execute.new.parts) c.in-Ok-Fell.code fell.reduces
 
 pub returns-then-f-run-clause-turn : goal.returns-then-f-run-clause-turn
@@ -119,11 +121,11 @@ returns-then-f-run-clause-turn g c =
     let r = c.args.run.now in
     let b = base_of r.lent in
     asked_turn (seen r) c.in-Ok-Calls.f (view b c.execute.new.parts) c.ask.result (seen c.ask.new.run) c.requires.running
-    (subst (λ (a : After). Led r.parts a c.execute.new.parts) c.in-Ok-Calls.field-0-is c.in-Ok-Calls.ensures.led (seen r).contract b) c.ask.ensures.turn
+    (subst (λ (a : After). Led r.parts a c.execute.new.parts) c.in-Ok-Calls.field-0-is c.in-Ok-Calls.ensures.led (seen r).contract b (safe_at (seen r) c.requires.kept.machine c.requires.running (λ e. c.if-run-fuel.false (e ∙ sym c.fuel.ensures)))) c.ask.ensures.turn
 
 pub returns-else-f-run-clause-turn : goal.returns-else-f-run-clause-turn
 returns-else-f-run-clause-turn g c =
     let r = c.args.run.now in
     let b = base_of r.lent in
     started_turn (seen r) c.in-Ok-Calls.f (view b c.execute.new.parts) c.start_function.result (seen c.start_function.new.run) c.requires.running
-    (subst (λ (a : After). Led r.parts a c.execute.new.parts) c.in-Ok-Calls.field-0-is c.in-Ok-Calls.ensures.led (seen r).contract b) c.start_function.ensures.turn
+    (subst (λ (a : After). Led r.parts a c.execute.new.parts) c.in-Ok-Calls.field-0-is c.in-Ok-Calls.ensures.led (seen r).contract b (safe_at (seen r) c.requires.kept.machine c.requires.running (λ e. c.if-run-fuel.false (e ∙ sym c.fuel.ensures)))) c.start_function.ensures.turn

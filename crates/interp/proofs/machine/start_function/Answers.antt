@@ -1,8 +1,7 @@
-use Rattle.std.proofs.Common.{sym, ap, subst, Bool, arith}
+use Rattle.std.proofs.Common.{subst, Bool}
 use Rattle.wtypes.specs.declared.TrapCode.TheVariants.{CallDepth}
 use Rattle.interp.specs.Calls.{Enters, base_of}
-use Rattle.interp.specs.Views.{view, opens_of}
-use Rattle.interp.specs.Meaning.{frames}
+use Rattle.interp.specs.Views.{view}
 use Rattle.interp.specs.Run.{seen}
 use Rattle.interp.proofs.Acting.{items_nil}
 use Rattle.interp.proofs.Asking.{machine_started, is_started, machine_trapped, is_trapped}
@@ -41,11 +40,3 @@ returns-in-Ok-false-clause-turn g c =
     let r = c.args.run.now in
     let entered = subst (λ (b : Bool). Enters r.lent r.parts c.args.func b c.enter.new.parts) c.in-Ok-false.field-0-test c.in-Ok-false.ensures.entered in
     is_trapped (seen r) c.args.func c.requires.call.calling (view (base_of r.lent) c.enter.new.parts) CallDepth entered.0 entered.1
-
-pub returns-in-Err-clause-kept : goal.returns-in-Err-clause-kept
-returns-in-Err-clause-kept g c = record {
-  machine = record { opens = c.requires.call.calling.opens; safe = c.requires.call.calling.safe; at = tt };
-  counted = record { count = ap (λ es. frames (opens_of es) 0) (sym c.clear.ensures.items); few = omega arith };
-  runs = c.requires.call.runs;
-  room = tt;
-}

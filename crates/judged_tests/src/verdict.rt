@@ -1,0 +1,75 @@
+// What is answered to a module.
+use body_typing::scope::TypeRefusal;
+use link::deploy::deploy;
+use link::refusal::LinkRefusal;
+use loader::load;
+use module_tree::module::Module;
+use std::alloc::{AllocError, Allocator, Global};
+use std::process::Abort;
+use std::test::Fail;
+use typing::check::check;
+use typing::valid::Valid;
+
+/// What is answered to the bytes of a module.
+#[derive(Clone, Copy, Debug, PartialEq, Eq)]
+pub enum Verdict {
+    /// It is deployed.
+    Deployed,
+    /// The bytes spell no module.
+    Unread,
+    /// It is not typed: the function, the ordinal and the rule that is broken.
+    Broken(Option<u32>, u32, u8),
+    /// It is typed and is not deployed.
+    Unlinked(LinkRefusal),
+    /// Memory was refused to the check.
+    NoMemory,
+}
+
+const HEADER: [u8; 8] = [0x00, 0x61, 0x73, 0x6D, 0x01, 0x00, 0x00, 0x00];
+
+fn broken(refusal: TypeRefusal) -> Verdict {
+    match refusal {
+        TypeRefusal::At {
+            func,
+            ordinal,
+            rule,
+        } => Verdict::Broken(func, ordinal, rule),
+        TypeRefusal::NoMemory => Verdict::NoMemory,
+    }
+}
+
+fn linked(a: Global, valid: Valid<Global>) -> Verdict {
+    match deploy(&a, valid) {
+        Ok(_deployed) => Verdict::Deployed,
+        Err((_valid, refusal)) => Verdict::Unlinked(refusal),
+    }
+}
+
+/// What is answered to a tree, where the check takes its working memory from `work`.
+pub fn verdict_in<W: Allocator + Clone>(a: Global, work: &W, tree: Module<Global>) -> Verdict {
+    match check(work, tree) {
+        Ok(valid) => linked(a, valid),
+        Err((_tree, refusal)) => broken(refusal),
+    }
+}
+
+// What is answered to the module of these sections.
+fn verdict_of(a: Global, sections: &[u8]) -> Result<Verdict, AllocError> {
+    let mut bytes = HEADER.to_vec(a)?;
+    bytes.extend_from_slice(sections)?;
+    match load(a, &bytes) {
+        Ok(tree) => Ok(verdict_in(a, &a, tree)),
+        Err(_refusal) => Ok(Verdict::Unread),
+    }
+}
+
+/// The sections of a module, and what has to be answered.
+pub type Row<'b> = (&'b [u8], Verdict);
+
+/// Each row is answered as it has to be.
+pub fn judge(rt: &impl Abort, a: Global, rows: &[Row]) -> Result<(), Fail> {
+    for (sections, verdict) in rows {
+        assert_eq!(rt; verdict_of(a, *sections)?, *verdict, "{sections:?}");
+    }
+    Ok(())
+}

@@ -1,0 +1,12 @@
+pub mod Fronts
+pub mod Names
+pub mod Ranges
+pub mod Spelled
+pub mod Ordinals
+pub mod Whole
+pub mod Refused
+pub mod Customs
+pub mod Initial
+pub mod OneMore
+pub mod Runs
+pub mod Codes

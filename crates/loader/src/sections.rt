@@ -1,0 +1,115 @@
+// Sections. Where a reader refuses, its number is how many bytes were left.
+ghost use Rattle.std.specs.Prelude.{◌≡◌, ℕ, ◌<◌, ◌≤◌, ◌^◌, [], map, true, length, IfOk};
+ghost use Rattle.std.specs.List.{list_all};
+ghost use Rattle.expr_reader.specs.Outcome.{Gives};
+ghost use Rattle.loader.specs.Refusals.{is_memory};
+ghost use Rattle.spec_module_laws.specs.ReadingModules.{inside_at, whole_at, skip, slot_at, list_at};
+
+use crate::values::{sized_of, text_of};
+use crate::vectors::{Reader, VectorOf};
+use expr_reader::LoadRefusal;
+use std::alloc::Allocator;
+
+// A refusal within an enclosure that so many bytes stand behind.
+pub fn behind(refusal: LoadRefusal, more: usize) -> LoadRefusal
+    ensures { is_memory result ≡ is_memory refusal }
+{
+    match refusal {
+        LoadRefusal::Malformed(left) => LoadRefusal::Malformed(left.saturating_add(more)),
+        LoadRefusal::Unsupported(left) => LoadRefusal::Unsupported(left.saturating_add(more)),
+        LoadRefusal::TooLarge(limit) => LoadRefusal::TooLarge(limit),
+        LoadRefusal::NoMemory => LoadRefusal::NoMemory,
+    }
+}
+
+// What all of the bytes are read as.
+fn whole_of<A: Allocator + Clone, R: Reader<A>>(
+    alloc: &A,
+    bytes: &[u8],
+) -> Result<R::Item, LoadRefusal>
+    requires small { length bytes.now < 2 ^ 32 }
+    ensures value { Gives R.view result (whole_at R.reading bytes.now) }
+    ensures numbered { IfOk result (λ x. R.is_numbered x ≡ true) }
+{
+    let (item, left) = R::read(alloc, bytes)?;
+    match left {
+        [] => Ok(item),
+        [_, ..] => Err(LoadRefusal::Malformed(left.len())),
+    }
+}
+
+// A size, and what that many bytes are read as.
+pub fn inside_of<'b, A: Allocator + Clone, R: Reader<A>>(
+    alloc: &A,
+    bytes: &'b [u8],
+) -> Result<(R::Item, &'b [u8]), LoadRefusal>
+    requires small { length bytes.now < 2 ^ 32 }
+    ensures value { Gives (λ x. (R.view x.0, x.1.now)) result (inside_at R.reading bytes.now) }
+    ensures shorter { IfOk result (λ x. length x.1.now < length bytes.now) }
+    ensures numbered { IfOk result (λ x. R.is_numbered x.0 ≡ true) }
+{
+    let (content, rest) = sized_of(bytes)?;
+    match whole_of::<A, R>(alloc, content) {
+        Ok(item) => Ok((item, rest)),
+        Err(refusal) => Err(behind(refusal, rest.len())),
+    }
+}
+
+// What is left behind the custom sections at the front.
+pub fn skip_customs(bytes: &[u8]) -> Result<&[u8], LoadRefusal>
+    ensures value { Gives (λ x. x.now) result (skip bytes.now) }
+    ensures shorter { IfOk result (λ x. length x.now ≤ length bytes.now) }
+{
+    let mut rest = bytes;
+    while let Some((first, after)) = rest.split_first() {
+        if *first != 0 {
+            return Ok(rest);
+        }
+        let (content, following) = sized_of(after)?;
+        if let Err(refusal) = text_of(content) {
+            return Err(behind(refusal, following.len()));
+        }
+        rest = following;
+    }
+    Ok(rest)
+}
+
+// The section of this id, if it is the next, and the custom sections behind it; else what an absent one stands for.
+#[tactic(auto, unfolding(spec_module_laws::specs::ReadingModules::slot_at))]
+pub fn slot_of<'b, A: Allocator + Clone, R: Reader<A>>(
+    alloc: &A,
+    id: u8,
+    absent: R::Item,
+    bytes: &'b [u8],
+) -> Result<(R::Item, &'b [u8]), LoadRefusal>
+    requires small { length bytes.now < 2 ^ 32 }
+    requires absent_numbered { R.is_numbered absent ≡ true }
+    ensures value { Gives (λ x. (R.view x.0, x.1.now)) result (slot_at id R.reading (R.view absent) bytes.now) }
+    ensures shorter { IfOk result (λ x. length x.1.now ≤ length bytes.now) }
+    ensures numbered { IfOk result (λ x. R.is_numbered x.0 ≡ true) }
+{
+    let [first, after @ ..] = bytes else {
+        return Ok((absent, bytes));
+    };
+    if *first != id {
+        return Ok((absent, bytes));
+    }
+    let (item, rest) = inside_of::<A, R>(alloc, after)?;
+    let rest = skip_customs(rest)?;
+    Ok((item, rest))
+}
+
+// The items of the section of this id, none where it is absent.
+pub fn list_of<'b, A: Allocator + Clone, R: Reader<A>>(
+    alloc: &A,
+    id: u8,
+    bytes: &'b [u8],
+) -> Result<(Vec<R::Item, A>, &'b [u8]), LoadRefusal>
+    requires small { length bytes.now < 2 ^ 32 }
+    ensures value { Gives (λ x. (map R.view x.0.items, x.1.now)) result (list_at id R.reading bytes.now) }
+    ensures shorter { IfOk result (λ x. length x.1.now ≤ length bytes.now) }
+    ensures numbered { IfOk result (λ x. list_all R.is_numbered x.0.items ≡ true) }
+{
+    let none = Vec::new(alloc.clone()?);
+    slot_of::<A, VectorOf<R>>(alloc, id, none, bytes)
+}

@@ -1,0 +1,4 @@
+mod Values
+mod Profiles
+mod Positions
+mod Neighbours

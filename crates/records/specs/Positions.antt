@@ -1,0 +1,14 @@
+-- Reading a position of a block from front to back.
+use Rattle.std.specs.Prelude.{ℕ, List, Ok}
+use Rattle.std.specs.Int.{w32}
+use Rattle.spec_block.specs.Worlds.{Position}
+use Rattle.fields.specs.Reading.{Read, ◌>>=◌, number_at}
+use Rattle.records.specs.Values.{receipt_at}
+use Rattle.records.specs.Profiles.{profile_at}
+
+unfoldable pub position_at : List ℕ → Read Position
+position_at bytes = do
+  call ← number_at w32 bytes
+  receipt ← receipt_at call.1
+  profile ← profile_at receipt.1
+  Ok (record { call = call.0; receipt = receipt.0; profile = profile.0 }, profile.1)

@@ -1,0 +1,124 @@
+//! Positions of a block: the call's number, its receipt and its lock profile.
+
+ghost use Rattle.std.specs.Prelude.{◌≡◌, ◌++◌, ◌↔◌, ◌<◌, ◌^◌, ℕ, List, IfOk, OnOk, Ok, IsSome, IfSome, length, take};
+ghost use Rattle.spec_block.specs.Worlds.{Position as ThePosition};
+ghost use Rattle.spec_block.specs.Bytes.{IsOutcome, IsPosition, position_bytes};
+ghost use Rattle.fields.specs.Reading.{Gives, IsRead};
+ghost use Rattle.fields.specs.Exact.{ReadsExactly};
+ghost use Rattle.records.specs.Positions.{position_at};
+
+use crate::profile::{append_profile, note_entries, read_profile};
+use crate::receipt::{append_receipt, has_bytes, read_receipt};
+use fields::{Fault, append_u32, read_u32};
+use lock_profile::Profile;
+use spec_ledger::Receipt;
+use std::alloc::{AllocError, Global};
+use std::marker::Model;
+
+/// What a block says of one call. Its type keeps that it has a spelling: the codes of receipts, and less than 2^32 entries.
+#[derive(Drop)]
+pub struct Position {
+    call: u32,
+    receipt: Receipt,
+    profile: Profile,
+}
+
+impl Model for Position {
+    ghost use Rattle.spec_block.specs.Worlds.{Position as ThePosition};
+    ghost use Rattle.spec_block.specs.Bytes.{IsPosition};
+
+    ghost Value = { ThePosition };
+
+    ghost view = { λ p. record { call = p.call; receipt = p.receipt; profile = p.profile } };
+
+    ghost invariant = { λ p. IsPosition (record { call = p.call; receipt = p.receipt; profile = p.profile }) };
+}
+
+impl Position {
+    /// The position of a call with this number. There is none where the receipt's rejection has none of the codes 1, 2, 3, 4 and 6, or
+    /// where the profile has 2^32 entries or more.
+    pub fn new(call: u32, receipt: Receipt, profile: Profile) -> Option<Position>
+        ensures there { IsSome result ↔ (IsOutcome receipt.outcome × (length profile < 2 ^ 32)) }
+        ensures is { IfSome result (λ p. p ≡ record { call = call; receipt = receipt; profile = profile }) }
+    {
+        note_entries(profile.entries());
+        profile.hold();
+        lock_profile::neighbours_decide();
+        if !has_bytes(receipt) || profile.entries().len() > u32::MAX as usize {
+            return None;
+        }
+        Some(Position {
+            call,
+            receipt,
+            profile,
+        })
+    }
+
+    /// The call's number.
+    pub fn call(&self) -> u32
+        ensures { result ≡ self.now.call }
+    {
+        self.call
+    }
+
+    /// Its receipt.
+    pub fn receipt(&self) -> Receipt
+        ensures { result ≡ self.now.receipt }
+    {
+        self.receipt
+    }
+
+    /// Its locks, with their modes and turns.
+    pub fn profile(&self) -> &Profile
+        ensures { result.now ≡ self.now.profile }
+    {
+        &self.profile
+    }
+
+    /// What the type keeps: it has a spelling.
+    pub fn hold(&self)
+        ensures { IsPosition self.now }
+    {
+        let _call = self.call;
+    }
+}
+
+#[tactic(auto, unfolding(crate::specs::Positions::position_at))]
+fn position_of(alloc: Global, bytes: &[u8]) -> Result<(Position, &[u8]), Fault>
+    ensures { Gives (λ x. (x.0, x.1.now)) result (position_at bytes.now) }
+{
+    let (call, rest) = read_u32(bytes)?;
+    let (receipt, rest) = read_receipt(rest)?;
+    let (profile, rest) = read_profile(alloc, rest)?;
+    match Position::new(call, receipt, profile) {
+        Some(position) => Ok((position, rest)),
+        None => unreachable!(),
+    }
+}
+
+/// Reads a position, and gives the bytes after it. It is refused exactly where no position stands in front, memory aside, and the first
+/// fault is answered.
+pub fn read_position(alloc: Global, bytes: &[u8]) -> Result<(Position, &[u8]), Fault>
+    ensures spelled { IfOk result (λ x. IsPosition x.0 × (bytes.now ≡ position_bytes x.0 ++ x.1.now)) }
+    ensures only { (position : ThePosition) (rest : List ℕ) → IsPosition position → bytes.now ≡ position_bytes position ++ rest → IsRead (λ x. (x.0, x.1.now)) result position rest }
+    ensures first { Gives (λ x. (x.0, x.1.now)) result (position_at bytes.now) }
+{
+    position_of(alloc, bytes)
+}
+
+/// Appends a position. Where memory is refused, what was there still stands in front.
+pub fn append_position(out: &mut Vec<u8>, position: &Position) -> Result<(), AllocError>
+    ensures bytes { OnOk result (out.new.items ≡ out.old.items ++ position_bytes position.now) }
+    ensures front { take (length out.old.items) out.new.items ≡ out.old.items }
+{
+    position.hold();
+    append_u32(out, position.call())?;
+    append_receipt(out, position.receipt())?;
+    append_profile(out, position.profile())?;
+    Ok(())
+}
+
+/// Positions are read exactly: what is read is spelled so, and what is spelled so is read, whatever follows.
+pub fn positions_are_read_exactly()
+    ensures { ReadsExactly position_at position_bytes IsPosition }
+{}

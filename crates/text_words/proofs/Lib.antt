@@ -1,0 +1,4 @@
+pub mod Decoding
+pub mod Spellings
+pub mod OneWord
+pub mod Halfway

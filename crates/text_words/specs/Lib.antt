@@ -1,0 +1,4 @@
+pub mod Strings
+pub mod Views
+pub mod Reading
+pub mod Refused

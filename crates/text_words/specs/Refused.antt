@@ -1,0 +1,11 @@
+-- When a refusal is right.
+use Rattle.std.specs.Prelude.{List, ⊤}
+use Rattle.spec_text.specs.Lexical.{Token}
+use Rattle.spec_text.specs.Words.{Word, AreWords}
+use Rattle.text_words.specs.declared.TextRefusal.{TextRefusal}
+use Rattle.text_words.specs.declared.TextRefusal.TheVariants.{Unexpected, NoMemory}
+
+-- the tokens are no words, unless memory ran out
+abbrev pub IsRightly : List Token → TextRefusal → Type 0
+IsRightly tokens NoMemory = ⊤
+IsRightly tokens (Unexpected at) = (words : List Word) → AreWords tokens words → ⊥

@@ -1,0 +1,57 @@
+use super::{TextRefusal, Word, put_string, words};
+use lexer::tokens;
+use spec_text::{KeyWord, Operator};
+use std::test::Fail;
+use wtypes::{LoadOp, ValType};
+
+#[test]
+fn each_kind_of_word(rt: HostRuntime) -> Result<(), Fail> {
+    let text = "(module i64 i32.load offset=0x1_0 align=4 $a -7 \"b\\00\")";
+    let tokens = tokens(rt.alloc(), text)?;
+    let found = words(rt.alloc(), text, &tokens.items)?;
+    assert_eq!(rt; found.len(), 10);
+    assert!(rt; matches!(found[0], Word::LeftBracket));
+    assert!(rt; matches!(found[1], Word::Key(KeyWord::Module)));
+    assert!(rt; matches!(found[2], Word::Key(KeyWord::Value(ValType::I64))));
+    assert!(rt; matches!(found[3], Word::Op(Operator::Load(LoadOp::I32Load))));
+    assert!(rt;
+        matches!(found[4], Word::OffsetIs(piece) if piece.text == b"0x1_0".as_slice() && piece.at == 21)
+    );
+    assert!(rt; matches!(found[5], Word::AlignIs(piece) if piece.text == b"4".as_slice()));
+    assert!(rt;
+        matches!(found[6], Word::Id(piece) if piece.text == b"$a".as_slice() && piece.at == 42)
+    );
+    assert!(rt; matches!(found[7], Word::Number(piece) if piece.text == b"-7".as_slice()));
+    assert!(rt; matches!(found[8], Word::Str(piece) if piece.text == b"b\\00".as_slice()));
+    assert!(rt; matches!(found[9], Word::RightBracket));
+    Ok(())
+}
+
+// The place at which the text's tokens are no words.
+fn refused_at(rt: &HostRuntime, text: &str, place: usize) -> Result<bool, Fail> {
+    let tokens = tokens(rt.alloc(), text)?;
+    match words(rt.alloc(), text, &tokens.items) {
+        Ok(_) => Ok(false),
+        Err(refusal) => Ok(refusal == TextRefusal::Unexpected(place)),
+    }
+}
+
+#[test]
+fn keywords_that_are_no_words(rt: HostRuntime) -> Result<(), Fail> {
+    assert!(rt; refused_at(&rt, "(module f32)", 8)?);
+    assert!(rt; refused_at(&rt, "(i32.load offset=)", 10)?);
+    assert!(rt; refused_at(&rt, "(i32.load offset=1_)", 10)?);
+    assert!(rt; refused_at(&rt, "(i32.load align=-4)", 10)?);
+    assert!(rt; refused_at(&rt, "modules", 0)?);
+    Ok(())
+}
+
+#[test]
+fn strings(rt: HostRuntime) -> Result<(), Fail> {
+    let mut found = Vec::new(rt.alloc());
+    put_string(&mut found, b"a\\t\\\"\\7f\\u{20ac}")?;
+    assert_eq!(rt; found.as_slice(), b"a\t\"\x7f\xe2\x82\xac".as_slice());
+    put_string(&mut found, b"z")?;
+    assert_eq!(rt; found.len(), 8);
+    Ok(())
+}
