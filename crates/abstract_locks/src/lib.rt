@@ -136,7 +136,7 @@ impl Table {
         requires { call < length self.old }
         ensures ok { OnOk result (self.new ≡ slice_set self.old call (asked (row_at self.old call) lock mode)) }
         ensures granted { OnOk result (AllShare (row_at self.old call) lock mode (others self.old call)) }
-        ensures conflict { result ≡ Err LockRefusal.Conflict → ¬ (AllShare (row_at self.old call) lock mode (others self.old call)) }
+        ensures conflict { (result ≡ Err LockRefusal.Conflict) ↔ ¬ (AllShare (row_at self.old call) lock mode (others self.old call)) }
         ensures err { OnErr result (self.new ≡ self.old) }
     {
         let held = self.holders[call as usize].mode(lock);

@@ -19,7 +19,9 @@ fn adds_are_side_by_side_until_one_reads(rt: HostRuntime) -> Result<(), Fail> {
         table.take(0, SEVEN, Mode::Read),
         Err(LockRefusal::Conflict)
     );
+    assert!(rt; !table.may_take(0, SEVEN, Mode::Read));
     table.release(1);
+    assert!(rt; table.may_take(0, SEVEN, Mode::Read));
     assert_eq!(rt; table.take(0, SEVEN, Mode::Read), Ok(()));
     assert_eq!(rt; table.take(1, SEVEN, Mode::Add), Err(LockRefusal::Conflict));
     table.release(0);

@@ -1,5 +1,6 @@
 use bumpalo::Bump;
 use encoder::encode;
+use leb::write_u32;
 use linked_list_allocator::LocalHeap;
 use loader::{LoadRefusal, load};
 use module_tree::module::Module;
@@ -92,5 +93,107 @@ fn in_heaps_of_fixed_size(rt: HostRuntime) -> Result<(), Fail> {
     }
     assert!(rt; was_refused);
     assert!(rt; was_loaded);
+    Ok(())
+}
+
+/// A function of `i32.const 0`, whose number has a needless byte: the header, and sections of 7, 4 and 9 bytes.
+const LONG_NUMBER: [u8; 28] = [
+    0x00, 0x61, 0x73, 0x6D, 0x01, 0x00, 0x00, 0x00, 0x01, 0x05, 0x01, 0x60, 0x00, 0x01, 0x7F, 0x03,
+    0x02, 0x01, 0x00, 0x0A, 0x07, 0x01, 0x05, 0x00, 0x41, 0x80, 0x00, 0x0B,
+];
+
+/// A custom section named `a` with one byte, which is no text.
+const CUSTOM: [u8; 5] = [0x00, 0x03, 0x01, 0x61, 0xFF];
+
+// Custom sections before each section and at the end make no difference.
+#[test]
+fn custom_sections_give_the_same_tree(rt: HostRuntime) -> Result<(), Fail> {
+    let mut bytes = Vec::new(rt.alloc());
+    for part in [
+        &LONG_NUMBER[..8],
+        &LONG_NUMBER[8..15],
+        &LONG_NUMBER[15..19],
+        &LONG_NUMBER[19..],
+    ] {
+        bytes.extend_from_slice(part)?;
+        bytes.extend_from_slice(&CUSTOM)?;
+    }
+    assert_eq!(rt; bytes.len(), 48);
+    let plain = load(rt.alloc(), &LONG_NUMBER)?;
+    let module = load(rt.alloc(), &bytes)?;
+    assert_eq!(rt; encoded(&rt, &module)?, encoded(&rt, &plain)?);
+    Ok(())
+}
+
+#[test]
+fn bytes_before_stay(rt: HostRuntime) -> Result<(), Fail> {
+    let module = load(rt.alloc(), &CONTRACT[..8])?;
+    let mut bytes = [7, 9].to_vec(rt.alloc())?;
+    encode(&module, &mut bytes)?;
+    assert_eq!(rt;
+        bytes.as_slice(),
+        [7, 9, 0x00, 0x61, 0x73, 0x6D, 0x01, 0x00, 0x00, 0x00].as_slice()
+    );
+    Ok(())
+}
+
+// A buffer that can't grow far enough is as it was.
+#[test]
+fn a_full_buffer_is_as_it_was(rt: HostRuntime) -> Result<(), Fail> {
+    let module = load(rt.alloc(), &CONTRACT)?;
+    let heap = LocalHeap::new(rt.alloc(), 150)?;
+    let mut bytes = Vec::new(&heap);
+    bytes.push(7)?;
+    assert!(rt; encode(&module, &mut bytes).is_err());
+    assert_eq!(rt; bytes.as_slice(), [7].as_slice());
+    Ok(())
+}
+
+// A module of one function with so many blocks in one another, at least 16 and at most 8,000: two bytes spell each size.
+fn nested(alloc: Global, blocks: u32) -> Result<Vec<u8>, Fail> {
+    let mut bytes = LONG_NUMBER[..8].to_vec(alloc)?;
+    let types_and_functions = [0x01, 0x04, 0x01, 0x60, 0x00, 0x00, 0x03, 0x02, 0x01, 0x00];
+    bytes.extend_from_slice(&types_and_functions)?;
+    let body = blocks.saturating_mul(3).saturating_add(2);
+    bytes.push(0x0A)?;
+    write_u32(&mut bytes, body.saturating_add(3))?;
+    bytes.push(0x01)?;
+    write_u32(&mut bytes, body)?;
+    bytes.push(0x00)?;
+    for _i in 0..blocks {
+        bytes.push(0x02)?;
+        bytes.push(0x40)?;
+    }
+    for _i in 0..blocks {
+        bytes.push(0x0B)?;
+    }
+    bytes.push(0x0B)?;
+    Ok(bytes)
+}
+
+// 128 nested blocks in the machine's memory, in an arena, in a heap and as a copy are one tree; 129 are refused.
+#[test]
+fn nested_blocks_under_each_allocator(rt: HostRuntime) -> Result<(), Fail> {
+    let bytes = nested(rt.alloc(), 128)?;
+    let module = load(rt.alloc(), &bytes)?;
+    assert_eq!(rt; module.depth(), 128);
+    let arena = Bump::new(rt.alloc());
+    let in_arena = load(&arena, &bytes)?;
+    let heap = LocalHeap::new(rt.alloc(), 100_000)?;
+    let in_heap = load(&heap, &bytes)?;
+    let copied_out = in_arena.copy_in(rt.alloc())?;
+    let copied_in = module.copy_in(&heap)?;
+    assert_eq!(rt; encoded(&rt, &module)?, bytes);
+    assert_eq!(rt; encoded(&rt, &copied_out)?, bytes);
+    assert_eq!(rt; in_heap.depth(), 128);
+    assert_eq!(rt; copied_in.depth(), 128);
+    assert!(rt; copied_in.instr_at(0, 127).is_some());
+    assert!(rt; copied_in.instr_at(0, 128).is_none());
+    let deeper = nested(rt.alloc(), 129)?;
+    assert_eq!(rt;
+        load(rt.alloc(), &deeper).err(),
+        Some(LoadRefusal::TooLarge(4))
+    );
+    assert_eq!(rt; load(&arena, &deeper).err(), Some(LoadRefusal::TooLarge(4)));
     Ok(())
 }

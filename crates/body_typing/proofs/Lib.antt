@@ -1,4 +1,5 @@
 pub mod Blocks
 pub mod Imports
 pub mod Leaves
+pub mod NoneKnown
 pub mod Placed

@@ -1,5 +1,5 @@
 -- The index spaces of a module, as they are made.
-use Rattle.std.specs.Prelude.{◌≡◌, ℕ, List, [], ◌∷◌, ◌++◌, Option, Some, None, map, length}
+use Rattle.std.specs.Prelude.{◌≡◌, List, [], ◌∷◌, ◌++◌, Option, Some, None, map, length}
 use Rattle.std.specs.List.{filter_map}
 use Rattle.spec_syntax.specs.Syntax.{Import, Module}
 use Rattle.spec_typing.specs.Modules as modules

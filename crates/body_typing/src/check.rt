@@ -128,13 +128,8 @@ fn all_locals<A: Allocator, W: Allocator>(
 ) -> Result<Vec<ValType, W>, AllocError>
     ensures { IfOk result (λ all. all.items ≡ params.now ++ locals.now.items) }
 {
-    let mut all = Vec::new(alloc);
-    for t in params {
-        all.push(*t)?;
-    }
-    for t in locals {
-        all.push(*t)?;
-    }
+    let mut all = Vec::from_slice(alloc, params)?;
+    all.extend_from_slice(locals)?;
     Ok(all)
 }
 

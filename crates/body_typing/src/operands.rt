@@ -75,12 +75,16 @@ impl<W: Allocator> Operands<W> {
         }
     }
 
-    /// Takes operands of these types off, the last on top, or answers false.
+    /// Takes operands of these types off, the last on top, or answers false. Once none is known there are all or none,
+    /// so that the time is that of the operands that were put there.
     pub fn take(&mut self, types: &[ValType]) -> bool
         ensures taken { guard result self.new ≡ arrow (reverse types.now) [] self.old }
     {
         let mut left = types.len();
         while left > 0 {
+            if self.known.is_empty() {
+                return self.any_below;
+            }
             left -= 1;
             if !self.pop_type(types[left]) {
                 return false;

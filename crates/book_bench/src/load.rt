@@ -36,7 +36,7 @@ impl Load {
         if keys == 0 { None } else { Some(Load { keys }) }
     }
 
-    /// A book of all calls over cells with a number at each key of a map and of a counter.
+    /// A book of all calls over cells with a number at each key: a map's at an even key, a counter's at an odd one.
     ///
     /// # Errors
     ///
@@ -48,24 +48,27 @@ impl Load {
     {
         let mut cells = Cells::new(alloc);
         for key in 0..self.keys {
-            for kind in [Kind::Map, Kind::Counter] {
-                let lock = Lock {
-                    contract: 0,
-                    kind,
-                    key: u64::from(key),
-                };
-                cells.insert(lock, 1)?;
-            }
+            let kind = if key % 2 == 0 {
+                Kind::Map
+            } else {
+                Kind::Counter
+            };
+            let lock = Lock {
+                contract: 0,
+                kind,
+                key: u64::from(key),
+            };
+            cells.insert(lock, 1)?;
         }
         Book::open(alloc, cells, GROUPS * LIVE)
     }
 
-    /// The operation of a call in a round: a get or an add, at a key that looks like chance. No two of these conflict.
+    /// The operation of a call in a round, at a key that looks like chance: a get at an even key, an add at an odd one. No two of these conflict.
     pub fn operation(self, call: u32, round: u32) -> Op {
         let number = u64::from(call) * u64::from(ROUNDS) + u64::from(round);
         let key = (number.wrapping_mul(0x9E37_79B9_7F4A_7C15) >> 32) % u64::from(self.keys);
         let place = Place { contract: 0, key };
-        if round % 2 == 0 {
+        if key % 2 == 0 {
             Op::Get(place)
         } else {
             Op::Add(place, 1)

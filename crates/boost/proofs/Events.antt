@@ -1,12 +1,12 @@
 -- Each event on a book whose live attempts stand in a list.
-use Rattle.std.proofs.Common.{◌≡◌, ℕ, ◌+◌, ◌<◌, Bool, true, false, cond, List, [], ◌∷◌, ◌++◌, length, take, drop, get_or, set, refl, sym, ◌∙◌, ap, subst}
+use Rattle.std.proofs.Common.{◌≡◌, ℕ, ◌+◌, ◌<◌, true, false, cond, List, [], ◌∷◌, ◌++◌, length, take, drop, get_or, set, refl, sym, ◌∙◌, ap, subst}
 use Rattle.std.specs.FinMap.{empty}
 use Rattle.std.specs.List.{AllByRecursion, list_any, IsDistinct}
 use Rattle.std.proofs.Common.{eqb, ◌||◌, map, ◌≢◌, ◌^◌}
 use Rattle.std.proofs.lemmas.Bool.{false≢true, eqb-true}
 use Rattle.std.proofs.lemmas.Bool.Decides.{eqb_tells}
 use Rattle.std.proofs.lemmas.Map.Steps.{length-le_from_distinct_below}
-use Rattle.std.proofs.lemmas.List.{length-map, append-nil, length-set, length-replicate, set-set, set-get_or}
+use Rattle.std.proofs.lemmas.List.{length-take-le, drop_at, length-map, append-nil, length-set, length-replicate, set-set, set-get_or}
 use Rattle.std.proofs.Common.{⊎_elim, arith, replicate}
 use Rattle.spec_ledger.specs.declared.Lock.{Lock}
 use Rattle.spec_ledger.specs.declared.Mode.{Mode}
@@ -18,25 +18,42 @@ use Rattle.spec_ledger.specs.declared.Step.{Step}
 use Rattle.spec_ledger.specs.declared.Outcome.{Outcome}
 use Rattle.spec_ledger.specs.declared.Inverse.{Inverse}
 use Rattle.spec_ledger.specs.Cells.{Cells, lock_of, cells_after, reply_to, inverse_to}
-use Rattle.spec_ledger.specs.Book.{Attempt, Entry, Content, settled, IsLive, IsKept, IsEntry, AreDistinct, call_is_new, IsGranted, extended, after_op, after_undo, after_commit, entry_of, has_returned, back_all, fresh, after_begin}
-use Rattle.spec_ledger.specs.Events.{HasNoAttempt, BeginDone, IsFound, OpDone, IsConflict, UndoDone, CommitDone, IsOther, IsUndoneLast}
-use Rattle.spec_ledger.proofs.Kept.{All-right, live_here, live_others, beside, others_apart, IsKept-op, IsKept-undo, IsKept-commit, IsKept-begin}
+use Rattle.spec_ledger.specs.Book.{Attempt, Entry, Content, settled, IsLive, IsKept, IsEntry, AreDistinct, call_is_new, IsGranted, extended, after_op, after_undo, after_commit, entry_of, has_returned, back_all, fresh, after_begin, AreSideBySide, AreAllSideBySide}
+use Rattle.spec_ledger.specs.Events.{HasNoAttempt, IsStale, BeginDone, IsFound, OpDone, IsConflict, UndoDone, CommitDone, IsOther, IsUndoneLast}
+use Rattle.spec_ledger.proofs.Kept.{All-at, All-left, All-right, live_here, live_others, beside, others_apart, IsKept-op, IsKept-undo, IsKept-commit, IsKept-begin}
 use Rattle.spec_ledger.proofs.Traces.{All-weaken}
 use Rattle.storage.specs.Counts.{Counts, opened}
+use Rattle.std.proofs.Common.{Some, slice_get}
+use Rattle.std.proofs.lemmas.Option.{slice_get-get_or}
 use Rattle.boost.specs.Counted.{live_counts, opened_all, closed_all, AreUnsettled, AreCounts}
-use Rattle.boost.specs.Kept.{IsBook, IsPlace, rows_with, marks_with}
-use Rattle.boost.proofs.Held.{AreBelow, no_other, rows_out, rows_with-append, length-rows_with, emptied, empty_row, own_row, share_to, share_from, touched-push, marks_with-append, length-marks_with, marked_is_old, unmarked_is_new}
+use Rattle.boost.specs.declared.standing.Standing.{Standing}
+use Rattle.boost.specs.declared.standing.Standing.TheVariants.{Idle, Live, Committed}
+use Rattle.boost.specs.Kept.{IsBook, IsPlace, AreStanding, rows_with, committed_with, live_with}
+use Rattle.boost.proofs.Held.{AreBelow, no_other, rows_out, rows_with-append, length-rows_with, emptied, empty_row, own_row, share_to, share_from, touched-push}
+use Rattle.boost.proofs.Standings.{found_at, none_there, wide_standings, AreStanding-book, stands_idle, stands_live, stands_committed, left_standing, still_idle, apart_right, same_standing, live_with-append, committed_with-append}
 use Rattle.boost.proofs.Counted.{live_counts-append, live_counts_out, opened_all-push, closed_all-opened_all, AreUnsettled-opened_all, AreCounts-live, AreCounts-empty}
 use Rattle.boost.proofs.Lists.{set_split, at_split}
 
--- ---- the table of locks and the marks beside the attempts
+-- ---- the table of locks and the standings beside the attempts
 
-module _ (b : Content) (counts : Counts) (rows : List Modes) (marks : List Bool) (book : IsBook b counts rows marks) where
+module _ (b : Content) (counts : Counts) (rows : List Modes) (standings : List Standing) (book : IsBook b counts rows standings) where
   pub length-rows : length rows ≡ length b.begun
   length-rows = ap length book.locked ∙ length-rows_with b.attempts (replicate (length b.begun) empty) ∙ length-replicate (length b.begun) empty
 
-  pub length-marks : length marks ≡ length b.begun
-  length-marks = ap length book.marked ∙ length-marks_with b.entries (replicate (length b.begun) false) ∙ length-replicate (length b.begun) false
+  pub length-standings : length standings ≡ length b.begun
+  length-standings = wide_standings (length b.begun) b.attempts b.entries standings book.standing
+
+  calls_known : AreBelow (length b.begun) b.attempts
+  calls_known = All-weaken (IsLive (settled b.opening b.entries) b.begun b.entries) (λ x. x.call < length b.begun) (λ x h. h.known) b.attempts book.kept.each_live
+
+  entries_known : AllByRecursion (λ e. e.call < length b.begun) b.entries
+  entries_known = All-weaken (IsEntry b.begun) (λ e. e.call < length b.begun) (λ e h. h.known) b.entries book.kept.each_entry
+
+  pub are_standing : (xs : List Attempt) (s : List Standing) → xs ≡ b.attempts → s ≡ standings → AreStanding xs s
+  are_standing xs s e f =
+      let path : ◌≡◌ {A = List Attempt × List Standing} (b.attempts, standings) (xs, s) = λ i. (sym e i, sym f i) in
+      let P : List Attempt × List Standing → Type 0 = λ (ys, t). AreStanding ys t in
+      subst P path (AreStanding-book (length b.begun) b.attempts b.entries standings book.standing calls_known book.kept.apart)
 
   module _ (p : List Attempt) (a : Attempt) (q : List Attempt) (split : b.attempts ≡ p ++ a ∷ q) where
     idle_there : HasNoAttempt a.call (p ++ q)
@@ -58,6 +75,24 @@ module _ (b : Content) (counts : Counts) (rows : List Modes) (marks : List Bool)
     rows_left =
         ap (λ x. set x a.call empty) rows_there
         ∙ emptied (rows_with (p ++ q) (replicate (length b.begun) empty)) a.call a.modes (empty_row a.call (length b.begun) (p ++ q) known_there idle_there)
+
+    pub calls_left : (xs : List Attempt) (s : List Standing) → xs ≡ p ++ q → length s ≡ length standings → AllByRecursion (λ c. c.call < length s) xs
+    calls_left xs s e f =
+        let path : ◌≡◌ {A = ℕ × List Attempt} (length b.begun, p ++ q) (length s, xs) = λ i. (sym (f ∙ length-standings) i, sym e i) in
+        let P : ℕ × List Attempt → Type 0 = λ (n, ys). AreBelow n ys in
+        subst P path others_known
+
+    -- the attempt's call stands otherwise
+    standing_left : (i : ℕ) (v : Standing) → length p ≡ i → live_with i q (set standings a.call v) ≡ live_with 0 (p ++ q) (set (committed_with b.entries (replicate (length b.begun) Idle)) a.call v)
+    standing_left i v e =
+        ap (λ x. live_with i q (set x a.call v)) (book.standing ∙ ap (λ ys. live_with 0 ys (committed_with b.entries (replicate (length b.begun) Idle))) split)
+        ∙ left_standing p a q (committed_with b.entries (replicate (length b.begun) Idle)) i v e
+        (All-left (λ c. c.call ≢ a.call) p q idle_there) (All-right (λ c. c.call ≢ a.call) p q idle_there) (apart_right p q (others_apart b p a q book.kept split))
+
+    idle_left : (i : ℕ) → length p ≡ i → live_with i q (set standings a.call Idle) ≡ live_with 0 (p ++ q) (committed_with b.entries (replicate (length b.begun) Idle))
+    idle_left i e =
+        standing_left i Idle e
+        ∙ ap (live_with 0 (p ++ q)) (still_idle a.call (length b.begun) b.entries known_there (live_here b p a q book.kept split).uncommitted)
 
     abbrev IsShared : ℕ × (Lock × Mode) → Type 0
     IsShared (k, (l, m)) = AllShare (get_or rows k empty) l m (others rows k)
@@ -81,9 +116,30 @@ module _ (b : Content) (counts : Counts) (rows : List Modes) (marks : List Bool)
         ∙ ap (set (rows_with (p ++ q) (replicate (length b.begun) empty)) a.call) (sym (touched-push a.trace (record { op = op; reply = reply_to op b.now })))
         ∙ sym (rows_out p (extended a op b.now) q (replicate (length b.begun) empty) (All-right (λ c. c.call ≢ a.call) p q idle_there))
 
+-- ---- a call has one attempt at most
+
+-- a list that is apart is split in one way at a call
+only_split : (p : List Attempt) (a : Attempt) (q p' : List Attempt) (a' : Attempt) (q' : List Attempt) → AreAllSideBySide (p ++ a ∷ q) → p ++ a ∷ q ≡ p' ++ a' ∷ q' → a.call ≡ a'.call → (p ≡ p') × (a ≡ a') × (q ≡ q')
+only_split [] a q [] a' q' apart e same = (refl, cc, cc)
+only_split [] a q (x ∷ p') a' q' apart e same =
+    let rest : q ≡ p' ++ a' ∷ q' = cc in
+    absurd ((All-at (AreSideBySide a) p' a' q' (subst (AllByRecursion (AreSideBySide a)) rest apart.0)).0 same)
+only_split (x ∷ p) a q [] a' q' apart e same =
+    let first : x ≡ a' = cc in
+    absurd ((All-at (AreSideBySide x) p a q apart.0).0 (ap (λ (y : Attempt). y.call) first ∙ sym same))
+only_split (x ∷ p) a q (y ∷ p') a' q' apart e same =
+    let first : x ≡ y = cc in
+    let rest : p ++ a ∷ q ≡ p' ++ a' ∷ q' = cc in
+    let h = only_split p a q p' a' q' apart.1 rest same in
+    ((λ k. first k ∷ h.0 k), h.1, h.2)
+
+pub found_not_stale : (b : Content) (call number : ℕ) (before : List Attempt) (a : Attempt) (later : List Attempt) → IsFound b call number before a later → ¬ (IsStale b call number)
+found_not_stale b call number before a later found stale =
+    All-at (λ x. ¬ ((x.call ≡ call) × (x.number ≡ number))) before a later (subst (AllByRecursion (λ x. ¬ ((x.call ≡ call) × (x.number ≡ number)))) found.among stale) (found.call_is, found.number_is)
+
 -- ---- an attempt at its place
 
-module _ (b : Content) (counts : Counts) (rows : List Modes) (marks : List Bool) (book : IsBook b counts rows marks) (call number i : ℕ) (xs : List Attempt) (same : xs ≡ b.attempts) (place : IsPlace xs i call number) where
+module _ (b : Content) (counts : Counts) (rows : List Modes) (standings : List Standing) (book : IsBook b counts rows standings) (call number i : ℕ) (xs : List Attempt) (same : xs ≡ b.attempts) (place : IsPlace xs i call number) where
   pub here : Attempt
   here = place.attempt
 
@@ -107,18 +163,21 @@ module _ (b : Content) (counts : Counts) (rows : List Modes) (marks : List Bool)
   counts_closed = ap (closed_all place.attempt.inverses) counts_out ∙ closed_all-opened_all place.attempt.inverses _ (AreCounts-live (take i b.attempts ++ drop (i + 1) b.attempts) empty AreCounts-empty)
 
   pub call_known : call < length b.begun
-  call_known = subst (λ k. k < length b.begun) place.call_is (known_there b counts rows marks book (take i b.attempts) place.attempt (drop (i + 1) b.attempts) split)
+  call_known = subst (λ k. k < length b.begun) place.call_is (known_there b counts rows standings book (take i b.attempts) place.attempt (drop (i + 1) b.attempts) split)
 
   pub call_row : call < length rows
-  call_row = subst (λ n. call < n) (sym (length-rows b counts rows marks book)) call_known
+  call_row = subst (λ n. call < n) (sym (length-rows b counts rows standings book)) call_known
 
-  pub call_mark : call < length marks
-  call_mark = subst (λ n. call < n) (sym (length-marks b counts rows marks book)) call_known
+  pub call_standing : call < length standings
+  call_standing = subst (λ n. call < n) (sym (length-standings b counts rows standings book)) call_known
+
+  pub later_known : (xs : List Attempt) (s : List Standing) → xs ≡ take i b.attempts ++ drop (i + 1) b.attempts → length s ≡ length standings → AllByRecursion (λ c. c.call < length s) xs
+  later_known = calls_left b counts rows standings book (take i b.attempts) place.attempt (drop (i + 1) b.attempts) split
 
   pub granted_here : (op : Op) (l : Lock) (m : Mode) → l ≡ lock_of op → m ≡ mode_of op
       → (AllShare (get_or rows call empty) l m (others rows call) → IsGranted place.attempt op (take i b.attempts ++ drop (i + 1) b.attempts))
       × (IsGranted place.attempt op (take i b.attempts ++ drop (i + 1) b.attempts) → AllShare (get_or rows call empty) l m (others rows call))
-  granted_here op l m e f = granted_there b counts rows marks book (take i b.attempts) place.attempt (drop (i + 1) b.attempts) split op call l m place.call_is e f
+  granted_here op l m e f = granted_there b counts rows standings book (take i b.attempts) place.attempt (drop (i + 1) b.attempts) split op call l m place.call_is e f
 
   pub row_of : (z : Attempt) → z ≡ get_or b.attempts i z → z.call < length rows
   row_of z e = subst (λ k. k < length rows) (sym place.call_is ∙ ap (λ (x : Attempt). x.call) (at_split b.attempts i place.attempt z below_here e split)) call_row
@@ -132,12 +191,28 @@ module _ (b : Content) (counts : Counts) (rows : List Modes) (marks : List Bool)
   pub conflict_here : (op : Op) → ¬ (IsGranted place.attempt op (take i b.attempts ++ drop (i + 1) b.attempts)) → IsConflict b call number op
   conflict_here op refused = record { before = take i b.attempts; attempt = place.attempt; later = drop (i + 1) b.attempts; found = found_here; refused = refused }
 
+  only_here : (before : List Attempt) (a : Attempt) (later : List Attempt) → IsFound b call number before a later → (take i b.attempts ≡ before) × (place.attempt ≡ a) × (drop (i + 1) b.attempts ≡ later)
+  only_here before a later found =
+      only_split (take i b.attempts) place.attempt (drop (i + 1) b.attempts) before a later (subst AreAllSideBySide split book.kept.apart) (sym split ∙ found.among) (place.call_is ∙ sym found.call_is)
+
+  pub no_conflict : (op : Op) → IsGranted place.attempt op (take i b.attempts ++ drop (i + 1) b.attempts) → ¬ (IsConflict b call number op)
+  no_conflict op granted conflict =
+      let h = only_here conflict.before conflict.attempt conflict.later conflict.found in
+      let path : ◌≡◌ {A = Attempt × List Attempt} (place.attempt, take i b.attempts ++ drop (i + 1) b.attempts) (conflict.attempt, conflict.before ++ conflict.later) = λ k. (h.1 k, h.0 k ++ h.2 k) in
+      let P : Attempt × List Attempt → Type 0 = λ (a, xs). IsGranted a op xs in
+      conflict.refused (subst P path granted)
+
+  pub not_other : (z : Attempt) → z ≡ get_or b.attempts i z → (trace : List Step) → z.trace ≡ trace → ¬ (IsOther b call number trace)
+  not_other z z_is trace e other =
+      let h = only_here other.before other.attempt other.later other.found in
+      other.other_trace (ap (λ (a : Attempt). a.trace) (sym h.1 ∙ at_split b.attempts i place.attempt z below_here z_is split) ∙ e)
+
   module _ (op : Op) (granted : IsGranted place.attempt op (take i b.attempts ++ drop (i + 1) b.attempts)) (y : Attempt) (is : y ≡ extended place.attempt op b.now) (now : Cells) (now_is : now ≡ cells_after op b.now) where
     moved : ◌≡◌ {A = Content} (record b { now = now; attempts = set b.attempts i y }) (after_op b (take i b.attempts) place.attempt (drop (i + 1) b.attempts) op)
     moved = λ k. record b { now = now_is k; attempts = (set_split b.attempts i y below_here ∙ ap (λ z. take i b.attempts ++ z ∷ drop (i + 1) b.attempts) is) k }
 
     pub IsBook-op : (counts' : Counts) → counts' ≡ opened (inverse_to op b.now) counts → (z : Attempt) → z ≡ get_or b.attempts i z
-        → (rows' : List Modes) → rows' ≡ set rows z.call (asked (get_or rows z.call empty) (lock_of op) (mode_of op)) → IsBook (record b { now = now; attempts = set b.attempts i y }) counts' rows' marks
+        → (rows' : List Modes) → rows' ≡ set rows z.call (asked (get_or rows z.call empty) (lock_of op) (mode_of op)) → IsBook (record b { now = now; attempts = set b.attempts i y }) counts' rows' standings
     IsBook-op counts' counts_is z z_is rows' rows_is = record {
       kept = subst (λ x. IsKept x) (sym moved) (IsKept-op b (take i b.attempts) place.attempt (drop (i + 1) b.attempts) book.kept split op granted);
       counted =
@@ -148,9 +223,13 @@ module _ (b : Content) (counts : Counts) (rows : List Modes) (marks : List Bool)
       locked =
           rows_is
           ∙ ap (λ (x : Attempt). set rows x.call (asked (get_or rows x.call empty) (lock_of op) (mode_of op))) (sym (at_split b.attempts i place.attempt z below_here z_is split))
-          ∙ rows_more b counts rows marks book (take i b.attempts) place.attempt (drop (i + 1) b.attempts) split op
+          ∙ rows_more b counts rows standings book (take i b.attempts) place.attempt (drop (i + 1) b.attempts) split op
           ∙ sym (ap (λ (x : Content). rows_with x.attempts (replicate (length b.begun) empty)) moved);
-      marked = book.marked;
+      standing =
+          book.standing
+          ∙ ap (λ ys. live_with 0 ys (committed_with b.entries (replicate (length b.begun) Idle))) split
+          ∙ same_standing (take i b.attempts) place.attempt (extended place.attempt op b.now) (drop (i + 1) b.attempts) (committed_with b.entries (replicate (length b.begun) Idle)) refl
+          ∙ sym (ap (λ (x : Content). live_with 0 x.attempts (committed_with b.entries (replicate (length b.begun) Idle))) moved);
     }
 
     pub OpDone-op : (reply : Reply) → reply ≡ reply_to op b.now → OpDone b (record b { now = now; attempts = set b.attempts i y }) call number op reply
@@ -172,7 +251,8 @@ module _ (b : Content) (counts : Counts) (rows : List Modes) (marks : List Bool)
     may_close_of is e = subst (λ x. AreUnsettled x counts) (sym (e ∙ ap (λ (a : Attempt). a.inverses) (sym same_here))) may_close
 
     module _ (is : List Inverse) (is_is : is ≡ z.inverses) (counts' : Counts) (counts_is : counts' ≡ closed_all is counts) (rest : List Attempt) (rest_is : rest ≡ take i b.attempts ++ drop (i + 1) b.attempts)
-        (rows' : List Modes) (rows_is : rows' ≡ set rows call empty) where
+        (rows' : List Modes) (rows_is : rows' ≡ set rows call empty)
+        (v : Standing) (written : List Standing) (written_is : written ≡ set standings call v) (ys : List Attempt) (ys_is : ys ≡ rest) (standings' : List Standing) (standings_is : standings' ≡ live_with i (drop i ys) written) where
       inverses_here : is ≡ place.attempt.inverses
       inverses_here = is_is ∙ ap (λ (a : Attempt). a.inverses) (sym same_here)
 
@@ -182,19 +262,32 @@ module _ (b : Content) (counts : Counts) (rows : List Modes) (marks : List Bool)
       locked_here : rows' ≡ rows_with rest (replicate (length b.begun) empty)
       locked_here =
           rows_is ∙ ap (λ k. set rows k empty) (sym place.call_is)
-          ∙ rows_left b counts rows marks book (take i b.attempts) place.attempt (drop (i + 1) b.attempts) split
+          ∙ rows_left b counts rows standings book (take i b.attempts) place.attempt (drop (i + 1) b.attempts) split
           ∙ ap (λ x. rows_with x (replicate (length b.begun) empty)) (sym rest_is)
+
+      before_here : length (take i b.attempts) ≡ i
+      before_here = length-take-le i b.attempts (omega (arith, below_here))
+
+      noted_here : standings' ≡ live_with i (drop (i + 1) b.attempts) (set standings place.attempt.call v)
+      noted_here =
+          standings_is
+          ∙ ap (λ x. live_with i x written) (ap (drop i) (ys_is ∙ rest_is) ∙ drop_at (take i b.attempts) (drop (i + 1) b.attempts) i before_here)
+          ∙ ap (live_with i (drop (i + 1) b.attempts)) (written_is ∙ ap (λ k. set standings k v) (sym place.call_is))
 
       module _ (now : Cells) (now_is : now ≡ back_all is b.now) where
         undone : ◌≡◌ {A = Content} (record b { now = now; attempts = rest }) (after_undo b (take i b.attempts) place.attempt (drop (i + 1) b.attempts))
         undone = λ k. record b { now = (now_is ∙ ap (λ x. back_all x b.now) inverses_here) k; attempts = rest_is k }
 
-        pub IsBook-undo : IsBook (record b { now = now; attempts = rest }) counts' rows' marks
-        IsBook-undo = record {
+        pub IsBook-undo : v ≡ Idle → IsBook (record b { now = now; attempts = rest }) counts' rows' standings'
+        IsBook-undo idle = record {
           kept = subst (λ x. IsKept x) (sym undone) (IsKept-undo b (take i b.attempts) place.attempt (drop (i + 1) b.attempts) book.kept split);
           counted = counted_here;
           locked = locked_here;
-          marked = book.marked;
+          standing =
+              noted_here
+              ∙ ap (λ x. live_with i (drop (i + 1) b.attempts) (set standings place.attempt.call x)) idle
+              ∙ idle_left b counts rows standings book (take i b.attempts) place.attempt (drop (i + 1) b.attempts) split i before_here
+              ∙ ap (λ x. live_with 0 x (committed_with b.entries (replicate (length b.begun) Idle))) (sym rest_is);
         }
 
         pub UndoDone-undo : UndoDone b (record b { now = now; attempts = rest }) call number
@@ -211,14 +304,18 @@ module _ (b : Content) (counts : Counts) (rows : List Modes) (marks : List Bool)
         call_there : call ≡ e.call
         call_there = sym (ap (λ (x : Entry). x.call) e_is ∙ ap (λ (x : Attempt). x.call) (sym same_here) ∙ place.call_is)
 
-        pub IsBook-commit : (marks' : List Bool) → marks' ≡ set marks call true → IsBook (record b { now = now; entries = entries; attempts = rest }) counts' rows' marks'
-        IsBook-commit marks' marks_is = record {
+        pub IsBook-commit : v ≡ Committed → IsBook (record b { now = now; entries = entries; attempts = rest }) counts' rows' standings'
+        IsBook-commit done = record {
           kept = subst (λ x. IsKept x) (sym committed) (IsKept-commit b (take i b.attempts) place.attempt (drop (i + 1) b.attempts) book.kept split outcome);
           counted = counted_here;
           locked = locked_here;
-          marked =
-              marks_is ∙ ap (λ x. set x call true) book.marked ∙ ap (λ k. set (marks_with b.entries (replicate (length b.begun) false)) k true) call_there
-              ∙ sym (ap (λ es. marks_with es (replicate (length b.begun) false)) entries_is ∙ marks_with-append b.entries (e ∷ []) (replicate (length b.begun) false));
+          standing =
+              noted_here
+              ∙ standing_left b counts rows standings book (take i b.attempts) place.attempt (drop (i + 1) b.attempts) split i v before_here
+              ∙ ap (λ x. live_with 0 (take i b.attempts ++ drop (i + 1) b.attempts) (set (committed_with b.entries (replicate (length b.begun) Idle)) place.attempt.call x)) done
+              ∙ ap (λ k. live_with 0 (take i b.attempts ++ drop (i + 1) b.attempts) (set (committed_with b.entries (replicate (length b.begun) Idle)) k Committed)) (place.call_is ∙ call_there)
+              ∙ ap (live_with 0 (take i b.attempts ++ drop (i + 1) b.attempts)) (sym (committed_with-append b.entries (e ∷ []) (replicate (length b.begun) Idle)))
+              ∙ sym (λ k. live_with 0 (rest_is k) (committed_with (entries_is k) (replicate (length b.begun) Idle)));
         }
 
         pub CommitDone-commit : (trace : List Step) → z.trace ≡ trace → (position : ℕ) → position ≡ length b.entries → CommitDone b (record b { now = now; entries = entries; attempts = rest }) call number trace outcome position
@@ -277,24 +374,44 @@ few_entries b kept =
 
 -- ---- a begin
 
-module _ (b : Content) (counts : Counts) (rows : List Modes) (marks : List Bool) (book : IsBook b counts rows marks) (call : ℕ) (below : call < length b.begun) where
-  pub mark_below : call < length marks
-  mark_below = subst (λ n. call < n) (sym (length-marks b counts rows marks book)) below
+module _ (b : Content) (counts : Counts) (rows : List Modes) (standings : List Standing) (book : IsBook b counts rows standings) (call : ℕ) (below : call < length b.begun) where
+  pub standing_below : call < length standings
+  standing_below = subst (λ n. call < n) (sym (length-standings b counts rows standings book)) below
 
-  pub committed_before : (mark : Bool) → mark ≡ get_or marks call mark → mark ≡ true → ¬ (call_is_new call b.entries)
-  committed_before mark is = marked_is_old call (length b.begun) b.entries marks book.marked below mark is
+  module _ (x : Standing) (x_is : x ≡ get_or standings call x) where
+    pub idle_before : x ≡ Idle → HasNoAttempt call b.attempts × call_is_new call b.entries
+    idle_before e =
+        stands_idle (length b.begun) b.attempts b.entries standings book.standing call below x x_is e
+        (calls_known b counts rows standings book) (entries_known b counts rows standings book)
 
-  pub never_committed : (mark : Bool) → mark ≡ get_or marks call mark → mark ≡ false → call_is_new call b.entries
-  never_committed mark is =
-      unmarked_is_new call (length b.begun) b.entries marks book.marked below mark is (All-weaken (IsEntry b.begun) (λ e. e.call < length b.begun) (λ e h. h.known) b.entries book.kept.each_entry)
+    pub live_before : (j : ℕ) → x ≡ Live j → ¬ (HasNoAttempt call b.attempts)
+    live_before = stands_live (length b.begun) b.attempts b.entries standings book.standing call below x x_is
+
+    stands : slice_get standings call ≡ Some x
+    stands = slice_get-get_or standings call x standing_below ∙ ap Some (sym x_is)
+
+    pub live_new : (j : ℕ) → x ≡ Live j → call_is_new call b.entries
+    live_new j e =
+        let here : slice_get standings call ≡ Some (Live j) = stands ∙ ap Some e in
+        let are = are_standing b counts rows standings book b.attempts standings refl refl in
+        let h = found_at (IsLive (settled b.opening b.entries) b.begun b.entries) b.attempts j (are.within call j here) book.kept.each_live in
+        subst (λ k. call_is_new k b.entries) (are.called call j h.0 here h.1) h.2.uncommitted
+
+    pub committed_alone : x ≡ Committed → HasNoAttempt call b.attempts
+    committed_alone e =
+        none_there b.attempts standings (are_standing b counts rows standings book b.attempts standings refl refl) call
+        (λ i here. let no : Some Committed ≡ Some (Live i) = sym (stands ∙ ap Some e) ∙ here in cc)
+
+    pub committed_before : x ≡ Committed → ¬ (call_is_new call b.entries)
+    committed_before = stands_committed (length b.begun) b.attempts b.entries standings book.standing call below x x_is
 
   module _ (none : HasNoAttempt call b.attempts) (new : call_is_new call b.entries) (attempts : List Attempt) (begun : List ℕ) (a : Attempt) (number : ℕ)
       (n : number ≡ get_or b.begun call 0) (f : a ≡ fresh call number) (e : attempts ≡ b.attempts ++ a ∷ []) (g : begun ≡ set b.begun call (number + 1)) where
     begins : ◌≡◌ {A = Content} (record b { attempts = attempts; begun = begun }) (after_begin b call)
     begins = λ k. record b { attempts = (e ∙ ap (λ x. b.attempts ++ x ∷ []) (f ∙ ap (fresh call) n)) k; begun = (g ∙ ap (λ x. set b.begun call (x + 1)) n) k }
 
-    pub IsBook-begin : IsBook (record b { attempts = attempts; begun = begun }) counts rows marks
-    IsBook-begin =
+    pub IsBook-begin : (place : ℕ) → place ≡ length b.attempts → (standings' : List Standing) → standings' ≡ set standings call (Live place) → IsBook (record b { attempts = attempts; begun = begun }) counts rows standings'
+    IsBook-begin place place_is standings' standings_is =
         let wide : length (set b.begun call (get_or b.begun call 0 + 1)) ≡ length b.begun = length-set b.begun call (get_or b.begun call 0 + 1) in
         record {
           kept = subst (λ x. IsKept x) (sym begins) (IsKept-begin b call book.kept below none new);
@@ -306,7 +423,12 @@ module _ (b : Content) (counts : Counts) (rows : List Modes) (marks : List Bool)
               ∙ rows_with-append b.attempts (fresh call (get_or b.begun call 0) ∷ []) (replicate (length b.begun) empty)
               ∙ ap (set (rows_with b.attempts (replicate (length b.begun) empty)) call) (sym (empty_row call (length b.begun) b.attempts below none))
               ∙ set-get_or (rows_with b.attempts (replicate (length b.begun) empty)) call empty);
-          marked = book.marked ∙ sym (ap (λ (x : Content). marks_with x.entries (replicate (length x.begun) false)) begins ∙ ap (λ m. marks_with b.entries (replicate m false)) wide);
+          standing =
+              standings_is
+              ∙ (λ k. set (book.standing k) call (Live (place_is k)))
+              ∙ sym (ap (λ (x : Content). live_with 0 x.attempts (committed_with x.entries (replicate (length x.begun) Idle))) begins
+              ∙ ap (λ m. live_with 0 (b.attempts ++ fresh call (get_or b.begun call 0) ∷ []) (committed_with b.entries (replicate m Idle))) wide
+              ∙ live_with-append 0 (length b.attempts) b.attempts (fresh call (get_or b.begun call 0) ∷ []) (committed_with b.entries (replicate (length b.begun) Idle)) (omega arith));
         }
 
     pub BeginDone-begin : BeginDone b (record b { attempts = attempts; begun = begun }) call number
@@ -314,7 +436,7 @@ module _ (b : Content) (counts : Counts) (rows : List Modes) (marks : List Bool)
 
 -- ---- the newest attempt undone
 
-module _ (b : Content) (counts : Counts) (rows : List Modes) (marks : List Bool) (book : IsBook b counts rows marks) (p : List Attempt) (a : Attempt) (split : b.attempts ≡ p ++ a ∷ []) where
+module _ (b : Content) (counts : Counts) (rows : List Modes) (standings : List Standing) (book : IsBook b counts rows standings) (p : List Attempt) (a : Attempt) (split : b.attempts ≡ p ++ a ∷ []) where
   rest_is : p ++ [] ≡ p
   rest_is = append-nil p
 
@@ -325,18 +447,23 @@ module _ (b : Content) (counts : Counts) (rows : List Modes) (marks : List Bool)
   last_may_close is e = subst (λ x. AreUnsettled x counts) (sym e) (subst (AreUnsettled a.inverses) (sym last_out) (AreUnsettled-opened_all a.inverses _ (AreCounts-live p empty AreCounts-empty)))
 
   pub last_row : (k : ℕ) → k ≡ a.call → k < length rows
-  last_row k e = subst (λ n. k < n) (sym (length-rows b counts rows marks book)) (subst (λ x. x < length b.begun) (sym e) (known_there b counts rows marks book p a [] split))
+  last_row k e = subst (λ n. k < n) (sym (length-rows b counts rows standings book)) (subst (λ x. x < length b.begun) (sym e) (known_there b counts rows standings book p a [] split))
+
+  pub last_standing : (k : ℕ) → k ≡ a.call → k < length standings
+  last_standing k e = subst (λ n. k < n) (sym (length-standings b counts rows standings book)) (subst (λ x. x < length b.begun) (sym e) (known_there b counts rows standings book p a [] split))
 
   module _ (is : List Inverse) (is_is : is ≡ a.inverses) (counts' : Counts) (counts_is : counts' ≡ closed_all is counts) (now : Cells) (now_is : now ≡ back_all is b.now) where
     last_undone : ◌≡◌ {A = Content} (record b { now = now; attempts = p }) (after_undo b p a [])
     last_undone = λ k. record b { now = (now_is ∙ ap (λ x. back_all x b.now) is_is) k; attempts = sym rest_is k }
 
-    pub IsBook-undo_last : (k : ℕ) → k ≡ a.call → (rows' : List Modes) → rows' ≡ set rows k empty → IsBook (record b { now = now; attempts = p }) counts' rows' marks
-    IsBook-undo_last k k_is rows' rows_is' = record {
+    pub IsBook-undo_last : (k : ℕ) → k ≡ a.call → (rows' : List Modes) → rows' ≡ set rows k empty → (standings' : List Standing) → standings' ≡ set standings k Idle → IsBook (record b { now = now; attempts = p }) counts' rows' standings'
+    IsBook-undo_last k k_is rows' rows_is' standings' standings_is = record {
       kept = subst (λ x. IsKept x) (sym last_undone) (IsKept-undo b p a [] book.kept split);
       counted = counts_is ∙ ap (λ x. closed_all x counts) is_is ∙ ap (closed_all a.inverses) last_out ∙ closed_all-opened_all a.inverses _ (AreCounts-live p empty AreCounts-empty);
-      locked = rows_is' ∙ ap (λ x. set rows x empty) k_is ∙ rows_left b counts rows marks book p a [] split ∙ ap (λ x. rows_with x (replicate (length b.begun) empty)) rest_is;
-      marked = book.marked;
+      locked = rows_is' ∙ ap (λ x. set rows x empty) k_is ∙ rows_left b counts rows standings book p a [] split ∙ ap (λ x. rows_with x (replicate (length b.begun) empty)) rest_is;
+      standing =
+          standings_is ∙ ap (λ x. set standings x Idle) k_is ∙ idle_left b counts rows standings book p a [] split (length p) refl
+          ∙ ap (λ x. live_with 0 x (committed_with b.entries (replicate (length b.begun) Idle))) rest_is;
     }
 
     pub IsUndoneLast-undo : IsUndoneLast b (record b { now = now; attempts = p })

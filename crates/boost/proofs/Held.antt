@@ -1,7 +1,6 @@
--- The rows of a table of locks beside live attempts, and the marks of committed calls.
-use Rattle.std.proofs.Common.{◌≡◌, ◌≢◌, ℕ, zero, suc, ◌+◌, ◌<◌, Bool, true, false, cond, Some, List, [], ◌∷◌, ◌++◌, length, take, drop, get_or, set, replicate, refl, sym, ◌∙◌, ap, subst, arith}
+-- The rows of a table of locks beside live attempts.
+use Rattle.std.proofs.Common.{◌≡◌, ◌≢◌, ℕ, zero, suc, ◌+◌, ◌<◌, true, false, cond, Some, List, [], ◌∷◌, ◌++◌, length, take, drop, get_or, set, replicate, refl, sym, ◌∙◌, ap, subst, arith}
 use Rattle.std.proofs.lemmas.List.{set-set, set_comm, set-get_or, get_or-set_same, get_or-set_other, get_or-replicate, length-set, length-replicate, take-set, drop-set-lt}
-use Rattle.std.proofs.lemmas.Bool.{false≢true}
 use Rattle.std.specs.FinMap.{get, empty, get-insert, get-empty, same_map}
 use Rattle.std.specs.List.{AllByRecursion}
 use Rattle.std.specs.Ordering.{eq_by_cmp}
@@ -10,14 +9,14 @@ use Rattle.spec_ledger.specs.declared.Mode.{Mode}
 use Rattle.spec_ledger.specs.declared.Step.{Step}
 use Rattle.spec_ledger.specs.Cells.{lock_cmp, lock_of}
 use Rattle.spec_ledger.specs.Modes.{Modes, mode_of, mode_at, join_held, may_share, touched}
-use Rattle.spec_ledger.specs.Book.{Attempt, Entry, AreSideBySide, AreAllSideBySide, call_is_new}
+use Rattle.spec_ledger.specs.Book.{Attempt, AreSideBySide, AreAllSideBySide}
 use Rattle.spec_ledger.specs.Events.{HasNoAttempt}
 use Rattle.spec_ledger.proofs.Maps.{is_key, lock_cmp_total, lock_cmp-IsAntisymmetric}
 use Rattle.spec_ledger.proofs.Traces.{All-weaken, get-touched, mode_at-push}
 use Rattle.spec_ledger.proofs.Kept.{All-with, All-without}
 use Rattle.abstract_locks.specs.Table.{AllShare, asked, others}
 use Rattle.abstract_locks.proofs.Rows.{split_row}
-use Rattle.boost.specs.Kept.{rows_with, marks_with}
+use Rattle.boost.specs.Kept.{rows_with}
 
 -- ---- rows
 
@@ -152,46 +151,3 @@ touched-push t s = same_map lock_cmp_total lock_cmp-IsAntisymmetric _ _ (λ q.
       | false ↦ λ _. sym (get-touched t q)
     ] refl
     ∙ sym (get-insert lock_cmp_total (touched t) (lock_of s.op) (join_held (mode_of s.op) (get (touched t) (lock_of s.op))) q))
-
--- ---- marks
-
-pub marks_with-append : (es fs : List Entry) (marks : List Bool) → marks_with (es ++ fs) marks ≡ marks_with fs (marks_with es marks)
-marks_with-append [] fs marks = refl
-marks_with-append (e ∷ es) fs marks = marks_with-append es fs (set marks e.call true)
-
-pub length-marks_with : (es : List Entry) (marks : List Bool) → length (marks_with es marks) ≡ length marks
-length-marks_with [] marks = refl
-length-marks_with (e ∷ es) marks = length-marks_with es (set marks e.call true) ∙ length-set marks e.call true
-
-unmarked : (k : ℕ) (es : List Entry) (marks : List Bool) (d : Bool) → call_is_new k es → get_or (marks_with es marks) k d ≡ get_or marks k d
-unmarked k [] marks d h = refl
-unmarked k (e ∷ es) marks d h = unmarked k es (set marks e.call true) d h.1 ∙ get_or-set_other marks e.call k true d (λ p. h.0 (sym p))
-
-set_true : (marks : List Bool) (k i : ℕ) (d : Bool) → get_or marks k d ≡ true → get_or (set marks i true) k d ≡ true
-set_true [] k i d h = h
-set_true (x ∷ marks) zero zero d h = refl
-set_true (x ∷ marks) zero (suc i) d h = h
-set_true (x ∷ marks) (suc k) zero d h = h
-set_true (x ∷ marks) (suc k) (suc i) d h = set_true marks k i d h
-
-stays_marked : (k : ℕ) (es : List Entry) (marks : List Bool) (d : Bool) → get_or marks k d ≡ true → get_or (marks_with es marks) k d ≡ true
-stays_marked k [] marks d h = h
-stays_marked k (e ∷ es) marks d h = stays_marked k es (set marks e.call true) d (set_true marks k e.call d h)
-
-new_unmarked : (k : ℕ) (es : List Entry) (marks : List Bool) (d : Bool) → AllByRecursion (λ e. e.call < length marks) es → get_or (marks_with es marks) k d ≡ false → call_is_new k es
-new_unmarked k [] marks d known h = tt
-new_unmarked k (e ∷ es) marks d known h = (
-  λ same.
-      let there : get_or (set marks e.call true) k d ≡ true = subst (λ i. get_or (set marks e.call true) i d ≡ true) same (get_or-set_same marks e.call true d known.0) in
-      false≢true (sym h ∙ stays_marked k es (set marks e.call true) d there),
-  new_unmarked k es (set marks e.call true) d (subst (λ n. AllByRecursion (λ f. f.call < n) es) (sym (length-set marks e.call true)) known.1) h,
-)
-
-module _ (k n : ℕ) (es : List Entry) (marks : List Bool) (marks_is : marks ≡ marks_with es (replicate n false)) (below : k < n) (mark : Bool) (mark_is : mark ≡ get_or marks k mark) where
-  pub marked_is_old : mark ≡ true → ¬ (call_is_new k es)
-  marked_is_old e h = false≢true (sym (mark_is ∙ ap (λ x. get_or x k mark) marks_is ∙ unmarked k es (replicate n false) mark h ∙ get_or-replicate n k false mark below) ∙ e)
-
-  pub unmarked_is_new : AllByRecursion (λ e. e.call < n) es → mark ≡ false → call_is_new k es
-  unmarked_is_new known e =
-      new_unmarked k es (replicate n false) mark (subst (λ m. AllByRecursion (λ f. f.call < m) es) (sym (length-replicate n false)) known)
-      (sym (mark_is ∙ ap (λ x. get_or x k mark) marks_is) ∙ e)

@@ -207,21 +207,9 @@ impl Attempt {
         self.number
     }
 
-    pub(crate) fn is_call(&self, call: u32) -> bool
-        ensures { IsTrue result ↔ (self.now.call ≡ call) }
-    {
-        self.call == call
-    }
-
     pub(crate) fn has_trace(&self, trace: &[Step]) -> bool
         ensures { IsTrue result ↔ (self.now.trace ≡ trace.now) }
     {
         same_trace(&self.trace, trace)
-    }
-
-    pub(crate) fn is_of(&self, call: u32, number: u64) -> bool
-        ensures { IsTrue result ↔ ((self.now.call ≡ call) × (self.now.number ≡ number)) }
-    {
-        self.call == call && self.number == number
     }
 }

@@ -4,10 +4,11 @@ ghost use Rattle.std.specs.List.{AllByRecursion};
 ghost use Rattle.spec_ledger.specs.Book.{IsKept, IsGranted, extended, after_undo, after_commit, entry_of, call_is_new, settled};
 ghost use Rattle.spec_ledger.specs.Facts.{CellsAreSettledButForHolders, EntriesAreSerialRun, LiveAttemptsGoTogether, LiveTracesGetReplies};
 ghost use Rattle.spec_ledger.specs.Events.{IsStale, BeginDone, HasNoAttempt, OpDone, IsConflict, UndoDone, CommitDone, IsOther, IsUndoneLast};
-ghost use Rattle.boost.specs.Kept.{IsBook, IsPlace};
+ghost use Rattle.boost.specs.Kept.{AreStanding, IsBook, IsPlace};
 ghost use Rattle.std.specs.FinMap as finite;
 
 use crate::attempt::{Attempt, Entry, end_all, mode, returned, take_all_back};
+use crate::standing::{Standing, note_places, place_of};
 use abstract_locks::Table;
 use spec_ledger::{Lock, Op, Outcome, Reply, Step};
 use std::alloc::Global;
@@ -85,7 +86,7 @@ pub struct Book {
     attempts: Vec<Attempt>,
     begun: Vec<u64>,
     locks: Table,
-    committed: Vec<bool>,
+    standings: Vec<Standing>,
 }
 
 impl Model for Book {
@@ -99,31 +100,33 @@ impl Model for Book {
 
     ghost view = { λ b. record { opening = b.opening.cells; now = b.cells.cells; entries = b.entries.items; attempts = b.attempts.items; begun = b.begun.items } };
 
-    ghost invariant = { λ b. IsBook (record { opening = b.opening.cells; now = b.cells.cells; entries = b.entries.items; attempts = b.attempts.items; begun = b.begun.items }) b.cells.unsettled b.locks b.committed.items };
+    ghost invariant = { λ b. IsBook (record { opening = b.opening.cells; now = b.cells.cells; entries = b.entries.items; attempts = b.attempts.items; begun = b.begun.items }) b.cells.unsettled b.locks b.standings.items };
 }
 
 /// Where the attempt of a ticket stands, if it lives.
-fn find(attempts: &[Attempt], ticket: &Ticket) -> Option<usize>
+fn find(attempts: &[Attempt], standings: &[Standing], ticket: &Ticket) -> Option<usize>
+    requires { AreStanding attempts.now standings.now }
     ensures found { IfSome result (λ i. IsPlace attempts.now i ticket.now.call ticket.now.number) }
     ensures none { IfNone result (AllByRecursion (λ a. ¬ ((a.call ≡ ticket.now.call) × (a.number ≡ ticket.now.number))) attempts.now) }
 {
-    for (i, attempt) in attempts.iter().enumerate() {
-        if attempt.is_of(ticket.call, ticket.number) {
-            return Some(i);
-        }
+    let Some(place) = place_of(standings, ticket.call) else {
+        return None;
+    };
+    if attempts[place].number() != ticket.number {
+        return None;
     }
-    None
+    Some(place)
 }
 
 impl Book {
     /// Does an operation for a live attempt.
     pub fn op(&mut self, ticket: &Ticket, op: Op) -> Result<Reply, OpRefusal>
         ensures ok { IfOk result (λ reply. OpDone self.old self.new ticket.now.call ticket.now.number op reply) }
-        ensures conflict { result ≡ Err OpRefusal.Conflict → IsConflict self.old ticket.now.call ticket.now.number op }
+        ensures conflict { (result ≡ Err OpRefusal.Conflict) ↔ IsConflict self.old ticket.now.call ticket.now.number op }
         ensures stale { (result ≡ Err OpRefusal.Stale) ↔ IsStale self.old ticket.now.call ticket.now.number }
         ensures err { OnErr result (self.new ≡ self.old) }
     {
-        let Some(i) = find(&self.attempts, ticket) else {
+        let Some(i) = find(&self.attempts, &self.standings, ticket) else {
             return Err(OpRefusal::Stale);
         };
         if !self.locks.may_take(ticket.call, lock(op), mode(op)) {
@@ -140,23 +143,25 @@ impl Book {
         ensures stale { IsStale self.old ticket.call ticket.number → self.new ≡ self.old }
         ensures done { IsStale self.old ticket.call ticket.number ⊎ UndoDone self.old self.new ticket.call ticket.number }
     {
-        let Some(i) = find(&self.attempts, &ticket) else {
+        let Some(i) = find(&self.attempts, &self.standings, &ticket) else {
             return;
         };
         let attempt = self.attempts.remove(i);
-        self.locks.release(ticket.call);
         take_all_back(&mut self.cells, attempt.into_inverses());
+        self.locks.release(ticket.call);
+        self.standings[ticket.call as usize] = Standing::Idle;
+        note_places(&mut self.standings, &self.attempts, i);
     }
 
     /// Commits a live attempt, whose trace is that of the run, and answers its position.
     pub fn commit(&mut self, ticket: Ticket, run: &Run<'_>) -> Result<u32, (Ticket, CommitRefusal)>
         ensures ok { IfOk result (λ position. CommitDone self.old self.new ticket.call ticket.number run.now.trace.now run.now.outcome position) }
-        ensures stale { IfErr result (λ e. e.1 ≡ CommitRefusal.Stale → IsStale self.old ticket.call ticket.number) }
-        ensures differs { IfErr result (λ e. e.1 ≡ CommitRefusal.Differs → IsOther self.old ticket.call ticket.number run.now.trace.now) }
+        ensures stale { IfErr result (λ e. (e.1 ≡ CommitRefusal.Stale) ↔ IsStale self.old ticket.call ticket.number) }
+        ensures differs { IfErr result (λ e. (e.1 ≡ CommitRefusal.Differs) ↔ IsOther self.old ticket.call ticket.number run.now.trace.now) }
         ensures ticket { IfErr result (λ e. e.0 ≡ ticket) }
         ensures err { OnErr result (self.new ≡ self.old) }
     {
-        let Some(i) = find(&self.attempts, &ticket) else {
+        let Some(i) = find(&self.attempts, &self.standings, &ticket) else {
             return Err((ticket, CommitRefusal::Stale));
         };
         if !self.attempts[i].has_trace(run.trace) {
@@ -167,10 +172,11 @@ impl Book {
         }
         let position = self.entries.len() as u32;
         let attempt = self.attempts.remove(i);
-        self.locks.release(ticket.call);
-        self.committed[ticket.call as usize] = true;
         let (entry, inverses) = attempt.into_entry(run.outcome);
         end_all(&mut self.cells, inverses, returned(run.outcome));
+        self.locks.release(ticket.call);
+        self.standings[ticket.call as usize] = Standing::Committed;
+        note_places(&mut self.standings, &self.attempts, i);
         match self.entries.push(entry) {
             Ok(()) => Ok(position),
             Err(_) => unreachable!(),
@@ -190,7 +196,7 @@ impl Book {
         let Ok(begun) = vec![in alloc; 0u64; calls as usize] else {
             return Err(NoMemory);
         };
-        let Ok(committed) = vec![in alloc; false; calls as usize] else {
+        let Ok(standings) = vec![in alloc; Standing::Idle; calls as usize] else {
             return Err(NoMemory);
         };
         let locks = Table::open(alloc, calls)?;
@@ -202,7 +208,7 @@ impl Book {
             attempts: Vec::new(alloc),
             begun,
             locks,
-            committed,
+            standings,
         })
     }
 
@@ -214,8 +220,10 @@ impl Book {
         let Some(attempt) = self.attempts.pop() else {
             return false;
         };
-        self.locks.release(attempt.call());
+        let call = attempt.call();
         take_all_back(&mut self.cells, attempt.into_inverses());
+        self.locks.release(call);
+        self.standings[call as usize] = Standing::Idle;
         true
     }
 
@@ -234,7 +242,7 @@ impl Book {
             attempts: _,
             begun: _,
             locks: _,
-            committed: _,
+            standings: _,
         } = self;
         Closed {
             opening,
@@ -248,7 +256,7 @@ impl Book {
         ensures found { IfSome result (λ t. (t.call ≡ call) × ¬ (IsStale self.now call t.number)) }
         ensures none { IfNone result (HasNoAttempt call self.now.attempts) }
     {
-        ticket_in(&self.attempts, call)
+        ticket_in(&self.attempts, &self.standings, call)
     }
 
     /// What a cell holds now.
@@ -272,18 +280,17 @@ impl Book {
     pub fn begin(&mut self, call: u32) -> Result<Ticket, BeginRefusal>
         ensures ok { IfOk result (λ ticket. (ticket.call ≡ call) × BeginDone self.old self.new call ticket.number) }
         ensures no_such_call { (result ≡ Err BeginRefusal.NoSuchCall) ↔ (length self.old.begun ≤ call) }
-        ensures live { result ≡ Err BeginRefusal.Live → ¬ (HasNoAttempt call self.old.attempts) }
-        ensures committed { result ≡ Err BeginRefusal.Committed → ¬ (call_is_new call self.old.entries) }
+        ensures live { (result ≡ Err BeginRefusal.Live) ↔ ¬ (HasNoAttempt call self.old.attempts) }
+        ensures committed { (result ≡ Err BeginRefusal.Committed) ↔ ¬ (call_is_new call self.old.entries) }
         ensures err { OnErr result (self.new ≡ self.old) }
     {
         if call as usize >= self.begun.len() {
             return Err(BeginRefusal::NoSuchCall);
         }
-        if !none_of(&self.attempts, call) {
-            return Err(BeginRefusal::Live);
-        }
-        if self.committed[call as usize] {
-            return Err(BeginRefusal::Committed);
+        match self.standings[call as usize] {
+            Standing::Idle => (),
+            Standing::Live(_) => return Err(BeginRefusal::Live),
+            Standing::Committed => return Err(BeginRefusal::Committed),
         }
         let number = self.begun[call as usize];
         if number == u64::MAX {
@@ -292,26 +299,16 @@ impl Book {
         if self.attempts.reserve(1).is_err() {
             return Err(BeginRefusal::NoMemory);
         }
+        let place = self.attempts.len();
         let attempt = Attempt::fresh(self.alloc, call, number);
         match self.attempts.push(attempt) {
             Ok(()) => (),
             Err(_) => unreachable!(),
         }
         self.begun[call as usize] = number + 1;
+        self.standings[call as usize] = Standing::Live(place);
         Ok(Ticket { call, number })
     }
-}
-
-/// Whether no attempt is of a call.
-fn none_of(attempts: &[Attempt], call: u32) -> bool
-    ensures { IsTrue result ↔ HasNoAttempt call attempts.now }
-{
-    for attempt in attempts {
-        if attempt.is_call(call) {
-            return false;
-        }
-    }
-    true
 }
 
 impl Drop for Book {
@@ -324,23 +321,20 @@ impl Drop for Book {
             attempts: _,
             begun: _,
             locks: _,
-            committed: _,
+            standings: _,
         } = self;
     }
 }
 
 /// The ticket of a call's attempt among these.
-fn ticket_in(attempts: &[Attempt], call: u32) -> Option<Ticket>
+fn ticket_in(attempts: &[Attempt], standings: &[Standing], call: u32) -> Option<Ticket>
+    requires { AreStanding attempts.now standings.now }
     ensures found { IfSome result (λ t. (t.call ≡ call) × ¬ (AllByRecursion (λ a. ¬ ((a.call ≡ call) × (a.number ≡ t.number))) attempts.now)) }
     ensures none { IfNone result (HasNoAttempt call attempts.now) }
 {
-    for attempt in attempts {
-        if attempt.is_call(call) {
-            return Some(Ticket {
-                call,
-                number: attempt.number(),
-            });
-        }
-    }
-    None
+    let Some(place) = place_of(standings, call) else {
+        return None;
+    };
+    let number = attempts[place].number();
+    Some(Ticket { call, number })
 }

@@ -4,6 +4,7 @@
 pub mod attempt;
 pub mod book;
 pub mod play;
+mod standing;
 #[cfg(test)]
 mod tests;
 mod trace;

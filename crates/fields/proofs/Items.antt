@@ -1,8 +1,8 @@
 -- Items that are read exactly one by one are read exactly as a list, and a loop reads them.
-use Rattle.std.proofs.Common.{◌≡◌, ℕ, zero, suc, ◌-◌, ◌+◌, ◌*◌, ◌≤◌, ◌<◌, false, ltb, List, [], ◌∷◌, ◌++◌, length, Option, Some, None, Ok, Err, refl, sym, ap, subst, ◌∙◌, append_assoc, append-nil, arith}
+use Rattle.std.proofs.Common.{◌≡◌, ℕ, zero, suc, ◌-◌, ◌+◌, ◌*◌, ◌≤◌, ◌<◌, false, ltb, List, [], ◌∷◌, ◌++◌, length, Option, Some, None, Ok, Err, refl, sym, ap, subst, ◌∙◌, append_assoc, append-nil, arith, get_or, take}
 use Rattle.std.specs.List.{flat_map}
 use Rattle.std.proofs.lemmas.Bool.{le-ltb}
-use Rattle.std.proofs.lemmas.List.{length-append}
+use Rattle.std.proofs.lemmas.List.{length-append, take_more, flat_map_more}
 use Rattle.fields.specs.declared.fault.Fault.{Fault}
 use Rattle.fields.specs.declared.fault.Fault.TheVariants.{Malformed, TooLarge, NoMemory}
 use Rattle.fields.specs.Reading.{Read, ◌>>=◌, Fails, items_at, after_count}
@@ -95,3 +95,12 @@ is_done {A = A} item_at front count i before bytes total le so_far =
     let k : count - i ≡ 0 = omega arith in
     let one : with_front front (items_at item_at (count - i) before bytes) ≡ Ok (front, bytes) = rw k (ap (λ (ns : List A). Ok (ns, bytes)) (append-nil front)) in
     sym so_far ∙ one
+
+-- ---- a loop that appends
+
+pub one_more : {X : Type 0} (text : X → List ℕ) (old front out new : List ℕ) (xs : List X) (i : ℕ) (x : X) → i < length xs → x ≡ get_or xs i x
+    → out ≡ old ++ (front ++ flat_map text (take i xs)) → new ≡ out ++ text x → new ≡ old ++ (front ++ flat_map text (take (i + 1) xs))
+one_more {X = X} text old front out new xs i x lt is so_far added =
+    let last : take i xs ++ x ∷ [] ≡ take (i + 1) xs = ap (λ (y : X). take i xs ++ y ∷ []) is ∙ sym (take_more xs i x lt) in
+    added ∙ (ap (λ (s : List ℕ). s ++ text x) so_far ∙ (append_assoc old (front ++ flat_map text (take i xs)) (text x)
+    ∙ ap (λ (s : List ℕ). old ++ s) (flat_map_more text front (take i xs) x ∙ ap (λ (ys : List X). front ++ flat_map text ys) last)))

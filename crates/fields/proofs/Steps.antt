@@ -98,3 +98,8 @@ front_on (x ∷ old) (y ∷ mid) (z ∷ new) rest e f =
 pub appended : (old one two new a b c : List ℕ) → one ≡ old ++ a → two ≡ one ++ b → new ≡ two ++ c → new ≡ old ++ (a ++ b ++ c)
 appended old one two new a b c p q r =
     r ∙ (ap (λ (s : List ℕ). s ++ c) (q ∙ (ap (λ (s : List ℕ). s ++ b) p ∙ append_assoc old a b)) ∙ append_assoc old (a ++ b) c)
+
+-- what is true of what was returned, and what follows of it
+pub ok_also : {X E : Type 0} {P Q : X → Type 0} (r : Result X E) → ((x : X) → P x → Q x) → IfOk r P → IfOk r Q
+ok_also (Ok x) f h = f x h
+ok_also (Err e) f h = tt

@@ -2,17 +2,17 @@
 ghost use Rattle.std.specs.Prelude.{◌≡◌, ℕ, ◌+◌, ◌<◌, ◌≤◌, ◌^◌, List, ◌++◌, [], map, replicate, true, length, IfOk, OnOk};
 ghost use Rattle.std.specs.List.{list_all};
 ghost use Rattle.wtypes.specs.declared.ValType.{ValType};
-ghost use Rattle.spec_syntax.specs.Syntax.{Instrs};
+ghost use Rattle.spec_syntax.specs.Syntax.{Instrs, Func};
 ghost use Rattle.spec_syntax.specs.Profile.{local_limit};
 ghost use Rattle.spec_syntax.specs.Limits.{counts_from};
 ghost use Rattle.expr_reader.specs.Outcome.{Gives};
-ghost use Rattle.spec_module_laws.specs.ReadingModules.{both_at, runs_at, locals_at, init_at, codes_at, entries_at, whole_at, slot_at};
+ghost use Rattle.spec_module_laws.specs.ReadingModules.{both_at, runs_at, locals_at, init_at, codes_at, entries_at, slot_at};
 ghost use Rattle.module_tree.specs.View.{instrs_view, ordinals};
 ghost use Rattle.module_tree.specs.ModuleView.{func_view, func_ordinals};
 
 use crate::items::init_of;
-use crate::sections::{behind, inside_of, skip_customs};
-use crate::values::{sized_of, u32_of, value_type_of};
+use crate::sections::{inside_of, slot_of};
+use crate::values::{u32_of, value_type_of};
 use crate::vectors::Reader;
 use expr_reader::LoadRefusal;
 use module_tree::instr::Instr;
@@ -82,11 +82,12 @@ impl<A: Allocator + Clone> Reader<A> for Codes {
 
     ghost view = { λ c. (c.0.items, instrs_view c.1.items) };
 
-    ghost reading = { both_at locals_at init_at };
+    ghost reading = { λ _. both_at locals_at init_at };
 
     ghost is_numbered = { λ c. counts_from 0 (ordinals c.1.items) };
 
     fn read<'b>(
+        &self,
         alloc: &A,
         bytes: &'b [u8],
     ) -> Result<((Vec<ValType, A>, Vec<Instr<A>, A>), &'b [u8]), LoadRefusal> {
@@ -110,7 +111,7 @@ fn codes_of<'b, A: Allocator + Clone>(
     let mut funcs = Vec::new(alloc.clone()?);
     let mut rest = bytes;
     for index in indices {
-        let (code, after) = inside_of::<A, Codes>(alloc, rest)?;
+        let (code, after) = inside_of(alloc, &Codes, rest)?;
         let (locals, body) = code;
         let func = Func {
             type_index: *index,
@@ -123,30 +124,38 @@ fn codes_of<'b, A: Allocator + Clone>(
     Ok((funcs, rest))
 }
 
-// All of the bytes: as many entries as there are type indices.
-#[tactic(auto, unfolding(spec_module_laws::specs::ReadingModules::entries_at))]
-fn entries_of<A: Allocator + Clone>(
-    alloc: &A,
-    indices: &[u32],
-    bytes: &[u8],
-) -> Result<Vec<Func<A>, A>, LoadRefusal>
-    requires small { length bytes.now < 2 ^ 32 }
-    ensures value { Gives (λ x. map func_view x.items) result (whole_at (entries_at indices.now) bytes.now) }
-    ensures numbered { IfOk result (λ x. list_all (λ f. counts_from 0 (func_ordinals f)) x.items ≡ true) }
-{
-    let (count, rest) = u32_of(bytes)?;
-    if count as usize != indices.len() {
-        return Err(LoadRefusal::Malformed(bytes.len()));
-    }
-    let (funcs, left) = codes_of(alloc, indices, rest)?;
-    match left {
-        [] => Ok(funcs),
-        [_, ..] => Err(LoadRefusal::Malformed(left.len())),
+// As many entries as there are type indices.
+#[derive(Drop)]
+struct Entries<'i> {
+    indices: &'i [u32],
+}
+
+impl<A: Allocator + Clone> Reader<A> for Entries<'_> {
+    type Item = Vec<Func<A>, A>;
+
+    ghost Seen = { List Func };
+
+    ghost view = { λ v. map func_view v.items };
+
+    ghost reading = { λ e. entries_at e.indices.now };
+
+    ghost is_numbered = { λ v. list_all (λ f. counts_from 0 (func_ordinals f)) v.items };
+
+    #[tactic(auto, unfolding(spec_module_laws::specs::ReadingModules::entries_at))]
+    fn read<'b>(
+        &self,
+        alloc: &A,
+        bytes: &'b [u8],
+    ) -> Result<(Vec<Func<A>, A>, &'b [u8]), LoadRefusal> {
+        let (count, rest) = u32_of(bytes)?;
+        if count as usize != self.indices.len() {
+            return Err(LoadRefusal::Malformed(bytes.len()));
+        }
+        codes_of(alloc, self.indices, rest)
     }
 }
 
 // The functions of the code section, if it is the next, and the custom sections behind it; else none.
-#[tactic(auto, unfolding(spec_module_laws::specs::ReadingModules::slot_at))]
 pub fn funcs_of<'b, A: Allocator + Clone>(
     alloc: &A,
     indices: &[u32],
@@ -157,15 +166,6 @@ pub fn funcs_of<'b, A: Allocator + Clone>(
     ensures shorter { IfOk result (λ x. length x.1.now ≤ length bytes.now) }
     ensures numbered { IfOk result (λ x. list_all (λ f. counts_from 0 (func_ordinals f)) x.0.items ≡ true) }
 {
-    let [0x0A, after @ ..] = bytes else {
-        return Ok((Vec::new(alloc.clone()?), bytes));
-    };
-    let (content, rest) = sized_of(after)?;
-    match entries_of(alloc, indices, content) {
-        Ok(funcs) => {
-            let rest = skip_customs(rest)?;
-            Ok((funcs, rest))
-        }
-        Err(refusal) => Err(behind(refusal, rest.len())),
-    }
+    let none = Vec::new(alloc.clone()?);
+    slot_of(alloc, &Entries { indices }, 10, none, bytes)
 }

@@ -64,11 +64,11 @@ impl<A: Allocator + Clone> Reader<A> for ValTypes {
 
     ghost view = { λ t. t };
 
-    ghost reading = { value_type_at };
+    ghost reading = { λ _. value_type_at };
 
     ghost is_numbered = { λ _. true };
 
-    fn read<'b>(_alloc: &A, bytes: &'b [u8]) -> Result<(ValType, &'b [u8]), LoadRefusal> {
+    fn read<'b>(&self, _alloc: &A, bytes: &'b [u8]) -> Result<(ValType, &'b [u8]), LoadRefusal> {
         value_type_of(bytes)
     }
 }
@@ -83,11 +83,11 @@ impl<A: Allocator + Clone> Reader<A> for Indices {
 
     ghost view = { λ n. n };
 
-    ghost reading = { u32_at };
+    ghost reading = { λ _. u32_at };
 
     ghost is_numbered = { λ _. true };
 
-    fn read<'b>(_alloc: &A, bytes: &'b [u8]) -> Result<(u32, &'b [u8]), LoadRefusal> {
+    fn read<'b>(&self, _alloc: &A, bytes: &'b [u8]) -> Result<(u32, &'b [u8]), LoadRefusal> {
         u32_of(bytes)
     }
 }
@@ -102,17 +102,17 @@ impl<A: Allocator + Clone> Reader<A> for FuncTypes {
 
     ghost view = { func_type_view };
 
-    ghost reading = { func_type_at };
+    ghost reading = { λ _. func_type_at };
 
     ghost is_numbered = { λ _. true };
 
     #[tactic(auto, unfolding(spec_module_laws::specs::ReadingModules::func_type_at, spec_binary_laws::specs::ReadingExpressions::byte_at))]
-    fn read<'b>(alloc: &A, bytes: &'b [u8]) -> Result<(FuncType<A>, &'b [u8]), LoadRefusal> {
+    fn read<'b>(&self, alloc: &A, bytes: &'b [u8]) -> Result<(FuncType<A>, &'b [u8]), LoadRefusal> {
         match bytes {
             [] => Err(LoadRefusal::Malformed(0)),
             [0x60, rest @ ..] => {
-                let (params, rest) = vector_of::<A, ValTypes>(alloc, rest)?;
-                let (results, rest) = vector_of::<A, ValTypes>(alloc, rest)?;
+                let (params, rest) = vector_of(alloc, &ValTypes, rest)?;
+                let (results, rest) = vector_of(alloc, &ValTypes, rest)?;
                 Ok((FuncType { params, results }, rest))
             }
             [_, ..] => Err(LoadRefusal::Malformed(bytes.len())),
@@ -130,12 +130,12 @@ impl<A: Allocator + Clone> Reader<A> for Imports {
 
     ghost view = { import_view };
 
-    ghost reading = { import_at };
+    ghost reading = { λ _. import_at };
 
     ghost is_numbered = { λ _. true };
 
     #[tactic(auto, unfolding(spec_module_laws::specs::ReadingModules::import_at))]
-    fn read<'b>(alloc: &A, bytes: &'b [u8]) -> Result<(Import<A>, &'b [u8]), LoadRefusal> {
+    fn read<'b>(&self, alloc: &A, bytes: &'b [u8]) -> Result<(Import<A>, &'b [u8]), LoadRefusal> {
         let (from_module, rest) = name_of(alloc, bytes)?;
         let (name, rest) = name_of(alloc, rest)?;
         let (desc, rest) = import_desc_of(rest)?;
@@ -158,11 +158,11 @@ impl<A: Allocator + Clone> Reader<A> for Tables {
 
     ghost view = { limits_view };
 
-    ghost reading = { table_type_at };
+    ghost reading = { λ _. table_type_at };
 
     ghost is_numbered = { λ _. true };
 
-    fn read<'b>(_alloc: &A, bytes: &'b [u8]) -> Result<(Limits, &'b [u8]), LoadRefusal> {
+    fn read<'b>(&self, _alloc: &A, bytes: &'b [u8]) -> Result<(Limits, &'b [u8]), LoadRefusal> {
         table_type_of(bytes)
     }
 }
@@ -177,11 +177,11 @@ impl<A: Allocator + Clone> Reader<A> for Memories {
 
     ghost view = { limits_view };
 
-    ghost reading = { limits_at };
+    ghost reading = { λ _. limits_at };
 
     ghost is_numbered = { λ _. true };
 
-    fn read<'b>(_alloc: &A, bytes: &'b [u8]) -> Result<(Limits, &'b [u8]), LoadRefusal> {
+    fn read<'b>(&self, _alloc: &A, bytes: &'b [u8]) -> Result<(Limits, &'b [u8]), LoadRefusal> {
         limits_of(bytes)
     }
 }
@@ -196,12 +196,12 @@ impl<A: Allocator + Clone> Reader<A> for Globals {
 
     ghost view = { global_view };
 
-    ghost reading = { global_at };
+    ghost reading = { λ _. global_at };
 
     ghost is_numbered = { λ g. counts_from 0 (global_ordinals g) };
 
     #[tactic(auto, unfolding(spec_module_laws::specs::ReadingModules::global_at))]
-    fn read<'b>(alloc: &A, bytes: &'b [u8]) -> Result<(Global<A>, &'b [u8]), LoadRefusal> {
+    fn read<'b>(&self, alloc: &A, bytes: &'b [u8]) -> Result<(Global<A>, &'b [u8]), LoadRefusal> {
         let (global_type, rest) = global_type_of(bytes)?;
         let (init, rest) = init_of(alloc, rest)?;
         Ok((Global { global_type, init }, rest))
@@ -218,12 +218,12 @@ impl<A: Allocator + Clone> Reader<A> for Exports {
 
     ghost view = { export_view };
 
-    ghost reading = { export_at };
+    ghost reading = { λ _. export_at };
 
     ghost is_numbered = { λ _. true };
 
     #[tactic(auto, unfolding(spec_module_laws::specs::ReadingModules::export_at))]
-    fn read<'b>(alloc: &A, bytes: &'b [u8]) -> Result<(Export<A>, &'b [u8]), LoadRefusal> {
+    fn read<'b>(&self, alloc: &A, bytes: &'b [u8]) -> Result<(Export<A>, &'b [u8]), LoadRefusal> {
         let (name, rest) = name_of(alloc, bytes)?;
         let (desc, rest) = export_desc_of(rest)?;
         Ok((Export { name, desc }, rest))
@@ -240,15 +240,15 @@ impl<A: Allocator + Clone> Reader<A> for Elements {
 
     ghost view = { element_view };
 
-    ghost reading = { element_at };
+    ghost reading = { λ _. element_at };
 
     ghost is_numbered = { λ e. counts_from 0 (element_ordinals e) };
 
     #[tactic(auto, unfolding(spec_module_laws::specs::ReadingModules::element_at))]
-    fn read<'b>(alloc: &A, bytes: &'b [u8]) -> Result<(Element<A>, &'b [u8]), LoadRefusal> {
+    fn read<'b>(&self, alloc: &A, bytes: &'b [u8]) -> Result<(Element<A>, &'b [u8]), LoadRefusal> {
         let (table, rest) = u32_of(bytes)?;
         let (offset, rest) = init_of(alloc, rest)?;
-        let (funcs, rest) = vector_of::<A, Indices>(alloc, rest)?;
+        let (funcs, rest) = vector_of(alloc, &Indices, rest)?;
         let element = Element {
             table,
             offset,
@@ -268,12 +268,16 @@ impl<A: Allocator + Clone> Reader<A> for Datas {
 
     ghost view = { data_view };
 
-    ghost reading = { data_at };
+    ghost reading = { λ _. data_at };
 
     ghost is_numbered = { λ d. counts_from 0 (data_ordinals d) };
 
     #[tactic(auto, unfolding(spec_module_laws::specs::ReadingModules::data_at))]
-    fn read<'b>(alloc: &A, bytes: &'b [u8]) -> Result<(DataSegment<A>, &'b [u8]), LoadRefusal> {
+    fn read<'b>(
+        &self,
+        alloc: &A,
+        bytes: &'b [u8],
+    ) -> Result<(DataSegment<A>, &'b [u8]), LoadRefusal> {
         let (memory, rest) = u32_of(bytes)?;
         let (offset, rest) = init_of(alloc, rest)?;
         let (content, rest) = content_of(rest)?;
@@ -297,17 +301,17 @@ impl<A: Allocator + Clone> Reader<A> for TypeIndices {
 
     ghost view = { λ v. v.items };
 
-    ghost reading = { indices_at };
+    ghost reading = { λ _. indices_at };
 
     ghost is_numbered = { λ _. true };
 
     #[tactic(auto, unfolding(spec_module_laws::specs::ReadingModules::indices_at))]
-    fn read<'b>(alloc: &A, bytes: &'b [u8]) -> Result<(Vec<u32, A>, &'b [u8]), LoadRefusal> {
+    fn read<'b>(&self, alloc: &A, bytes: &'b [u8]) -> Result<(Vec<u32, A>, &'b [u8]), LoadRefusal> {
         let (count, rest) = u32_of(bytes)?;
         if count > FUNCTION_LIMIT {
             return Err(LoadRefusal::TooLarge(2));
         }
-        items_of::<A, Indices>(alloc, count, rest)
+        items_of(alloc, &Indices, count, rest)
     }
 }
 
@@ -321,11 +325,15 @@ impl<A: Allocator + Clone> Reader<A> for Start {
 
     ghost view = { λ s. s };
 
-    ghost reading = { made_at (λ n. Some n) u32_at };
+    ghost reading = { λ _. made_at (λ n. Some n) u32_at };
 
     ghost is_numbered = { λ _. true };
 
-    fn read<'b>(_alloc: &A, bytes: &'b [u8]) -> Result<(Option<u32>, &'b [u8]), LoadRefusal> {
+    fn read<'b>(
+        &self,
+        _alloc: &A,
+        bytes: &'b [u8],
+    ) -> Result<(Option<u32>, &'b [u8]), LoadRefusal> {
         let (start, rest) = u32_of(bytes)?;
         Ok((Some(start), rest))
     }

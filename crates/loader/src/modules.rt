@@ -51,7 +51,7 @@ fn tail_of<A: Allocator + Clone>(
     ensures datas_numbered { IfOk result (λ x. list_all (λ d. counts_from 0 (data_ordinals d)) x.1.items ≡ true) }
 {
     let (funcs, rest) = funcs_of(alloc, indices, bytes)?;
-    let (datas, rest) = list_of::<A, Datas>(alloc, 11, rest)?;
+    let (datas, rest) = list_of(alloc, &Datas, 11, rest)?;
     match rest {
         [] => {
             if funcs.len() != indices.len() {
@@ -71,16 +71,16 @@ fn module_of<A: Allocator + Clone>(alloc: &A, bytes: &[u8]) -> Result<Module<A>,
 {
     let rest = header_of(bytes)?;
     let rest = skip_customs(rest)?;
-    let (types, rest) = list_of::<A, FuncTypes>(alloc, 1, rest)?;
-    let (imports, rest) = list_of::<A, Imports>(alloc, 2, rest)?;
+    let (types, rest) = list_of(alloc, &FuncTypes, 1, rest)?;
+    let (imports, rest) = list_of(alloc, &Imports, 2, rest)?;
     let none = Vec::new(alloc.clone()?);
-    let (indices, rest) = slot_of::<A, TypeIndices>(alloc, 3, none, rest)?;
-    let (tables, rest) = list_of::<A, Tables>(alloc, 4, rest)?;
-    let (memories, rest) = list_of::<A, Memories>(alloc, 5, rest)?;
-    let (globals, rest) = list_of::<A, Globals>(alloc, 6, rest)?;
-    let (exports, rest) = list_of::<A, Exports>(alloc, 7, rest)?;
-    let (start, rest) = slot_of::<A, Start>(alloc, 8, None, rest)?;
-    let (elements, rest) = list_of::<A, Elements>(alloc, 9, rest)?;
+    let (indices, rest) = slot_of(alloc, &TypeIndices, 3, none, rest)?;
+    let (tables, rest) = list_of(alloc, &Tables, 4, rest)?;
+    let (memories, rest) = list_of(alloc, &Memories, 5, rest)?;
+    let (globals, rest) = list_of(alloc, &Globals, 6, rest)?;
+    let (exports, rest) = list_of(alloc, &Exports, 7, rest)?;
+    let (start, rest) = slot_of(alloc, &Start, 8, None, rest)?;
+    let (elements, rest) = list_of(alloc, &Elements, 9, rest)?;
     let (funcs, datas) = tail_of(alloc, &indices, rest)?;
     Ok(Module {
         types,
@@ -96,7 +96,7 @@ fn module_of<A: Allocator + Clone>(alloc: &A, bytes: &[u8]) -> Result<Module<A>,
     })
 }
 
-/// The module that the bytes spell (Core Specification, 5.5.16 Modules), within the limits of this profile. Custom
+/// The module that the bytes spell (Core Specification, 5.5.15 Modules), within the limits of this profile. Custom
 /// sections may stand between any two sections, and are left out. It is refused for another cause than memory only
 /// where the bytes spell no module within the limits. The offset of a refusal is at most the count of the bytes.
 pub fn load<A: Allocator + Clone>(alloc: A, bytes: &[u8]) -> Result<Module<A>, LoadRefusal>

@@ -25,13 +25,14 @@ pub fn behind(refusal: LoadRefusal, more: usize) -> LoadRefusal
 // What all of the bytes are read as.
 fn whole_of<A: Allocator + Clone, R: Reader<A>>(
     alloc: &A,
+    reader: &R,
     bytes: &[u8],
 ) -> Result<R::Item, LoadRefusal>
     requires small { length bytes.now < 2 ^ 32 }
-    ensures value { Gives R.view result (whole_at R.reading bytes.now) }
+    ensures value { Gives R.view result (whole_at (R.reading reader.now) bytes.now) }
     ensures numbered { IfOk result (λ x. R.is_numbered x ≡ true) }
 {
-    let (item, left) = R::read(alloc, bytes)?;
+    let (item, left) = reader.read(alloc, bytes)?;
     match left {
         [] => Ok(item),
         [_, ..] => Err(LoadRefusal::Malformed(left.len())),
@@ -41,15 +42,16 @@ fn whole_of<A: Allocator + Clone, R: Reader<A>>(
 // A size, and what that many bytes are read as.
 pub fn inside_of<'b, A: Allocator + Clone, R: Reader<A>>(
     alloc: &A,
+    reader: &R,
     bytes: &'b [u8],
 ) -> Result<(R::Item, &'b [u8]), LoadRefusal>
     requires small { length bytes.now < 2 ^ 32 }
-    ensures value { Gives (λ x. (R.view x.0, x.1.now)) result (inside_at R.reading bytes.now) }
+    ensures value { Gives (λ x. (R.view x.0, x.1.now)) result (inside_at (R.reading reader.now) bytes.now) }
     ensures shorter { IfOk result (λ x. length x.1.now < length bytes.now) }
     ensures numbered { IfOk result (λ x. R.is_numbered x.0 ≡ true) }
 {
     let (content, rest) = sized_of(bytes)?;
-    match whole_of::<A, R>(alloc, content) {
+    match whole_of(alloc, reader, content) {
         Ok(item) => Ok((item, rest)),
         Err(refusal) => Err(behind(refusal, rest.len())),
     }
@@ -78,13 +80,14 @@ pub fn skip_customs(bytes: &[u8]) -> Result<&[u8], LoadRefusal>
 #[tactic(auto, unfolding(spec_module_laws::specs::ReadingModules::slot_at))]
 pub fn slot_of<'b, A: Allocator + Clone, R: Reader<A>>(
     alloc: &A,
+    reader: &R,
     id: u8,
     absent: R::Item,
     bytes: &'b [u8],
 ) -> Result<(R::Item, &'b [u8]), LoadRefusal>
     requires small { length bytes.now < 2 ^ 32 }
     requires absent_numbered { R.is_numbered absent ≡ true }
-    ensures value { Gives (λ x. (R.view x.0, x.1.now)) result (slot_at id R.reading (R.view absent) bytes.now) }
+    ensures value { Gives (λ x. (R.view x.0, x.1.now)) result (slot_at id (R.reading reader.now) (R.view absent) bytes.now) }
     ensures shorter { IfOk result (λ x. length x.1.now ≤ length bytes.now) }
     ensures numbered { IfOk result (λ x. R.is_numbered x.0 ≡ true) }
 {
@@ -94,7 +97,7 @@ pub fn slot_of<'b, A: Allocator + Clone, R: Reader<A>>(
     if *first != id {
         return Ok((absent, bytes));
     }
-    let (item, rest) = inside_of::<A, R>(alloc, after)?;
+    let (item, rest) = inside_of(alloc, reader, after)?;
     let rest = skip_customs(rest)?;
     Ok((item, rest))
 }
@@ -102,14 +105,15 @@ pub fn slot_of<'b, A: Allocator + Clone, R: Reader<A>>(
 // The items of the section of this id, none where it is absent.
 pub fn list_of<'b, A: Allocator + Clone, R: Reader<A>>(
     alloc: &A,
+    reader: &R,
     id: u8,
     bytes: &'b [u8],
 ) -> Result<(Vec<R::Item, A>, &'b [u8]), LoadRefusal>
     requires small { length bytes.now < 2 ^ 32 }
-    ensures value { Gives (λ x. (map R.view x.0.items, x.1.now)) result (list_at id R.reading bytes.now) }
+    ensures value { Gives (λ x. (map R.view x.0.items, x.1.now)) result (list_at id (R.reading reader.now) bytes.now) }
     ensures shorter { IfOk result (λ x. length x.1.now ≤ length bytes.now) }
     ensures numbered { IfOk result (λ x. list_all R.is_numbered x.0.items ≡ true) }
 {
     let none = Vec::new(alloc.clone()?);
-    slot_of::<A, VectorOf<R>>(alloc, id, none, bytes)
+    slot_of(alloc, &VectorOf(reader), id, none, bytes)
 }

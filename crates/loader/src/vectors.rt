@@ -8,7 +8,6 @@ ghost use Rattle.spec_binary_laws.specs.ReadingExpressions.{items_at, vector_at}
 use crate::values::u32_of;
 use expr_reader::LoadRefusal;
 use std::alloc::Allocator;
-use std::marker::PhantomData;
 
 // How one kind of thing is read.
 pub trait Reader<A: Allocator + Clone> {
@@ -20,14 +19,14 @@ pub trait Reader<A: Allocator + Clone> {
     ghost view: { Self.Item → Self.Seen };
 
     // how it is read
-    ghost reading: { List ℕ → Read Self.Seen };
+    ghost reading: { Self → List ℕ → Read Self.Seen };
 
     // whether the ordinals of its expression, if it has one, count from 0
     ghost is_numbered: { Self.Item → Bool };
 
-    fn read<'b>(alloc: &A, bytes: &'b [u8]) -> Result<(Self::Item, &'b [u8]), LoadRefusal>
+    fn read<'b>(&self, alloc: &A, bytes: &'b [u8]) -> Result<(Self::Item, &'b [u8]), LoadRefusal>
         requires small { length bytes.now < 2 ^ 32 }
-        ensures value { Gives (λ x. (view x.0, x.1.now)) result (reading bytes.now) }
+        ensures value { Gives (λ x. (view x.0, x.1.now)) result (reading self.now bytes.now) }
         ensures shorter { IfOk result (λ x. length x.1.now ≤ length bytes.now) }
         ensures numbered { IfOk result (λ x. is_numbered x.0 ≡ true) };
 }
@@ -35,18 +34,19 @@ pub trait Reader<A: Allocator + Clone> {
 // So many items.
 pub fn items_of<'b, A: Allocator + Clone, R: Reader<A>>(
     alloc: &A,
+    reader: &R,
     count: u32,
     bytes: &'b [u8],
 ) -> Result<(Vec<R::Item, A>, &'b [u8]), LoadRefusal>
     requires small { length bytes.now < 2 ^ 32 }
-    ensures value { Gives (λ x. (map R.view x.0.items, x.1.now)) result (items_at R.reading count bytes.now) }
+    ensures value { Gives (λ x. (map R.view x.0.items, x.1.now)) result (items_at (R.reading reader.now) count bytes.now) }
     ensures shorter { IfOk result (λ x. length x.1.now ≤ length bytes.now) }
     ensures numbered { IfOk result (λ x. list_all R.is_numbered x.0.items ≡ true) }
 {
     let mut found = Vec::new(alloc.clone()?);
     let mut rest = bytes;
     for _i in 0..count {
-        let (item, after) = R::read(alloc, rest)?;
+        let (item, after) = reader.read(alloc, rest)?;
         found.push(item)?;
         rest = after;
     }
@@ -57,32 +57,38 @@ pub fn items_of<'b, A: Allocator + Clone, R: Reader<A>>(
 #[tactic(auto, unfolding(spec_binary_laws::specs::ReadingExpressions::vector_at))]
 pub fn vector_of<'b, A: Allocator + Clone, R: Reader<A>>(
     alloc: &A,
+    reader: &R,
     bytes: &'b [u8],
 ) -> Result<(Vec<R::Item, A>, &'b [u8]), LoadRefusal>
     requires small { length bytes.now < 2 ^ 32 }
-    ensures value { Gives (λ x. (map R.view x.0.items, x.1.now)) result (vector_at R.reading bytes.now) }
+    ensures value { Gives (λ x. (map R.view x.0.items, x.1.now)) result (vector_at (R.reading reader.now) bytes.now) }
     ensures shorter { IfOk result (λ x. length x.1.now ≤ length bytes.now) }
     ensures numbered { IfOk result (λ x. list_all R.is_numbered x.0.items ≡ true) }
 {
     let (count, rest) = u32_of(bytes)?;
-    items_of::<A, R>(alloc, count, rest)
+    items_of(alloc, reader, count, rest)
 }
 
 // A vector of what R reads.
-pub struct VectorOf<R>(PhantomData<R>);
+#[derive(Drop)]
+pub struct VectorOf<'r, R>(pub &'r R);
 
-impl<A: Allocator + Clone, R: Reader<A>> Reader<A> for VectorOf<R> {
+impl<A: Allocator + Clone, R: Reader<A>> Reader<A> for VectorOf<'_, R> {
     type Item = Vec<R::Item, A>;
 
     ghost Seen = { List R.Seen };
 
     ghost view = { λ v. map R.view v.items };
 
-    ghost reading = { vector_at R.reading };
+    ghost reading = { λ v. vector_at (R.reading v.0.now) };
 
     ghost is_numbered = { λ v. list_all R.is_numbered v.items };
 
-    fn read<'b>(alloc: &A, bytes: &'b [u8]) -> Result<(Vec<R::Item, A>, &'b [u8]), LoadRefusal> {
-        vector_of::<A, R>(alloc, bytes)
+    fn read<'b>(
+        &self,
+        alloc: &A,
+        bytes: &'b [u8],
+    ) -> Result<(Vec<R::Item, A>, &'b [u8]), LoadRefusal> {
+        vector_of(alloc, self.0, bytes)
     }
 }

@@ -1,6 +1,5 @@
 -- A profile's locks rise from neighbour to neighbour, and entries that do are a profile.
-use Rattle.std.proofs.Common.{◌≡◌, ◌↔◌, List, [], ◌∷◌, Result, Ok, Err}
-use Rattle.std.specs.Prelude.{IfOk}
+use Rattle.std.proofs.Common.{◌≡◌, ◌↔◌, List, [], ◌∷◌}
 use Rattle.std.specs.declared.cmp.Ordering.TheVariants.{Less}
 use Rattle.spec_ledger.specs.declared.Entry.{Entry}
 use Rattle.spec_ledger.specs.Cells.{lock_cmp}
@@ -19,7 +18,3 @@ pub profile_from : NeighboursDecide → (es : List Entry) → AreRising es → I
 profile_from law [] h = tt
 profile_from law (e ∷ []) h = tt
 profile_from law (e ∷ f ∷ es) h = (law e f es).1 (h.0, profile_from law (f ∷ es) h.1)
-
-pub ok_also : {X E : Type 0} {P Q : X → Type 0} (r : Result X E) → ((x : X) → P x → Q x) → IfOk r P → IfOk r Q
-ok_also (Ok x) f h = f x h
-ok_also (Err e) f h = tt

@@ -12,9 +12,8 @@ use Rattle.spec_ledger.specs.declared.Outcome.{Outcome}
 use Rattle.spec_ledger.specs.declared.Outcome.TheVariants.{Returned, Trapped, OutOfFuel, Rejected}
 use Rattle.spec_ledger.specs.declared.Receipt.{Receipt}
 use Rattle.spec_block.specs.Bytes.{value_bytes, trap_code, outcome_bytes, receipt_bytes, IsValue, IsOutcome, IsReceipt}
-use Rattle.fields.specs.declared.fault.Fault.{Fault}
 use Rattle.fields.specs.declared.fault.Fault.TheVariants.{Malformed}
-use Rattle.fields.specs.Reading.{Read, ◌>>=◌, number_at, byte_at, found}
+use Rattle.fields.specs.Reading.{Read, ◌>>=◌, number_at, found}
 use Rattle.fields.specs.Exact.{AreBytes, Takes, ReadsExactly}
 use Rattle.fields.proofs.Steps.{rest_are_bytes, bind_ok, chosen, guard_holds, ok_is, some_is, found_is, Takes-then, Takes-byte}
 use Rattle.fields.proofs.Numbers.{u32_exact, u64_exact}

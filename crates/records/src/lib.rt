@@ -10,7 +10,7 @@ mod tests;
 mod value;
 
 pub use entry::{append_entry, read_entry};
-pub use position::{Position, append_position, read_position};
+pub use position::{Position, append_position, positions_are_read_exactly, read_position};
 pub use profile::{append_profile, read_profile};
 pub use receipt::{append_receipt, read_receipt};
 pub use value::{append_value, read_value};

@@ -11,10 +11,40 @@ count_others-others-requires c =
     take_less c.self.inside.locks c.self.inside.holders.items c.args.call (subst (λ ms. c.args.call < length ms) (sym c.self.view_is) c.requires) c.self.invariant.0 c.args.lock c.args.mode c.join_to-joined.result c.index.result.now c.index.ensures c.mode-held.result c.mode-held.ensures c.at-shared.result c.at-shared.ensures c.join_to-joined.ensures
 
 pub returns-then-not-may_join-clause-conflict : goal.returns-then-not-may_join-clause-conflict
-returns-then-not-may_join-clause-conflict c = λ _.
-    subst (λ ms. ¬ (AllShare (get_or ms c.args.call empty) c.args.lock c.args.mode (take c.args.call ms ++ drop (c.args.call + 1) ms))) c.self.view_is
-    (take_conflict c.self.inside.locks c.self.inside.holders.items c.args.call (subst (λ ms. c.args.call < length ms) (sym c.self.view_is) c.requires) c.self.invariant.0 c.args.lock c.args.mode c.join_to-joined.result c.index.result.now c.index.ensures c.mode-held.result c.mode-held.ensures c.at-shared.result c.at-shared.ensures c.join_to-joined.ensures
-    (λ m. let no : false ≡ true = c.if-not-may_join.ensures.1 (subst (λ n. MayJoin c.at-shared.result n c.join_to-joined.result) (sym c.count_others-others.ensures) m) in cc))
+returns-then-not-may_join-clause-conflict c = (
+  λ _.
+      subst (λ ms. ¬ (AllShare (get_or ms c.args.call empty) c.args.lock c.args.mode (take c.args.call ms ++ drop (c.args.call + 1) ms))) c.self.view_is
+      (take_conflict c.self.inside.locks c.self.inside.holders.items c.args.call (subst (λ ms. c.args.call < length ms) (sym c.self.view_is) c.requires) c.self.invariant.0 c.args.lock c.args.mode c.join_to-joined.result c.index.result.now c.index.ensures c.mode-held.result c.mode-held.ensures c.at-shared.result c.at-shared.ensures c.join_to-joined.ensures
+      (λ m. let no : false ≡ true = c.if-not-may_join.ensures.1 (subst (λ n. MayJoin c.at-shared.result n c.join_to-joined.result) (sym c.count_others-others.ensures) m) in cc)),
+  λ _. refl,
+)
+
+pub returns-in_default-clause-conflict : goal.returns-in_default-clause-conflict
+returns-in_default-clause-conflict c = (
+  λ e. cc,
+  λ h. absurd
+      (h
+      (subst (λ ms. AllShare (get_or ms c.args.call empty) c.args.lock c.args.mode (take c.args.call ms ++ drop (c.args.call + 1) ms)) c.self.view_is
+      (take_granted c.self.inside.locks c.self.inside.holders.items c.args.call (subst (λ ms. c.args.call < length ms) (sym c.self.view_is) c.requires) c.self.invariant.0 c.args.lock c.args.mode c.join_to-joined.result c.index.result.now c.index.ensures c.mode-held.result c.mode-held.ensures c.at-shared.result c.at-shared.ensures c.join_to-joined.ensures (subst (λ n. MayJoin c.at-shared.result n c.join_to-joined.result) c.count_others-others.ensures (c.if-not-may_join.ensures.0 refl))))),
+)
+
+pub returns-in_default-hold-clause-conflict : goal.returns-in_default-hold-clause-conflict
+returns-in_default-hold-clause-conflict c = (
+  λ e. cc,
+  λ h. absurd
+      (h
+      (subst (λ ms. AllShare (get_or ms c.args.call empty) c.args.lock c.args.mode (take c.args.call ms ++ drop (c.args.call + 1) ms)) c.self.view_is
+      (take_granted c.self.inside.locks c.self.inside.holders.items c.args.call (subst (λ ms. c.args.call < length ms) (sym c.self.view_is) c.requires) c.self.invariant.0 c.args.lock c.args.mode c.join_to-joined.result c.index.result.now c.index.ensures c.mode-held.result c.mode-held.ensures c.at-shared.result c.at-shared.ensures c.join_to-joined.ensures (subst (λ n. MayJoin c.at-shared.result n c.join_to-joined.result) c.count_others-others.ensures (c.if-not-may_join.ensures.0 refl))))),
+)
+
+pub returns-clause-conflict : goal.returns-clause-conflict
+returns-clause-conflict c = (
+  λ e. cc,
+  λ h. absurd
+      (h
+      (subst (λ ms. AllShare (get_or ms c.args.call empty) c.args.lock c.args.mode (take c.args.call ms ++ drop (c.args.call + 1) ms)) c.self.view_is
+      (take_granted c.self.inside.locks c.self.inside.holders.items c.args.call (subst (λ ms. c.args.call < length ms) (sym c.self.view_is) c.requires) c.self.invariant.0 c.args.lock c.args.mode c.join_to-joined.result c.index.result.now c.index.ensures c.mode-held.result c.mode-held.ensures c.at-shared.result c.at-shared.ensures c.join_to-joined.ensures (subst (λ n. MayJoin c.at-shared.result n c.join_to-joined.result) c.count_others-others.ensures (c.if-not-may_join.ensures.0 refl))))),
+)
 
 pub overflow_add-next : goal.overflow_add-next
 overflow_add-next c =

@@ -1,4 +1,4 @@
-use Rattle.std.proofs.Common.{◌≡◌, ℕ, ◌-◌, ◌<◌, length, get_or, slice_get, map, Some, ap, sym, ◌∙◌, arith, rules, refl}
+use Rattle.std.proofs.Common.{◌≡◌, ◌-◌, ◌<◌, length, get_or, ap, arith, rules, refl}
 use Rattle.spec_typing.specs.Modules.{imported_funcs}
 use Rattle.module_tree.specs.ModuleView.{func_view}
 use Rattle.module_tree.specs.Modules.{module_view}

@@ -12,8 +12,8 @@ returns-in_err-item-clause-value g c =
     let r = g.R.Reader in
     let left : c.args.count - l._i ≡ suc (c.args.count - (l._i + 1)) = omega arith in
     let p = err_from_is_err_and c.from_residual-in_err-item.result c.from_residual-in_err-item.ensures.1 in
-    rw (p.1, p.2) (hand_on c.in_err-item.field-0.0 (r.reading l.rest.now) (items_at r.reading c.args.count c.args.bytes.now)
-    (none_more r.reading (items_at r.reading c.args.count c.args.bytes.now) (map r.view l.found.items) (c.args.count - l._i) l.rest.now l.invariant.0 (c.args.count - (l._i + 1)) left)
+    rw (p.1, p.2) (hand_on c.in_err-item.field-0.0 ((r.reading c.args.reader.now) l.rest.now) (items_at (r.reading c.args.reader.now) c.args.count c.args.bytes.now)
+    (none_more (r.reading c.args.reader.now) (items_at (r.reading c.args.reader.now) c.args.count c.args.bytes.now) (map r.view l.found.items) (c.args.count - l._i) l.rest.now l.invariant.0 (c.args.count - (l._i + 1)) left)
     c.in_err-item.ensures.value)
 
 pub loop-i-preserved : goal.loop-i-preserved
@@ -23,7 +23,7 @@ loop-i-preserved g c =
     let left : c.args.count - l._i ≡ suc (c.args.count - (l._i + 1)) = omega arith in
     let item = c.in_ok-item.item in
     let pushed : c.push.new.self.items ≡ l.found.items ++ item ∷ [] = search rules in (
-      one_more r.reading (items_at r.reading c.args.count c.args.bytes.now) (map r.view l.found.items) (c.args.count - l._i) l.rest.now l.invariant.0
+      one_more (r.reading c.args.reader.now) (items_at (r.reading c.args.reader.now) c.args.count c.args.bytes.now) (map r.view l.found.items) (c.args.count - l._i) l.rest.now l.invariant.0
           (r.view item) (map r.view c.push.new.self.items) c.in_ok-item.after.now (c.args.count - (l._i + 1)) left c.in_ok-item.ensures.value
           (one_more_view r.view l.found.items c.push.new.self.items item pushed),
       omega (arith, l.invariant.1, c.in_ok-item.ensures.shorter),
@@ -35,4 +35,4 @@ returns-clause-value g c =
     let l = c.loop-i in
     let r = g.R.Reader in
     let none : c.args.count - l._i ≡ 0 = omega arith in
-    all_done r.reading (items_at r.reading c.args.count c.args.bytes.now) (map r.view l.found.items) (c.args.count - l._i) l.rest.now l.invariant.0 none
+    all_done (r.reading c.args.reader.now) (items_at (r.reading c.args.reader.now) c.args.count c.args.bytes.now) (map r.view l.found.items) (c.args.count - l._i) l.rest.now l.invariant.0 none

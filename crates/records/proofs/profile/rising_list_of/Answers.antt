@@ -1,8 +1,8 @@
 use Rattle.std.proofs.Common.{arith}
-use Rattle.fields.proofs.Steps.{is_spelled, is_read}
+use Rattle.fields.proofs.Steps.{is_spelled, is_read, ok_also}
 use Rattle.records.specs.Profiles.{profile_at, profile_bytes, IsBlockProfile}
 use Rattle.records.proofs.Profiles.{profile_exact}
-use Rattle.records.proofs.Neighbours.{profile_from, ok_also}
+use Rattle.records.proofs.Neighbours.{profile_from}
 use Rattle.records.proofs.profile.rising_list_of.Goals as goal
 
 pub returns-clause-spelled : goal.returns-clause-spelled

@@ -1,0 +1,2 @@
+mod Digests
+mod Exact

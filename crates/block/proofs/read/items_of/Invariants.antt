@@ -1,0 +1,9 @@
+use Rattle.std.proofs.Common.{◌≡◌, ◌-◌, Option, None}
+use Rattle.spec_block.specs.Worlds.{Position}
+use Rattle.fields.specs.Reading.{items_at}
+use Rattle.fields.proofs.Items.{with_front}
+use Rattle.block.specs.Reading.{next_position_at}
+use Rattle.block.proofs.read.items_of.Given as goal
+
+abbrev pub invariant-loop : goal.invariant-loop
+invariant-loop l = (before : Option Position) × (with_front l.positions.items (items_at next_position_at (l.count - l.counter) before l.rest) ≡ items_at next_position_at l.count None l.bytes)

@@ -1,0 +1,17 @@
+//! Blocks and lists of calls as bytes, read and written.
+#![tactic(auto)]
+
+mod calls;
+mod read;
+mod refusal;
+#[cfg(test)]
+mod tests;
+mod value;
+mod write;
+
+pub use calls::{digest_calls, write_calls};
+pub use read::read_block;
+pub use records::Position;
+pub use refusal::{BlockRefusal, WriteRefusal};
+pub use value::Block;
+pub use write::write_block;
