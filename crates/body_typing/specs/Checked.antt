@@ -1,5 +1,5 @@
 -- What a call of the checker says.
-use Rattle.std.specs.Prelude.{◌≡◌, ℕ, ◌-◌, length, slice_get, List, Option, Some, None, Result, Ok, Err, map, reverse}
+use Rattle.std.specs.Prelude.{◌≡◌, ℕ, ◌-◌, ◌++◌, length, slice_get, List, Option, Some, None, Result, Ok, Err, map, reverse}
 use Rattle.wtypes.specs.declared.ValType.{ValType}
 use Rattle.wtypes.specs.declared.FuncType.{FuncType}
 use Rattle.spec_syntax.specs.Syntax.{Func, Module}
@@ -35,7 +35,7 @@ context_at scope labels = record {
   has_table = is_not_empty (map limits_view scope.spaces.now.tables.items);
   has_memory = is_not_empty (map limits_view scope.spaces.now.memories.items);
   globals = map global_type_view scope.spaces.now.globals.items;
-  locals = scope.locals.items;
+  locals = scope.own.now.params.items ++ scope.locals.now.items;
   labels = reverse labels;
   result = scope.result;
 }

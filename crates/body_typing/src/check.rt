@@ -1,6 +1,6 @@
 // The check of a body.
 
-ghost use Rattle.std.specs.Prelude.{◌≡◌, ◌<◌, ◌≤◌, All, ◌∷◌, ◌++◌, [], length, Some, Option, OnOk, IfOk, IsTrue, false, option_and_then, map};
+ghost use Rattle.std.specs.Prelude.{◌≡◌, ◌<◌, ◌≤◌, All, ◌∷◌, [], length, Some, Option, OnOk, IsTrue, false, option_and_then, map};
 ghost use Rattle.wtypes.specs.declared.ValType.{ValType};
 ghost use Rattle.spec_typing.specs.Typing.{Context, of, in_block};
 ghost use Rattle.spec_typing.specs.Modules.{BodyTyped, type_at, result_of, imported_funcs, func_type_indices};
@@ -121,18 +121,6 @@ fn check_instr<A: Allocator, W: Allocator + Clone>(
     }
 }
 
-fn all_locals<A: Allocator, W: Allocator>(
-    alloc: W,
-    params: &[ValType],
-    locals: &Vec<ValType, A>,
-) -> Result<Vec<ValType, W>, AllocError>
-    ensures { IfOk result (λ all. all.items ≡ params.now ++ locals.now.items) }
-{
-    let mut all = Vec::from_slice(alloc, params)?;
-    all.extend_from_slice(locals)?;
-    Ok(all)
-}
-
 fn own_type<'t, A: Allocator>(types: &'t Vec<FuncType<A>, A>, index: u32) -> &'t FuncType<A>
     requires { index < length types.now.items }
     ensures { type_at (map func_type_view types.now.items) index ≡ func_type_view result.now }
@@ -163,7 +151,8 @@ pub fn check_func<A: Allocator, W: Allocator + Clone>(
     let scope = Scope {
         types,
         spaces,
-        locals: all_locals(alloc.clone()?, &own.params, &func.locals)?,
+        own,
+        locals: &func.locals,
         result: wanted,
         func: number,
     };

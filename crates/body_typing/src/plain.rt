@@ -176,9 +176,9 @@ fn local_get<A: Allocator, W: Allocator>(
 ) -> Result<(), TypeRefusal>
     ensures { Meets result ops.new (plain_step (context_at scope.now []) (plain.LocalGet local) ops.old) }
 {
-    match scope.locals.get(local as usize) {
+    match scope.local(local) {
         None => Err(refused(place, 11)),
-        Some(t) => apply(ops, &[], &[*t], place),
+        Some(t) => apply(ops, &[], &[t], place),
     }
 }
 
@@ -190,9 +190,9 @@ fn local_set<A: Allocator, W: Allocator>(
 ) -> Result<(), TypeRefusal>
     ensures { Meets result ops.new (plain_step (context_at scope.now []) (plain.LocalSet local) ops.old) }
 {
-    match scope.locals.get(local as usize) {
+    match scope.local(local) {
         None => Err(refused(place, 11)),
-        Some(t) => apply(ops, &[*t], &[], place),
+        Some(t) => apply(ops, &[t], &[], place),
     }
 }
 
@@ -204,9 +204,9 @@ fn local_tee<A: Allocator, W: Allocator>(
 ) -> Result<(), TypeRefusal>
     ensures { Meets result ops.new (plain_step (context_at scope.now []) (plain.LocalTee local) ops.old) }
 {
-    match scope.locals.get(local as usize) {
+    match scope.local(local) {
         None => Err(refused(place, 11)),
-        Some(t) => apply(ops, &[*t], &[*t], place),
+        Some(t) => apply(ops, &[t], &[t], place),
     }
 }
 

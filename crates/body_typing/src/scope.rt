@@ -11,12 +11,29 @@ pub struct Scope<'a, A: Allocator, W: Allocator> {
     pub types: &'a Vec<FuncType<A>, A>,
     /// The module's index spaces.
     pub spaces: &'a Spaces<W>,
-    /// The types of the locals, the parameters first.
-    pub locals: Vec<ValType, W>,
+    /// The function's type.
+    pub own: &'a FuncType<A>,
+    /// The types of its locals, the parameters aside.
+    pub locals: &'a Vec<ValType, A>,
     /// The function's result.
     pub result: Option<ValType>,
     /// The function's number, imports counted first.
     pub func: u32,
+}
+
+impl<'a, A: Allocator, W: Allocator> Scope<'a, A, W> {
+    ghost use Rattle.std.specs.Prelude.{◌≡◌, ◌++◌, slice_get};
+
+    /// The type of a local, the parameters counted first.
+    pub fn local(&self, local: u32) -> Option<ValType>
+        ensures { result ≡ slice_get (self.now.own.now.params.items ++ self.now.locals.now.items) local }
+    {
+        let place = local as usize;
+        match place.checked_sub(self.own.params.len()) {
+            None => self.own.params.get(place).copied(),
+            Some(behind) => self.locals.get(behind).copied(),
+        }
+    }
 }
 
 /// Why a module is not valid: the first fault that the check meets, or that memory was refused.

@@ -1,9 +1,11 @@
 -- What the steps of the code do to the parts.
-use Rattle.std.proofs.Common.{◌≡◌, ℕ, ◌+◌, ◌≤◌, List, [], ◌∷◌, ◌++◌, length, map, drop, refl, sym, ap, ◌∙◌, subst, Vec, Global, Result, Ok, Err, IfOk, None, true, arith, length-append}
+use Rattle.std.proofs.Common.{true≢false, false, ◌≡◌, ℕ, ◌+◌, ◌≤◌, List, [], ◌∷◌, ◌++◌, length, map, drop, refl, sym, ap, ◌∙◌, subst, Vec, Global, Result, Ok, Err, IfOk, None, true, arith, length-append}
 use Rattle.std.proofs.lemmas.List.{reverse-append}
 use Rattle.wtypes.specs.declared.Value.{Value}
 use Rattle.wtypes.specs.declared.PlainInstr.{PlainInstr}
-use Rattle.wtypes.specs.declared.PlainInstr.TheVariants.{Call, Br, BrIf, Return, GlobalGet, GlobalSet, LocalTee}
+use Rattle.wtypes.specs.declared.LoadOp.{LoadOp}
+use Rattle.wtypes.specs.declared.StoreOp.{StoreOp}
+use Rattle.wtypes.specs.declared.PlainInstr.TheVariants.{Call, Br, BrIf, Return, GlobalGet, GlobalSet, Load, Store, MemorySize, LocalTee}
 use Rattle.spec_syntax.specs.Syntax.{Plain}
 use Rattle.module_tree.specs.declared.instr.Instr.{Instr}
 use Rattle.spec_execution.specs.Configuration.{Contract, State, Config, End, Trap}
@@ -14,12 +16,12 @@ use Rattle.interp.specs.declared.parts.Parts.{Parts}
 use Rattle.interp.specs.declared.plain.After.{After}
 use Rattle.interp.specs.declared.plain.After.TheVariants as after
 use Rattle.interp.specs.Meaning.{Item, Open, Loop, behind, height, outermost, at, config, Stands, IsOrdered, calling, listed, frames}
-use Rattle.interp.specs.Forms.{operands, runs_on, runs_plain, IsReadyFor}
+use Rattle.interp.specs.Forms.{operands, runs_on, runs_memory, runs_plain, IsReadyFor}
 use Rattle.interp.proofs.Finding.{ready_for}
 use Rattle.interp.specs.Plain.{onto, Did, at_once, by_two}
 use Rattle.spec_execution.specs.Turns.{Frees, none}
-use Rattle.interp.specs.declared.instance.Instance.{Instance}
-use Rattle.interp.specs.Instances.{based}
+use Rattle.instance.specs.declared.Instance.{Instance}
+use Rattle.instance.specs.States.{based}
 use Rattle.interp.specs.Views.{item_of, items_of, open_of, opens_of, view}
 use Rattle.interp.specs.Steps.{IsReadyToRun, Led, LedView, IsOrderedParts, IsBehind, AllSettle, IsCounted, AreNumbered, EachNumbered}
 use Rattle.interp.proofs.Context.{values_onto}
@@ -125,10 +127,19 @@ pub item_of_first : {A : Type 0} (p : Parts A) (i : Instr A) (rest : List (Instr
 item_of_first p i rest x e f = ap items_of e ∙ ap (λ (y : Item). y ∷ items_of rest) f
 
 -- an operator that leaves the order of the code as it is, and touches no more than the values and the locals
-pub operator_runs : (op : PlainInstr) → runs_plain op ≡ true → ((l : ℕ) → op ≡ Br l → ⊥) → ((l : ℕ) → op ≡ BrIf l → ⊥) → (op ≡ Return → ⊥) → ((x : ℕ) → op ≡ GlobalGet x → ⊥) → ((x : ℕ) → op ≡ GlobalSet x → ⊥) → runs_on op ≡ true
-operator_runs (Br l) r f g h i j = absurd (f l refl)
-operator_runs (BrIf l) r f g h i j = absurd (g l refl)
-operator_runs Return r f g h i j = absurd (h refl)
-operator_runs (GlobalGet x) r f g h i j = absurd (i x refl)
-operator_runs (GlobalSet x) r f g h i j = absurd (j x refl)
-operator_runs op r f g h i j = r
+pub operator_runs : (op : PlainInstr) → runs_plain op ≡ true → ((l : ℕ) → op ≡ Br l → ⊥) → ((l : ℕ) → op ≡ BrIf l → ⊥) → (op ≡ Return → ⊥) → ((x : ℕ) → op ≡ GlobalGet x → ⊥) → ((x : ℕ) → op ≡ GlobalSet x → ⊥) → runs_memory op ≡ false → runs_on op ≡ true
+operator_runs (Br l) r f g h i j m = absurd (f l refl)
+operator_runs (BrIf l) r f g h i j m = absurd (g l refl)
+operator_runs Return r f g h i j m = absurd (h refl)
+operator_runs (GlobalGet x) r f g h i j m = absurd (i x refl)
+operator_runs (GlobalSet x) r f g h i j m = absurd (j x refl)
+operator_runs (Load o align offset) r f g h i j m = absurd (true≢false m)
+operator_runs (Store o align offset) r f g h i j m = absurd (true≢false m)
+operator_runs MemorySize r f g h i j m = absurd (true≢false m)
+operator_runs op r f g h i j m = r
+
+pub not_memory : (op : PlainInstr) → ((o : LoadOp) (align offset : ℕ) → op ≡ Load o align offset → ⊥) → ((o : StoreOp) (align offset : ℕ) → op ≡ Store o align offset → ⊥) → (op ≡ MemorySize → ⊥) → runs_memory op ≡ false
+not_memory (Load o align offset) f g h = absurd (f o align offset refl)
+not_memory (Store o align offset) f g h = absurd (g o align offset refl)
+not_memory MemorySize f g h = absurd (h refl)
+not_memory op f g h = refl

@@ -27,7 +27,7 @@ use Rattle.interp.proofs.Calling.{code_is}
 use Rattle.interp.proofs.Branching.{branch_target, branch_lands, return_target, return_lands}
 
 -- a view by its fields
-view_is : (w : View) (b : State) (es : List Open) (stack locals : List Value) (is : List Item) → w.base ≡ b → w.entries ≡ es → w.stack ≡ stack → w.locals ≡ locals → w.code ≡ is → w ≡ mk b es stack locals is
+pub view_is : (w : View) (b : State) (es : List Open) (stack locals : List Value) (is : List Item) → w.base ≡ b → w.entries ≡ es → w.stack ≡ stack → w.locals ≡ locals → w.code ≡ is → w ≡ mk b es stack locals is
 view_is w b es stack locals is eb ee est el ec =
     ap (λ x. record w { base = x }) eb ∙ ap (λ x. record w { base = b; entries = x }) ee ∙ ap (λ x. mk b es x w.locals w.code) est ∙ ap (λ x. mk b es stack x w.code) el ∙ ap (mk b es stack locals) ec
 

@@ -8,7 +8,7 @@ use Rattle.interp.specs.Meaning.{Scope, Block, Loop, Frame, Open, outer, frames,
 use Rattle.interp.specs.Branches.{in_call, from_call, is_frame, IsTarget, Jumps}
 use Rattle.interp.specs.Steps.{IsBehind, IsCounted, AreNumbered, EachNumbered}
 use Rattle.module_tree.specs.declared.instr.Instr.{Instr}
-use Rattle.interp.specs.Instances.{based}
+use Rattle.instance.specs.States.{based}
 use Rattle.interp.specs.Views.{open_of, opens_of, scope_of, items_of}
 use Rattle.interp.proofs.Acting.{opens_push}
 

@@ -16,4 +16,4 @@ pub mod Beginning
 pub mod Branching
 pub mod Jumping
 pub mod Controlling
-pub mod Constants
+pub mod Reaching

@@ -12,4 +12,4 @@ pub mod Lent
 pub mod Run
 pub mod Starting
 pub mod Branches
-pub mod Instances
+pub mod Memories

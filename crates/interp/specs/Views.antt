@@ -8,7 +8,7 @@ use Rattle.interp.specs.declared.parts.Kind.{Kind}
 use Rattle.interp.specs.declared.parts.Kind.TheVariants as kind
 use Rattle.interp.specs.declared.parts.Entry.{Entry}
 use Rattle.interp.specs.declared.parts.Parts.{Parts}
-use Rattle.interp.specs.Instances.{based}
+use Rattle.instance.specs.States.{based}
 use Rattle.interp.specs.Meaning.{Item, Scope, Block, Loop, Frame, Open, View}
 
 abbrev pub ordinal_step : {A : Type 0} → Instr-F A ℕ → ℕ

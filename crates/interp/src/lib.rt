@@ -4,8 +4,8 @@
 mod branches;
 mod calls;
 pub mod finished;
-mod instance;
 pub mod machine;
+mod memories;
 mod parts;
 mod plain;
 pub mod stand_in;

@@ -8,7 +8,6 @@ ghost use Rattle.interp.specs.Run.{seen, IsKept, IsBegun};
 
 use crate::calls::{Lent, enter};
 use crate::finished::Finished;
-use crate::instance::open_instance;
 use crate::parts::Parts;
 use crate::plain::After;
 use crate::stand_in::Runnable;
@@ -17,6 +16,7 @@ use crate::steps::{execute, settle};
 use crate::turns::{Status, Turn};
 use crate::values::bits;
 use call::Call;
+use instance::open_instance;
 use soundness::deployed_calls_are_safe;
 use spec_ledger::{NoMemory, Op, Outcome, Place, Reply, Step};
 use std::alloc::{AllocError, Allocator, Global};
@@ -389,7 +389,7 @@ impl<'a, A: Allocator> Machine<'a, A> {
         let deployed = runnable.deployed();
         deployed.is_linked();
         let tree = deployed.module();
-        let instance = open_instance(alloc, tree)?;
+        let instance = open_instance(alloc, deployed)?;
         let stack = copy_of(alloc, call.args())?;
         let mut run = Run {
             alloc,

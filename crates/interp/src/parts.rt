@@ -1,6 +1,6 @@
 // The parts of a machine: the code that is left, what is open round it, the values and the locals.
 
-use crate::instance::Instance;
+use instance::Instance;
 use module_tree::instr::Instr;
 use std::alloc::Allocator;
 use wtypes::Value;

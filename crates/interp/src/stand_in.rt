@@ -113,6 +113,9 @@ fn plain_is_run(op: &PlainInstr) -> bool
             | PlainInstr::LocalTee(_)
             | PlainInstr::GlobalGet(_)
             | PlainInstr::GlobalSet(_)
+            | PlainInstr::Load(_, _, _)
+            | PlainInstr::Store(_, _, _)
+            | PlainInstr::MemorySize
             | PlainInstr::Const(_)
             | PlainInstr::Unary(_)
             | PlainInstr::Binary(_)

@@ -4,10 +4,13 @@ ghost use Rattle.std.specs.Prelude.{false, slice_get, unwrap_or};
 ghost use Rattle.spec_numeric.specs.Operators.{bits_of};
 ghost use Rattle.spec_execution.specs.Reduction.{arity as arity_of};
 ghost use Rattle.interp.specs.Views.{scope_of};
+ghost use Rattle.std.specs.Prelude.{true};
+ghost use Rattle.interp.specs.Forms.{runs_memory};
 ghost use Rattle.interp.specs.Branches.{is_frame};
 ghost use Rattle.interp.specs.Steps.{AreNumbered, IsOperator, HasOpened, IsReadyToRun, Led, IsOrderedParts, IsReadyParts, AllSettle, IsBehind, IsCounted};
 
 use crate::branches::{branch, leave_call};
+use crate::memories::{execute_load, execute_store, memory_size};
 use crate::parts::{Entry, Kind, Parts};
 use crate::plain::{After, execute_plain};
 use crate::values::{bits, pop_top};
@@ -88,10 +91,47 @@ fn execute_operator<'a, A: Allocator>(
             parts.code = rest;
             Ok(After::Ran)
         }
+        PlainInstr::Load(_, _, _) => execute_memory(parts, op, rest),
+        PlainInstr::Store(_, _, _) => execute_memory(parts, op, rest),
+        PlainInstr::MemorySize => execute_memory(parts, op, rest),
         _ => {
             parts.code = rest;
             execute_plain(op, &mut parts.stack, &mut parts.locals)
         }
+    }
+}
+
+// The same for an instruction that reads or writes memory.
+fn execute_memory<'a, A: Allocator>(
+    parts: &mut Parts<'a, A>,
+    op: &PlainInstr,
+    rest: &'a [Instr<A>],
+) -> Result<After, AllocError>
+    requires ready { IsReadyToRun parts.old }
+    requires counted { IsCounted parts.old }
+    requires here { IsOperator parts.old op.now rest.now }
+    requires memory { runs_memory op.now ≡ true }
+    ensures led { IfOk result (λ a. Led parts.old a parts.new) }
+    ensures counted { IfOk result (λ a. IsCounted parts.new) }
+{
+    parts.code = rest;
+    match op {
+        PlainInstr::Load(operator, _, offset) => {
+            Ok(execute_load(*operator, *offset, &mut parts.stack, &parts.instance.memory))
+        }
+        PlainInstr::Store(operator, _, offset) => {
+            execute_store(
+                *operator,
+                *offset,
+                &mut parts.stack,
+                &mut parts.instance.memory,
+            )
+        }
+        PlainInstr::MemorySize => {
+            parts.stack.push(memory_size(&parts.instance.memory))?;
+            Ok(After::Ran)
+        }
+        _ => unreachable!(),
     }
 }
 

@@ -1,10 +1,17 @@
-//! Tests of whole modules: what is read, checked and linked, and where the others are refused. There is no code here.
+//! Tests of whole modules: what is read, checked, linked and entered, and where the others are refused. There is no code
+//! here.
 #![tactic(auto)]
 
 #[cfg(test)]
 mod bodies;
 #[cfg(test)]
+mod contract;
+#[cfg(test)]
+mod entries;
+#[cfg(test)]
 mod heaps;
+#[cfg(test)]
+mod large;
 #[cfg(test)]
 mod linking;
 #[cfg(test)]

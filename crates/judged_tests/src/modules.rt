@@ -2,7 +2,6 @@
 use crate::verdict::Verdict::{Broken, Deployed, Unlinked};
 use crate::verdict::judge;
 use link::refusal::LinkRefusal::UnknownImport;
-use std::alloc::{AllocError, Global};
 use std::test::Fail;
 
 #[test]
@@ -269,37 +268,6 @@ fn order(rt: HostRuntime) -> Result<(), Fail> {
                 b"\x01\x09\x02`\x02~~\x00`\x00\x00\x02\x0d\x01\x05boost\x03put\x00\x00\x03\x03\x02\x01\x01\x0a\x08\x02\x02\x00\x0b\x03\x00\x1a\x0b",
                 Broken(Some(2), 0, 17),
             ),
-        ],
-    )
-}
-
-// The sections of a module with one memory that is exported 100,000 times, the last time under this name.
-fn many_exports(a: Global, last: &[u8; 3]) -> Result<Vec<u8>, AllocError> {
-    let mut sections = b"\x05\x03\x01\x00\x01\x07\xc3\xcf\x24\xa0\x8d\x06".to_vec(a)?;
-    for i in 0..99_999u32 {
-        let name = [i / 2500, i / 50 % 50, i % 50];
-        sections.push(3)?;
-        for digit in name {
-            sections.push(b'0' + digit as u8)?;
-        }
-        sections.extend_from_slice(&[2, 0])?;
-    }
-    sections.push(3)?;
-    sections.extend_from_slice(last)?;
-    sections.extend_from_slice(&[2, 0])?;
-    Ok(sections)
-}
-
-// Comparing each name with each other one takes longer than a test may.
-#[test]
-fn a_hundred_thousand_exports(rt: HostRuntime) -> Result<(), Fail> {
-    let a = rt.alloc();
-    judge(
-        &rt,
-        a,
-        &[
-            (&many_exports(a, b"zzz")?, Deployed),
-            (&many_exports(a, b"000")?, Broken(None, 99_999, 6)),
         ],
     )
 }

@@ -215,7 +215,8 @@ impl<A: Allocator + Clone + Drop> Linear<A> {
     /// `MemoryOutOfBounds` where the bytes do not all lie in memory.
     pub fn load(&self, at: u32, offset: u32, width: u32) -> Result<u64, TrapCode>
         requires { width ≤ 8 }
-        ensures { result ≡ load self.now.bytes (at + offset) width }
+        ensures value { result ≡ load self.now.bytes (at + offset) width }
+        ensures below { IfOk result (λ number. number < 256 ^ width) }
     {
         let start = at as usize + offset as usize;
         if start + width as usize > PAGE_SIZE * self.pages.len() {

@@ -20,10 +20,11 @@ returns-in-Err g c =
     let f = c.args.func.now in
     let body = instrs_view f.body.items in
     let type = type_at (map func_type_view c.args.types.now.items) f.type_index in
-    let params = c.in_ok-all_locals.ensures ∙ ap (λ ps. ps ++ f.locals.items) (c.deref.ensures.value ∙ ap params_of (sym c.own_type-own.ensures)) in
+    let all = c.own_type-own.result.now.params.items ++ f.locals.items in
+    let params = ap (λ ps. ps ++ f.locals.items) (ap params_of (sym c.own_type-own.ensures)) in
     let same = c.result_type-wanted.ensures ∙ ap one_result_of (sym c.own_type-own.ensures) in
     let T : Context → Option ValType → Type 0 = λ c' r. Tells {T = Unit {0}} (Err c.in-Err.refusal) (Typed c' body [] (of r)) in
-    told T (spaces_view c.args.types.now.items c.args.spaces.now) type f.locals.items c.in_ok-all_locals.field-0.items c.result_type-wanted.result c.new-labels.result.items c.new-labels.ensures.items params same
+    told T (spaces_view c.args.types.now.items c.args.spaces.now) type f.locals.items all c.result_type-wanted.result c.new-labels.result.items c.new-labels.ensures.items params same
     (body_refused (Unit {0}) _ (λ left. left) c.in-Err.refusal _ c.result_type-wanted.result body c.in-Err.ensures.gives)
 
 pub returns-then-is_result : goal.returns-then-is_result
@@ -31,10 +32,11 @@ returns-then-is_result g c =
     let f = c.args.func.now in
     let body = instrs_view f.body.items in
     let type = type_at (map func_type_view c.args.types.now.items) f.type_index in
-    let params = c.in_ok-all_locals.ensures ∙ ap (λ ps. ps ++ f.locals.items) (c.deref.ensures.value ∙ ap params_of (sym c.own_type-own.ensures)) in
+    let all = c.own_type-own.result.now.params.items ++ f.locals.items in
+    let params = ap (λ ps. ps ++ f.locals.items) (ap params_of (sym c.own_type-own.ensures)) in
     let same = c.result_type-wanted.ensures ∙ ap one_result_of (sym c.own_type-own.ensures) in
     let T : Context → Option ValType → Type 0 = λ c' r. Typed c' body [] (of r) in
-    told T (spaces_view c.args.types.now.items c.args.spaces.now) type f.locals.items c.in_ok-all_locals.field-0.items c.result_type-wanted.result c.new-labels.result.items c.new-labels.ensures.items params same
+    told T (spaces_view c.args.types.now.items c.args.spaces.now) type f.locals.items all c.result_type-wanted.result c.new-labels.result.items c.new-labels.ensures.items params same
     (body_ends _ c.result_type-wanted.result body c.in-Ok.left c.in-Ok.ensures.gives (sym c.is_result.ensures ∙ c.if-is_result.true))
 
 pub returns : goal.returns
@@ -42,9 +44,10 @@ returns g c =
     let f = c.args.func.now in
     let body = instrs_view f.body.items in
     let type = type_at (map func_type_view c.args.types.now.items) f.type_index in
-    let params = c.in_ok-all_locals.ensures ∙ ap (λ ps. ps ++ f.locals.items) (c.deref.ensures.value ∙ ap params_of (sym c.own_type-own.ensures)) in
+    let all = c.own_type-own.result.now.params.items ++ f.locals.items in
+    let params = ap (λ ps. ps ++ f.locals.items) (ap params_of (sym c.own_type-own.ensures)) in
     let same = c.result_type-wanted.ensures ∙ ap one_result_of (sym c.own_type-own.ensures) in
     let T : Context → Option ValType → Type 0 = λ c' r. Typed c' body [] (of r) → ⊥ in
-    let no = told T (spaces_view c.args.types.now.items c.args.spaces.now) type f.locals.items c.in_ok-all_locals.field-0.items c.result_type-wanted.result c.new-labels.result.items c.new-labels.ensures.items params same
+    let no = told T (spaces_view c.args.types.now.items c.args.spaces.now) type f.locals.items all c.result_type-wanted.result c.new-labels.result.items c.new-labels.ensures.items params same
     (body_fails _ c.result_type-wanted.result body c.in-Ok.left c.in-Ok.ensures.gives (sym c.is_result.ensures ∙ c.if-is_result.false)) in
     rw c.refused.ensures no

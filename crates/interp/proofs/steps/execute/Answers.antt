@@ -13,7 +13,7 @@ use Rattle.interp.specs.declared.plain.After.{After}
 use Rattle.interp.specs.Branches.{IsTarget}
 use Rattle.interp.specs.Meaning.{Item, Block, Loop, OnlyRun}
 use Rattle.interp.specs.Steps.{Led, AreNumbered, HasOpened}
-use Rattle.interp.specs.Instances.{based}
+use Rattle.instance.specs.States.{based}
 use Rattle.interp.specs.Views.{view, items_of, opens_of}
 use Rattle.interp.proofs.Acting.{if_ok, item_of_first}
 use Rattle.interp.proofs.Numbering.{table_item, block_item, loop_item, if_item, block_body, loop_body, if_bodies, items_run, items_numbered, are_numbered_all}

@@ -7,7 +7,7 @@ use Rattle.interp.specs.Meaning.{OnlyRun}
 use Rattle.interp.specs.Plain.{Did}
 use Rattle.interp.specs.Steps.{Led, IsCounted}
 use Rattle.interp.specs.Views.{view, items_of}
-use Rattle.interp.proofs.Acting.{ready_plain, led_first, if_ok, operator_runs, counted_rest}
+use Rattle.interp.proofs.Acting.{ready_plain, led_first, if_ok, operator_runs, not_memory, counted_rest}
 use Rattle.interp.proofs.Controlling.{popped, br_target, br_charged, out_target, out_charged, br_if_choice, br_if_one, br_if_stays, free_target, free_charged, global_there, global_got, set_there, global_was_set}
 use Rattle.interp.proofs.Numbering.{read_at}
 use Rattle.std.proofs.lemmas.Option.{slice_get_read}
@@ -103,7 +103,7 @@ returns-then-bits-eq0-clause-led g c k b safe =
 pub execute_plain-requires : goal.execute_plain-requires
 execute_plain-requires g c =
     let r = c.requires.ready in
-    let on = operator_runs c.args.op.now (subst OnlyRun c.requires.here.here (r.ordered r.base).runs).0 c.in_default.not-Br c.in_default.not-BrIf c.in_default.not-Return c.in_default.not-GlobalGet c.in_default.not-GlobalSet in
+    let on = operator_runs c.args.op.now (subst OnlyRun c.requires.here.here (r.ordered r.base).runs).0 c.in_default.not-Br c.in_default.not-BrIf c.in_default.not-Return c.in_default.not-GlobalGet c.in_default.not-GlobalSet (not_memory c.args.op.now c.in_default.not-Load c.in_default.not-Store c.in_default.not-MemorySize) in
     (ready_plain c.args.parts.now c.args.parts.now c.args.rest.now r c.requires.here.ordinal c.args.op.now c.requires.here.here on).1
 
 pub returns-in_default : goal.returns-in_default
@@ -111,7 +111,7 @@ returns-in_default g c =
     let p = c.args.parts.now in
     let r = c.requires.ready in
     let q : Parts g.row.A.Denot = record { code = c.args.rest; entries = p.entries; depth = p.depth; stack = c.execute_plain.new.stack; locals = c.execute_plain.new.locals; instance = p.instance } in
-    let on = operator_runs c.args.op.now (subst OnlyRun c.requires.here.here (r.ordered r.base).runs).0 c.in_default.not-Br c.in_default.not-BrIf c.in_default.not-Return c.in_default.not-GlobalGet c.in_default.not-GlobalSet in
+    let on = operator_runs c.args.op.now (subst OnlyRun c.requires.here.here (r.ordered r.base).runs).0 c.in_default.not-Br c.in_default.not-BrIf c.in_default.not-Return c.in_default.not-GlobalGet c.in_default.not-GlobalSet (not_memory c.args.op.now c.in_default.not-Load c.in_default.not-Store c.in_default.not-MemorySize) in
     record {
       led = if_ok c.execute_plain.result (λ a. Did c.args.op.now p.stack.items p.locals.items a q.stack.items q.locals.items) (λ a. Led p a q)
           (led_first p q c.args.rest.now r c.requires.here.ordinal c.args.op.now c.requires.here.here on refl refl refl) c.execute_plain.ensures;

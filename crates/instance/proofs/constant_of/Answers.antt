@@ -1,8 +1,7 @@
 use Rattle.std.proofs.Common.{◌≡◌, length, get_or, refl, ap, ◌∙◌, arith, rules}
 use Rattle.module_tree.specs.View.{instr_view}
-use Rattle.interp.proofs.Constants.{not_one, constant_at}
-use Rattle.interp.proofs.Numbering.{table_view, block_view, loop_view, if_view, plain_view}
-use Rattle.interp.proofs.instance.constant_of.Goals as goal
+use Rattle.instance.proofs.Constants.{not_one, constant_at, table_view, block_view, loop_view, if_view, plain_view}
+use Rattle.instance.proofs.constant_of.Goals as goal
 
 pub returns-then-len-ne1 : goal.returns-then-len-ne1
 returns-then-len-ne1 g c =

@@ -1,0 +1,133 @@
+-- Data segments in memory.
+use Rattle.std.proofs.Common.{◌≡◌, ℕ, zero, suc, ◌+◌, ◌*◌, ◌^◌, ◌≤◌, ◌<◌, min, Bool, true, false, nat_le, List, [], ◌∷◌, ◌++◌, length, map, take, drop, refl, sym, ap, ◌∙◌, subst, arith, length-append, Some, None, Option, slice_get}
+use Rattle.std.specs.Prelude.{IfSome, unwrap_or, slice_index_or, All, filter_map}
+use Rattle.std.specs.List.{cons_option}
+use Rattle.std.proofs.Math.Logic.{∥∥₁_elim}
+use Rattle.std.specs.Int.{cast_unsigned, w32}
+use Rattle.std.proofs.lemmas.List.{take_more, map-append, length-take, length-drop}
+use Rattle.std.proofs.lemmas.List.Elements.{All-head, All-tail}
+use Rattle.std.proofs.lemmas.Bool.{leb-true, le-leb}
+use Rattle.wtypes.specs.declared.Value.TheVariants as value
+use Rattle.wtypes.specs.declared.HostCall.{HostCall}
+use Rattle.wtypes.specs.declared.PlainInstr.TheVariants.{Const}
+use Rattle.module_tree.specs.declared.module.Module as tree
+use Rattle.module_tree.specs.declared.module.DataSegment as tree_data
+use Rattle.module_tree.specs.ModuleView.{data_view, limits_view}
+use Rattle.module_tree.specs.Modules.{module_view}
+use Rattle.spec_syntax.specs.Syntax.{Plain, Instrs, nothing, seq, FuncType, Limits, Import, ImportDesc, ImportFunc, DataSegment, Module}
+use Rattle.spec_syntax.specs.Profile.{page_size, page_limit}
+use Rattle.spec_numeric.specs.Operators.{bits_of}
+use Rattle.spec_numeric.specs.Memory.{written}
+use Rattle.spec_typing.specs.Modules.{memories, memory_of, MemoryTyped}
+use Rattle.spec_typing.specs.Linking.{IsLinked, Resolves, InMemory, InRange, offset_number}
+use Rattle.spec_execution.specs.Configuration.{constant, size_of, in_place, with_datas}
+use Rattle.spec_execution.specs.Reduction.{most_pages}
+
+-- imports are functions alone
+none_else : {X : Type 0} (f : ImportDesc → Option X) → ((index : ℕ) → f (ImportFunc index) ≡ None) → (types : List FuncType) (is : List Import) (cs : List HostCall) → Resolves types is cs → filter_map (λ (i : Import). f i.desc) is ≡ []
+none_else f k types [] [] r = refl
+none_else f k types [] (c ∷ cs) r = absurd r
+none_else f k types (i ∷ is) [] r = absurd r
+none_else f k types (i ∷ is) (c ∷ cs) r =
+    let e : f i.desc ≡ None = ap f r.0.1.1 ∙ k r.0.1.0 in
+    ap (λ o. cons_option o (filter_map (λ (i : Import). f i.desc) is)) e ∙ none_else f k types is cs r.1
+
+at_map : {X Y : Type 0} (P : Y → Type 0) (f : X → Y) (xs : List X) → All P (map f xs) → (k : ℕ) (d : X) → k < length xs → P (f (slice_index_or xs k d))
+at_map P f [] h k d lt = absurd (omega arith)
+at_map P f (x ∷ xs) h zero d lt = All-head P (f x) (map f xs) h
+at_map P f (x ∷ xs) h (suc k) d lt = at_map P f xs (All-tail P (f x) (map f xs) h) k d (omega arith)
+
+all_right : {X : Type 0} (P : X → Type 0) (xs ys : List X) → All P (xs ++ ys) → All P ys
+all_right P [] ys h = h
+all_right P (x ∷ xs) ys h = all_right P xs ys (All-tail P x (xs ++ ys) h)
+
+below_most : (n : ℕ) (max : Option ℕ) → n ≤ 256 → IfSome max (λ x. n ≤ x) → n ≤ min 256 (unwrap_or max 256)
+below_most n None le h = omega arith
+below_most n (Some x) le h = omega (arith, h)
+
+fits_list : (ms : List Limits) → All (λ limits. limits.min ≤ page_limit) ms → All MemoryTyped ms → size_of ms ≤ most_pages ms
+fits_list [] h k = omega arith
+fits_list (l ∷ ls) h k = below_most l.min l.max (All-head (λ (l : Limits). l.min ≤ page_limit) l ls h) (All-head MemoryTyped l ls k).0
+
+only_one : (ms : List Limits) (k : ℕ) (l : Limits) → length ms ≤ 1 → slice_get ms k ≡ Some l → size_of ms ≡ l.min
+only_one [] k l le e = absurd (cc)
+only_one (x ∷ []) zero l le e = ap (λ (y : Limits). y.min) (let same : x ≡ l = cc in same)
+only_one (x ∷ []) (suc k) l le e = absurd (cc)
+only_one (x ∷ y ∷ ms) k l le e = absurd (omega arith)
+
+const_number : (e : Instrs) (at : ℕ) → offset_number e ≡ Some at → bits_of (constant e) ≡ at
+const_number (seq (Plain (Const (value.I32 k))) nothing) at e = (let there : cast_unsigned w32 k ≡ at = cc in there)
+const_number _ at e = absurd (cc)
+
+most_is_few : (ms : List Limits) → most_pages ms ≤ 256
+most_is_few [] = omega arith
+most_is_few (l ∷ ls) = omega arith
+
+module _ (m : Module) (calls : List HostCall) (l : IsLinked m calls) where
+  memories_own : memories m ≡ m.memories
+  memories_own = ap (λ xs. xs ++ m.memories) (none_else memory_of (λ i. refl) m.types m.imports calls l.imports)
+
+  pub memory_fits : size_of m.memories ≤ most_pages m.memories
+  memory_fits = fits_list m.memories (subst (All (λ limits. limits.min ≤ page_limit)) memories_own l.pages) (subst (All MemoryTyped) memories_own l.typed.memory_limits)
+
+  data_in : (k : ℕ) (d : DataSegment) → k < length m.datas → InRange m (InMemory (slice_index_or m.datas k d))
+  data_in k d lt = at_map (InRange m) InMemory m.datas (all_right (InRange m) _ (map InMemory m.datas) l.segments_fit) k d lt
+
+  pub data_fits : (k : ℕ) (d : DataSegment) → k < length m.datas → d ≡ slice_index_or m.datas k d → bits_of (constant d.offset) + length d.bytes ≤ page_size * size_of m.memories
+  data_fits k d lt there =
+      let (end, size, (at, limits, off, found, end_is, size_is), le) = subst (λ (x : DataSegment). InRange m (InMemory x)) (sym there) (data_in k d lt) in
+      let number : bits_of (constant d.offset) ≡ at = const_number d.offset at off in
+      let own : size_of m.memories ≡ limits.min = only_one m.memories d.memory limits (subst (λ (ms : List Limits). length ms ≤ 1) memories_own l.typed.one_memory) (subst (λ (ms : List Limits). slice_get ms d.memory ≡ Some limits) memories_own found) in
+      omega (arith, number, own, end_is, size_is, le)
+
+not_both : (x y : ℕ) → x ≤ y → nat_le x y ≡ false → ⊥
+not_both x y le e = let t : nat_le x y ≡ true = le-leb x y le in cc
+
+-- an order that is only known to be so
+known_le : {X : Type 0} (x y : ℕ) → ∥ X ∥₁ → (X → x ≤ y) → x ≤ y
+known_le {X} x y known so = by_test (nat_le x y) refl
+  where
+    by_test : (b : Bool) → nat_le x y ≡ b → x ≤ y
+    by_test true b = leb-true _ _ b
+    by_test false b = absurd (∥∥₁_elim known (λ a b. absurd a) (λ k. not_both x y (so k) b))
+
+pub fits_known : (m : Module) (calls : List HostCall) → ∥ IsLinked m calls ∥₁ → size_of m.memories ≤ most_pages m.memories
+fits_known m calls linked = known_le _ _ linked (memory_fits m calls)
+
+map_index : {X Y : Type 0} (f : X → Y) (xs : List X) (k : ℕ) (d : X) → slice_index_or (map f xs) k (f d) ≡ f (slice_index_or xs k d)
+map_index f [] k d = refl
+map_index f (x ∷ xs) zero d = refl
+map_index f (x ∷ xs) (suc k) d = map_index f xs k d
+
+length_map : {X Y : Type 0} (f : X → Y) (xs : List X) → length (map f xs) ≡ length xs
+length_map f [] = refl
+length_map f (x ∷ xs) = ap (λ (n : ℕ). suc n) (length_map f xs)
+
+pub length_written : (at : ℕ) (bytes old : List ℕ) → at + length bytes ≤ length old → length (written at bytes old) ≡ length old
+length_written at bytes old le =
+    length-append (take at old) (bytes ++ drop (at + length bytes) old) ∙ (omega (arith, length-append bytes (drop (at + length bytes) old), length-take at old, length-drop (at + length bytes) old))
+
+with_one_more : (ds : List DataSegment) (d : DataSegment) (m : List ℕ) → with_datas (ds ++ d ∷ []) m ≡ in_place (bits_of (constant d.offset)) d.bytes (with_datas ds m)
+with_one_more [] d m = refl
+with_one_more (x ∷ ds) d m = with_one_more ds d (in_place (bits_of (constant x.offset)) x.bytes m)
+
+-- a segment of a deployed module
+module _ {A : Type 0} (t : tree.Module A) (calls : List HostCall) (linked : ∥ IsLinked (module_view t) calls ∥₁) (i : ℕ) (x : tree_data.DataSegment A) (lt : i < length t.datas.items) (is : x ≡ slice_index_or t.datas.items i x) where
+  there_is : data_view x ≡ slice_index_or (module_view t).datas i (data_view x)
+  there_is = ap data_view is ∙ sym (map_index data_view t.datas.items i x)
+
+  below : i < length (module_view t).datas
+  below = omega (arith, length_map data_view t.datas.items)
+
+  pub segment_fits : bits_of (constant (data_view x).offset) + length x.bytes.items ≤ page_size * size_of (map limits_view t.memories.items)
+  segment_fits = known_le _ _ linked (λ l. data_fits (module_view t) calls l i (data_view x) below there_is)
+
+  pub segment_small : bits_of (constant (data_view x).offset) < 2 ^ 32
+  segment_small =
+      let few : size_of (map limits_view t.memories.items) ≤ 256 = omega (arith, fits_known (module_view t) calls linked, most_is_few (map limits_view t.memories.items)) in
+      omega (arith, segment_fits, few)
+
+  pub one_segment_more : (z : List ℕ) → with_datas (map data_view (take (i + 1) t.datas.items)) z ≡ in_place (bits_of (constant (data_view x).offset)) x.bytes.items (with_datas (map data_view (take i t.datas.items)) z)
+  one_segment_more z =
+      ap (λ ds. with_datas (map data_view ds) z) (take_more t.datas.items i x lt ∙ ap (λ y. take i t.datas.items ++ y ∷ []) (sym is))
+      ∙ ap (λ ds. with_datas ds z) (map-append data_view (take i t.datas.items) (x ∷ [])) ∙ with_one_more (map data_view (take i t.datas.items)) (data_view x) z

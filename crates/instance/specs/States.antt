@@ -1,0 +1,16 @@
+-- The state of an instance.
+use Rattle.std.specs.Prelude.{◌≡◌}
+use Rattle.spec_syntax.specs.Syntax.{Module}
+use Rattle.spec_execution.specs.Configuration.{State, fresh}
+use Rattle.spec_execution.specs.Reduction.{most_pages}
+use Rattle.instance.specs.declared.Instance.{Instance}
+
+-- a state with what the instance has; the rest is the state's own
+abbrev pub based : State → Instance → State
+based b i = record b { globals = i.globals.items; memory = i.memory.bytes }
+
+-- it is a fresh instance of the module
+pub record IsFresh (i : Instance) (m : Module) : Type 0 where
+  pub globals : i.globals.items ≡ (fresh m).globals
+  pub memory : i.memory.bytes ≡ (fresh m).memory
+  pub max : i.memory.max ≡ most_pages m.memories

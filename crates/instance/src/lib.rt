@@ -1,0 +1,135 @@
+// Instances of deployed modules.
+#![tactic(auto)]
+
+ghost use Rattle.std.specs.Prelude.{◌≡◌, ◌+◌, ◌*◌, ◌≤◌, map, replicate, IfOk};
+ghost use Rattle.spec_numeric.specs.Operators.{bits_of};
+ghost use Rattle.module_tree.specs.View.{instrs_view};
+ghost use Rattle.module_tree.specs.ModuleView.{global_view, limits_view};
+ghost use Rattle.module_tree.specs.Modules.{module_view};
+ghost use Rattle.spec_syntax.specs.Syntax as syntax;
+ghost use Rattle.spec_syntax.specs.Profile.{page_size};
+ghost use Rattle.spec_execution.specs.Configuration.{constant, size_of, fresh};
+ghost use Rattle.spec_execution.specs.Reduction.{most_pages};
+ghost use Rattle.link.specs.Parts.{tree_of};
+ghost use Rattle.instance.specs.States.{IsFresh};
+
+use link::deployed::Deployed;
+use memory::{Linear, PAGE_LIMIT, StoreRefusal};
+use module_tree::instr::Instr;
+use module_tree::module::Global as Declared;
+use std::alloc::{AllocError, Allocator, Global};
+use wtypes::{Limits, NoMemory, PlainInstr, Value};
+
+/// What a call may change beside its frames (Core Specification, 4.2.6 Module Instances).
+#[derive(Drop)]
+pub struct Instance {
+    /// The globals.
+    pub globals: Vec<Value>,
+    /// The memory. Where the module has none, it has no page.
+    pub memory: Linear<Global>,
+}
+
+/// A fresh instance (Core Specification, 4.5.4 Instantiation): its globals have their first values, and its data
+/// segments are in place. Its memory may grow to the lesser of the limit and the declared maximum.
+///
+/// # Errors
+///
+/// `NoMemory` where memory was refused.
+pub fn open_instance<A: Allocator>(
+    alloc: Global,
+    deployed: &Deployed<A>,
+) -> Result<Instance, NoMemory>
+    ensures { IfOk result (λ i. IsFresh i (module_view (tree_of deployed.now))) }
+{
+    let globals = match open_globals(alloc, &deployed.module().globals) {
+        Ok(globals) => globals,
+        Err(_) => return Err(NoMemory),
+    };
+    let memory = open_memory(alloc, deployed)?;
+    Ok(Instance { globals, memory })
+}
+
+// The memory, with the data segments in place.
+fn open_memory<A: Allocator>(
+    alloc: Global,
+    deployed: &Deployed<A>,
+) -> Result<Linear<Global>, NoMemory>
+    ensures bytes { IfOk result (λ m. m.bytes ≡ (fresh (module_view (tree_of deployed.now))).memory) }
+    ensures max { IfOk result (λ m. m.max ≡ most_pages (map limits_view (tree_of deployed.now).memories.items)) }
+{
+    deployed.is_linked();
+    let tree = deployed.module();
+    let mut memory = first_memory(alloc, &tree.memories)?;
+    for segment in &tree.datas {
+        let at = bits(constant_of(&segment.offset)) as u32;
+        match memory.write_all(at, &segment.bytes) {
+            Ok(()) => {}
+            Err(StoreRefusal::NoMemory) => return Err(NoMemory),
+            Err(StoreRefusal::Trap(_)) => unreachable!(),
+        }
+    }
+    Ok(memory)
+}
+
+// The number that a value's bits spell.
+fn bits(value: Value) -> u64
+    ensures { result ≡ bits_of value }
+{
+    match value {
+        Value::I32(x) => u64::from(x.cast_unsigned()),
+        Value::I64(x) => x.cast_unsigned(),
+    }
+}
+
+// The memory before the data segments are in place.
+fn first_memory(alloc: Global, memories: &[Limits]) -> Result<Linear<Global>, NoMemory>
+    requires { size_of (map limits_view memories.now) ≤ most_pages (map limits_view memories.now) }
+    ensures bytes { IfOk result (λ m. m.bytes ≡ replicate (page_size * size_of (map limits_view memories.now)) 0) }
+    ensures max { IfOk result (λ m. m.max ≡ most_pages (map limits_view memories.now)) }
+{
+    if memories.is_empty() {
+        return Linear::new(alloc, 0, PAGE_LIMIT);
+    }
+    let limits = memories[0];
+    let most = limits.max.unwrap_or(PAGE_LIMIT);
+    Linear::new(alloc, limits.min, most.min(PAGE_LIMIT))
+}
+
+// The first values of the globals.
+fn open_globals<A: Allocator>(
+    alloc: Global,
+    declared: &[Declared<A>],
+) -> Result<Vec<Value>, AllocError>
+    ensures { IfOk result (λ values. values.items ≡ map (λ g. constant g.init) (map global_view declared.now)) }
+{
+    let mut values = Vec::new(alloc);
+    for global in declared {
+        values.push(constant_of(&global.init))?;
+    }
+    Ok(values)
+}
+
+// The value of a constant expression.
+fn constant_of<A: Allocator>(expression: &Vec<Instr<A>, A>) -> Value
+    ensures { result ≡ constant (instrs_view expression.now.items) }
+{
+    if expression.len() != 1 {
+        return Value::I32(0);
+    }
+    match &expression[0] {
+        Instr::Plain(_, op) => value_of_const(*op),
+        Instr::BrTable(_, _, _) => Value::I32(0),
+        Instr::Block(_, _, _) => Value::I32(0),
+        Instr::Loop(_, _, _) => Value::I32(0),
+        Instr::If(_, _, _, _) => Value::I32(0),
+    }
+}
+
+fn value_of_const(op: PlainInstr) -> Value
+    ensures { result ≡ constant (syntax.seq (syntax.Plain op) syntax.nothing) }
+{
+    match op {
+        PlainInstr::Const(value) => value,
+        _ => Value::I32(0),
+    }
+}

@@ -1,0 +1,105 @@
+// Large modules. A check whose time grows with the square of the length takes longer than a test may.
+use crate::verdict::Verdict::{Broken, Deployed};
+use crate::verdict::judge;
+use std::alloc::{AllocError, Global};
+use std::test::Fail;
+
+// A number in five bytes.
+fn put_number(to: &mut Vec<u8>, number: u32) -> Result<(), AllocError> {
+    let mut left = number;
+    for _ in 0..4 {
+        to.push(0x80 + (left % 128) as u8)?;
+        left /= 128;
+    }
+    to.push((left % 16) as u8)?;
+    Ok(())
+}
+
+fn put_section(to: &mut Vec<u8>, id: u8, content: &[u8]) -> Result<(), Fail> {
+    to.push(id)?;
+    put_number(to, u32::try_from(content.len())?)?;
+    to.extend_from_slice(content)?;
+    Ok(())
+}
+
+// One memory that is exported 100,000 times, the last time under this name.
+fn many_exports(a: Global, last: &[u8; 3]) -> Result<Vec<u8>, Fail> {
+    let mut exports = Vec::new(a);
+    put_number(&mut exports, 100_000)?;
+    for i in 0..99_999u32 {
+        let name = [i / 2500, i / 50 % 50, i % 50];
+        exports.push(3)?;
+        for digit in name {
+            exports.push(b'0' + digit as u8)?;
+        }
+        exports.extend_from_slice(b"\x02\x00")?;
+    }
+    exports.push(3)?;
+    exports.extend_from_slice(last)?;
+    exports.extend_from_slice(b"\x02\x00")?;
+    let mut sections = Vec::new(a);
+    put_section(&mut sections, 5, b"\x01\x00\x01")?;
+    put_section(&mut sections, 7, &exports)?;
+    Ok(sections)
+}
+
+#[test]
+fn exports(rt: HostRuntime) -> Result<(), Fail> {
+    let a = rt.alloc();
+    judge(
+        &rt,
+        a,
+        &[
+            (&many_exports(a, b"zzz")?, Deployed),
+            (&many_exports(a, b"000")?, Broken(None, 99_999, 6)),
+        ],
+    )
+}
+
+// The types `[] -> []` and `[i32 i32 ..] -> []`.
+fn two_types(a: Global, params: u32) -> Result<Vec<u8>, AllocError> {
+    let mut types = b"\x02\x60\x00\x00\x60".to_vec(a)?;
+    put_number(&mut types, params)?;
+    for _ in 0..params {
+        types.push(0x7F)?;
+    }
+    types.push(0)?;
+    Ok(types)
+}
+
+// Unreachable calls of a function with 500,000 parameters.
+#[test]
+fn calls(rt: HostRuntime) -> Result<(), Fail> {
+    let a = rt.alloc();
+    let mut body = b"\x00\x00".to_vec(a)?;
+    for _ in 0..250_000 {
+        body.extend_from_slice(b"\x10\x01")?;
+    }
+    body.push(0x0B)?;
+    let mut code = b"\x02".to_vec(a)?;
+    put_number(&mut code, u32::try_from(body.len())?)?;
+    code.extend_from_slice(&body)?;
+    code.extend_from_slice(b"\x02\x00\x0B")?;
+    let mut sections = Vec::new(a);
+    put_section(&mut sections, 1, &two_types(a, 500_000)?)?;
+    put_section(&mut sections, 3, b"\x02\x00\x01")?;
+    put_section(&mut sections, 10, &code)?;
+    judge(&rt, a, &[(&sections, Deployed)])
+}
+
+// 4,096 functions with 900,000 parameters.
+#[test]
+fn parameters(rt: HostRuntime) -> Result<(), Fail> {
+    let a = rt.alloc();
+    let mut funcs = b"\x80\x20".to_vec(a)?;
+    let mut code = b"\x80\x20".to_vec(a)?;
+    for _ in 0..4096 {
+        funcs.push(1)?;
+        code.extend_from_slice(b"\x02\x00\x0B")?;
+    }
+    let mut sections = Vec::new(a);
+    put_section(&mut sections, 1, &two_types(a, 900_000)?)?;
+    put_section(&mut sections, 3, &funcs)?;
+    put_section(&mut sections, 10, &code)?;
+    judge(&rt, a, &[(&sections, Deployed)])
+}

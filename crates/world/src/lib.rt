@@ -1,0 +1,10 @@
+//! Worlds, which are contracts and cells, and their bytes.
+#![tactic(auto)]
+
+#[cfg(test)]
+mod tests;
+mod value;
+mod write;
+
+pub use value::World;
+pub use write::{digest_world, write_world};
