@@ -1,9 +1,8 @@
 //! Reading a block.
 
-ghost use Rattle.std.specs.Prelude.{◌≡◌, ◌≤◌, ◌⊎◌, List, None, Ok, IfOk, IfErr, length};
+ghost use Rattle.std.specs.Prelude.{◌≡◌, ◌≤◌, ◌⊎◌, None, Ok, IfOk, IfErr, length};
 ghost use Rattle.spec_block.specs.Worlds.{Block as TheBlock};
 ghost use Rattle.spec_block.specs.Bytes.{SpellsBlock};
-ghost use Rattle.fields.specs.declared.fault.Fault.{Fault};
 ghost use Rattle.fields.specs.Reading.{Gives, items_at, front_at, whole};
 ghost use Rattle.block.specs.declared.refusal.BlockRefusal.TheVariants.{NoMemory};
 ghost use Rattle.block.specs.Reading.{next_position_at, positions_at, block_at};

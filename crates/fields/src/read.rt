@@ -1,6 +1,5 @@
 //! Reading a field from the front of what is left. A reader gives the field and the bytes after it.
 
-ghost use Rattle.std.specs.Prelude.{◌≡◌};
 ghost use Rattle.std.specs.Int.{w32, w64};
 ghost use Rattle.fields.specs.Reading.{Gives, byte_at, number_at, front_at, tag_at};
 

@@ -1,10 +1,10 @@
 //! Entries of lock profiles: the contract's number, the cell's kind, the key, the mode and the turn, 18 bytes.
 
-ghost use Rattle.std.specs.Prelude.{◌≡◌, ◌++◌, ℕ, List, IfOk, OnOk, Ok, take, length};
+ghost use Rattle.std.specs.Prelude.{◌≡◌, ◌++◌, ℕ, List, IfOk, OnOk, take, length};
 ghost use Rattle.std.specs.Ordering.{is_lt};
 ghost use Rattle.spec_ledger.specs.Cells.{lock_cmp};
 ghost use Rattle.spec_ledger.specs.declared.Entry.{Entry};
-ghost use Rattle.spec_block.specs.Bytes.{IsEntry, entry_bytes, kind_code, mode_code};
+ghost use Rattle.spec_block.specs.Bytes.{entry_bytes, kind_code, mode_code};
 ghost use Rattle.fields.specs.Reading.{Gives, IsRead};
 ghost use Rattle.records.specs.Profiles.{kind_of, kind_at, mode_of, mode_at, is_after, lock_at, entry_at, IsEntryAfter};
 

@@ -1,6 +1,6 @@
 //! Positions of a block: the call's number, its receipt and its lock profile.
 
-ghost use Rattle.std.specs.Prelude.{◌≡◌, ◌++◌, ◌↔◌, ◌<◌, ◌^◌, ℕ, List, IfOk, OnOk, Ok, IsSome, IfSome, length, take};
+ghost use Rattle.std.specs.Prelude.{◌≡◌, ◌++◌, ◌↔◌, ◌<◌, ◌^◌, ℕ, List, IfOk, OnOk, IsSome, IfSome, length, take};
 ghost use Rattle.spec_block.specs.Worlds.{Position as ThePosition};
 ghost use Rattle.spec_block.specs.Bytes.{IsOutcome, IsPosition, position_bytes};
 ghost use Rattle.fields.specs.Reading.{Gives, IsRead};

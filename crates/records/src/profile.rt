@@ -1,6 +1,6 @@
 //! Lock profiles: a count and the entries, whose locks strictly rise.
 
-ghost use Rattle.std.specs.Prelude.{◌≡◌, ◌++◌, ◌<◌, ◌^◌, ℕ, List, None, IfOk, OnOk, Ok, length, take};
+ghost use Rattle.std.specs.Prelude.{◌≡◌, ◌++◌, ◌<◌, ◌^◌, ℕ, List, None, IfOk, OnOk, length, take};
 ghost use Rattle.std.specs.List.{AllByRecursion};
 ghost use Rattle.spec_ledger.specs.declared.Entry.{Entry};
 ghost use Rattle.lock_profile.specs.Turns.{IsProfile};

@@ -1,6 +1,6 @@
 //! Receipts: the fuel used, a byte for the outcome's kind, and what the kind has.
 
-ghost use Rattle.std.specs.Prelude.{◌≡◌, ◌++◌, ◌↔◌, ◌<◌, ◌^◌, ℕ, List, IfOk, OnOk, Ok, IsTrue, take, length};
+ghost use Rattle.std.specs.Prelude.{◌≡◌, ◌++◌, ◌↔◌, ◌<◌, ◌^◌, ℕ, List, IfOk, OnOk, IsTrue, take, length};
 ghost use Rattle.spec_ledger.specs.declared.Receipt.{Receipt};
 ghost use Rattle.spec_block.specs.Bytes.{IsReceipt, IsOutcome, outcome_bytes, receipt_bytes, trap_code};
 ghost use Rattle.fields.specs.Reading.{Gives, IsRead};

@@ -1,6 +1,6 @@
 //! Values: a type byte, `7F` for 32 bits and `7E` for 64, and the bits.
 
-ghost use Rattle.std.specs.Prelude.{◌≡◌, ◌++◌, ℕ, List, IfOk, OnOk, Ok, take, length};
+ghost use Rattle.std.specs.Prelude.{◌≡◌, ◌++◌, ℕ, List, IfOk, OnOk, take, length};
 ghost use Rattle.wtypes.specs.declared.Value.{Value};
 ghost use Rattle.spec_block.specs.Bytes.{IsValue, value_bytes};
 ghost use Rattle.fields.specs.Reading.{Gives, IsRead};

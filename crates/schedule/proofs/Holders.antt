@@ -13,7 +13,7 @@ use Rattle.lock_profile.specs.Turns.{IsProfile}
 use Rattle.spec_block.specs.Schedule.{hold_in, IsEdge}
 use Rattle.schedule.specs.declared.index.LockTurn.{LockTurn}
 use Rattle.schedule.specs.Index.{turn_cmp, turn_of, next_turn, members, IsAt, IsHolder, IsNext, IsIndex}
-use Rattle.schedule.specs.Graph.{successors}
+use Rattle.schedule.specs.Graph.{successors, AreEdges, IsForward}
 use Rattle.schedule.proofs.Places.{turn_cmp_total, turn_cmp-IsAntisymmetric}
 use Rattle.schedule.proofs.Profiles.{found_at, entry_published}
 
@@ -187,3 +187,15 @@ edges_exact profiles edges all i j = elim (cases_lt i (length profiles)) [
     λ e. absurd (no_edge_past profiles i j ge e),
   )
 ]
+
+-- edges of profiles with their own turns go forward
+pub edges_forward : (profiles : List (List Entry)) (edges : List (List ℕ)) → length profiles < 2 ^ 16 → ((i j : ℕ) → IsEdge profiles i j → i < j) → AreEdges profiles edges → IsForward edges
+edges_forward profiles edges few forward are = record {
+  few = (let size = are.each in omega (arith, few, size));
+  rising = are.rising;
+  forward = λ i j among.
+      let edge = (are.exact i j).0 among in
+      let within = slice_get_within profiles j edge.holds_second.profile edge.holds_second.there in
+      let size = are.each in
+      (forward i j edge, omega (arith, within, size));
+}

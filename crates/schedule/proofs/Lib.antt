@@ -1,4 +1,7 @@
 pub mod Before
+pub mod Boards
+pub mod Counts
+pub mod Firsts
 pub mod Holders
 pub mod Places
 pub mod Profiles

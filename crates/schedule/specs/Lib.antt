@@ -1,3 +1,4 @@
+pub mod Board
 pub mod Graph
 pub mod Index
 pub mod Waves

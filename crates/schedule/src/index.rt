@@ -49,6 +49,14 @@ impl Positions {
     {
         &self.list
     }
+
+    /// The same positions once more.
+    pub(crate) fn copy(&self, alloc: Global) -> Result<Positions, NoMemory>
+        ensures { IfOk result (λ copy. copy ≡ self.now) }
+    {
+        let list = Vec::from_slice(alloc, &self.list)?;
+        Ok(Positions { list })
+    }
 }
 
 /// The positions with one more.

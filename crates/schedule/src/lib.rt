@@ -8,10 +8,12 @@ ghost use Rattle.std.specs.List.Sorted.{IsStrictlyIncreasing};
 ghost use Rattle.spec_block.specs.Schedule.{AreApart, HaveTurns, IsEdge, IsWave};
 ghost use Rattle.schedule.specs.Graph.{successors};
 
+mod board;
 mod index;
 mod laws;
 mod waves;
 
+pub use board::{Board, EndRefusal};
 pub use index::Positions;
 use index::{edges_of, holders_of};
 pub use laws::turns_agree;
@@ -30,11 +32,13 @@ pub struct Graph {
 }
 
 impl Model for Graph {
-    ghost use Rattle.schedule.specs.Graph.{Waits};
+    ghost use Rattle.schedule.specs.Graph.{Waits, IsForward};
 
     ghost Value = { Waits };
 
     ghost view = { λ g. record { edges = g.edges.items; waves = g.waves.items } };
+
+    ghost invariant = { λ g. IsForward g.edges.items };
 }
 
 impl Graph {

@@ -1,4 +1,4 @@
-use super::{Graph, turns_agree};
+use super::{Board, EndRefusal, Graph, turns_agree};
 use lock_profile::{Held, Touched, turns};
 use spec_ledger::{Kind, Lock, Mode};
 use std::alloc::Global;
@@ -166,4 +166,48 @@ fn successors_at_several_locks_rise(rt: HostRuntime) -> Result<(), Fail> {
     ];
     let edges = [(0, 1), (0, 2), (0, 3)];
     assert_graph(&rt, rt.alloc(), &order, &edges, &[0, 1, 1, 1])
+}
+
+#[test]
+fn a_position_is_ready_when_its_predecessor_has_ended(rt: HostRuntime) -> Result<(), Fail> {
+    let order = [
+        (0, writes(1)),
+        (1, writes(2)),
+        (2, reads(1)),
+        (2, writes(3)),
+    ];
+    let graph = graph(&rt, rt.alloc(), 3, &order)?;
+    let mut board = Board::open(rt.alloc(), &graph)?;
+    assert_eq!(rt; board.ready(), [0, 1].as_slice());
+    assert_eq!(rt; board.end(2).err(), Some(EndRefusal::NotReady));
+    let free = board.end(0).ok().ok_or("0 has no predecessor")?;
+    assert_eq!(rt; free.as_slice(), [2].as_slice());
+    assert_eq!(rt; board.end(0).err(), Some(EndRefusal::Ended));
+    assert_eq!(rt; board.end(3).err(), Some(EndRefusal::NoSuchPosition));
+    for position in [2, 1] {
+        let free = board.end(position).ok().ok_or("it is ready")?;
+        assert_eq!(rt; free.len(), 0);
+    }
+    Ok(())
+}
+
+#[test]
+fn the_last_predecessor_frees_in_rising_order(rt: HostRuntime) -> Result<(), Fail> {
+    let order = [
+        (0, writes(1)),
+        (0, writes(2)),
+        (1, reads(1)),
+        (2, reads(1)),
+        (2, reads(2)),
+        (3, writes(1)),
+    ];
+    let graph = graph(&rt, rt.alloc(), 4, &order)?;
+    let mut board = Board::open(rt.alloc(), &graph)?;
+    assert_eq!(rt; board.ready(), [0].as_slice());
+    let steps: [(u32, &[u32]); 4] = [(0, &[1, 2]), (2, &[]), (1, &[3]), (3, &[])];
+    for (position, freed) in steps {
+        let free = board.end(position).ok().ok_or("it is ready")?;
+        assert_eq!(rt; free.as_slice(), freed);
+    }
+    Ok(())
 }

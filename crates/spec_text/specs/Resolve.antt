@@ -1,5 +1,5 @@
 -- Fields with names become a module (Core, Text Format, Contexts, Modules and Abbreviations).
-use Rattle.std.specs.Prelude.{◌≡◌, ◌≢◌, ℕ, suc, ◌+◌, ◌^◌, List, [], ◌∷◌, ◌++◌, Option, Some, None, map, slice_get, All}
+use Rattle.std.specs.Prelude.{◌≡◌, ◌≢◌, ℕ, suc, ◌+◌, ◌^◌, List, [], ◌∷◌, ◌++◌, Option, Some, None, map, slice_get}
 use Rattle.std.specs.List.{flat_map, filter_map}
 use Rattle.wtypes.specs.declared.ValType.{ValType}
 use Rattle.wtypes.specs.declared.LoadOp.{LoadOp}
@@ -197,8 +197,7 @@ pub data Becomes (s : Spaces) (locals labels : Names) : Flat → Instr → Type 
   with_index : {op : Operator} {space : Space} {make : ℕ → PlainInstr} {i : Index} {n : ℕ} → indexed op ≡ Some (space, make) → Stands (names_in s locals labels space) i n
       → Becomes s locals labels (Named.Indexed op i) (S.Plain (make n))
   br_table : {is : List Index} {last : Index} {ns : List ℕ} {n : ℕ} → AllStand labels is ns → Stands labels last n → Becomes s locals labels (Named.BrTable is last) (S.BrTable ns n)
-  -- without names
-  call_indirect : {w : TypeUse} {i : ℕ} {ns : Names} → Uses s.type_names s.types w i ns → All (λ n. n ≡ None) (names_of w.params) → Becomes s locals labels (Named.CallIndirect w) (S.Plain (P.CallIndirect i))
+  call_indirect : {w : TypeUse} {i : ℕ} {ns : Names} → Uses s.type_names s.types w i ns → Becomes s locals labels (Named.CallIndirect w) (S.Plain (P.CallIndirect i))
   load : {op : LoadOp} {offset align : Option (List ℕ)} {o a : ℕ} → OffsetOf offset o → AlignOf (load_width op) align a → Becomes s locals labels (Named.Load op offset align) (S.Plain (P.Load op a o))
   store : {op : StoreOp} {offset align : Option (List ℕ)} {o a : ℕ} → OffsetOf offset o → AlignOf (store_width op) align a → Becomes s locals labels (Named.Store op offset align) (S.Plain (P.Store op a o))
   const : {t : ValType} {text : List ℕ} {c : Value} → IsConstant t text c → Becomes s locals labels (Named.Const t text) (S.Plain (P.Const c))

@@ -1,0 +1,82 @@
+// The bytes that `wat2wasm` of wabt 1.0.32 gives for this text:
+//
+//     (module
+//       (memory 1 2)
+//       (data (i32.const 65530) "\01\02\03\04\05\ff")
+//       (data (i32.const 8) "\80\7f")
+//       (global $g (mut i64) (i64.const 40))
+//       (func $fac (param i64) (result i64)
+//         (if (result i64) (i64.eqz (local.get 0))
+//           (then (i64.const 1))
+//           (else (i64.mul (local.get 0) (call $fac (i64.sub (local.get 0) (i64.const 1)))))))
+//       (func $sum (param i32) (result i32) (local i32)
+//         (block (loop
+//           (br_if 1 (i32.eqz (local.get 0)))
+//           (local.set 1 (i32.add (local.get 1) (local.get 0)))
+//           (local.set 0 (i32.sub (local.get 0) (i32.const 1)))
+//           (br 0)))
+//         (local.get 1))
+//       (func $pick (param i32) (result i32)
+//         (block (block (block (block (local.get 0) (br_table 0 1 2 3))
+//           (return (i32.const 10))) (return (i32.const 11))) (return (i32.const 12)))
+//         (i32.const 13))
+//       (func (export "fac10") (result i64) (call $fac (i64.const 10)))
+//       (func (export "sum100") (result i32) (call $sum (i32.const 100)))
+//       (func (export "pick0") (result i32) (call $pick (i32.const 0)))
+//       (func (export "pick2") (result i32) (call $pick (i32.const 2)))
+//       (func (export "pick3") (result i32) (call $pick (i32.const 3)))
+//       (func (export "pick9") (result i32) (call $pick (i32.const 9)))
+//       (func (export "tee") (result i32) (local i32)
+//         (i32.add (local.tee 0 (i32.const 21)) (local.get 0)))
+//       (func (export "select0") (result i32) (select (i32.const 3) (i32.const 4) (i32.const 0)))
+//       (func (export "select1") (result i32) (select (i32.const 3) (i32.const 4) (i32.const 1)))
+//       (func (export "branch_out") (result i32)
+//         (i32.add (i32.const 7)
+//           (block (result i32) (i32.const 1) (loop (result i32) (i32.const 5) (br 1 (i32.const 9))) (drop) )))
+//       (func (export "returns") (result i32) (i32.const 1) (block (loop (return (i32.const 33)))) )
+//       (func (export "globals") (result i64)
+//         (global.set $g (i64.add (global.get $g) (i64.const 2))) (global.get $g))
+//       (func (export "load8s") (result i32) (i32.load8_s (i32.const 8)))
+//       (func (export "load16u") (result i32) (i32.load16_u offset=8 (i32.const 0)))
+//       (func (export "load64") (result i64) (i64.load (i32.const 65528)))
+//       (func (export "store") (result i64)
+//         (i64.store32 (i32.const 100) (i64.const -2)) (i64.load (i32.const 98)))
+//       (func (export "size") (result i32) (memory.size))
+//       (func (export "out") (result i32) (i32.load (i32.const 65533)))
+//       (func (export "trap") (result i32) (unreachable))
+//       (func (export "wrap") (result i32) (i32.wrap_i64 (i64.const 0x1_0000_0005)))
+//       (func (export "clz") (result i64) (i64.clz (i64.const 255)))
+//       (func (export "lt") (result i32) (i64.lt_s (i64.const -1) (i64.const 1)))
+//       (func $forever (result i32) (i32.add (i32.const 1) (call $forever)))
+//       (func (export "deep_calls") (result i32) (call $forever))
+//       (func (export "div0") (result i32) (i32.div_u (i32.const 1) (i32.const 0)))
+//     )
+
+pub const EXPORTS: [u8; 627] = [
+    0, 97, 115, 109, 1, 0, 0, 0, 1, 19, 4, 96, 1, 126, 1, 126, 96, 1, 127, 1, 127, 96, 0, 1, 126,
+    96, 0, 1, 127, 3, 29, 28, 0, 1, 1, 2, 3, 3, 3, 3, 3, 3, 3, 3, 3, 3, 2, 3, 3, 2, 2, 3, 3, 3, 3,
+    2, 3, 3, 3, 3, 5, 4, 1, 1, 1, 2, 6, 6, 1, 126, 1, 66, 40, 11, 7, 203, 1, 24, 5, 102, 97, 99,
+    49, 48, 0, 3, 6, 115, 117, 109, 49, 48, 48, 0, 4, 5, 112, 105, 99, 107, 48, 0, 5, 5, 112, 105,
+    99, 107, 50, 0, 6, 5, 112, 105, 99, 107, 51, 0, 7, 5, 112, 105, 99, 107, 57, 0, 8, 3, 116, 101,
+    101, 0, 9, 7, 115, 101, 108, 101, 99, 116, 48, 0, 10, 7, 115, 101, 108, 101, 99, 116, 49, 0,
+    11, 10, 98, 114, 97, 110, 99, 104, 95, 111, 117, 116, 0, 12, 7, 114, 101, 116, 117, 114, 110,
+    115, 0, 13, 7, 103, 108, 111, 98, 97, 108, 115, 0, 14, 6, 108, 111, 97, 100, 56, 115, 0, 15, 7,
+    108, 111, 97, 100, 49, 54, 117, 0, 16, 6, 108, 111, 97, 100, 54, 52, 0, 17, 5, 115, 116, 111,
+    114, 101, 0, 18, 4, 115, 105, 122, 101, 0, 19, 3, 111, 117, 116, 0, 20, 4, 116, 114, 97, 112,
+    0, 21, 4, 119, 114, 97, 112, 0, 22, 3, 99, 108, 122, 0, 23, 2, 108, 116, 0, 24, 10, 100, 101,
+    101, 112, 95, 99, 97, 108, 108, 115, 0, 26, 4, 100, 105, 118, 48, 0, 27, 10, 193, 2, 28, 21, 0,
+    32, 0, 80, 4, 126, 66, 1, 5, 32, 0, 32, 0, 66, 1, 125, 16, 0, 126, 11, 11, 33, 1, 1, 127, 2,
+    64, 3, 64, 32, 0, 69, 13, 1, 32, 1, 32, 0, 106, 33, 1, 32, 0, 65, 1, 107, 33, 0, 12, 0, 11, 11,
+    32, 1, 11, 33, 0, 2, 64, 2, 64, 2, 64, 2, 64, 32, 0, 14, 3, 0, 1, 2, 3, 11, 65, 10, 15, 11, 65,
+    11, 15, 11, 65, 12, 15, 11, 65, 13, 11, 6, 0, 66, 10, 16, 0, 11, 7, 0, 65, 228, 0, 16, 1, 11,
+    6, 0, 65, 0, 16, 2, 11, 6, 0, 65, 2, 16, 2, 11, 6, 0, 65, 3, 16, 2, 11, 6, 0, 65, 9, 16, 2, 11,
+    11, 1, 1, 127, 65, 21, 34, 0, 32, 0, 106, 11, 9, 0, 65, 3, 65, 4, 65, 0, 27, 11, 9, 0, 65, 3,
+    65, 4, 65, 1, 27, 11, 20, 0, 65, 7, 2, 127, 65, 1, 3, 127, 65, 5, 65, 9, 12, 1, 11, 26, 11,
+    106, 11, 13, 0, 65, 1, 2, 64, 3, 64, 65, 33, 15, 11, 11, 11, 11, 0, 35, 0, 66, 2, 124, 36, 0,
+    35, 0, 11, 7, 0, 65, 8, 44, 0, 0, 11, 7, 0, 65, 0, 47, 1, 8, 11, 9, 0, 65, 248, 255, 3, 41, 3,
+    0, 11, 16, 0, 65, 228, 0, 66, 126, 62, 2, 0, 65, 226, 0, 41, 3, 0, 11, 4, 0, 63, 0, 11, 9, 0,
+    65, 253, 255, 3, 40, 2, 0, 11, 3, 0, 0, 11, 9, 0, 66, 133, 128, 128, 128, 16, 167, 11, 6, 0,
+    66, 255, 1, 121, 11, 7, 0, 66, 127, 66, 1, 83, 11, 7, 0, 65, 1, 16, 25, 106, 11, 4, 0, 16, 25,
+    11, 7, 0, 65, 1, 65, 0, 110, 11, 11, 21, 2, 0, 65, 250, 255, 3, 11, 6, 1, 2, 3, 4, 5, 255, 0,
+    65, 8, 11, 2, 128, 127,
+];

@@ -1,0 +1,5 @@
+use Rattle.std.proofs.Common.{◌≡◌, take}
+use Rattle.schedule.proofs.board.copy_of.Given as goal
+
+abbrev pub invariant-loop-positions : goal.invariant-loop-positions
+invariant-loop-positions l = l.copy.items ≡ take l.positions-index l.edges

@@ -1,0 +1,18 @@
+use Rattle.std.proofs.Common.{◌≡◌, ◌<◌, length, get_or, arith}
+use Rattle.std.proofs.lemmas.List.{get_or_read}
+use Rattle.std.proofs.lemmas.List.Elements.{Contains-get_or}
+use Rattle.schedule.proofs.Counts.{one_left}
+use Rattle.schedule.proofs.board.lower.Goals as goal
+
+pub index_mut-requires : goal.index_mut-requires
+index_mut-requires c =
+    let h = c.requires.within _ (Contains-get_or c.args.successors.now c.loop-j.j-index 0 c.loop-j-test.true) in
+    omega (arith, h, c.loop-j.invariant.0, c.loop-j.waiting.ok.0)
+
+pub overflow_sub-index_mut : goal.overflow_sub-index_mut
+overflow_sub-index_mut c =
+    let h = c.requires.within _ (Contains-get_or c.args.successors.now c.loop-j.j-index 0 c.loop-j-test.true) in
+    let one = one_left c.args.successors.now c.loop-j.j-index _ _ c.loop-j-test.true (c.loop-j.invariant.1 _ h) (c.requires.enough _ h) in
+    let there : get_or c.args.successors.now c.loop-j.j-index 0 < length c.loop-j.waiting.items = omega (arith, h, c.loop-j.invariant.0) in
+    let read : c.index_mut.result.now ≡ get_or c.loop-j.waiting.items (get_or c.args.successors.now c.loop-j.j-index 0) 0 = get_or_read _ _ _ there c.index_mut.ensures.value 0 in
+    omega (arith, one, read)

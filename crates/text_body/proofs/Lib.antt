@@ -1,0 +1,5 @@
+pub mod Repeats
+pub mod Pieces
+pub mod Rests
+pub mod Halfway
+pub mod OneBody

@@ -1,0 +1,30 @@
+use Rattle.std.proofs.Common.{◌≡◌, ◌<◌, List, Some, length, map, sym, ap, ◌∙◌, subst, arith}
+use Rattle.std.specs.Prelude.{IfSome, option_map}
+use Rattle.std.proofs.lemmas.List.{map_push, length-map}
+use Rattle.std.proofs.lemmas.Result.{err_from_is_err_and}
+use Rattle.spec_text.specs.Named as N
+use Rattle.text_words.specs.Views.{view, views}
+use Rattle.text_body.specs.Views.{index_of}
+use Rattle.text_body.specs.Reading.{next_index_at, indices_at}
+use Rattle.text_body.proofs.Repeats.{Halfway, hand_on, halfway_end, halfway_fault, halfway_more}
+use Rattle.text_body.proofs.parts.indices.Goals as goal
+
+pub loop-next-preserved : goal.loop-next-preserved
+loop-next-preserved g c =
+    let l = c.loop-next in
+    let new = c.next_index.new.rest.now in
+    let short : length new < length l.rest.now = c.in-Some.ensures.shorter in
+    let whole = indices_at (views c.args.rest.now.now) in
+    record {
+      half = subst (λ (xs : List N.Index). Halfway next_index_at whole (views new) xs) (sym (ap (map index_of) c.in_ok-push.ensures.items ∙ map_push index_of l.found.items c.in-Some.next))
+          (halfway_more next_index_at whole (views l.rest.now) (map index_of l.found.items) l.invariant.half (views new) (index_of c.in-Some.next)
+          c.in-Some.ensures.is (omega (arith, short, length-map new view, length-map l.rest.now view)));
+      within = omega (arith, short, l.invariant.within);
+    }
+
+pub returns-clause-value : goal.returns-clause-value
+returns-clause-value g c =
+    let l = c.loop-next in
+    let new = c.next_index.new.rest.now in
+    halfway_end next_index_at (indices_at (views c.args.rest.now.now)) (views l.rest.now) (map index_of l.found.items) l.invariant.half (views new)
+    c.in_default.ensures.is

@@ -1,0 +1,5 @@
+pub mod Views
+pub mod Reading
+pub mod Outcome
+pub mod Turns
+pub mod Bodies

@@ -1,0 +1,15 @@
+//! Bodies of a text in the text format of WebAssembly, as flat lists of instructions (Core Specification, 6.5
+//! Instructions).
+#![tactic(auto)]
+
+mod flat;
+mod parts;
+mod turns;
+mod whole;
+
+pub use whole::{body, no_words_begin_with_two_bodies};
+
+#[cfg(test)]
+mod tests;
+
+pub use flat::{Binding, Flat, Index, Opener, TypeUse};
