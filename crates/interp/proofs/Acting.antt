@@ -5,7 +5,7 @@ use Rattle.wtypes.specs.declared.Value.{Value}
 use Rattle.wtypes.specs.declared.PlainInstr.{PlainInstr}
 use Rattle.wtypes.specs.declared.LoadOp.{LoadOp}
 use Rattle.wtypes.specs.declared.StoreOp.{StoreOp}
-use Rattle.wtypes.specs.declared.PlainInstr.TheVariants.{Call, Br, BrIf, Return, GlobalGet, GlobalSet, Load, Store, MemorySize, LocalTee}
+use Rattle.wtypes.specs.declared.PlainInstr.TheVariants.{Call, Br, BrIf, Return, GlobalGet, GlobalSet, Load, Store, MemorySize, MemoryGrow, LocalTee}
 use Rattle.spec_syntax.specs.Syntax.{Plain}
 use Rattle.module_tree.specs.declared.instr.Instr.{Instr}
 use Rattle.spec_execution.specs.Configuration.{Contract, State, Config, End, Trap}
@@ -16,7 +16,7 @@ use Rattle.interp.specs.declared.parts.Parts.{Parts}
 use Rattle.interp.specs.declared.plain.After.{After}
 use Rattle.interp.specs.declared.plain.After.TheVariants as after
 use Rattle.interp.specs.Meaning.{Item, Open, Loop, behind, height, outermost, at, config, Stands, IsOrdered, calling, listed, frames}
-use Rattle.interp.specs.Forms.{operands, runs_on, runs_memory, runs_plain, IsReadyFor}
+use Rattle.interp.specs.Forms.{operands, runs_on, runs_on_instance, runs_plain, IsReadyFor}
 use Rattle.interp.proofs.Finding.{ready_for}
 use Rattle.interp.specs.Plain.{onto, Did, at_once, by_two}
 use Rattle.spec_execution.specs.Turns.{Frees, none}
@@ -74,7 +74,7 @@ if_ok (Err e) P Q f h = h
 
 pub led_parts : {A : Type 0} (p q : Parts A) (n : ℕ) (op : PlainInstr) (a : After) → IsOrderedParts p → items_of p.code.now ≡ record { ordinal = n; instr = Plain op } ∷ items_of q.code.now → q.entries ≡ p.entries → q.instance ≡ p.instance →
     height (opens_of p.entries.items) + operands op ≤ length p.stack.items → Did op p.stack.items p.locals.items a q.stack.items q.locals.items → Led p a q
-led_parts {A} p q n op a o here same untouched there d c b safe =
+led_parts {A} p q n op a o here same untouched there d c b safe suits =
     let u : State = based b p.instance in
     let es : opens_of q.entries.items ≡ opens_of p.entries.items = ap (λ (v : Vec (Entry A) Global). opens_of v.items) same in
     let oo : IsOrdered (mk u (opens_of p.entries.items) p.stack.items p.locals.items (record { ordinal = n; instr = Plain op } ∷ items_of q.code.now)) = subst (λ (x : List Item). IsOrdered (mk u (opens_of p.entries.items) p.stack.items p.locals.items x)) here (o b) in
@@ -127,19 +127,24 @@ pub item_of_first : {A : Type 0} (p : Parts A) (i : Instr A) (rest : List (Instr
 item_of_first p i rest x e f = ap items_of e ∙ ap (λ (y : Item). y ∷ items_of rest) f
 
 -- an operator that leaves the order of the code as it is, and touches no more than the values and the locals
-pub operator_runs : (op : PlainInstr) → runs_plain op ≡ true → ((l : ℕ) → op ≡ Br l → ⊥) → ((l : ℕ) → op ≡ BrIf l → ⊥) → (op ≡ Return → ⊥) → ((x : ℕ) → op ≡ GlobalGet x → ⊥) → ((x : ℕ) → op ≡ GlobalSet x → ⊥) → runs_memory op ≡ false → runs_on op ≡ true
-operator_runs (Br l) r f g h i j m = absurd (f l refl)
-operator_runs (BrIf l) r f g h i j m = absurd (g l refl)
-operator_runs Return r f g h i j m = absurd (h refl)
-operator_runs (GlobalGet x) r f g h i j m = absurd (i x refl)
-operator_runs (GlobalSet x) r f g h i j m = absurd (j x refl)
-operator_runs (Load o align offset) r f g h i j m = absurd (true≢false m)
-operator_runs (Store o align offset) r f g h i j m = absurd (true≢false m)
-operator_runs MemorySize r f g h i j m = absurd (true≢false m)
-operator_runs op r f g h i j m = r
+pub operator_runs : (op : PlainInstr) → runs_plain op ≡ true → ((l : ℕ) → op ≡ Br l → ⊥) → ((l : ℕ) → op ≡ BrIf l → ⊥) → (op ≡ Return → ⊥) → runs_on_instance op ≡ false → runs_on op ≡ true
+operator_runs (Br l) r f g h i = absurd (f l refl)
+operator_runs (BrIf l) r f g h i = absurd (g l refl)
+operator_runs Return r f g h i = absurd (h refl)
+operator_runs (GlobalGet x) r f g h i = absurd (true≢false i)
+operator_runs (GlobalSet x) r f g h i = absurd (true≢false i)
+operator_runs (Load o align offset) r f g h i = absurd (true≢false i)
+operator_runs (Store o align offset) r f g h i = absurd (true≢false i)
+operator_runs MemorySize r f g h i = absurd (true≢false i)
+operator_runs MemoryGrow r f g h i = absurd (true≢false i)
+operator_runs op r f g h i = r
 
-pub not_memory : (op : PlainInstr) → ((o : LoadOp) (align offset : ℕ) → op ≡ Load o align offset → ⊥) → ((o : StoreOp) (align offset : ℕ) → op ≡ Store o align offset → ⊥) → (op ≡ MemorySize → ⊥) → runs_memory op ≡ false
-not_memory (Load o align offset) f g h = absurd (f o align offset refl)
-not_memory (Store o align offset) f g h = absurd (g o align offset refl)
-not_memory MemorySize f g h = absurd (h refl)
-not_memory op f g h = refl
+pub not_on_instance : (op : PlainInstr) → ((x : ℕ) → op ≡ GlobalGet x → ⊥) → ((x : ℕ) → op ≡ GlobalSet x → ⊥) → ((o : LoadOp) (align offset : ℕ) → op ≡ Load o align offset → ⊥) → ((o : StoreOp) (align offset : ℕ) → op ≡ Store o align offset → ⊥)
+    → (op ≡ MemorySize → ⊥) → (op ≡ MemoryGrow → ⊥) → runs_on_instance op ≡ false
+not_on_instance (GlobalGet x) e f g h i j = absurd (e x refl)
+not_on_instance (GlobalSet x) e f g h i j = absurd (f x refl)
+not_on_instance (Load o align offset) e f g h i j = absurd (g o align offset refl)
+not_on_instance (Store o align offset) e f g h i j = absurd (h o align offset refl)
+not_on_instance MemorySize e f g h i j = absurd (i refl)
+not_on_instance MemoryGrow e f g h i j = absurd (j refl)
+not_on_instance op e f g h i j = refl

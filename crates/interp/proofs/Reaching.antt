@@ -1,6 +1,6 @@
 -- What the instructions do that read or write memory.
 use Rattle.std.proofs.Common.{◌≡◌, ℕ, ◌+◌, ◌≤◌, ◌<◌, Bool, true, false, nat_le, List, [], ◌∷◌, ◌++◌, length, take, drop, refl, sym, ap, ◌∙◌, subst, arith, length-append, Ok, Err}
-use Rattle.std.specs.Prelude.{if◌then◌else◌}
+use Rattle.std.specs.Prelude.{if◌then◌else◌, replicate, ◌*◌, ◌-◌, ◌^◌}
 use Rattle.std.proofs.lemmas.Bool.{le-leb, leb-true}
 use Rattle.wtypes.specs.declared.ValType.{ValType}
 use Rattle.wtypes.specs.declared.ValType.TheVariants.{I32}
@@ -9,18 +9,19 @@ use Rattle.wtypes.specs.declared.LoadOp.{LoadOp}
 use Rattle.wtypes.specs.declared.StoreOp.{StoreOp}
 use Rattle.wtypes.specs.declared.TrapCode.{TrapCode}
 use Rattle.wtypes.specs.declared.TrapCode.TheVariants.{MemoryOutOfBounds}
-use Rattle.wtypes.specs.declared.PlainInstr.TheVariants.{Load, Store, MemorySize}
+use Rattle.wtypes.specs.declared.PlainInstr.TheVariants.{Load, Store, MemorySize, MemoryGrow}
 use Rattle.spec_syntax.specs.Syntax.{Plain}
 use Rattle.spec_numeric.specs.Operators.{type_of, bits_of, value_of}
 use Rattle.spec_numeric.specs.Storage.{load_type, load_width, extended, store_type, store_width, number_of_bytes, bytes_of_number}
 use Rattle.spec_numeric.specs.Memory.{load, written}
 use Rattle.spec_execution.specs.Configuration.{Contract, Seq, Val, End, State, Trap, values, in_place}
-use Rattle.spec_execution.specs.Reduction.{Next, Goes, Traps, reduce, execute, execute_plain, with_number, loaded, stored, with_memory, pages}
+use Rattle.spec_execution.specs.Reduction.{Next, Goes, Traps, reduce, execute, execute_plain, with_number, loaded, stored, grown, with_memory, pages, most_pages}
 use Rattle.spec_execution.specs.Run.{Reduces}
 use Rattle.spec_execution.specs.Turns.{none}
 use Rattle.interp.specs.Forms.{HasOne}
 use Rattle.interp.specs.Meaning.{Item, View, listed, put, height, frames, outermost, at, config, Stands, OnlyRun, IsOrdered, IsSafeAt, Charged, ChargedTrap}
-use Rattle.interp.specs.Memories.{IsLoaded, IsNotLoaded, DidLoad, HasPlace, DidStore}
+use Rattle.interp.specs.Memories.{IsLoaded, IsNotLoaded, DidLoad, HasPlace, DidStore, DidGrow, grows, stays}
+use Rattle.spec_syntax.specs.Profile.{page_size}
 use Rattle.memory.specs.Linear.{Memory}
 use Rattle.interp.specs.Steps.{LedView}
 use Rattle.interp.specs.declared.plain.After.{After}
@@ -75,6 +76,20 @@ stored_out s n at x vs rest lt = by_test (nat_le (at + n) (length s.memory)) ref
     by_test : (b : Bool) → nat_le (at + n) (length s.memory) ≡ b → stored 1 s n at x vs rest ≡ Traps 1 MemoryOutOfBounds
     by_test true b = absurd (omega (arith, leb-true _ _ b))
     by_test false b = ap (λ b. if b then Goes 1 (with_memory s (in_place at (bytes_of_number n x) s.memory)) (values vs rest) else Traps 1 MemoryOutOfBounds) b
+
+grown_ok : (c : Contract) (s : State) (delta : ℕ) (vs : List Value) (rest : Seq) → pages s.memory + delta ≤ most_pages c.deployed.tree.memories →
+    grown c 1 s delta vs rest ≡ Goes 1 (with_memory s (s.memory ++ replicate (page_size * delta) 0)) (values vs (Val (value_of I32 (pages s.memory)) rest))
+unfolding grown
+grown_ok c s delta vs rest le =
+    ap (λ b. if b then Goes 1 (with_memory s (s.memory ++ replicate (page_size * delta) 0)) (values vs (Val (value_of I32 (pages s.memory)) rest)) else Goes 1 s (values vs (Val (value_of I32 (2 ^ 32 - 1)) rest))) (le-leb _ _ le)
+
+grown_not : (c : Contract) (s : State) (delta : ℕ) (vs : List Value) (rest : Seq) → most_pages c.deployed.tree.memories < pages s.memory + delta → grown c 1 s delta vs rest ≡ Goes 1 s (values vs (Val (value_of I32 (2 ^ 32 - 1)) rest))
+unfolding grown
+grown_not c s delta vs rest lt = by_test (nat_le (pages s.memory + delta) (most_pages c.deployed.tree.memories)) refl
+  where
+    by_test : (b : Bool) → nat_le (pages s.memory + delta) (most_pages c.deployed.tree.memories) ≡ b → grown c 1 s delta vs rest ≡ Goes 1 s (values vs (Val (value_of I32 (2 ^ 32 - 1)) rest))
+    by_test true b = absurd (omega (arith, leb-true _ _ b))
+    by_test false b = ap (λ b. if b then Goes 1 (with_memory s (s.memory ++ replicate (page_size * delta) 0)) (values vs (Val (value_of I32 (pages s.memory)) rest)) else Goes 1 s (values vs (Val (value_of I32 (2 ^ 32 - 1)) rest))) b
 
 module _ (c : Contract) (v : View) (safe : IsSafeAt c v) (ordered : IsOrdered v) (n : ℕ) (is : List Item) where
   abbrev s : State
@@ -204,3 +219,34 @@ module _ (c : Contract) (v : View) (safe : IsSafeAt c v) (ordered : IsOrdered v)
 
     pub size_charged : OnlyRun is → (w : View) → w.base ≡ v.base → w.entries ≡ v.entries → w.stack ≡ v.stack ++ value_of I32 (pages v.base.memory) ∷ [] → w.locals ≡ v.locals → w.code ≡ is → Charged c v w
     size_charged runs = gone v.base v.stack [] (value_of I32 (pages v.base.memory) ∷ []) (sym (append-nil v.stack)) ordered.stands runs size_is
+
+  -- ---- memory.grow
+
+  module _ (here : v.code ≡ record { ordinal = n; instr = Plain MemoryGrow } ∷ is) where
+    abbrev grow_goes : ℕ → List Value → Next
+    grow_goes k vs = grown c 1 s k vs (listed is End)
+
+    grow_asks : (stack : List Value) → within stack ≡ with_number I32 (under stack) grow_goes
+    unfolding reduce execute execute_plain
+    grow_asks stack = ap (λ js. reduce c (frames v.entries 0) s (under stack) (listed js End)) here
+
+    pub grow_place : (height v.entries + 1 ≤ length v.stack) × HasOne I32 v.stack
+    grow_place = choice_there c v safe ordered n is grow_goes grow_asks
+
+    grow_is : (kept : List Value) (a : Value) → v.stack ≡ kept ++ a ∷ [] → within v.stack ≡ grow_goes (bits_of a) (under kept)
+    grow_is kept a before =
+        let fits = popped v ordered grow_place kept a before in
+        grow_asks v.stack ∙ ap (λ xs. with_number I32 (under xs) grow_goes) before ∙ ap (λ vs. with_number I32 vs grow_goes) (onto_top v.entries kept (a ∷ []) fits.1) ∙ number_is I32 a (under kept) grow_goes fits.0
+
+    pub grow_charged : (old new : Memory) → v.base.memory ≡ old.bytes → old.max ≡ most_pages c.deployed.tree.memories → (stack : List Value) → DidGrow old new v.stack stack → OnlyRun is → (w : View) →
+        w.base ≡ record v.base { memory = new.bytes } → w.entries ≡ v.entries → w.stack ≡ stack → w.locals ≡ v.locals → w.code ≡ is → Charged c v w
+    grow_charged old new e most stack (grows d) runs w eb ee est el ec =
+        let le : pages v.base.memory + bits_of d.delta ≤ most_pages c.deployed.tree.memories = subst (λ m. pages v.base.memory + bits_of d.delta ≤ m) most (subst (λ m. pages m + bits_of d.delta ≤ old.max) (sym e) d.fits) in
+        gone (record v.base { memory = v.base.memory ++ replicate (page_size * bits_of d.delta) 0 }) d.kept (d.delta ∷ []) (value_of I32 (pages v.base.memory) ∷ []) d.before (popped v ordered grow_place d.kept d.delta d.before).1 runs
+        (grow_is d.kept d.delta d.before ∙ grown_ok c s (bits_of d.delta) (under d.kept) (listed is End) le) w
+        (eb ∙ ap (λ m. record v.base { memory = m }) (d.grown ∙ ap (λ m. m ++ replicate (page_size * bits_of d.delta) 0) (sym e))) ee (est ∙ d.result ∙ ap (λ m. d.kept ++ value_of I32 (pages m) ∷ []) (sym e)) el ec
+    grow_charged old new e most stack (stays d) runs w eb ee est el ec =
+        let lt : most_pages c.deployed.tree.memories < pages v.base.memory + bits_of d.delta = subst (λ m. m < pages v.base.memory + bits_of d.delta) most (subst (λ m. old.max < pages m + bits_of d.delta) (sym e) d.past) in
+        gone v.base d.kept (d.delta ∷ []) (value_of I32 (2 ^ 32 - 1) ∷ []) d.before (popped v ordered grow_place d.kept d.delta d.before).1 runs
+        (grow_is d.kept d.delta d.before ∙ grown_not c s (bits_of d.delta) (under d.kept) (listed is End) lt) w
+        (eb ∙ ap (λ m. record v.base { memory = m }) (d.same ∙ sym e)) ee (est ∙ d.result) el ec

@@ -7,7 +7,7 @@ use Rattle.wtypes.specs.declared.Value.{Value}
 use Rattle.wtypes.specs.declared.ValType.{ValType}
 use Rattle.wtypes.specs.declared.TrapCode.{TrapCode}
 use Rattle.wtypes.specs.declared.PlainInstr.{PlainInstr}
-use Rattle.wtypes.specs.declared.PlainInstr.TheVariants.{Unreachable, Nop, Br, BrIf, Return, Call, Drop, Select, LocalGet, LocalSet, LocalTee, GlobalGet, GlobalSet, Load, Store, MemorySize, Const, Unary, Binary, Test, Compare, Convert}
+use Rattle.wtypes.specs.declared.PlainInstr.TheVariants.{Unreachable, Nop, Br, BrIf, Return, Call, Drop, Select, LocalGet, LocalSet, LocalTee, GlobalGet, GlobalSet, Load, Store, MemorySize, MemoryGrow, Const, Unary, Binary, Test, Compare, Convert}
 use Rattle.spec_syntax.specs.Syntax.{Instr, Plain, BrTable, If, Instrs, nothing}
 use Rattle.spec_syntax.specs.Syntax as syntax
 use Rattle.spec_numeric.specs.Operators.{same_type, type_of, bits_of, value_of, word, binary, binary_type}
@@ -17,7 +17,7 @@ use Rattle.interp.specs.Plain.{onto}
 use Rattle.interp.proofs.Context.{reduce_put, lift, through}
 use Rattle.interp.proofs.Charging.{next_whole}
 use Rattle.spec_execution.specs.Configuration.{Contract, Seq, Val, End, State, Config, code, values}
-use Rattle.spec_execution.specs.Reduction.{Next, Goes, Traps, Asks, Branches, Returns, Ended, Stuck, reduce, execute, execute_plain, loaded, stored, in_label, in_frame, with_value, with_number, with_values, found, answered}
+use Rattle.spec_execution.specs.Reduction.{Next, Goes, Traps, Asks, Branches, Returns, Ended, Stuck, reduce, execute, execute_plain, loaded, stored, grown, pages, most_pages, in_label, in_frame, with_value, with_number, with_values, found, answered}
 use Rattle.spec_execution.specs.Run.{next, IsStuck, IsCharged}
 use Rattle.spec_execution.specs.Turns.{Frees, none, one_more, IsAtRest, to_come, ended}
 
@@ -56,7 +56,7 @@ of_values n a vs go h = of_test n (nat_le a (length vs)) (go (take a vs) (drop a
 
 -- an instruction has its charge
 plain_charge : (c : Contract) (s : State) (n : ℕ) (op : PlainInstr) (vs : List Value) (rest : Seq) → IsTrue (runs_plain op) → HasCharge n (execute_plain c s n op vs rest)
-unfolding execute_plain loaded stored
+unfolding execute_plain loaded stored grown
 plain_charge c s n (LocalGet x) vs rest r = of_found n (slice_get s.locals x) _ (λ v. refl)
 plain_charge c s n (Const k) vs rest r = refl
 plain_charge c s n (Binary o) vs rest r = of_number n _ vs _ (λ x ws. of_number n _ ws _ (λ y us. of_answer n (binary (word (binary_type o)) o y x) (λ z. Goes n s (values us (Val (value_of (binary_type o) z) rest))) (λ z. refl)))
@@ -78,6 +78,7 @@ plain_charge c s n (GlobalGet x) vs rest r = of_found n (slice_get s.globals x) 
 plain_charge c s n (Load o align offset) vs rest r = of_number n I32 vs _ (λ a ws. of_test n (nat_le (a + offset + load_width o) (length s.memory)) _ _ refl refl)
 plain_charge c s n (Store o align offset) vs rest r = of_number n _ vs _ (λ x ws. of_number n I32 ws _ (λ a us. of_test n (nat_le (a + offset + store_width o) (length s.memory)) _ _ refl refl))
 plain_charge c s n MemorySize vs rest r = refl
+plain_charge c s n MemoryGrow vs rest r = of_number n I32 vs _ (λ k ws. of_test n (nat_le (pages s.memory + k) (most_pages c.deployed.tree.memories)) _ _ refl refl)
 plain_charge c s n (GlobalSet x) vs rest r = of_value n vs _ (λ v ws. of_found n (slice_get s.globals x) _ (λ old. refl))
 plain_charge c s n _ vs rest r = absurd (true≢false (sym r))
 

@@ -4,7 +4,7 @@ use Rattle.wtypes.specs.declared.ValType.{ValType}
 use Rattle.wtypes.specs.declared.ValType.TheVariants.{I32}
 use Rattle.wtypes.specs.declared.Value.{Value}
 use Rattle.wtypes.specs.declared.PlainInstr.{PlainInstr}
-use Rattle.wtypes.specs.declared.PlainInstr.TheVariants.{Unreachable, Nop, Br, BrIf, Return, Call, Drop, Select, LocalGet, LocalSet, LocalTee, GlobalGet, GlobalSet, Load, Store, MemorySize, Const, Unary, Binary, Test, Compare, Convert}
+use Rattle.wtypes.specs.declared.PlainInstr.TheVariants.{Unreachable, Nop, Br, BrIf, Return, Call, Drop, Select, LocalGet, LocalSet, LocalTee, GlobalGet, GlobalSet, Load, Store, MemorySize, MemoryGrow, Const, Unary, Binary, Test, Compare, Convert}
 use Rattle.std.specs.List.{list_all}
 use Rattle.spec_syntax.specs.Syntax.{Instr, Plain, BrTable, Block, Loop, If, Instrs, nothing, seq, Func, Module}
 use Rattle.spec_numeric.specs.Operators.{type_of, unary_type, binary_type, test_type, compare_type, convert_from}
@@ -27,12 +27,15 @@ runs_on (Compare o) = true
 runs_on (Convert o) = true
 runs_on _ = false
 
--- it reads or writes memory
-abbrev pub runs_memory : PlainInstr → Bool
-runs_memory (Load o align offset) = true
-runs_memory (Store o align offset) = true
-runs_memory MemorySize = true
-runs_memory _ = false
+-- it reads or writes the instance
+abbrev pub runs_on_instance : PlainInstr → Bool
+runs_on_instance (GlobalGet x) = true
+runs_on_instance (GlobalSet x) = true
+runs_on_instance (Load o align offset) = true
+runs_on_instance (Store o align offset) = true
+runs_on_instance MemorySize = true
+runs_on_instance MemoryGrow = true
+runs_on_instance _ = false
 
 abbrev pub runs_plain : PlainInstr → Bool
 runs_plain (Br l) = true
@@ -43,6 +46,7 @@ runs_plain (GlobalSet x) = true
 runs_plain (Load o align offset) = true
 runs_plain (Store o align offset) = true
 runs_plain MemorySize = true
+runs_plain MemoryGrow = true
 runs_plain op = runs_on op
 
 abbrev mutual

@@ -1,5 +1,5 @@
 -- Loads and stores.
-use Rattle.std.specs.Prelude.{◌≡◌, ℕ, ◌+◌, ◌≤◌, ◌<◌, List, [], ◌∷◌, ◌++◌, length, Ok, Err}
+use Rattle.std.specs.Prelude.{replicate, ◌*◌, ◌-◌, ◌^◌, ◌≡◌, ℕ, ◌+◌, ◌≤◌, ◌<◌, List, [], ◌∷◌, ◌++◌, length, Ok, Err}
 use Rattle.wtypes.specs.declared.Value.{Value}
 use Rattle.wtypes.specs.declared.ValType.TheVariants.{I32}
 use Rattle.wtypes.specs.declared.LoadOp.{LoadOp}
@@ -10,6 +10,8 @@ use Rattle.spec_numeric.specs.Operators.{type_of, bits_of, value_of}
 use Rattle.spec_numeric.specs.Storage.{load_type, load_width, extended, store_type, store_width, bytes_of_number}
 use Rattle.spec_numeric.specs.Memory.{load, written}
 use Rattle.memory.specs.Linear.{Memory}
+use Rattle.spec_execution.specs.Reduction.{pages}
+use Rattle.spec_syntax.specs.Profile.{page_size}
 use Rattle.interp.specs.declared.plain.After.{After}
 use Rattle.interp.specs.declared.plain.After.TheVariants as after
 
@@ -63,3 +65,25 @@ abbrev pub DidStore : StoreOp → ℕ → Memory → Memory → List Value → A
 DidStore o offset old new stack after.Ran stack' = IsStored o offset old new stack stack'
 DidStore o offset old new stack (after.Fell t) stack' = IsNotStored o offset old new stack t
 DidStore o offset old new stack (after.Calls f) stack' = ⊥
+
+-- pages of zeros were added, and the old size is on top
+pub record HasGrown (old new : Memory) (stack stack' : List Value) : Type 0 where
+  pub kept : List Value
+  pub delta : Value
+  pub before : stack ≡ kept ++ delta ∷ []
+  pub fits : pages old.bytes + bits_of delta ≤ old.max
+  pub result : stack' ≡ kept ++ value_of I32 (pages old.bytes) ∷ []
+  pub grown : new.bytes ≡ old.bytes ++ replicate (page_size * bits_of delta) 0
+
+-- it would grow too far, and -1 is on top
+pub record HasNotGrown (old new : Memory) (stack stack' : List Value) : Type 0 where
+  pub kept : List Value
+  pub delta : Value
+  pub before : stack ≡ kept ++ delta ∷ []
+  pub past : old.max < pages old.bytes + bits_of delta
+  pub result : stack' ≡ kept ++ value_of I32 (2 ^ 32 - 1) ∷ []
+  pub same : new.bytes ≡ old.bytes
+
+pub data DidGrow (old new : Memory) (stack stack' : List Value) : Type 0 where
+  grows : HasGrown old new stack stack' → DidGrow old new stack stack'
+  stays : HasNotGrown old new stack stack' → DidGrow old new stack stack'

@@ -5,7 +5,7 @@ use Rattle.interp.specs.declared.machine.Run.{Run}
 use Rattle.interp.specs.Forms.{module_runs}
 use Rattle.interp.specs.Views.{view}
 use Rattle.interp.specs.Calls.{contract_of, base_of}
-use Rattle.interp.specs.Steps.{IsCounted}
+use Rattle.interp.specs.Steps.{IsCounted, Suits}
 use Rattle.interp.specs.Lent.{contracts_view}
 use Rattle.spec_execution.specs.Run.{opening, Opens, IsSafe}
 use Rattle.interp.specs.Machine.{Seen, first_of, IsMachine, IsCalling, HasRoom}
@@ -26,6 +26,7 @@ seen r = record {
 pub record IsKept {A : Type 0} (r : Run A) : Type 0 where
   pub machine : IsMachine (seen r)
   pub counted : IsCounted r.parts
+  pub suits : Suits (contract_of r.lent) r.parts
   pub runs : module_runs (module_view r.lent.module.now) ≡ true
   pub room : HasRoom r.status r.trace
 
@@ -34,9 +35,11 @@ pub record IsBegun {A : Type 0} (r : Run A) : Type 0 where
   pub opens : opening (seen r).contracts (seen r).call ≡ Opens (seen r).contract (seen r).func
   pub safe : IsSafe (seen r).contract (first_of (seen r)) (seen r).call.fuel
   pub runs : module_runs (module_view r.lent.module.now) ≡ true
+  pub suits : Suits (contract_of r.lent) r.parts
 
 -- a call of a function is to come
 pub record IsToCall {A : Type 0} (r : Run A) (f : ℕ) : Type 0 where
   pub calling : IsCalling (seen r) f
   pub counted : IsCounted r.parts
+  pub suits : Suits (contract_of r.lent) r.parts
   pub runs : module_runs (module_view r.lent.module.now) ≡ true

@@ -8,6 +8,7 @@ use Rattle.module_tree.specs.View.{instr_ordinals}
 use Rattle.interp.specs.declared.parts.Kind.{Kind}
 use Rattle.interp.specs.declared.parts.Entry.{Entry}
 use Rattle.spec_execution.specs.Configuration.{Contract, State}
+use Rattle.spec_execution.specs.Reduction.{most_pages}
 use Rattle.interp.specs.declared.parts.Parts.{Parts}
 use Rattle.interp.specs.declared.plain.After.{After}
 use Rattle.interp.specs.declared.plain.After.TheVariants as after
@@ -34,9 +35,13 @@ LedView c v after.Ran w = Charged c v w
 LedView c v (after.Fell t) w = ChargedTrap c v t w
 LedView c v (after.Calls f) w = ChargedCall c v f w
 
--- the same for each contract and state where nothing is stuck
+-- the memory may grow as far as the contract's may
+abbrev pub Suits : {A : Type 0} → Contract → Parts A → Type 0
+Suits c p = p.instance.memory.max ≡ most_pages c.deployed.tree.memories
+
+-- the same for each contract that it suits and each state, where nothing is stuck
 abbrev pub Led : {A : Type 0} → Parts A → After → Parts A → Type 0
-Led p a q = (c : Contract) (b : State) → IsSafeAt c (view b p) → LedView c (view b p) a (view b q)
+Led p a q = (c : Contract) (b : State) → IsSafeAt c (view b p) → Suits c p → LedView c (view b p) a (view b q)
 
 abbrev pub AllSettle : {A : Type 0} → Parts A → Parts A → Type 0
 AllSettle p q = (c : Contract) (b : State) → Settles c (view b p) (view b q)

@@ -14,6 +14,7 @@ pub fn branch<'a, A: Allocator>(parts: &mut Parts<'a, A>, label: u32)
     requires counted { IsCounted parts.old }
     ensures jumps { Jumps parts.old (drop label (opens_of parts.old.entries.items)) parts.new }
     ensures counted { IsCounted parts.new }
+    ensures instance { parts.new.instance ≡ parts.old.instance }
 {
     let left = parts.entries.len() - label as usize;
     jump(parts, left);
@@ -25,6 +26,7 @@ pub fn leave_call<'a, A: Allocator>(parts: &mut Parts<'a, A>)
     requires counted { IsCounted parts.old }
     ensures jumps { Jumps parts.old (in_call (opens_of parts.old.entries.items)) parts.new }
     ensures counted { IsCounted parts.new }
+    ensures instance { parts.new.instance ≡ parts.old.instance }
 {
     let left = up_to_call(&parts.entries);
     jump(parts, left);
@@ -54,6 +56,7 @@ fn jump<'a, A: Allocator>(parts: &mut Parts<'a, A>, left: usize)
     requires counted { IsCounted parts.old }
     ensures jumps { Jumps parts.old (opens_of (take left parts.old.entries.items)) parts.new }
     ensures counted { IsCounted parts.new }
+    ensures instance { parts.new.instance ≡ parts.old.instance }
 {
     parts.entries.truncate(left);
     if let Some(

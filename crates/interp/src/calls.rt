@@ -36,6 +36,7 @@ pub fn enter<'a, A: Allocator>(
     requires call { CanEnter lent.now parts.old func }
     ensures entered { IfOk result (λ entered. Enters lent.now parts.old func entered parts.new) }
     ensures counted { IfOk result (λ entered. IsCounted parts.new) }
+    ensures instance { parts.new.instance ≡ parts.old.instance }
 {
     let module = lent.module;
     let function = &module.funcs[func as usize - lent.hosts.len()];

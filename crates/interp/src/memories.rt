@@ -5,13 +5,13 @@ ghost use Rattle.spec_numeric.specs.Operators.{type_of, bits_of, value_of};
 ghost use Rattle.spec_numeric.specs.Storage as storage;
 ghost use Rattle.spec_execution.specs.Reduction.{pages};
 ghost use Rattle.interp.specs.Forms.{HasOne};
-ghost use Rattle.interp.specs.Memories.{DidLoad, DidStore, HasPlace};
+ghost use Rattle.interp.specs.Memories.{DidLoad, DidStore, DidGrow, HasPlace};
 
 use crate::plain::After;
 use crate::values::{bits, pop_top, put_back};
 use memory::{Linear, StoreRefusal};
 use std::alloc::{AllocError, Global};
-use wtypes::{LoadOp, StoreOp, Value};
+use wtypes::{LoadOp, NoMemory, StoreOp, Value};
 
 /// Loads a value.
 pub fn execute_load(
@@ -41,7 +41,8 @@ pub fn execute_store(
     memory: &mut Linear<Global>,
 ) -> Result<After, AllocError>
     requires { HasPlace operator stack.old.items }
-    ensures { IfOk result (λ a. DidStore operator offset memory.old memory.new stack.old.items a stack.new.items) }
+    ensures did { IfOk result (λ a. DidStore operator offset memory.old memory.new stack.old.items a stack.new.items) }
+    ensures max { memory.new.max ≡ memory.old.max }
 {
     let value = pop_top(stack);
     let at = address(pop_top(stack));
@@ -49,6 +50,27 @@ pub fn execute_store(
         Ok(()) => Ok(After::Ran),
         Err(StoreRefusal::Trap(code)) => Ok(After::Fell(code)),
         Err(StoreRefusal::NoMemory) => Err(AllocError),
+    }
+}
+
+/// Grows memory.
+pub fn execute_grow(stack: &mut Vec<Value>, memory: &mut Linear<Global>) -> Result<(), AllocError>
+    requires { HasOne val_type.I32 stack.old.items }
+    ensures did { IfOk result (λ _. DidGrow memory.old memory.new stack.old.items stack.new.items) }
+    ensures max { memory.new.max ≡ memory.old.max }
+{
+    let delta = address(pop_top(stack));
+    let old = memory_size(memory);
+    match memory.grow(delta) {
+        Ok(count) => {
+            if count < 0 {
+                put_back(stack, Value::I32(-1));
+            } else {
+                put_back(stack, old);
+            }
+            Ok(())
+        }
+        Err(NoMemory) => Err(AllocError),
     }
 }
 

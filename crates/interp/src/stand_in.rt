@@ -116,6 +116,7 @@ fn plain_is_run(op: &PlainInstr) -> bool
             | PlainInstr::Load(_, _, _)
             | PlainInstr::Store(_, _, _)
             | PlainInstr::MemorySize
+            | PlainInstr::MemoryGrow
             | PlainInstr::Const(_)
             | PlainInstr::Unary(_)
             | PlainInstr::Binary(_)

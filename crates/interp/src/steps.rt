@@ -5,12 +5,12 @@ ghost use Rattle.spec_numeric.specs.Operators.{bits_of};
 ghost use Rattle.spec_execution.specs.Reduction.{arity as arity_of};
 ghost use Rattle.interp.specs.Views.{scope_of};
 ghost use Rattle.std.specs.Prelude.{true};
-ghost use Rattle.interp.specs.Forms.{runs_memory};
+ghost use Rattle.interp.specs.Forms.{runs_on_instance};
 ghost use Rattle.interp.specs.Branches.{is_frame};
 ghost use Rattle.interp.specs.Steps.{AreNumbered, IsOperator, HasOpened, IsReadyToRun, Led, IsOrderedParts, IsReadyParts, AllSettle, IsBehind, IsCounted};
 
 use crate::branches::{branch, leave_call};
-use crate::memories::{execute_load, execute_store, memory_size};
+use crate::memories::{execute_grow, execute_load, execute_store, memory_size};
 use crate::parts::{Entry, Kind, Parts};
 use crate::plain::{After, execute_plain};
 use crate::values::{bits, pop_top};
@@ -24,6 +24,7 @@ pub fn execute<'a, A: Allocator>(parts: &mut Parts<'a, A>) -> Result<After, Allo
     requires counted { IsCounted parts.old }
     ensures led { IfOk result (λ a. Led parts.old a parts.new) }
     ensures counted { IfOk result (λ a. IsCounted parts.new) }
+    ensures max { parts.new.instance.memory.max ≡ parts.old.instance.memory.max }
 {
     let (instr, rest) = first(parts.code);
     match instr {
@@ -60,6 +61,7 @@ fn execute_operator<'a, A: Allocator>(
     requires here { IsOperator parts.old op.now rest.now }
     ensures led { IfOk result (λ a. Led parts.old a parts.new) }
     ensures counted { IfOk result (λ a. IsCounted parts.new) }
+    ensures max { parts.new.instance.memory.max ≡ parts.old.instance.memory.max }
 {
     match op {
         PlainInstr::Br(label) => {
@@ -79,21 +81,12 @@ fn execute_operator<'a, A: Allocator>(
             leave_call(parts);
             Ok(After::Ran)
         }
-        PlainInstr::GlobalGet(x) => {
-            let value = parts.instance.globals[*x as usize];
-            parts.stack.push(value)?;
-            parts.code = rest;
-            Ok(After::Ran)
-        }
-        PlainInstr::GlobalSet(x) => {
-            let value = pop_top(&mut parts.stack);
-            parts.instance.globals[*x as usize] = value;
-            parts.code = rest;
-            Ok(After::Ran)
-        }
-        PlainInstr::Load(_, _, _) => execute_memory(parts, op, rest),
-        PlainInstr::Store(_, _, _) => execute_memory(parts, op, rest),
-        PlainInstr::MemorySize => execute_memory(parts, op, rest),
+        PlainInstr::GlobalGet(_) => execute_on_instance(parts, op, rest),
+        PlainInstr::GlobalSet(_) => execute_on_instance(parts, op, rest),
+        PlainInstr::Load(_, _, _) => execute_on_instance(parts, op, rest),
+        PlainInstr::Store(_, _, _) => execute_on_instance(parts, op, rest),
+        PlainInstr::MemorySize => execute_on_instance(parts, op, rest),
+        PlainInstr::MemoryGrow => execute_on_instance(parts, op, rest),
         _ => {
             parts.code = rest;
             execute_plain(op, &mut parts.stack, &mut parts.locals)
@@ -101,8 +94,8 @@ fn execute_operator<'a, A: Allocator>(
     }
 }
 
-// The same for an instruction that reads or writes memory.
-fn execute_memory<'a, A: Allocator>(
+// The same for an instruction that reads or writes the instance.
+fn execute_on_instance<'a, A: Allocator>(
     parts: &mut Parts<'a, A>,
     op: &PlainInstr,
     rest: &'a [Instr<A>],
@@ -110,12 +103,23 @@ fn execute_memory<'a, A: Allocator>(
     requires ready { IsReadyToRun parts.old }
     requires counted { IsCounted parts.old }
     requires here { IsOperator parts.old op.now rest.now }
-    requires memory { runs_memory op.now ≡ true }
+    requires on_instance { runs_on_instance op.now ≡ true }
     ensures led { IfOk result (λ a. Led parts.old a parts.new) }
     ensures counted { IfOk result (λ a. IsCounted parts.new) }
+    ensures max { parts.new.instance.memory.max ≡ parts.old.instance.memory.max }
 {
     parts.code = rest;
     match op {
+        PlainInstr::GlobalGet(x) => {
+            let value = parts.instance.globals[*x as usize];
+            parts.stack.push(value)?;
+            Ok(After::Ran)
+        }
+        PlainInstr::GlobalSet(x) => {
+            let value = pop_top(&mut parts.stack);
+            parts.instance.globals[*x as usize] = value;
+            Ok(After::Ran)
+        }
         PlainInstr::Load(operator, _, offset) => {
             Ok(execute_load(*operator, *offset, &mut parts.stack, &parts.instance.memory))
         }
@@ -126,6 +130,10 @@ fn execute_memory<'a, A: Allocator>(
                 &mut parts.stack,
                 &mut parts.instance.memory,
             )
+        }
+        PlainInstr::MemoryGrow => {
+            execute_grow(&mut parts.stack, &mut parts.instance.memory)?;
+            Ok(After::Ran)
         }
         PlainInstr::MemorySize => {
             parts.stack.push(memory_size(&parts.instance.memory))?;
@@ -168,6 +176,7 @@ fn open<'a, A: Allocator>(
     requires label { is_frame (scope_of kind) ≡ false }
     requires from_numbered { AreNumbered from.now }
     requires body_numbered { AreNumbered body.now }
+    ensures instance { parts.new.instance ≡ parts.old.instance }
     ensures opened { IfOk result (λ a. HasOpened parts.old kind ordinal arity from.now body.now a parts.new) }
     ensures counted { IfOk result (λ a. IsCounted parts.new) }
 {
@@ -190,6 +199,7 @@ pub fn settle<'a, A: Allocator>(parts: &mut Parts<'a, A>)
     ensures settles { AllSettle parts.old parts.new }
     ensures ready { IsReadyParts parts.new }
     ensures counted { IsCounted parts.new }
+    ensures instance { parts.new.instance ≡ parts.old.instance }
 {
     while parts.code.is_empty() && !parts.entries.is_empty() {
         leave(parts);
@@ -205,6 +215,7 @@ fn leave<'a, A: Allocator>(parts: &mut Parts<'a, A>)
     ensures settles { AllSettle parts.old parts.new }
     ensures fewer { vec_len parts.new.entries + 1 ≡ vec_len parts.old.entries }
     ensures counted { IsCounted parts.new }
+    ensures instance { parts.new.instance ≡ parts.old.instance }
 {
     if let Some(
         Entry {

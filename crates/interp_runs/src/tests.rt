@@ -1,5 +1,5 @@
 // Runs of the exports of one module. What they give is what `wasm-interp --run-all-exports` of wabt 1.0.32 prints.
-use crate::programs::EXPORTS;
+use crate::programs::{EXPORTS, GROWTH};
 use call::Call;
 use interp::machine::Machine;
 use interp::stand_in::Runnable;
@@ -99,5 +99,25 @@ fn fuel(rt: HostRuntime) -> Result<(), Fail> {
         (Outcome::Returned(Some(Value::I32(42))), 4)
     );
     assert_eq!(rt; run(alloc, &contracts, "tee", 3)?, (Outcome::OutOfFuel, 3));
+    Ok(())
+}
+
+#[test]
+fn growth(rt: HostRuntime) -> Result<(), Fail> {
+    let alloc = rt.alloc();
+    let contracts = [contract(alloc, &GROWTH)?];
+    for (name, value) in [
+        ("grow_by_one", 1),
+        ("grow_too_far", -1),
+        ("size_after", 2),
+        ("new_page", 77),
+    ] {
+        let (outcome, _) = run(alloc, &contracts, name, 10_000)?;
+        assert_eq!(rt;
+            outcome,
+            Outcome::Returned(Some(Value::I32(value))),
+            "of {name}"
+        );
+    }
     Ok(())
 }

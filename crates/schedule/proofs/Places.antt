@@ -1,5 +1,5 @@
 -- The order of turns at locks, and one holder more at one of them.
-use Rattle.std.proofs.Common.{◌≡◌, ℕ, Bool, true, false, cond, Option, Some, None, List, refl, ◌∙◌, ap}
+use Rattle.std.proofs.Common.{◌≡◌, ℕ, Bool, true, false, cond, Option, Some, List, refl, ◌∙◌, ap}
 use Rattle.std.specs.declared.cmp.Ordering.{Ordering}
 use Rattle.std.specs.declared.cmp.Ordering.TheVariants.{Less, Equal, Greater}
 use Rattle.std.specs.Ordering.{nat_cmp, ordering_then}
@@ -39,6 +39,7 @@ turn_cmp-IsAntisymmetric a b e =
     let turns = nat_cmp-IsAntisymmetric _ _ parts.1 in
     λ i. record { lock = locks i; turn = turns i }
 
-pub put_back : (b : Bool) (new removed old : Option (List ℕ)) (ps : List ℕ) → new ≡ cond b (Some ps) removed → removed ≡ cond b None old → members new ≡ cond b ps (members old)
-put_back true new removed old ps e f = ap members e
-put_back false new removed old ps e f = ap members (e ∙ f)
+-- what stands at a turn after one holder more
+pub put : (b : Bool) (new old : Option (List ℕ)) (ps qs : List ℕ) → new ≡ cond b (Some ps) old → ps ≡ qs → members new ≡ cond b qs (members old)
+put true new old ps qs e f = ap members e ∙ f
+put false new old ps qs e f = ap members e

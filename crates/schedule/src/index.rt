@@ -59,18 +59,6 @@ impl Positions {
     }
 }
 
-/// The positions with one more.
-fn with_one(alloc: Global, old: Option<Positions>, position: u32) -> Result<Positions, NoMemory>
-    ensures { IfOk result (λ positions. positions ≡ members old ++ position ∷ []) }
-{
-    let mut list = match old {
-        None => Vec::new(alloc),
-        Some(positions) => positions.list,
-    };
-    list.push(position)?;
-    Ok(Positions { list })
-}
-
 /// Notes that a position holds a lock at a turn.
 fn add(
     alloc: Global,
@@ -80,9 +68,12 @@ fn add(
 ) -> Result<(), NoMemory>
     ensures { OnOk result ((q : LockTurn) → members (get turn_cmp index.new q) ≡ (if eq_by_cmp turn_cmp at q then members (get turn_cmp index.old at) ++ position ∷ [] else members (get turn_cmp index.old q))) }
 {
-    let old = index.remove(&at);
-    let positions = with_one(alloc, old, position)?;
-    match index.insert(at, positions) {
+    if let Some(holders) = index.get_mut(&at) {
+        holders.list.push(position)?;
+        return Ok(());
+    }
+    let list = vec![in alloc; position]?;
+    match index.insert(at, Positions { list }) {
         Ok(_) => Ok(()),
         Err(_) => Err(NoMemory),
     }

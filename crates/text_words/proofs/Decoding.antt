@@ -2,12 +2,15 @@
 use Rattle.std.proofs.Common.{◌≡◌, ℕ, ◌+◌, ◌*◌, ◌<◌, ◌≤◌, min, Bool, true, false, ◌&&◌, ◌||◌, cond, List, [], ◌∷◌, ◌++◌, refl, sym, ap, ◌∙◌, arith, subst, inl, inr, append_assoc}
 use Rattle.std.specs.Prelude.{◌==◌, ◌⊎◌, ◌%◌, nat_le, nat_lt, encode_utf8}
 use Rattle.std.specs.Char.{InScalarRange}
-use Rattle.std.proofs.lemmas.Bool.{cond-false, cond-true, leb-true, lt-leb, and_parts, and_from, le-leb, lt-ltb, or_parts, or_cases, or_left, or_right, agree_below_at}
+use Rattle.std.proofs.lemmas.Bool.{cond-false, cond-true, leb-true, lt-leb, and_parts, and_from, le-leb, lt-ltb, or_parts, or_cases, or_left, or_right, agree_below_at, ne_eqb}
 use Rattle.spec_text.specs.Lexical.{is_digit, is_hex, is_plain, HexDigit, digit, lower, upper, ShortEscape, tab, newline, return, double_quote, quote, backslash, HexNumber, whole, more, StringBody, nothing, plain, short, byte, scalar}
 use Rattle.lexer.specs.Reading.{hex_value, is_short, is_scalar}
 use Rattle.text_words.specs.declared.strings.InString.{InString}
 use Rattle.text_words.specs.declared.strings.InString.TheVariants.{Plain, Slash, Brace, Second, Digits}
 use Rattle.text_words.specs.Strings.{nibble, scalar_bytes, next_state, bytes_at, decode, decoded}
+
+false_true : false ≡ true → ⊥
+false_true e = cc
 
 abbrev implies : Bool → Bool → Bool
 implies a b = cond a b true
@@ -65,6 +68,21 @@ digit_small (upper {b} h) = omega (arith, leb-true b 70 (and_parts (nat_le 65 b)
 
 digit_nibble : {b m : ℕ} → HexDigit b m → nibble b ≡ m
 digit_nibble {b} {m} d = let small = digit_small d in ap (λ n. n % 16) (digit_test d).1 ∙ omega arith
+
+pub digit_is_hex : {b m : ℕ} → HexDigit b m → (is_hex b ≡ true) × (hex_value b ≡ m) × ((b == 95) ≡ false)
+digit_is_hex {b} d =
+    let t = digit_test d in
+    (t.0, t.1, ne_eqb b 95 (λ e. false_true (sym (ap is_hex e) ∙ t.0)))
+
+valued : {b m : ℕ} → HexDigit b m → HexDigit b (hex_value b)
+valued {b} d = subst (λ (n : ℕ). HexDigit b n) (sym (digit_test d).1) d
+
+pub hex_from_test : (b : ℕ) → is_hex b ≡ true → HexDigit b (hex_value b)
+hex_from_test b h =
+    elim (or_cases (is_digit b || (nat_le 97 b && nat_le b 102)) (nat_le 65 b && nat_le b 70) h) [
+      | inl l ↦ elim (or_cases (is_digit b) (nat_le 97 b && nat_le b 102) l) [ inl d ↦ valued (digit {b = b} d) | inr e ↦ valued (lower {b = b} e) ]
+      | inr u ↦ valued (upper {b = b} u)
+    ]
 
 -- ---- one byte
 

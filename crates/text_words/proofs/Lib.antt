@@ -2,3 +2,4 @@ pub mod Decoding
 pub mod Spellings
 pub mod OneWord
 pub mod Halfway
+pub mod Amounts

@@ -5,11 +5,13 @@
 ghost use Rattle.std.specs.Prelude.{◌≡◌};
 ghost use Rattle.text_words.specs.declared.TextRefusal.TheVariants.{NoMemory};
 
+mod numbers;
 mod reading;
 mod strings;
 mod tables;
 mod word;
 
+pub use numbers::{bits_32, bits_64, unsigned_32};
 pub use reading::{no_tokens_are_two_lists_of_words, words};
 use std::alloc::{AllocError, AllocFailed};
 pub use strings::put_string;

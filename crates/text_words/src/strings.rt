@@ -27,7 +27,7 @@ pub enum InString {
 }
 
 /// What a hexadecimal digit stands for.
-fn digit_value(b: u8) -> u8
+pub(crate) fn digit_value(b: u8) -> u8
     ensures { result ≡ hex_value b }
 {
     if b <= b'9' {

@@ -1,4 +1,4 @@
-use super::{TextRefusal, Word, put_string, words};
+use super::{TextRefusal, Word, bits_32, bits_64, put_string, unsigned_32, words};
 use lexer::tokens;
 use spec_text::{KeyWord, Operator};
 use std::test::Fail;
@@ -53,5 +53,45 @@ fn strings(rt: HostRuntime) -> Result<(), Fail> {
     assert_eq!(rt; found.as_slice(), b"a\t\"\x7f\xe2\x82\xac".as_slice());
     put_string(&mut found, b"z")?;
     assert_eq!(rt; found.len(), 8);
+    Ok(())
+}
+
+#[test]
+fn numbers_without_a_sign(rt: HostRuntime) -> Result<(), Fail> {
+    assert_eq!(rt; unsigned_32(b"0"), Some(0));
+    assert_eq!(rt; unsigned_32(b"4_294_967_295"), Some(u32::MAX));
+    assert_eq!(rt; unsigned_32(b"4294967296"), None);
+    assert_eq!(rt; unsigned_32(b"0xFfff_ffff"), Some(u32::MAX));
+    assert_eq!(rt; unsigned_32(b"0x1_0000_0000"), None);
+    assert_eq!(rt; unsigned_32(b"99999999999999999999999"), None);
+    assert_eq!(rt; unsigned_32(b"+1"), None);
+    assert_eq!(rt; unsigned_32(b"-1"), None);
+    Ok(())
+}
+
+#[test]
+fn numbers_of_32_bits(rt: HostRuntime) -> Result<(), Fail> {
+    assert_eq!(rt; bits_32(b"+7"), Some(7));
+    assert_eq!(rt; bits_32(b"-0"), Some(0));
+    assert_eq!(rt; bits_32(b"-1"), Some(u32::MAX));
+    assert_eq!(rt; bits_32(b"-0x8000_0000"), Some(0x8000_0000));
+    assert_eq!(rt; bits_32(b"-2147483649"), None);
+    assert_eq!(rt; bits_32(b"4294967295"), Some(u32::MAX));
+    assert_eq!(rt; bits_32(b"4294967296"), None);
+    Ok(())
+}
+
+#[test]
+fn numbers_of_64_bits(rt: HostRuntime) -> Result<(), Fail> {
+    assert_eq!(rt; bits_64(b"18446744073709551615"), Some(u64::MAX));
+    assert_eq!(rt; bits_64(b"18446744073709551616"), None);
+    assert_eq!(rt; bits_64(b"0xffff_ffff_ffff_ffff"), Some(u64::MAX));
+    assert_eq!(rt; bits_64(b"0x1_0000_0000_0000_0000"), None);
+    assert_eq!(rt;
+        bits_64(b"-9223372036854775808"),
+        Some(0x8000_0000_0000_0000)
+    );
+    assert_eq!(rt; bits_64(b"-9223372036854775809"), None);
+    assert_eq!(rt; bits_64(b"-1"), Some(u64::MAX));
     Ok(())
 }

@@ -27,6 +27,7 @@ returns-clause-kept g c =
           (machine_asking s c.args.func c.requires.call.calling h (read_at hosts c.args.func Get c.requires.hosted) c.requires.hosted
           c.operation-op.result (c.operation-op.ensures ∙ ap (λ n. op_of c.args.run.now.lent.number h (drop (n - arity_of h) c.args.run.now.parts.stack.items)) c.args.run.now.parts.stack.ok.0));
       counted = c.requires.call.counted;
+      suits = c.requires.call.suits;
       runs = c.requires.call.runs;
       room = search (arith, c.reserve.ensures.capacity, c.reserve.ensures.succeeds, c.reserve.ensures.len);
     }

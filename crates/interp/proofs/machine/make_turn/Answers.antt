@@ -19,6 +19,7 @@ returns-then-run-fuel-clause-kept g c =
       machine = machine_exhausted (seen r) k.machine c.requires.running
           (λ e. true≢false (sym (ap (λ xs. length xs == 0) (items_nil r.parts.code.now e)) ∙ (sym c.is_empty.ensures ∙ c.if-is_empty.false))) (c.if-run-fuel.true ∙ c.fuel.ensures);
       counted = k.counted;
+      suits = k.suits;
       runs = k.runs;
       room = tt;
     }
@@ -48,7 +49,7 @@ pub settle-requires-clause-ordered : goal.settle-requires-clause-ordered
 settle-requires-clause-ordered g c =
     let r = c.args.run.now in
     let safe = safe_at (seen r) c.requires.kept.machine c.requires.running (λ e. c.if-run-fuel.false (e ∙ sym c.fuel.ensures)) in
-    ordered_any (base_of r.lent) c.execute.new.parts (subst (λ (a : After). Led r.parts a c.execute.new.parts) c.in-Ok-Ran.field-0-is c.in-Ok-Ran.ensures.led (seen r).contract (base_of r.lent) safe).ordered
+    ordered_any (base_of r.lent) c.execute.new.parts (subst (λ (a : After). Led r.parts a c.execute.new.parts) c.in-Ok-Ran.field-0-is c.in-Ok-Ran.ensures.led (seen r).contract (base_of r.lent) safe c.requires.kept.suits).ordered
 
 pub ask-requires-clause-call : goal.ask-requires-clause-call
 ask-requires-clause-call g c =
@@ -56,8 +57,9 @@ ask-requires-clause-call g c =
     let k = c.requires.kept in
     record {
       calling = calling_of (seen r) c.in-Ok-Calls.f (view (base_of r.lent) c.execute.new.parts) k.machine c.requires.running (λ e. c.if-run-fuel.false (e ∙ sym c.fuel.ensures))
-          (subst (λ (a : After). Led r.parts a c.execute.new.parts) c.in-Ok-Calls.field-0-is c.in-Ok-Calls.ensures.led (seen r).contract (base_of r.lent) (safe_at (seen r) c.requires.kept.machine c.requires.running (λ e. c.if-run-fuel.false (e ∙ sym c.fuel.ensures))));
+          (subst (λ (a : After). Led r.parts a c.execute.new.parts) c.in-Ok-Calls.field-0-is c.in-Ok-Calls.ensures.led (seen r).contract (base_of r.lent) (safe_at (seen r) c.requires.kept.machine c.requires.running (λ e. c.if-run-fuel.false (e ∙ sym c.fuel.ensures))) c.requires.kept.suits);
       counted = c.in-Ok-Calls.ensures.counted;
+      suits = c.execute.ensures.max ∙ k.suits;
       runs = k.runs;
     }
 
@@ -67,8 +69,9 @@ start_function-requires-clause-call g c =
     let k = c.requires.kept in
     record {
       calling = calling_of (seen r) c.in-Ok-Calls.f (view (base_of r.lent) c.execute.new.parts) k.machine c.requires.running (λ e. c.if-run-fuel.false (e ∙ sym c.fuel.ensures))
-          (subst (λ (a : After). Led r.parts a c.execute.new.parts) c.in-Ok-Calls.field-0-is c.in-Ok-Calls.ensures.led (seen r).contract (base_of r.lent) (safe_at (seen r) c.requires.kept.machine c.requires.running (λ e. c.if-run-fuel.false (e ∙ sym c.fuel.ensures))));
+          (subst (λ (a : After). Led r.parts a c.execute.new.parts) c.in-Ok-Calls.field-0-is c.in-Ok-Calls.ensures.led (seen r).contract (base_of r.lent) (safe_at (seen r) c.requires.kept.machine c.requires.running (λ e. c.if-run-fuel.false (e ∙ sym c.fuel.ensures))) c.requires.kept.suits);
       counted = c.in-Ok-Calls.ensures.counted;
+      suits = c.execute.ensures.max ∙ k.suits;
       runs = k.runs;
     }
 
@@ -77,11 +80,12 @@ returns-in-Ok-Ran-clause-kept g c =
     let r = c.args.run.now in
     let k = c.requires.kept in
     let b = base_of r.lent in
-    let charge = subst (λ (a : After). Led r.parts a c.execute.new.parts) c.in-Ok-Ran.field-0-is c.in-Ok-Ran.ensures.led (seen r).contract b (safe_at (seen r) c.requires.kept.machine c.requires.running (λ e. c.if-run-fuel.false (e ∙ sym c.fuel.ensures))) in
+    let charge = subst (λ (a : After). Led r.parts a c.execute.new.parts) c.in-Ok-Ran.field-0-is c.in-Ok-Ran.ensures.led (seen r).contract b (safe_at (seen r) c.requires.kept.machine c.requires.running (λ e. c.if-run-fuel.false (e ∙ sym c.fuel.ensures))) c.requires.kept.suits in
     let settled = c.settle.ensures.settles (seen r).contract b in
     record {
       machine = machine_stepped (seen r) k.machine c.requires.running (λ e. c.if-run-fuel.false (e ∙ sym c.fuel.ensures)) _ charge.reduces (view b c.settle.new.parts) (Frees_join _ _ _ _ charge.frees settled.frees) settled.ordered (λ e. c.settle.ensures.ready (items_nil c.settle.new.parts.code.now e));
       counted = c.settle.ensures.counted;
+      suits = ap (λ i. i.memory.max) c.settle.ensures.instance ∙ (c.execute.ensures.max ∙ k.suits);
       runs = k.runs;
       room = k.room;
     }
@@ -91,7 +95,7 @@ returns-in-Ok-Ran-clause-turn g c =
     let r = c.args.run.now in
     let k = c.requires.kept in
     let b = base_of r.lent in
-    let charge = subst (λ (a : After). Led r.parts a c.execute.new.parts) c.in-Ok-Ran.field-0-is c.in-Ok-Ran.ensures.led (seen r).contract b (safe_at (seen r) c.requires.kept.machine c.requires.running (λ e. c.if-run-fuel.false (e ∙ sym c.fuel.ensures))) in
+    let charge = subst (λ (a : After). Led r.parts a c.execute.new.parts) c.in-Ok-Ran.field-0-is c.in-Ok-Ran.ensures.led (seen r).contract b (safe_at (seen r) c.requires.kept.machine c.requires.running (λ e. c.if-run-fuel.false (e ∙ sym c.fuel.ensures))) c.requires.kept.suits in
     let settled = c.settle.ensures.settles (seen r).contract b in
     has_stepped (seen r) k.machine c.requires.running (λ e. c.if-run-fuel.false (e ∙ sym c.fuel.ensures)) _ charge.reduces (view b c.settle.new.parts) (Frees_join _ _ _ _ charge.frees settled.frees) settled.ordered (λ e. c.settle.ensures.ready (items_nil c.settle.new.parts.code.now e))
 
@@ -100,10 +104,11 @@ returns-in-Ok-Fell-clause-kept g c =
     let r = c.args.run.now in
     let k = c.requires.kept in
     let b = base_of r.lent in
-    let fell = subst (λ (a : After). Led r.parts a c.execute.new.parts) c.in-Ok-Fell.field-0-is c.in-Ok-Fell.ensures.led (seen r).contract b (safe_at (seen r) c.requires.kept.machine c.requires.running (λ e. c.if-run-fuel.false (e ∙ sym c.fuel.ensures))) in
+    let fell = subst (λ (a : After). Led r.parts a c.execute.new.parts) c.in-Ok-Fell.field-0-is c.in-Ok-Fell.ensures.led (seen r).contract b (safe_at (seen r) c.requires.kept.machine c.requires.running (λ e. c.if-run-fuel.false (e ∙ sym c.fuel.ensures))) c.requires.kept.suits in
     record {
       machine = machine_fell (seen r) k.machine c.requires.running (λ e. c.if-run-fuel.false (e ∙ sym c.fuel.ensures)) (view b c.execute.new.parts) c.in-Ok-Fell.code fell.reduces;
       counted = c.in-Ok-Fell.ensures.counted;
+      suits = c.execute.ensures.max ∙ k.suits;
       runs = k.runs;
       room = tt;
     }
@@ -113,7 +118,7 @@ returns-in-Ok-Fell-clause-turn g c =
     let r = c.args.run.now in
     let k = c.requires.kept in
     let b = base_of r.lent in
-    let fell = subst (λ (a : After). Led r.parts a c.execute.new.parts) c.in-Ok-Fell.field-0-is c.in-Ok-Fell.ensures.led (seen r).contract b (safe_at (seen r) c.requires.kept.machine c.requires.running (λ e. c.if-run-fuel.false (e ∙ sym c.fuel.ensures))) in
+    let fell = subst (λ (a : After). Led r.parts a c.execute.new.parts) c.in-Ok-Fell.field-0-is c.in-Ok-Fell.ensures.led (seen r).contract b (safe_at (seen r) c.requires.kept.machine c.requires.running (λ e. c.if-run-fuel.false (e ∙ sym c.fuel.ensures))) c.requires.kept.suits in
     has_fallen (seen r) k.machine c.requires.running (λ e. c.if-run-fuel.false (e ∙ sym c.fuel.ensures)) (view b c.execute.new.parts) c.in-Ok-Fell.code fell.reduces
 
 pub returns-then-f-run-clause-turn : goal.returns-then-f-run-clause-turn
@@ -121,11 +126,11 @@ returns-then-f-run-clause-turn g c =
     let r = c.args.run.now in
     let b = base_of r.lent in
     asked_turn (seen r) c.in-Ok-Calls.f (view b c.execute.new.parts) c.ask.result (seen c.ask.new.run) c.requires.running
-    (subst (λ (a : After). Led r.parts a c.execute.new.parts) c.in-Ok-Calls.field-0-is c.in-Ok-Calls.ensures.led (seen r).contract b (safe_at (seen r) c.requires.kept.machine c.requires.running (λ e. c.if-run-fuel.false (e ∙ sym c.fuel.ensures)))) c.ask.ensures.turn
+    (subst (λ (a : After). Led r.parts a c.execute.new.parts) c.in-Ok-Calls.field-0-is c.in-Ok-Calls.ensures.led (seen r).contract b (safe_at (seen r) c.requires.kept.machine c.requires.running (λ e. c.if-run-fuel.false (e ∙ sym c.fuel.ensures))) c.requires.kept.suits) c.ask.ensures.turn
 
 pub returns-else-f-run-clause-turn : goal.returns-else-f-run-clause-turn
 returns-else-f-run-clause-turn g c =
     let r = c.args.run.now in
     let b = base_of r.lent in
     started_turn (seen r) c.in-Ok-Calls.f (view b c.execute.new.parts) c.start_function.result (seen c.start_function.new.run) c.requires.running
-    (subst (λ (a : After). Led r.parts a c.execute.new.parts) c.in-Ok-Calls.field-0-is c.in-Ok-Calls.ensures.led (seen r).contract b (safe_at (seen r) c.requires.kept.machine c.requires.running (λ e. c.if-run-fuel.false (e ∙ sym c.fuel.ensures)))) c.start_function.ensures.turn
+    (subst (λ (a : After). Led r.parts a c.execute.new.parts) c.in-Ok-Calls.field-0-is c.in-Ok-Calls.ensures.led (seen r).contract b (safe_at (seen r) c.requires.kept.machine c.requires.running (λ e. c.if-run-fuel.false (e ∙ sym c.fuel.ensures))) c.requires.kept.suits) c.start_function.ensures.turn

@@ -6,6 +6,7 @@ pub returns-in-Fallen-clause-kept : goal.returns-in-Fallen-clause-kept
 returns-in-Fallen-clause-kept g c = record {
   machine = machine_told (seen c.args.run.now) c.requires.kept.machine c.in-Fallen.code c.in-Fallen.is;
   counted = c.requires.kept.counted;
+  suits = c.requires.kept.suits;
   runs = c.requires.kept.runs;
   room = tt;
 }

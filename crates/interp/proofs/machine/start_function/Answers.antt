@@ -1,4 +1,4 @@
-use Rattle.std.proofs.Common.{subst, Bool}
+use Rattle.std.proofs.Common.{subst, Bool, ap, ◌∙◌}
 use Rattle.wtypes.specs.declared.TrapCode.TheVariants.{CallDepth}
 use Rattle.interp.specs.Calls.{Enters, base_of}
 use Rattle.interp.specs.Views.{view}
@@ -14,6 +14,7 @@ returns-in-Ok-true-clause-kept g c =
     record {
       machine = machine_started (seen r) c.args.func c.requires.call.calling (view (base_of r.lent) c.enter.new.parts) (view (base_of r.lent) c.settle.new.parts) entered (c.settle.ensures.settles (seen r).contract (base_of r.lent)) (λ e. c.settle.ensures.ready (items_nil c.settle.new.parts.code.now e));
       counted = c.settle.ensures.counted;
+      suits = ap (λ i. i.memory.max) (c.settle.ensures.instance ∙ c.enter.ensures.instance) ∙ c.requires.call.suits;
       runs = c.requires.call.runs;
       room = tt;
     }
@@ -31,6 +32,7 @@ returns-in-Ok-false-clause-kept g c =
     record {
       machine = machine_trapped (seen r) c.args.func c.requires.call.calling (view (base_of r.lent) c.enter.new.parts) CallDepth entered.0 entered.1;
       counted = c.in-Ok-false.ensures.counted;
+      suits = ap (λ i. i.memory.max) c.enter.ensures.instance ∙ c.requires.call.suits;
       runs = c.requires.call.runs;
       room = tt;
     }

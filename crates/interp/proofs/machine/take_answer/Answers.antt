@@ -18,6 +18,7 @@ returns-in-Asking-clause-kept g c =
           (c.take_reply.ensures ∙ ap (λ n. take (n - params_of c.in-Asking.op) r.parts.stack.items ++ value_of_reply c.args.reply) r.parts.stack.ok.0)
           (view b c.settle.new.parts) (c.settle.ensures.settles (seen r).contract b) (λ e. c.settle.ensures.ready (items_nil c.settle.new.parts.code.now e)) c.record_step.new.trace.items c.record_step.ensures;
       counted = c.settle.ensures.counted;
+      suits = ap (λ i. i.memory.max) c.settle.ensures.instance ∙ c.requires.kept.suits;
       runs = c.requires.kept.runs;
       room = tt;
     }

@@ -53,7 +53,7 @@ branch-parts-requires-clause-target g c =
     (table_one r.contract (view r.base p) r.safe (r.ordered r.base) n is ls.items c.in-BrTable.fallback here kept a c.pop_top-choice.ensures.items fits.0 fits.1))
 
 pub returns-in-BrTable-clause-led : goal.returns-in-BrTable-clause-led
-returns-in-BrTable-clause-led g c k b safe =
+returns-in-BrTable-clause-led g c k b safe suits =
     let p = c.args.parts.now in
     let r = c.requires.ready in
     let n = c.in-BrTable.field-0 in
@@ -98,7 +98,7 @@ returns-in-Block-clause-led g c =
     let runs = items_run c.in-Block.body.items all_runs.0 in
     let q = c.open.new.parts in
     if_ok c.open.result (λ a. HasOpened p kind.Block n c.arity.result rest c.deref-in-Block.result.now a q) (λ a. Led p a q)
-    (λ a h. subst (λ (x : After). Led p x q) (sym h.ran) (λ k b safe.
+    (λ a h. subst (λ (x : After). Led p x q) (sym h.ran) (λ k b safe suits.
     opened k (view b p) safe (r.ordered b) n is Block (arity c.in-Block.result) is js p.stack.items (r.ordered b).stands refl runs all_runs.1 tt
     (block_one k (view b p) safe (r.ordered b) n is c.in-Block.result body js js_are here)
     (view b q) (ap (based b) h.instance) (h.entries ∙ ap (λ (m : ℕ). record { scope = Block; ordinal = n; arity = m; height = length p.stack.items; from = is } ∷ opens_of p.entries.items) c.arity.ensures) h.stack h.locals (ap items_of (h.code ∙ c.deref-in-Block.ensures.value))))
@@ -130,7 +130,7 @@ returns-in-Loop-clause-led g c =
     let q = c.open-in-Loop.new.parts in
     let from : List Item = record { ordinal = n; instr = syntax.Loop c.in-Loop.field-1 body } ∷ is in
     if_ok c.open-in-Loop.result (λ a. HasOpened p kind.Loop n 0 p.code.now c.deref-in-Loop.result.now a q) (λ a. Led p a q)
-    (λ a h. subst (λ (x : After). Led p x q) (sym h.ran) (λ k b safe.
+    (λ a h. subst (λ (x : After). Led p x q) (sym h.ran) (λ k b safe suits.
     opened k (view b p) safe (r.ordered b) n is Loop 0 from js p.stack.items (r.ordered b).stands refl runs all_runs refl
     (loop_one k (view b p) safe (r.ordered b) n is c.in-Loop.field-1 body js js_are here)
     (view b q) (ap (based b) h.instance) (h.entries ∙ ap (λ (x : List Item). record { scope = Loop; ordinal = n; arity = 0; height = length p.stack.items; from = x } ∷ opens_of p.entries.items) here) h.stack h.locals (ap items_of (h.code ∙ c.deref-in-Loop.ensures.value))))
@@ -179,7 +179,7 @@ returns-then-bits-eq0-clause-led g c =
     let popped_parts : Parts g.row.A.Denot = record { code = p.code; entries = p.entries; depth = p.depth; stack = c.pop_top-choice-in-If.new.stack; locals = p.locals; instance = p.instance } in
     let q = c.open-then-bits-eq0.new.parts in
     if_ok c.open-then-bits-eq0.result (λ x. HasOpened popped_parts kind.Block n c.arity-count.result rest c.deref-then-bits-eq0.result.now x q) (λ x. Led p x q)
-    (λ x h. subst (λ (y : After). Led p y q) (sym h.ran) (λ k b safe.
+    (λ x h. subst (λ (y : After). Led p y q) (sym h.ran) (λ k b safe suits.
     let top = if_choice k (view b p) safe (r.ordered b) n is c.in-If.result met unmet here in
     let fits = popped (view b p) (r.ordered b) top kept a c.pop_top-choice-in-If.ensures.items in
     opened k (view b p) safe (r.ordered b) n is Block (arity c.in-If.result) is js kept fits.1 refl runs all_runs.1 tt
@@ -216,7 +216,7 @@ returns-else-bits-eq0-clause-led g c =
     let popped_parts : Parts g.row.A.Denot = record { code = p.code; entries = p.entries; depth = p.depth; stack = c.pop_top-choice-in-If.new.stack; locals = p.locals; instance = p.instance } in
     let q = c.open-else-bits-eq0.new.parts in
     if_ok c.open-else-bits-eq0.result (λ x. HasOpened popped_parts kind.Block n c.arity-count.result rest c.deref-else-bits-eq0.result.now x q) (λ x. Led p x q)
-    (λ x h. subst (λ (y : After). Led p y q) (sym h.ran) (λ k b safe.
+    (λ x h. subst (λ (y : After). Led p y q) (sym h.ran) (λ k b safe suits.
     let top = if_choice k (view b p) safe (r.ordered b) n is c.in-If.result met unmet here in
     let fits = popped (view b p) (r.ordered b) top kept a c.pop_top-choice-in-If.ensures.items in
     opened k (view b p) safe (r.ordered b) n is Block (arity c.in-If.result) is js kept fits.1 refl runs all_runs.1 tt

@@ -7,10 +7,8 @@ use Rattle.interp.specs.Meaning.{OnlyRun}
 use Rattle.interp.specs.Plain.{Did}
 use Rattle.interp.specs.Steps.{Led, IsCounted}
 use Rattle.interp.specs.Views.{view, items_of}
-use Rattle.interp.proofs.Acting.{ready_plain, led_first, if_ok, operator_runs, not_memory, counted_rest}
-use Rattle.interp.proofs.Controlling.{popped, br_target, br_charged, out_target, out_charged, br_if_choice, br_if_one, br_if_stays, free_target, free_charged, global_there, global_got, set_there, global_was_set}
-use Rattle.interp.proofs.Numbering.{read_at}
-use Rattle.std.proofs.lemmas.Option.{slice_get_read}
+use Rattle.interp.proofs.Acting.{ready_plain, led_first, if_ok, operator_runs, not_on_instance, counted_rest}
+use Rattle.interp.proofs.Controlling.{popped, br_target, br_charged, out_target, out_charged, br_if_choice, br_if_one, br_if_stays, free_target, free_charged}
 use Rattle.interp.proofs.steps.execute_operator.Goals as goal
 
 pub branch-parts-requires-clause-target : goal.branch-parts-requires-clause-target
@@ -22,7 +20,7 @@ branch-parts-requires-clause-target g c =
     br_target r.contract (view r.base c.args.parts.now) r.safe (r.ordered r.base) n is c.in-Br.label here
 
 pub returns-in-Br-clause-led : goal.returns-in-Br-clause-led
-returns-in-Br-clause-led g c k b safe =
+returns-in-Br-clause-led g c k b safe suits =
     let n = c.requires.here.ordinal in
     let is = items_of c.args.rest.now in
     let here = c.requires.here.here ∙ ap (λ (o : PlainInstr). record { ordinal = n; instr = Plain o } ∷ is) c.in-Br.is in
@@ -37,7 +35,7 @@ leave_call-requires-clause-target g c =
     out_target r.contract (view r.base c.args.parts.now) r.safe (r.ordered r.base) n is here
 
 pub returns-in-Return-clause-led : goal.returns-in-Return-clause-led
-returns-in-Return-clause-led g c k b safe =
+returns-in-Return-clause-led g c k b safe suits =
     let n = c.requires.here.ordinal in
     let is = items_of c.args.rest.now in
     let here = c.requires.here.here ∙ ap (λ (o : PlainInstr). record { ordinal = n; instr = Plain o } ∷ is) c.in-Return.is in
@@ -69,7 +67,7 @@ branch-parts-requires-else-bits-eq0-clause-target g c =
     (br_if_one r.contract v r.safe (r.ordered r.base) n is c.in-BrIf.label here kept a c.pop_top-choice.ensures.items fits.0 fits.1 runs not_zero)
 
 pub returns-else-bits-eq0-clause-led : goal.returns-else-bits-eq0-clause-led
-returns-else-bits-eq0-clause-led g c k b safe =
+returns-else-bits-eq0-clause-led g c k b safe suits =
     let o = c.requires.ready.ordered b in
     let v = view b c.args.parts.now in
     let n = c.requires.here.ordinal in
@@ -87,7 +85,7 @@ returns-else-bits-eq0-clause-led g c k b safe =
     _ (record { entry = j.entry; there = j.there; base = j.base; stack = j.stack; locals = j.locals; code = j.code })
 
 pub returns-then-bits-eq0-clause-led : goal.returns-then-bits-eq0-clause-led
-returns-then-bits-eq0-clause-led g c k b safe =
+returns-then-bits-eq0-clause-led g c k b safe suits =
     let o = c.requires.ready.ordered b in
     let v = view b c.args.parts.now in
     let n = c.requires.here.ordinal in
@@ -103,7 +101,7 @@ returns-then-bits-eq0-clause-led g c k b safe =
 pub execute_plain-requires : goal.execute_plain-requires
 execute_plain-requires g c =
     let r = c.requires.ready in
-    let on = operator_runs c.args.op.now (subst OnlyRun c.requires.here.here (r.ordered r.base).runs).0 c.in_default.not-Br c.in_default.not-BrIf c.in_default.not-Return c.in_default.not-GlobalGet c.in_default.not-GlobalSet (not_memory c.args.op.now c.in_default.not-Load c.in_default.not-Store c.in_default.not-MemorySize) in
+    let on = operator_runs c.args.op.now (subst OnlyRun c.requires.here.here (r.ordered r.base).runs).0 c.in_default.not-Br c.in_default.not-BrIf c.in_default.not-Return (not_on_instance c.args.op.now c.in_default.not-GlobalGet c.in_default.not-GlobalSet c.in_default.not-Load c.in_default.not-Store c.in_default.not-MemorySize c.in_default.not-MemoryGrow) in
     (ready_plain c.args.parts.now c.args.parts.now c.args.rest.now r c.requires.here.ordinal c.args.op.now c.requires.here.here on).1
 
 pub returns-in_default : goal.returns-in_default
@@ -111,59 +109,11 @@ returns-in_default g c =
     let p = c.args.parts.now in
     let r = c.requires.ready in
     let q : Parts g.row.A.Denot = record { code = c.args.rest; entries = p.entries; depth = p.depth; stack = c.execute_plain.new.stack; locals = c.execute_plain.new.locals; instance = p.instance } in
-    let on = operator_runs c.args.op.now (subst OnlyRun c.requires.here.here (r.ordered r.base).runs).0 c.in_default.not-Br c.in_default.not-BrIf c.in_default.not-Return c.in_default.not-GlobalGet c.in_default.not-GlobalSet (not_memory c.args.op.now c.in_default.not-Load c.in_default.not-Store c.in_default.not-MemorySize) in
+    let on = operator_runs c.args.op.now (subst OnlyRun c.requires.here.here (r.ordered r.base).runs).0 c.in_default.not-Br c.in_default.not-BrIf c.in_default.not-Return (not_on_instance c.args.op.now c.in_default.not-GlobalGet c.in_default.not-GlobalSet c.in_default.not-Load c.in_default.not-Store c.in_default.not-MemorySize c.in_default.not-MemoryGrow) in
     record {
       led = if_ok c.execute_plain.result (λ a. Did c.args.op.now p.stack.items p.locals.items a q.stack.items q.locals.items) (λ a. Led p a q)
           (led_first p q c.args.rest.now r c.requires.here.ordinal c.args.op.now c.requires.here.here on refl refl refl) c.execute_plain.ensures;
       counted = if_ok c.execute_plain.result (λ a. Did c.args.op.now p.stack.items p.locals.items a q.stack.items q.locals.items) (λ a. IsCounted q)
           (λ a d. counted_rest p q refl refl c.requires.here.rest_numbered c.requires.counted) c.execute_plain.ensures;
+      max = refl;
     }
-
-pub index-value-requires : goal.index-value-requires
-index-value-requires g c =
-    let p = c.args.parts.now in
-    let r = c.requires.ready in
-    let n = c.requires.here.ordinal in
-    let is = items_of c.args.rest.now in
-    let here = c.requires.here.here ∙ ap (λ (o : PlainInstr). record { ordinal = n; instr = Plain o } ∷ is) c.in-GlobalGet.is in
-    omega (arith, global_there r.contract (view r.base p) r.safe (r.ordered r.base) n is c.in-GlobalGet.x here, p.instance.globals.ok.0)
-
-pub returns-in_ok-push-in-GlobalGet-clause-led : goal.returns-in_ok-push-in-GlobalGet-clause-led
-returns-in_ok-push-in-GlobalGet-clause-led g c k b safe =
-    let p = c.args.parts.now in
-    let r = c.requires.ready in
-    let n = c.requires.here.ordinal in
-    let is = items_of c.args.rest.now in
-    let here = c.requires.here.here ∙ ap (λ (o : PlainInstr). record { ordinal = n; instr = Plain o } ∷ is) c.in-GlobalGet.is in
-    let lt = global_there r.contract (view r.base p) r.safe (r.ordered r.base) n is c.in-GlobalGet.x here in
-    global_got k (view b p) safe (r.ordered b) n is c.in-GlobalGet.x here c.index-value.result.now (slice_get_read p.instance.globals.items _ c.in-GlobalGet.x c.index-value.result.now refl lt c.index-value.ensures)
-    (subst OnlyRun here (r.ordered b).runs).1 _ refl refl c.in_ok-push-in-GlobalGet.ensures.items refl refl
-
-pub pop_top-value-requires : goal.pop_top-value-requires
-pop_top-value-requires g c =
-    let p = c.args.parts.now in
-    let r = c.requires.ready in
-    let n = c.requires.here.ordinal in
-    let is = items_of c.args.rest.now in
-    let here = c.requires.here.here ∙ ap (λ (o : PlainInstr). record { ordinal = n; instr = Plain o } ∷ is) c.in-GlobalSet.is in
-    omega (arith, (set_there r.contract (view r.base p) r.safe (r.ordered r.base) n is c.in-GlobalSet.x here).0, p.stack.ok.0)
-
-pub index_mut-requires : goal.index_mut-requires
-index_mut-requires g c =
-    let p = c.args.parts.now in
-    let r = c.requires.ready in
-    let n = c.requires.here.ordinal in
-    let is = items_of c.args.rest.now in
-    let here = c.requires.here.here ∙ ap (λ (o : PlainInstr). record { ordinal = n; instr = Plain o } ∷ is) c.in-GlobalSet.is in
-    omega (arith, (set_there r.contract (view r.base p) r.safe (r.ordered r.base) n is c.in-GlobalSet.x here).1, p.instance.globals.ok.0)
-
-pub returns-in-GlobalSet-clause-led : goal.returns-in-GlobalSet-clause-led
-returns-in-GlobalSet-clause-led g c k b safe =
-    let p = c.args.parts.now in
-    let r = c.requires.ready in
-    let n = c.requires.here.ordinal in
-    let is = items_of c.args.rest.now in
-    let here = c.requires.here.here ∙ ap (λ (o : PlainInstr). record { ordinal = n; instr = Plain o } ∷ is) c.in-GlobalSet.is in
-    let lt = (set_there r.contract (view r.base p) r.safe (r.ordered r.base) n is c.in-GlobalSet.x here).1 in
-    global_was_set k (view b p) safe (r.ordered b) n is c.in-GlobalSet.x here c.pop_top-value.new.stack.items c.pop_top-value.result _ c.pop_top-value.ensures.items
-    (read_at p.instance.globals.items c.in-GlobalSet.x c.pop_top-value.result lt) (subst OnlyRun here (r.ordered b).runs).1 _ refl refl refl refl refl

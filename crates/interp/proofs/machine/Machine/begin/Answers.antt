@@ -36,6 +36,7 @@ start_function-requires-clause-call g c =
       calling = first_calling s opens (safe_of s.contracts s.call k c.args.func linked c.deployed_calls_are_safe.ensures opens) runs c.in_ok-stack.stack.items stack_is
           (ap₂ (λ (gs : List Value) (bs : List ℕ). mk (record (fresh (module_view m)) { globals = gs; memory = bs }) (opens_of c.new-2.result.items) c.in_ok-stack.stack.items c.new-3.result.items []) made.globals made.memory ∙ ap₂ (λ (es : List Open) (ls : List Value). mk (fresh (module_view m)) es c.in_ok-stack.stack.items ls []) (ap opens_of c.new-2.ensures.items) c.new-3.ensures.items) c.new.ensures.items refl;
       counted = record { count = ap (λ es. frames (opens_of es) 0) (sym c.new-2.ensures.items); few = omega arith; code = tt; each = subst (λ (es : List (Entry g.row.A.Denot)). EachNumbered es) (sym c.new-2.ensures.items) tt };
+      suits = made.max;
       runs = runs;
     }
 

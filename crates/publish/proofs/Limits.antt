@@ -1,0 +1,43 @@
+-- Limits, and the fuel that calls use.
+use Rattle.std.proofs.Common.{◌≡◌, ℕ, ◌+◌, ◌≤◌, List, [], ◌∷◌, ◌++◌, Some, option_map, slice_get, sym, ◌∙◌, ap, arith}
+use Rattle.std.specs.Prelude.{slice_index}
+use Rattle.std.proofs.lemmas.Option.{slice_get-map, get_or_from_slice_get}
+use Rattle.std.proofs.lemmas.List.Sums.{sum-map, sum_by_push}
+use Rattle.spec_ledger.specs.declared.Outcome.{Outcome}
+use Rattle.spec_ledger.specs.declared.Step.{Step}
+use Rattle.spec_ledger.specs.Cells.{Cells}
+use Rattle.spec_ledger.specs.Modes.{Modes}
+use Rattle.spec_ledger.specs.Order.{limits_of}
+use Rattle.spec_execution.specs.Configuration.{Deployed, Contract, Config}
+use Rattle.spec_execution.specs.Run.{ContractCall, Reached, at_first, reduced, replied, RunsWith, refused, ran}
+use Rattle.spec_execution.specs.Exec.{Executes}
+use Rattle.spec_execution.specs.Serial.{Ran}
+use Rattle.publish.specs.Publication.{limits, fuel_used}
+
+pub limit_at : (calls : List ContractCall) (n : ℕ) (call : ContractCall) → slice_get calls n ≡ Some call → slice_index (limits calls) n ≡ call.fuel
+limit_at calls n call at =
+    get_or_from_slice_get (limits calls) n call.fuel 0 (slice_get-map (λ (c : ContractCall). c.fuel) calls n ∙ ap (option_map (λ (c : ContractCall). c.fuel)) at)
+
+pub limits_of-push : (limits order : List ℕ) (n : ℕ) → limits_of limits (order ++ n ∷ []) ≡ limits_of limits order + slice_index limits n
+limits_of-push limits order n =
+    sum-map (λ c. slice_index limits c) (order ++ n ∷ []) ∙ sum_by_push (λ c. slice_index limits c) order n
+    ∙ ap (λ s. s + slice_index limits n) (sym (sum-map (λ c. slice_index limits c) order))
+
+pub fuel_used-push : (rs : List Ran) (r : Ran) → fuel_used (rs ++ r ∷ []) ≡ fuel_used rs + r.receipt.used
+fuel_used-push rs r =
+    sum-map (λ (x : Ran). x.receipt.used) (rs ++ r ∷ []) ∙ sum_by_push (λ (x : Ran). x.receipt.used) rs r
+    ∙ ap (λ s. s + r.receipt.used) (sym (sum-map (λ (x : Ran). x.receipt.used) rs))
+
+module _ (c : Contract) (first : Config) (limit : ℕ) where
+  reached_within : (trace : List Step) (used : ℕ) (last : Config) → Reached c first limit trace used last → used ≤ limit
+  reached_within trace used last at_first = omega arith
+  reached_within trace used last (reduced t u a charge b r red h) = h
+  reached_within trace used last (replied t u s seq op go r reached asks fits) = reached_within t u _ reached
+
+runs_within : (contracts : List Deployed) (call : ContractCall) (trace : List Step) (o : Outcome) (used : ℕ) → RunsWith contracts call trace o used → used ≤ call.fuel
+runs_within contracts call trace o used (refused code e) = omega arith
+runs_within contracts call trace o used (ran c func t p f e run) = reached_within c _ call.fuel t f run.last run.reached
+
+-- no call uses more than its limit
+pub executes_within : (contracts : List Deployed) (call : ContractCall) (cells later : Cells) (o : Outcome) (used : ℕ) (locks : Modes) → Executes contracts call cells later o used locks → used ≤ call.fuel
+executes_within contracts call cells later o used locks e = runs_within contracts call e.trace o used e.run
