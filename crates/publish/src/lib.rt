@@ -193,6 +193,26 @@ impl<'a, A: Allocator> Publishing<'a, A> {
         self.calls.len() as u32
     }
 
+    /// Fills the order, and hands out what was published.
+    ///
+    /// # Errors
+    ///
+    /// Memory was refused.
+    pub fn finish(mut self) -> Result<Published, NoMemory>
+        ensures serial { IfOk result (λ published. Serial self.entry.contracts self.entry.calls published.order.items self.entry.opening (positions published.receipts.items published.touched.items) published.cells.cells) }
+        ensures admissible { IfOk result (λ published. IsAdmissible (limits self.entry.calls) published.order.items self.entry.fuel) }
+        ensures swept { IfOk result (λ published. Sweep (limits self.entry.calls) self.entry.fuel self.entry.order (length self.entry.calls) published.order.items) }
+        ensures receipts { IfOk result (λ published. length published.receipts.items ≡ length published.order.items) }
+        ensures touched { IfOk result (λ published. length published.touched.items ≡ length published.order.items) }
+        ensures settled { IfOk result (λ published. published.cells.unsettled ≡ finite.empty) }
+        ensures fuel { IfOk result (λ published. published.fuel ≡ fuel_used (positions published.receipts.items published.touched.items)) }
+        ensures left { IfOk result (λ published. AreLeft published.order.items (length self.entry.calls) published.left.items) }
+    {
+        self.fill()?;
+        let published = self.close()?;
+        Ok(published)
+    }
+
     /// Hands out what was published, and the calls outside the order.
     ///
     /// # Errors

@@ -128,9 +128,8 @@ fn the_limit_counts_and_not_the_fuel_used(rt: HostRuntime) -> Result<(), Fail> {
         running(alloc, 7, 40)?,
     ];
     let cells = Cells::new(alloc);
-    let mut publishing = Publishing::open(alloc, &contracts, &calls, &cells, 100)?;
-    publishing.fill()?;
-    let published = publishing.close()?;
+    let publishing = Publishing::open(alloc, &contracts, &calls, &cells, 100)?;
+    let published = publishing.finish()?;
     assert_eq!(rt; published.order.as_slice(), [0, 2].as_slice());
     assert_eq!(rt;
         published.receipts.as_slice(),

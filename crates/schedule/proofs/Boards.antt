@@ -1,25 +1,18 @@
 -- What ending a position does to a board.
-use Rattle.std.proofs.Common.{◌≡◌, ◌==◌, ◌↔◌, ◌⊎◌, inl, inr, ℕ, ◌+◌, ◌<◌, ◌≤◌, Bool, true, false, List, [], ◌∷◌, length, get_or, set, replicate, sym, ◌∙◌, ap, subst, arith, eq-eqb}
+use Rattle.std.proofs.Common.{◌≡◌, ◌==◌, ◌↔◌, ◌⊎◌, inl, inr, ℕ, ◌+◌, ◌<◌, ◌≤◌, Bool, true, false, List, length, get_or, set, replicate, sym, ◌∙◌, ap, subst, arith, eq-eqb}
 use Rattle.std.specs.List.{Contains, filter}
 use Rattle.std.specs.List.Sorted.{IsStrictlyIncreasing}
 use Rattle.std.proofs.lemmas.Bool.{eqb-true, cases_eq, cases_lt}
-use Rattle.std.proofs.lemmas.List.{length-set, get_or-set_other, get_or_past, get_or-replicate, length-replicate}
+use Rattle.std.proofs.lemmas.List.{get_or_read, length-set, get_or-set_other, get_or_past, get_or-replicate, length-replicate}
 use Rattle.std.proofs.lemmas.List.Kept.{IsStrictlyIncreasing-filter}
 use Rattle.schedule.specs.Graph.{successors, IsForward}
-use Rattle.schedule.specs.Board.{IsFree, IsWaiting, count_of, firsts, predecessors, pending, IsBoard}
+use Rattle.schedule.specs.Board.{Progress, IsFree, IsWaiting, count_of, firsts, predecessors, pending, IsBoard}
 use Rattle.schedule.proofs.Counts.{counted_once, pending_none, pending_ended, waits, one_waits, none_waits, all_ended, has_predecessor, some_predecessor}
 use Rattle.schedule.proofs.Firsts.{firsts_rise, firsts_same, first_is, is_first, kept_by, keeps}
 
-pub past_is_none : (edges : List (List ℕ)) (i j : ℕ) → Contains (successors edges i) j → i < length edges
-past_is_none [] i j c = absurd (let lt = c.1 in omega (arith, lt))
-past_is_none (s ∷ ss) i j c = by (cases_lt i (length (s ∷ ss)))
-  where
-    by : (i < length (s ∷ ss)) ⊎ (length (s ∷ ss) ≤ i) → i < length (s ∷ ss)
-    by (inl lt) = lt
-    by (inr ge) = let none : successors (s ∷ ss) i ≡ [] = get_or_past (s ∷ ss) i [] ge in absurd (let d = subst (λ xs. Contains xs j) none c in let lt = d.1 in omega (arith, lt))
-
-not_ended_past : (edges : List (List ℕ)) (ended : List Bool) (i : ℕ) → length ended ≡ length edges → get_or ended i false ≡ true → i < length edges
-not_ended_past edges ended i len done = by (cases_lt i (length edges))
+-- a position that has ended is one of the order
+ended_is_within : (edges : List (List ℕ)) (ended : List Bool) (i : ℕ) → length ended ≡ length edges → get_or ended i false ≡ true → i < length edges
+ended_is_within edges ended i len done = by (cases_lt i (length edges))
   where
     by : (i < length edges) ⊎ (length edges ≤ i) → i < length edges
     by (inl lt) = lt
@@ -60,15 +53,15 @@ module _ (edges : List (List ℕ)) (waiting : List ℕ) (ended : List Bool) (rea
       let one = waits edges ended w.0 p board.as_many_ends w.1 w.2 in
       absurd (omega (arith, is, one, none))
 
+  -- the same of the count that was read, and of what contracts see
+  pub never_waits : (view : Progress) (p x : ℕ) → record { edges = edges; ended = ended } ≡ view → p < length edges → x ≡ get_or waiting p x → x ≡ 0 → IsWaiting view p → ⊥
+  never_waits view p x same lt is none w =
+      let size = board.as_many_counts in
+      let read : x ≡ get_or waiting p 0 = get_or_read waiting p x (omega (arith, lt, size)) is 0 in
+      not_waiting p (sym read ∙ none) (subst (λ v. IsWaiting v p) (sym same) w)
+
   pub waiting_within : (p : ℕ) → IsWaiting (record { edges = edges; ended = ended }) p → p < length edges
   waiting_within p w = (board.graph.forward w.0 p w.1).1
-
-  pub ended_within : (p : ℕ) → get_or ended p false ≡ true → p < length edges
-  ended_within p done = not_ended_past edges ended p board.as_many_ends done
-
-  -- a position that has ended does not wait
-  pub ended_count : (p : ℕ) → get_or ended p false ≡ true → get_or waiting p 0 ≡ 0
-  ended_count p done = let is = board.counted p (ended_within p done) in let none = board.in_order p done in omega (arith, is, none)
 
   module _ (p : ℕ) (lt : p < length edges) (new : get_or ended p false ≡ false) where
     pub enough_there : (j : ℕ) → j < length waiting → count_of j (successors edges p) ≤ get_or waiting j 0
@@ -137,7 +130,7 @@ board_opened edges waiting ended ready graph len counts none first =
       as_many_ends = size;
       counted = λ j lt. counts j lt ∙ (sym (pending_none edges j) ∙ ap (λ es. pending edges es j) (sym none));
       in_order = λ j done. absurd (
-          let lt = not_ended_past edges ended j size done in
+          let lt = ended_is_within edges ended j size done in
           let new : get_or ended j false ≡ false = ap (λ es. get_or es j false) none ∙ get_or-replicate (length edges) j false false lt in
           let contrary : true ≡ false = sym done ∙ new in cc contrary);
       first = first;

@@ -10,9 +10,6 @@ use Rattle.schedule.specs.Board.{firsts}
 abbrev kept : Bool → ℕ → List ℕ
 kept b n = cond b (n ∷ []) []
 
-pub firsts_more : (count : ℕ → ℕ) (n : ℕ) → firsts count (n + 1) ≡ firsts count n ++ kept (count n == 0) n
-firsts_more count n = ap (firsts count) (let next : n + 1 ≡ suc n = omega arith in next)
-
 pub firsts_same : (f g : ℕ → ℕ) (n : ℕ) → ((j : ℕ) → j < n → f j ≡ g j) → firsts f n ≡ firsts g n
 firsts_same f g zero same = refl
 firsts_same f g (suc n) same =

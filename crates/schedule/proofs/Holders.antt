@@ -145,9 +145,6 @@ pub record AreSoFar (profiles : List (List Entry)) (edges : List (List ℕ)) (n 
   pub rising : (i : ℕ) → IsStrictlyIncreasing (successors edges i)
   pub exact : (i j : ℕ) → i < n → Contains (successors edges i) j ↔ IsEdge profiles i j
 
-pub none_so_far : (profiles : List (List Entry)) → AreSoFar profiles [] 0
-none_so_far profiles = record { each = refl; rising = λ i k lt. absurd (omega (arith, lt)); exact = λ i j lt. absurd (omega (arith, lt)) }
-
 pub edges_more : (profiles : List (List Entry)) (n : ℕ) (old new : List (List ℕ)) (next : List ℕ) → new ≡ old ++ next ∷ [] → IsStrictlyIncreasing next
     → ((j : ℕ) → Contains next j ↔ IsEdge profiles n j) → AreSoFar profiles old n → AreSoFar profiles new (n + 1)
 edges_more profiles n old new next step rises found so_far =

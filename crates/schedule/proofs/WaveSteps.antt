@@ -1,5 +1,5 @@
 -- The wave of a position from those of its predecessors.
-use Rattle.std.proofs.Common.{◌^◌, ◌≡◌, ◌⊎◌, inl, inr, ℕ, ◌+◌, ◌<◌, ◌≤◌, List, [], ◌∷◌, ◌++◌, length, take, get_or, refl, sym, ap, ◌∙◌, subst, arith}
+use Rattle.std.proofs.Common.{◌^◌, ◌≡◌, ◌⊎◌, inl, inr, ℕ, ◌+◌, ◌<◌, ◌≤◌, List, [], ◌∷◌, ◌++◌, length, take, get_or, sym, ap, ◌∙◌, subst, arith}
 use Rattle.std.proofs.lemmas.List.{take_more, length_push, get_or_append_left, get_or_push, get_or_past}
 use Rattle.std.proofs.lemmas.Bool.{cases_eq, cases_lt}
 use Rattle.std.proofs.lemmas.List.Elements.{Contains-append_left, Contains-push, Contains-push_cases}
@@ -56,9 +56,6 @@ pub record AreSoFar (profiles : List (List Entry)) (waves : List ℕ) (n : ℕ) 
   pub each : length waves ≡ n
   pub low : (i : ℕ) → get_or waves i 0 ≤ i
   pub exact : (i : ℕ) → i < n → IsWave profiles i (get_or waves i 0)
-
-pub none_so_far : (profiles : List (List Entry)) → AreSoFar profiles [] 0
-none_so_far profiles = record { each = refl; low = λ i. omega arith; exact = λ i lt. absurd (omega (arith, lt)) }
 
 low_elsewhere : (i n x : ℕ) → ¬ (i ≡ n) → (i < n → x ≤ i) → (n < i → x ≤ i) → x ≤ i
 low_elsewhere i n x other low high = elim (cases_lt i n) [ inl lt ↦ low lt | inr ge ↦ high (omega (arith, ge, other)) ]

@@ -1,10 +1,11 @@
 -- One operation more.
-use Rattle.std.proofs.Common.{◌≡◌, List, [], ◌∷◌, ◌++◌, refl, sym, ◌∙◌, ap, subst}
+use Rattle.std.proofs.Common.{◌≡◌, ℕ, zero, suc, ◌+◌, ◌<◌, List, [], ◌∷◌, ◌++◌, length, take, get_or, refl, sym, ◌∙◌, ap, subst, arith}
+use Rattle.std.proofs.lemmas.List.{take_more}
 use Rattle.spec_ledger.specs.declared.Inverse.{Inverse}
 use Rattle.spec_ledger.specs.declared.Op.{Op}
 use Rattle.spec_ledger.specs.declared.Reply.{Reply}
 use Rattle.spec_ledger.specs.declared.Step.{Step}
-use Rattle.spec_ledger.specs.Cells.{cells_after, reply_to, inverse_to}
+use Rattle.spec_ledger.specs.Cells.{Cells, cells_after, reply_to, inverse_to}
 use Rattle.spec_ledger.specs.Book.{after, GetsReplies, inverses_of}
 use Rattle.spec_ledger.proofs.Traces.{after-append, GetsReplies-push, inverses_of-push}
 use Rattle.storage.specs.Counts.{Store, opened}
@@ -13,7 +14,7 @@ use Rattle.boost.proofs.Counted.{opened_all-push}
 use Rattle.interp.specs.declared.turns.Status.{Status}
 use Rattle.interp.specs.declared.turns.Status.TheVariants as status
 use Rattle.interp.specs.Progress.{Progress, HasAsked, HasReplied, HasAnswered, AnsweredAt, GoesOn, IsFree}
-use Rattle.serial.specs.Playing.{AreDone, IsOnItsWay}
+use Rattle.serial.specs.Playing.{AreDone, AreSomeDone, IsOnItsWay}
 
 pub done_none : (start : Store) → AreDone start [] start []
 done_none start = record { replies = tt; cells = refl; inverses_are = refl; unsettled = refl }
@@ -46,3 +47,28 @@ free_first (status.Fallen t) h = tt
 free_first (status.Asking op) h = absurd h
 free_first (status.Ended o) h = absurd h
 free_first status.NoMemory h = absurd h
+
+pub done_same : (start now next : Store) (t : List Step) (is js : List Inverse) → AreDone start t now is → next ≡ now → js ≡ is → AreDone start t next js
+done_same start now next t is js d n j = subst (λ x. AreDone start t x js) (sym n) (subst (AreDone start t now) (sym j) d)
+
+-- each reply of a trace that gets its replies
+pub reply_at : (t : List Step) (i : ℕ) (d : Step) (m : Cells) → i < length t → GetsReplies t m → (get_or t i d).reply ≡ reply_to (get_or t i d).op (after (take i t) m)
+reply_at [] i d m below g = absurd (omega (arith, below))
+reply_at (s ∷ t) zero d m below g = g.0
+reply_at (s ∷ t) (suc i) d m below g = reply_at t i d (cells_after s.op m) (omega (arith, below)) g.1
+
+-- a step of a trace that is done again: its reply, and one that differs
+module _ (start now next : Store) (t : List Step) (i : ℕ) (d : Step) (is js : List Inverse) (r : Reply) (below : i < length t) (done : AreDone start (take i t) now is)
+    (reply : r ≡ reply_to (get_or t i d).op now.cells) (cells : next.cells ≡ cells_after (get_or t i d).op now.cells)
+    (unsettled : next.unsettled ≡ opened (inverse_to (get_or t i d).op now.cells) now.unsettled) (inverses : js ≡ is ++ inverse_to (get_or t i d).op now.cells ∷ []) where
+  pub again_more : r ≡ (get_or t i d).reply → AreDone start (take (i + 1) t) next js
+  again_more same = done_more start now next (take i t) (take (i + 1) t) is js (get_or t i d).op (get_or t i d).reply done (take_more t i d below) (sym same ∙ reply) cells unsettled inverses
+
+  pub again_other : AreSomeDone start next js
+  again_other = record {
+    trace = take i t ++ record { op = (get_or t i d).op; reply = r } ∷ [];
+    done = done_more start now next (take i t) (take i t ++ record { op = (get_or t i d).op; reply = r } ∷ []) is js (get_or t i d).op r done refl reply cells unsettled inverses;
+  }
+
+  pub not_again : (r ≡ (get_or t i d).reply → ⊥) → GetsReplies t start.cells → ⊥
+  not_again apart gets = apart (reply ∙ ap (reply_to (get_or t i d).op) done.cells ∙ sym (reply_at t i d start.cells below gets))

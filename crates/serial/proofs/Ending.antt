@@ -1,5 +1,6 @@
 -- The end of a call: its changes stand, or the cells are as they were.
 use Rattle.std.proofs.Common.{◌≡◌, ℕ, Bool, true, false, cond, List, sym, ◌∙◌, ap, subst}
+use Rattle.std.specs.Prelude.{Result, Ok, Err, OnErr}
 use Rattle.std.specs.FinMap.{empty}
 use Rattle.spec_ledger.specs.declared.Inverse.{Inverse}
 use Rattle.spec_ledger.specs.declared.Outcome.{Outcome}
@@ -30,6 +31,12 @@ module _ (start now : Store) (t : List Step) (is : List Inverse) (d : AreDone st
   pub undone : AreCells start.cells → back_all is now.cells ≡ start.cells
   undone are = (λ k. back_all (d.inverses_are k) (d.cells k)) ∙ back_all-inverses t start.cells are
 
+  pub taken_back : AreCells start.cells → (later : Store) → later.cells ≡ back_all is now.cells → later.unsettled ≡ closed_all is now.unsettled → later ≡ start
+  taken_back are later cells counts =
+      let cells_are : later.cells ≡ start.cells = cells ∙ undone are in
+      let counts_are : later.unsettled ≡ start.unsettled = counts ∙ ended ∙ sym settled in
+      λ k. record { cells = cells_are k; unsettled = counts_are k }
+
   pub left_is : AreCells start.cells → (b : Bool) → cond b now.cells (back_all is now.cells) ≡ cond b (after t start.cells) start.cells
   left_is are true = d.cells
   left_is are false = undone are
@@ -45,3 +52,11 @@ module _ (lent : List Deployed) (call : ContractCall) (start now : Store) (f : P
     later_is = later_is ∙ ap (λ b. cond b now.cells (back_all is now.cells)) stand_is ∙ left_is start now f.trace is p.done settled are (has_returned o);
     locks_are = locks_are ∙ ap touched t_is;
   }
+
+pub executed_for : (lent : List Deployed) (call : ContractCall) (start now : Store) (f : Played) (is : List Inverse) → IsPlayedOver lent call start f now is → (later : Cells) (o : Outcome) (used : ℕ) (locks : Modes)
+    → Executes f.contracts f.call start.cells later o used locks → Executes lent call start.cells later o used locks
+executed_for lent call start now f is p later o used locks e = subst (λ c. Executes lent c start.cells later o used locks) p.call_is (subst (λ ds. Executes ds f.call start.cells later o used locks) p.lent e)
+
+pub on_err : {T E P : Type 0} (r : Result T E) → P → OnErr r P
+on_err (Ok x) p = tt
+on_err (Err e) p = p

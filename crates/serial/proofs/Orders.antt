@@ -14,14 +14,14 @@ use Rattle.serial.specs.Positions.{positions}
 pub length_more : {A : Type 0} (xs ys : List A) (x : A) (n : ℕ) → ys ≡ xs ++ x ∷ [] → length xs ≡ n → length ys ≡ n + 1
 length_more xs ys x n e f = ap length e ∙ length-append xs (x ∷ []) ∙ omega (arith, f)
 
-positions-push : (rs : List Receipt) (ms : List Modes) (r : Receipt) (m : Modes) → length rs ≡ length ms → positions (rs ++ r ∷ []) (ms ++ m ∷ []) ≡ positions rs ms ++ record { receipt = r; touched = m } ∷ []
+pub positions-push : (rs : List Receipt) (ms : List Modes) (r : Receipt) (m : Modes) → length rs ≡ length ms → positions (rs ++ r ∷ []) (ms ++ m ∷ []) ≡ positions rs ms ++ record { receipt = r; touched = m } ∷ []
 positions-push [] [] r m e = refl
 positions-push (x ∷ rs) (y ∷ ms) r m e = ap (λ ps. record { receipt = x; touched = y } ∷ ps) (positions-push rs ms r m (omega (arith, e)))
 positions-push [] (y ∷ ms) r m e = absurd (omega (arith, e))
 positions-push (x ∷ rs) [] r m e = absurd (omega (arith, e))
 
 module _ (contracts : List Deployed) (calls : List ContractCall) where
-  Serial-push : (order : List ℕ) (cells mid last : Cells) (rs : List Ran) (n : ℕ) (r : Ran) (call : ContractCall) → Serial contracts calls order cells rs mid → slice_get calls n ≡ Some call
+  pub Serial-push : (order : List ℕ) (cells mid last : Cells) (rs : List Ran) (n : ℕ) (r : Ran) (call : ContractCall) → Serial contracts calls order cells rs mid → slice_get calls n ≡ Some call
       → Executes contracts call mid last r.receipt.outcome r.receipt.used r.touched → Serial contracts calls (order ++ n ∷ []) cells (rs ++ r ∷ []) last
   Serial-push [] cells mid last [] n r call s is e = (call, last, is, subst (λ x. Executes contracts call x last r.receipt.outcome r.receipt.used r.touched) s e, refl)
   Serial-push [] cells mid last (x ∷ rs) n r call s is e = absurd s

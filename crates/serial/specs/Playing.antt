@@ -19,6 +19,11 @@ pub record AreDone (start : Store) (trace : List Step) (now : Store) (inverses :
   pub inverses_are : inverses ≡ inverses_of trace start.cells
   pub unsettled : now.unsettled ≡ opened_all inverses start.unsettled
 
+-- some operations were done on the cells at the start, which have these inverses
+pub record AreSomeDone (start now : Store) (inverses : List Inverse) : Type 0 where
+  pub trace : List Step
+  pub done : AreDone start trace now inverses
+
 abbrev pub IsOnItsWay : Store → Progress → Store → List Inverse → Type 0
 IsOnItsWay start p now inverses = AreDone start p.trace now inverses
 

@@ -2,6 +2,7 @@
 //! Concurrency to Smart Contracts", PODC 2017, section 4: the serial order that a miner publishes).
 #![tactic(auto)]
 
+mod again;
 mod changes;
 #[cfg(test)]
 mod first_module;
@@ -10,21 +11,28 @@ mod playing;
 #[cfg(test)]
 mod tests;
 
-ghost use Rattle.std.specs.Prelude.{◌≡◌, ◌<◌, IfOk, OnOk, length};
+ghost use Rattle.std.specs.Prelude.{◌≡◌, ◌<◌, ◌↔◌, IfOk, OnErr, IfSome, IfNone, IsSome, length};
 ghost use Rattle.std.specs.List.{All};
 ghost use Rattle.std.specs.FinMap as finite;
+ghost use Rattle.spec_ledger.specs.Cells.{AreCells};
+ghost use Rattle.spec_ledger.specs.Book.{back_all, GetsReplies};
+ghost use Rattle.storage.specs.Counts.{Store};
+ghost use Rattle.boost.specs.Counted.{closed_all, AreUnsettled};
 ghost use Rattle.spec_execution.specs.Exec.{Executes};
 ghost use Rattle.spec_execution.specs.Serial.{Serial};
 ghost use Rattle.interp.specs.Lent.{contracts_view};
+ghost use Rattle.serial.specs.Playing.{AreDone};
 ghost use Rattle.serial.specs.Positions.{positions};
 
+use crate::again::act_again;
 use crate::changes::{end_all, returned};
 use crate::locks::touched_by;
 use crate::playing::play;
 use call::Call;
+use interp::finished::Finished;
 use interp::stand_in::Runnable as Contract;
 use lock_profile::Touched;
-use spec_ledger::{NoMemory, Receipt};
+use spec_ledger::{Inverse, NoMemory, Receipt};
 use std::alloc::{Allocator, Global};
 use storage::Cells;
 
@@ -41,13 +49,44 @@ pub struct Core {
 
 /// What one call came to.
 #[derive(Drop)]
-struct Executed {
-    receipt: Receipt,
-    touched: Touched,
+pub struct Executed {
+    /// How it ended and the fuel that it used.
+    pub receipt: Receipt,
+    /// The locks that it asked for, each with the join of its modes.
+    pub touched: Touched,
 }
 
-/// Runs a call over the cells. Unless it returned they are as before. After want of memory they are of no use.
-fn execute<A: Allocator>(
+/// Ends a run whose operations were done on the cells: they stand if it returned, and else are taken back. After want of
+/// memory they are taken back.
+fn conclude<A: Allocator>(
+    alloc: Global,
+    finished: &Finished<'_, A>,
+    cells: &mut Cells,
+    inverses: Vec<Inverse>,
+) -> Result<Executed, NoMemory>
+    requires { AreUnsettled inverses.items cells.old.unsettled }
+    ensures executed { IfOk result (λ e. (start : Store) → AreDone start finished.now.trace cells.old inverses.items → start.unsettled ≡ finite.empty → AreCells start.cells → Executes finished.now.contracts finished.now.call start.cells cells.new.cells e.receipt.outcome e.receipt.used e.touched) }
+    ensures err { OnErr result (cells.new.cells ≡ back_all inverses.items cells.old.cells) }
+    ensures unsettled { cells.new.unsettled ≡ closed_all inverses.items cells.old.unsettled }
+{
+    let receipt = Receipt {
+        outcome: finished.outcome(),
+        used: finished.used(),
+    };
+    let Ok(touched) = touched_by(alloc, finished.trace()) else {
+        end_all(cells, inverses, false);
+        return Err(NoMemory);
+    };
+    end_all(cells, inverses, returned(receipt.outcome));
+    Ok(Executed { receipt, touched })
+}
+
+/// Runs a call over the cells. Unless it returned they are as before.
+///
+/// # Errors
+///
+/// Memory was refused. The cells are as they were.
+pub fn execute<A: Allocator>(
     alloc: Global,
     contracts: &[Contract<A>],
     call: &Call,
@@ -55,17 +94,68 @@ fn execute<A: Allocator>(
 ) -> Result<Executed, NoMemory>
     requires { cells.old.unsettled ≡ finite.empty }
     ensures executed { IfOk result (λ e. Executes (contracts_view contracts.now) call.now cells.old.cells cells.new.cells e.receipt.outcome e.receipt.used e.touched) }
-    ensures settled { OnOk result (cells.new.unsettled ≡ finite.empty) }
+    ensures settled { cells.new.unsettled ≡ finite.empty }
+    ensures err { OnErr result (cells.new ≡ cells.old) }
 {
     cells.hold();
     let (finished, inverses) = play(alloc, contracts, call, cells)?;
-    let receipt = Receipt {
-        outcome: finished.outcome(),
-        used: finished.used(),
-    };
-    end_all(cells, inverses, returned(receipt.outcome));
-    let touched = touched_by(alloc, finished.trace())?;
-    Ok(Executed { receipt, touched })
+    conclude(alloc, &finished, cells, inverses)
+}
+
+/// The run of a call alone over the cells, which are as before.
+///
+/// # Errors
+///
+/// Memory was refused.
+pub fn run_alone<'a, A: Allocator>(
+    alloc: Global,
+    contracts: &'a [Contract<A>],
+    call: &'a Call,
+    cells: &mut Cells,
+) -> Result<Finished<'a, A>, NoMemory>
+    requires { cells.old.unsettled ≡ finite.empty }
+    ensures contracts { IfOk result (λ finished. finished.contracts ≡ contracts_view contracts.now) }
+    ensures call { IfOk result (λ finished. finished.call ≡ call.now) }
+    ensures replies { IfOk result (λ finished. GetsReplies finished.trace cells.old.cells) }
+    ensures cells { cells.new ≡ cells.old }
+{
+    cells.hold();
+    let (finished, done) = play(alloc, contracts, call, cells)?;
+    end_all(cells, done, false);
+    Ok(finished)
+}
+
+/// Executes a call by a run of it that was made elsewhere, where each reply of the run is the one of these cells. None
+/// where one is not. Unless the call returned the cells are as before.
+///
+/// # Errors
+///
+/// Memory was refused. The cells are as they were.
+pub fn replay<A: Allocator>(
+    alloc: Global,
+    finished: &Finished<'_, A>,
+    cells: &mut Cells,
+) -> Result<Option<Executed>, NoMemory>
+    requires { cells.old.unsettled ≡ finite.empty }
+    ensures executed { IfOk result (λ o. IfSome o (λ e. Executes finished.now.contracts finished.now.call cells.old.cells cells.new.cells e.receipt.outcome e.receipt.used e.touched)) }
+    ensures replies { IfOk result (λ o. IsSome o ↔ GetsReplies finished.now.trace cells.old.cells) }
+    ensures other { IfOk result (λ o. IfNone o (cells.new ≡ cells.old)) }
+    ensures settled { cells.new.unsettled ≡ finite.empty }
+    ensures err { OnErr result (cells.new ≡ cells.old) }
+{
+    cells.hold();
+    let mut inverses = Vec::new(alloc);
+    match act_again(cells, &mut inverses, finished.trace()) {
+        Ok(true) => Ok(Some(conclude(alloc, finished, cells, inverses)?)),
+        Ok(false) => {
+            end_all(cells, inverses, false);
+            Ok(None)
+        }
+        Err(_) => {
+            end_all(cells, inverses, false);
+            Err(NoMemory)
+        }
+    }
 }
 
 /// Runs the calls of these numbers, one after another, each over the cells that the one before left; the first runs over

@@ -1,13 +1,15 @@
 // A call that runs over cells, which answer its operations.
-ghost use Rattle.std.specs.Prelude.{◌≡◌, ◌+◌, ◌≤◌, ◌∷◌, ◌++◌, [], Ok, true, false, IfOk, OnOk};
+ghost use Rattle.std.specs.Prelude.{◌≡◌, ◌+◌, ◌≤◌, ◌∷◌, ◌++◌, [], Ok, true, false, IfOk, OnOk, OnErr};
+ghost use Rattle.std.specs.FinMap as finite;
 ghost use Rattle.spec_execution.specs.Run.{IsReply, opening};
 ghost use Rattle.spec_ledger.specs.Cells.{cells_after, inverse_to, reply_to};
 ghost use Rattle.storage.specs.Counts.{Store, opened};
 ghost use Rattle.interp.specs.Lent.{contracts_view};
 ghost use Rattle.interp.specs.Starting.{IsOpened, IsRejection};
 ghost use Rattle.interp.specs.Progress.{IsFree, IsSameCall};
-ghost use Rattle.serial.specs.Playing.{HasTurned, IsOnItsWay, IsPlayedOver, IsEnded};
+ghost use Rattle.serial.specs.Playing.{HasTurned, IsOnItsWay, IsPlayedOver, IsEnded, AreDone, AreSomeDone};
 
+use crate::changes::end_all;
 use call::Call;
 use interp::finished::Finished;
 use interp::machine::Machine;
@@ -18,17 +20,20 @@ use spec_ledger::{Inverse, NoMemory, Op, Reply};
 use std::alloc::{Allocator, Global};
 use storage::Cells;
 
-/// Does an operation, and keeps its inverse.
-fn act(cells: &mut Cells, inverses: &mut Vec<Inverse>, op: Op) -> Result<Reply, NoMemory>
+/// Does an operation, and keeps its inverse. Where memory is refused all is as it was.
+pub(crate) fn act(cells: &mut Cells, inverses: &mut Vec<Inverse>, op: Op) -> Result<Reply, NoMemory>
     ensures reply { IfOk result (λ reply. reply ≡ reply_to op cells.old.cells) }
     ensures is_reply { IfOk result (λ reply. IsReply op reply) }
     ensures cells { OnOk result (cells.new.cells ≡ cells_after op cells.old.cells) }
     ensures unsettled { OnOk result (cells.new.unsettled ≡ opened (inverse_to op cells.old.cells) cells.old.unsettled) }
     ensures inverses { OnOk result (inverses.new.items ≡ inverses.old.items ++ inverse_to op cells.old.cells ∷ []) }
+    ensures err { OnErr result (cells.new ≡ cells.old) }
+    ensures err_inverses { OnErr result (inverses.new.items ≡ inverses.old.items) }
 {
     cells.hold();
+    inverses.reserve(1)?;
     let (reply, inverse) = cells.apply(op)?;
-    inverses.push(inverse)?;
+    inverses.push_reserved(inverse);
     Ok(reply)
 }
 
@@ -43,6 +48,8 @@ fn make_turn<'a, A: Allocator>(
     ensures way { OnOk result ((start : Store) → IsOnItsWay start machine.old cells.old inverses.old.items → IsOnItsWay start machine.new cells.new inverses.new.items) }
     ensures goes_on { result ≡ Ok true → HasTurned machine.old machine.new }
     ensures ended { result ≡ Ok false → IsEnded machine.new.status }
+    ensures err { OnErr result (cells.new ≡ cells.old) }
+    ensures err_inverses { OnErr result (inverses.new.items ≡ inverses.old.items) }
 {
     match machine.next() {
         Turn::Stepped => Ok(true),
@@ -56,6 +63,24 @@ fn make_turn<'a, A: Allocator>(
     }
 }
 
+/// Makes the turns of a run.
+fn make_turns<'a, A: Allocator>(
+    machine: &mut Machine<'a, A>,
+    cells: &mut Cells,
+    inverses: &mut Vec<Inverse>,
+) -> Result<(), NoMemory>
+    requires free { IsFree machine.old.status }
+    requires first { machine.old.trace ≡ [] }
+    requires none { inverses.old.items ≡ [] }
+    ensures same { OnOk result (IsSameCall machine.old machine.new) }
+    ensures ended { OnOk result (IsEnded machine.new.status) }
+    ensures done { OnOk result (AreDone cells.old machine.new.trace cells.new inverses.new.items) }
+    ensures err { OnErr result (AreSomeDone cells.old cells.new inverses.new.items) }
+{
+    'turns: while make_turn(machine, cells, inverses)? {}
+    Ok(())
+}
+
 /// The run of a call that starts, with the inverses of its operations, first to last.
 fn run<'a, A: Allocator>(
     alloc: Global,
@@ -64,10 +89,16 @@ fn run<'a, A: Allocator>(
 ) -> Result<(Finished<'a, A>, Vec<Inverse>), NoMemory>
     requires free { IsFree machine.status }
     requires first { machine.trace ≡ [] }
-    ensures { IfOk result (λ r. IsPlayedOver machine.entry.contracts machine.entry.call cells.old r.0 cells.new r.1.items) }
+    requires settled { cells.old.unsettled ≡ finite.empty }
+    ensures ok { IfOk result (λ r. IsPlayedOver machine.entry.contracts machine.entry.call cells.old r.0 cells.new r.1.items) }
+    ensures err { OnErr result (cells.new ≡ cells.old) }
 {
+    cells.hold();
     let mut inverses = Vec::new(alloc);
-    'turns: while make_turn(&mut machine, cells, &mut inverses)? {}
+    let Ok(()) = make_turns(&mut machine, cells, &mut inverses) else {
+        end_all(cells, inverses, false);
+        return Err(NoMemory);
+    };
     match machine.finish() {
         Ok(finished) => Ok((finished, inverses)),
         Err(_) => unreachable!(),
@@ -89,14 +120,17 @@ fn rejected<'a, A: Allocator>(
     }
 }
 
-/// Runs a call over the cells, and answers its run with the inverses of its operations, first to last.
+/// Runs a call over the cells, and answers its run with the inverses of its operations, first to last. After want of
+/// memory the cells are as they were.
 pub(crate) fn play<'a, A: Allocator>(
     alloc: Global,
     contracts: &'a [Contract<A>],
     call: &'a Call,
     cells: &mut Cells,
 ) -> Result<(Finished<'a, A>, Vec<Inverse>), NoMemory>
-    ensures { IfOk result (λ r. IsPlayedOver (contracts_view contracts.now) call.now cells.old r.0 cells.new r.1.items) }
+    requires { cells.old.unsettled ≡ finite.empty }
+    ensures ok { IfOk result (λ r. IsPlayedOver (contracts_view contracts.now) call.now cells.old r.0 cells.new r.1.items) }
+    ensures err { OnErr result (cells.new ≡ cells.old) }
 {
     match Machine::start(alloc, contracts, call) {
         Ok(machine) => run(alloc, machine, cells),

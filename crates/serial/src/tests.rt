@@ -1,6 +1,6 @@
 // Calls of the first module, and calls of contracts that are not there.
 use crate::first_module::first_contract;
-use crate::serial_core;
+use crate::{execute, replay, run_alone, serial_core};
 use call::Call;
 use interp::stand_in::Runnable as Contract;
 use lock_profile::Held;
@@ -123,5 +123,36 @@ fn an_empty_order_leaves_the_cells(rt: HostRuntime) -> Result<(), Fail> {
     assert_eq!(rt; core.receipts.len(), 0);
     assert_eq!(rt; core.touched.len(), 0);
     assert_eq!(rt; core.cells.get(counter(7)), Some(5));
+    Ok(())
+}
+
+#[test]
+fn a_run_alone_leaves_the_cells(rt: HostRuntime) -> Result<(), Fail> {
+    let alloc = rt.alloc();
+    let contracts = [first_contract(alloc)?];
+    let call = running(alloc, 7, 100)?;
+    let mut cells = Cells::new(alloc);
+    cells.insert(counter(7), 3)?;
+    let run = run_alone(alloc, &contracts, &call, &mut cells)?;
+    assert_eq!(rt; run.outcome(), returned(8).outcome);
+    assert_eq!(rt; cells.get(counter(7)), Some(3));
+    Ok(())
+}
+
+#[test]
+fn a_run_is_replayed_where_its_replies_are_those_of_the_cells(rt: HostRuntime) -> Result<(), Fail> {
+    let alloc = rt.alloc();
+    let contracts = [first_contract(alloc)?];
+    let call = running(alloc, 7, 100)?;
+    let mut cells = Cells::new(alloc);
+    let run = run_alone(alloc, &contracts, &call, &mut cells)?;
+    let again = replay(alloc, &run, &mut cells)?;
+    assert_eq!(rt; again.map(|executed| executed.receipt), Some(returned(5)));
+    assert_eq!(rt; cells.get(counter(7)), Some(5));
+    assert!(rt; replay(alloc, &run, &mut cells)?.is_none());
+    assert_eq!(rt; cells.get(counter(7)), Some(5));
+    let executed = execute(alloc, &contracts, &call, &mut cells)?;
+    assert_eq!(rt; executed.receipt, returned(10));
+    assert_eq!(rt; cells.get(counter(7)), Some(10));
     Ok(())
 }

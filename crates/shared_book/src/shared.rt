@@ -1,10 +1,10 @@
 // The book behind a lock.
-ghost use Rattle.std.specs.Prelude.{◌≡◌, IfOk, IfErr};
+ghost use Rattle.std.specs.Prelude.{◌≡◌, ◌≤◌, ◌⊎◌, Err, IfOk, IfErr, length};
 ghost use Rattle.std.specs.List.{AllByRecursion};
-ghost use Rattle.spec_ledger.specs.Book.{AreDistinct, IsDefined, settled};
-ghost use Rattle.spec_ledger.specs.Events.{BeginDone, CommitDone, OpDone};
+ghost use Rattle.spec_ledger.specs.Book.{AreDistinct, Content, IsDefined, call_is_new, settled};
+ghost use Rattle.spec_ledger.specs.Events.{BeginDone, CommitDone, HasNoAttempt, IsConflict, IsOther, IsStale, OpDone, UndoDone};
 ghost use Rattle.spec_ledger.specs.Modes.{touched};
-ghost use Rattle.shared_book.specs.Taking.{InSomeBook};
+ghost use Rattle.shared_book.specs.Taking.{Happened, HoldsOfTheBook, IsLawful};
 
 use boost::book::{BeginRefusal, Book, Closed, CommitRefusal, OpRefusal, Run, Ticket};
 use spec_ledger::{Op, Reply};
@@ -14,10 +14,17 @@ use storage::{Cells, NoMemory};
 
 /// A book that threads share. Each call takes the lock, is one event of the book, and lets the lock go.
 ///
-/// Whenever the lock is taken, the book has all that its type keeps, whatever other threads did. Which events those were is not known: no fact passes from one taking of the lock to the next.
+/// Whenever the lock is taken, the book has all that its type keeps, whatever other threads did. No more is known of it: no fact passes from one taking of the lock to the next. So a clause speaks of the book as the call found it, and none says which book that was.
 #[derive(Drop)]
 pub struct SharedBook {
     book: Mutex<Book>,
+}
+
+/// What is known of the book that was found under the lock.
+fn look(book: &Book)
+    ensures { IsLawful book.now }
+{
+    book.hold();
 }
 
 impl SharedBook {
@@ -32,25 +39,34 @@ impl SharedBook {
     /// Begins an attempt of a call. A refusal changes nothing.
     pub fn begin(&self, rt: &impl Wait, call: u32) -> Result<Ticket, BeginRefusal>
         ensures call { IfOk result (λ ticket. ticket.call ≡ call) }
-        ensures ok { IfOk result (λ ticket. InSomeBook (λ old new. BeginDone old new call ticket.number)) }
+        ensures ok { IfOk result (λ ticket. Happened (λ old new. BeginDone old new call ticket.number)) }
+        ensures no_such_call { result ≡ Err BeginRefusal.NoSuchCall → HoldsOfTheBook (λ book. length book.begun ≤ call) }
+        ensures live { result ≡ Err BeginRefusal.Live → HoldsOfTheBook (λ book. ¬ (HasNoAttempt call book.attempts)) }
+        ensures committed { result ≡ Err BeginRefusal.Committed → HoldsOfTheBook (λ book. ¬ (call_is_new call book.entries)) }
     {
         let mut book = self.book.lock(rt);
-        book.hold();
+        look(&book);
         book.begin(call)
     }
 
     /// Does an operation for a live attempt. A refusal changes nothing.
     pub fn op(&self, rt: &impl Wait, ticket: &Ticket, op: Op) -> Result<Reply, OpRefusal>
-        ensures ok { IfOk result (λ reply. InSomeBook (λ old new. OpDone old new ticket.now.call ticket.now.number op reply)) }
+        ensures ok { IfOk result (λ reply. Happened (λ old new. OpDone old new ticket.now.call ticket.now.number op reply)) }
+        ensures conflict { result ≡ Err OpRefusal.Conflict → HoldsOfTheBook (λ book. IsConflict book ticket.now.call ticket.now.number op) }
+        ensures stale { result ≡ Err OpRefusal.Stale → HoldsOfTheBook (λ book. IsStale book ticket.now.call ticket.now.number) }
     {
         let mut book = self.book.lock(rt);
-        book.hold();
+        look(&book);
         book.op(ticket, op)
     }
 
     /// Undoes a live attempt, for which it takes no memory. A stale ticket changes nothing.
-    pub fn undo(&self, rt: &impl Wait, ticket: Ticket) {
-        self.book.lock(rt).undo(ticket);
+    pub fn undo(&self, rt: &impl Wait, ticket: Ticket)
+        ensures { HoldsOfTheBook (λ old. IsStale old ticket.call ticket.number ⊎ ((new : Content) × UndoDone old new ticket.call ticket.number)) }
+    {
+        let mut book = self.book.lock(rt);
+        look(&book);
+        book.undo(ticket);
     }
 
     /// Commits a live attempt, whose trace is that of the run, and answers its position. A refusal changes nothing, and hands the ticket back.
@@ -60,11 +76,13 @@ impl SharedBook {
         ticket: Ticket,
         run: &Run<'_>,
     ) -> Result<u32, (Ticket, CommitRefusal)>
-        ensures ok { IfOk result (λ position. InSomeBook (λ old new. CommitDone old new ticket.call ticket.number run.now.trace.now run.now.outcome position)) }
+        ensures ok { IfOk result (λ position. Happened (λ old new. CommitDone old new ticket.call ticket.number run.now.trace.now run.now.outcome position)) }
+        ensures stale { IfErr result (λ e. e.1 ≡ CommitRefusal.Stale → HoldsOfTheBook (λ book. IsStale book ticket.call ticket.number)) }
+        ensures differs { IfErr result (λ e. e.1 ≡ CommitRefusal.Differs → HoldsOfTheBook (λ book. IsOther book ticket.call ticket.number run.now.trace.now)) }
         ensures ticket { IfErr result (λ e. e.0 ≡ ticket) }
     {
         let mut book = self.book.lock(rt);
-        book.hold();
+        look(&book);
         book.commit(ticket, run)
     }
 

@@ -1,12 +1,12 @@
 -- Halfway through a body: what is open, the words that are left and the instructions so far.
-use Rattle.std.proofs.Common.{◌≡◌, ℕ, ◌+◌, ◌<◌, ◌≤◌, Bool, true, false, List, [], ◌∷◌, ◌++◌, length, Option, Some, None, refl, sym, ap, ◌∙◌, subst, arith, append_assoc}
+use Rattle.std.proofs.Common.{◌≡◌, ◌<◌, true, false, List, [], ◌∷◌, ◌++◌, length, Some, None, refl, sym, ap, ◌∙◌, subst, arith, append_assoc}
 use Rattle.std.proofs.lemmas.List.{append-nil}
-use Rattle.spec_text.specs.Words.{Word, RightBracket}
+use Rattle.spec_text.specs.Words.{Word}
 use Rattle.spec_text.specs.Named as N
 use Rattle.text_body.specs.Bodies.{IsBody, NoBody}
 use Rattle.text_body.specs.Turns.{Open, Operands, Inside, Move, Emits, Opens, Begins, Completes, Ends, Closes, Turns, top_of, move_at, State, step_of, is_end}
 use Rattle.text_body.proofs.Pieces.{none_some, some_none, some_same}
-use Rattle.text_body.proofs.Rests.{Rest, First, Goes, Moved, goes, comes, whole_rest, rest_whole}
+use Rattle.text_body.proofs.Rests.{Rest, First, Goes, goes, comes, whole_rest, rest_whole}
 
 -- The words up to rest, with this open, have these instructions: what the rest is completes them, and nothing else does.
 pub record Parsing (words : List Word) (s : List Open) (rest : List Word) (out : List N.Flat) : Type 0 where

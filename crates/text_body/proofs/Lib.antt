@@ -3,3 +3,4 @@ pub mod Pieces
 pub mod Rests
 pub mod Halfway
 pub mod OneBody
+pub mod Sharing

@@ -1,20 +1,20 @@
 -- No words begin with two bodies: each turn leaves fewer words, and the turns are the same.
-use Rattle.std.proofs.Common.{◌≡◌, ℕ, zero, suc, ◌+◌, ◌<◌, ◌≤◌, Bool, true, false, cond, List, [], ◌∷◌, ◌++◌, length, Option, Some, None, refl, sym, ap, ◌∙◌, subst, arith, inl, inr}
-use Rattle.std.specs.Prelude.{◌⊎◌, option_map}
+use Rattle.std.proofs.Common.{◌≡◌, ℕ, zero, suc, ◌+◌, ◌<◌, ◌≤◌, List, [], ◌∷◌, length, Option, Some, None, refl, sym, ap, ◌∙◌, subst, arith, inl, inr}
+use Rattle.std.specs.Prelude.{option_map}
 use Rattle.wtypes.specs.declared.ValType.{ValType}
 use Rattle.spec_text.specs.declared.KeyWord.{KeyWord}
 use Rattle.spec_text.specs.declared.KeyWord.TheVariants as k
 use Rattle.spec_text.specs.declared.Operator.{Operator}
-use Rattle.spec_text.specs.Words.{Word, LeftBracket, RightBracket, Key, Op, OffsetIs, AlignIs, Id, Number, Str}
+use Rattle.spec_text.specs.Words.{Word, LeftBracket, RightBracket, Key, Op}
 use Rattle.spec_text.specs.Named as N
 use Rattle.spec_text.specs.Grammar as G
 use Rattle.spec_text.specs.Grammar.{OptionalId, OptionalResult, Plain, Indices, Bindings, Results, TypeUses, Offset, Align}
 use Rattle.text_body.specs.declared.parts.Part.TheVariants as part
 use Rattle.text_body.specs.Bodies.{BodiesAreOne}
 use Rattle.text_body.specs.Reading.{Read, id_at, header_at, plain_at, ahead, close_at}
-use Rattle.text_body.specs.Turns.{Form, Folded, Flatly, FlatIf, Then, Otherwise, Condition, Open, Operands, Inside, Top, Nothing, OfOperands, OfForm, Move, Emits, Opens, Begins, Completes, Ends, Closes, Turns, top_of, opener_of_key, folded_move, flat_form, folded_block_at, flat_block_at, folded_at, then_at, left_at, else_in, closes_in, right_at, end_at, else_at, takes_all, key_at, op_at, move_at}
+use Rattle.text_body.specs.Turns.{Folded, Flatly, FlatIf, Then, Otherwise, Condition, Open, Operands, Inside, Top, Nothing, OfOperands, OfForm, Move, Emits, Opens, Begins, Completes, Ends, Closes, Turns, top_of, opener_of_key, folded_move, flat_form, folded_block_at, flat_block_at, folded_at, then_at, left_at, else_in, closes_in, right_at, end_at, else_at, takes_all, key_at, op_at, move_at}
 use Rattle.text_body.proofs.Pieces.{none_some, some_same, map_some, chosen, id_less, read_is_id, ahead_is, close_is, header_found, read_is_plain}
-use Rattle.text_body.proofs.Rests.{Rest, First, Goes, Moved, goes, whole_rest}
+use Rattle.text_body.proofs.Rests.{Rest, Goes, goes, whole_rest}
 
 -- ---- fewer words are left
 

@@ -7,14 +7,14 @@ use Rattle.spec_text.specs.declared.KeyWord.{KeyWord}
 use Rattle.spec_text.specs.declared.KeyWord.TheVariants as k
 use Rattle.spec_text.specs.declared.Operator.{Operator}
 use Rattle.spec_text.specs.declared.Operator.TheVariants as o
-use Rattle.spec_text.specs.Words.{Word, LeftBracket, RightBracket, Key, Op, OffsetIs, AlignIs, Id, Number, Str}
+use Rattle.spec_text.specs.Words.{Word, LeftBracket, RightBracket, Key, Op, OffsetIs, AlignIs, Id, Number}
 use Rattle.spec_text.specs.Named as N
 use Rattle.spec_text.specs.Grammar as G
 use Rattle.spec_text.specs.Grammar.{NotAhead, OptionalId, some_id, no_id, IsIndex, Indices, Bindings, Results, OptionalResult, TypeUses, Offset, Align, Plain, is_simple, is_indexed, are_unnamed}
 use Rattle.text_body.specs.declared.parts.Part.{Part}
 use Rattle.text_body.specs.declared.parts.Part.TheVariants as part
 use Rattle.text_body.specs.Reading.{Read, ◌>>=◌, id_at, offset_at, align_at, index_of_word, index_at, next_index_at, indices_at, key_of, is_key, behind_bracket, ahead, close_at, valued_at, binding_at, next_at, more_of, repeated, bindings_at, results_at, result_at, header_at, types_at, closed_index_at, use_at, const_at, last_of, with_front, table_at, indirect_at, argument_at, other_at, plain_at}
-use Rattle.text_body.proofs.Repeats.{Next, turn, one_turn, last_is, table_is}
+use Rattle.text_body.proofs.Repeats.{Next, turn, one_turn, table_is}
 
 -- ---- options
 
@@ -459,10 +459,10 @@ index_shrinks ws ms x e =
     let long : length ws ≡ length ms + 1 = ap length f.2 ∙ omega arith in
     omega arith
 
-indices_read : {ws us : List Word} {is : List N.Index} → Indices ws us is → indices_at ws ≡ Some (is, us)
+pub indices_read : {ws us : List Word} {is : List N.Index} → Indices ws us is → indices_at ws ≡ Some (is, us)
 indices_read {ws} h = repeated_read next_index_at index_shrinks (indices_repeat h) (suc (length ws)) (omega arith)
 
-indices_found : (ws us : List Word) (is : List N.Index) → indices_at ws ≡ Some (is, us) → Indices ws us is
+pub indices_found : (ws us : List Word) (is : List N.Index) → indices_at ws ≡ Some (is, us) → Indices ws us is
 indices_found ws us is e = repeat_indices (repeated_found next_index_at (suc (length ws)) ws us is e)
 
 back_of : {X : Type 0} (x : X) (xs : List X) (o : Option (List X × X)) (r : List X × X) → last_of xs ≡ o → ((r : List X × X) → last_of xs ≡ Some r → xs ≡ r.0 ++ r.1 ∷ []) → Some (with_front x o) ≡ Some r → (last_of xs ≡ None → xs ≡ []) → x ∷ xs ≡ r.0 ++ r.1 ∷ []

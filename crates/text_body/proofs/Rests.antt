@@ -1,19 +1,19 @@
 -- What the words and flat instructions that are left are, under what is open, and one turn.
-use Rattle.std.proofs.Common.{◌≡◌, ℕ, suc, ◌+◌, ◌<◌, ◌≤◌, Bool, true, false, cond, List, [], ◌∷◌, ◌++◌, length, Option, Some, None, refl, sym, ap, ◌∙◌, subst, arith, inl, inr}
+use Rattle.std.proofs.Common.{◌≡◌, ℕ, true, false, cond, List, [], ◌∷◌, Option, Some, None, refl, sym, ap, ◌∙◌, subst, inl, inr}
 use Rattle.std.specs.Prelude.{◌⊎◌, option_map}
-use Rattle.std.proofs.lemmas.Bool.{cond-true, cond-false}
+use Rattle.std.proofs.lemmas.Bool.{cond-true}
 use Rattle.wtypes.specs.declared.ValType.{ValType}
 use Rattle.spec_text.specs.declared.KeyWord.{KeyWord}
 use Rattle.spec_text.specs.declared.KeyWord.TheVariants as k
 use Rattle.spec_text.specs.declared.Operator.{Operator}
-use Rattle.spec_text.specs.Words.{Word, LeftBracket, RightBracket, Key, Op, OffsetIs, AlignIs, Id, Number, Str}
+use Rattle.spec_text.specs.Words.{Word, LeftBracket, RightBracket, Key, Op}
 use Rattle.spec_text.specs.Named as N
 use Rattle.spec_text.specs.Grammar as G
 use Rattle.spec_text.specs.Grammar.{OptionalId, OptionalResult, Plain, IsBlock, Instrs, OneInstr, Foldeds, Branches, NotAhead}
 use Rattle.text_body.specs.declared.parts.Part.TheVariants as part
 use Rattle.text_body.specs.Reading.{Read, id_at, header_at, plain_at, ahead, close_at}
-use Rattle.text_body.specs.Turns.{Form, Folded, Flatly, FlatIf, Then, Otherwise, Condition, Open, Operands, Inside, Top, Nothing, OfOperands, OfForm, Move, Emits, Opens, Begins, Completes, Ends, Closes, Turns, top_of, opener_of_key, folded_move, flat_form, folded_block_at, flat_block_at, folded_at, then_at, left_at, else_in, closes_in, right_at, end_at, else_at, takes_all, key_at, op_at, move_at}
-use Rattle.text_body.proofs.Pieces.{none_some, some_none, some_same, map_some, chosen, id_is_read, read_is_id, ahead_is, ahead_itself, close_is, header_is_read, header_found, plain_is_read, read_is_plain}
+use Rattle.text_body.specs.Turns.{Form, Folded, Flatly, FlatIf, Then, Otherwise, Condition, Open, Operands, Inside, Move, Emits, Opens, Begins, Completes, Ends, Closes, Turns, top_of, opener_of_key, folded_move, flat_form, folded_block_at, flat_block_at, folded_at, then_at, left_at, else_in, closes_in, right_at, end_at, else_at, takes_all, key_at, op_at, move_at}
+use Rattle.text_body.proofs.Pieces.{none_some, some_same, map_some, chosen, id_is_read, read_is_id, ahead_is, close_is, header_is_read, header_found, plain_is_read, read_is_plain}
 
 abbrev pub Rule : Type 1
 Rule = List Word → List N.Flat → Type 0

@@ -1,11 +1,11 @@
 -- The parts of instructions, as they are read from the front of words.
-use Rattle.std.specs.Prelude.{ℕ, zero, suc, Bool, true, false, List, [], ◌∷◌, ◌++◌, length, Option, Some, None, option_map, option_and_then, cond}
+use Rattle.std.specs.Prelude.{ℕ, zero, suc, Bool, true, false, List, [], ◌∷◌, length, Option, Some, None, option_map, option_and_then, cond}
 use Rattle.wtypes.specs.declared.ValType.{ValType}
 use Rattle.spec_text.specs.declared.KeyWord.{KeyWord}
 use Rattle.spec_text.specs.declared.KeyWord.TheVariants as k
 use Rattle.spec_text.specs.declared.Operator.{Operator}
 use Rattle.spec_text.specs.declared.Operator.TheVariants as o
-use Rattle.spec_text.specs.Words.{Word, LeftBracket, RightBracket, Key, Op, OffsetIs, AlignIs, Id, Number, Str}
+use Rattle.spec_text.specs.Words.{Word, LeftBracket, RightBracket, Key, OffsetIs, AlignIs, Id, Number}
 use Rattle.spec_text.specs.Named as N
 use Rattle.spec_text.specs.Grammar.{is_simple, is_indexed, are_unnamed}
 use Rattle.text_body.specs.declared.parts.Part.{Part}

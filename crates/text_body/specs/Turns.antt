@@ -4,7 +4,7 @@ use Rattle.wtypes.specs.declared.ValType.{ValType}
 use Rattle.spec_text.specs.declared.KeyWord.{KeyWord}
 use Rattle.spec_text.specs.declared.KeyWord.TheVariants as k
 use Rattle.spec_text.specs.declared.Operator.{Operator}
-use Rattle.spec_text.specs.Words.{Word, LeftBracket, RightBracket, Key, Op, OffsetIs, AlignIs, Id, Number, Str}
+use Rattle.spec_text.specs.Words.{Word, LeftBracket, RightBracket, Key, Op}
 use Rattle.spec_text.specs.Named as N
 use Rattle.text_body.specs.declared.parts.Part.TheVariants as part
 use Rattle.text_body.specs.declared.turns.Form as code_form
@@ -16,7 +16,7 @@ use Rattle.text_body.specs.declared.turns.Top.TheVariants as top
 use Rattle.text_body.specs.declared.turns.Turn as code_turn
 use Rattle.text_body.specs.declared.turns.Turn.TheVariants as turn
 use Rattle.text_body.specs.Views.{text_of, flat_of}
-use Rattle.text_body.specs.Reading.{Read, ◌>>=◌, id_at, header_at, plain_at, ahead, close_at}
+use Rattle.text_body.specs.Reading.{Read, id_at, header_at, plain_at, ahead, close_at}
 
 -- a folded block or loop; a flat one, or a flat conditional behind its else; a flat conditional before its else; a folded
 -- conditional before its then, behind it, and behind its else

@@ -4,6 +4,7 @@
 
 mod flat;
 mod parts;
+pub mod shared;
 mod turns;
 mod whole;
 

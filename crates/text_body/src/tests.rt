@@ -1,4 +1,5 @@
-use super::{Flat, Index, Opener, body};
+use super::shared::Part;
+use super::{Flat, Index, Opener, body, shared};
 use lexer::tokens;
 use spec_text::Operator;
 use std::test::Fail;
@@ -129,5 +130,30 @@ fn broken_bodies(rt: HostRuntime) -> Result<(), Fail> {
     assert!(rt; refuses(&rt, "(then))", 3)?);
     assert!(rt; refuses(&rt, "end)", 2)?);
     assert!(rt; refuses(&rt, "i32.load align=4 offset=4)", 2)?);
+    Ok(())
+}
+
+#[test]
+fn parts_of_fields(rt: HostRuntime) -> Result<(), Fail> {
+    let text = "$f (type 1) (param $x i32) (param i64) (result i32) (local $y i64)) 0 $a";
+    let tokens = tokens(rt.alloc(), text)?;
+    let words = words(rt.alloc(), text, &tokens.items)?;
+    let mut rest = words.as_slice();
+    assert!(rt; matches!(shared::optional_id(&mut rest), Some(piece) if piece.at == 0));
+    assert!(rt; shared::optional_id(&mut rest).is_none());
+    let written = shared::type_use(&rt.alloc(), &mut rest)?;
+    assert_eq!(rt; written.params.len(), 2);
+    assert_eq!(rt; written.results.as_slice(), [ValType::I32].as_slice());
+    let none = shared::results(&rt.alloc(), &mut rest)?;
+    assert_eq!(rt; none.len(), 0);
+    let locals = shared::bindings(&rt.alloc(), Part::Local, &mut rest)?;
+    assert_eq!(rt; locals.len(), 1);
+    assert!(rt; !shared::enters(Part::Export, &mut rest));
+    assert!(rt; shared::index(&mut rest).is_err());
+    shared::close(&mut rest)?;
+    assert!(rt; shared::close(&mut rest).is_err());
+    let found = shared::indices(&rt.alloc(), &mut rest)?;
+    assert_eq!(rt; found.len(), 2);
+    assert_eq!(rt; rest.len(), 0);
     Ok(())
 }

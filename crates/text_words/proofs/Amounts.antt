@@ -1,8 +1,8 @@
 -- The values of integers, as they are read and in the grammar.
 use Rattle.std.proofs.Common.{◌≡◌, ◌≢◌, ℕ, ◌+◌, ◌*◌, ◌-◌, ◌%◌, ◌^◌, ◌<◌, ◌≤◌, Bool, true, false, ◌&&◌, cond, List, [], ◌∷◌, Option, Some, None, refl, sym, ap, ◌∙◌, subst, arith, inl, inr}
-use Rattle.std.specs.Prelude.{◌==◌, ◌⊎◌, nat_le, option_map, IfSome, IfNone}
+use Rattle.std.specs.Prelude.{◌==◌, nat_le, option_map, IfSome, IfNone}
 use Rattle.std.proofs.lemmas.Bool.{cond-true, cond-false, eqb-true, ne_eqb, leb-true, le-leb, lt-leb, and_parts, and_right, cases_lt}
-use Rattle.spec_text.specs.Lexical.{is_digit, is_hex, HexDigit}
+use Rattle.spec_text.specs.Lexical.{is_digit, is_hex}
 use Rattle.spec_text.specs.Numbers.{Decimal, decimal_end, decimal_digit, decimal_apart, Hexadecimal, hexadecimal_end, hexadecimal_digit, hexadecimal_apart, Magnitude, decimal, hexadecimal, IsU32, IsBits, no_sign, plus, minus}
 use Rattle.lexer.specs.Reading.{hex_value, digit_test}
 use Rattle.text_words.specs.Values.{base, value_at, magnitude_at, capped, bits_at}

@@ -1,13 +1,13 @@
 -- A string between its quotes, read byte by byte and in the grammar.
-use Rattle.std.proofs.Common.{◌≡◌, ℕ, ◌+◌, ◌*◌, ◌<◌, ◌≤◌, min, Bool, true, false, ◌&&◌, ◌||◌, cond, List, [], ◌∷◌, ◌++◌, refl, sym, ap, ◌∙◌, arith, subst, inl, inr, append_assoc}
-use Rattle.std.specs.Prelude.{◌==◌, ◌⊎◌, ◌%◌, nat_le, nat_lt, encode_utf8}
+use Rattle.std.proofs.Common.{◌≡◌, ℕ, ◌+◌, ◌*◌, ◌<◌, ◌≤◌, min, Bool, true, false, ◌&&◌, ◌||◌, cond, List, [], ◌∷◌, ◌++◌, refl, sym, ap, ◌∙◌, arith, subst, inl, inr}
+use Rattle.std.specs.Prelude.{◌==◌, ◌%◌, nat_le, nat_lt, encode_utf8}
 use Rattle.std.specs.Char.{InScalarRange}
 use Rattle.std.proofs.lemmas.Bool.{cond-false, cond-true, leb-true, lt-leb, and_parts, and_from, le-leb, lt-ltb, or_parts, or_cases, or_left, or_right, agree_below_at, ne_eqb}
 use Rattle.spec_text.specs.Lexical.{is_digit, is_hex, is_plain, HexDigit, digit, lower, upper, ShortEscape, tab, newline, return, double_quote, quote, backslash, HexNumber, whole, more, StringBody, nothing, plain, short, byte, scalar}
 use Rattle.lexer.specs.Reading.{hex_value, is_short, is_scalar}
 use Rattle.text_words.specs.declared.strings.InString.{InString}
-use Rattle.text_words.specs.declared.strings.InString.TheVariants.{Plain, Slash, Brace, Second, Digits}
-use Rattle.text_words.specs.Strings.{nibble, scalar_bytes, next_state, bytes_at, decode, decoded}
+use Rattle.text_words.specs.declared.strings.InString.TheVariants.{Plain, Slash, Second, Digits}
+use Rattle.text_words.specs.Strings.{nibble, next_state, bytes_at, decode, decoded}
 
 false_true : false ≡ true → ⊥
 false_true e = cc

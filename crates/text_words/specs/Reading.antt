@@ -1,5 +1,5 @@
 -- The word of a token, as it is read.
-use Rattle.std.specs.Prelude.{◌≡◌, ℕ, ◌-◌, ◌&&◌, nat_le, nat_lt, List, [], ◌∷◌, length, take, drop, Option, Some, None, cond, codes, slice_range}
+use Rattle.std.specs.Prelude.{◌≡◌, ℕ, ◌-◌, ◌&&◌, nat_le, nat_lt, List, length, take, drop, Option, Some, None, cond, codes, slice_range}
 use Rattle.std.specs.Str.{bytes_eq}
 use Rattle.spec_text.specs.Lexical.{Token}
 use Rattle.spec_text.specs.Words.{Word, LeftBracket, RightBracket, Key, Op, OffsetIs, AlignIs, Id, Number, Str, beside, AreWords}

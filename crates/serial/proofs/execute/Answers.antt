@@ -1,16 +1,24 @@
 use Rattle.std.proofs.Common.{◌∙◌}
+use Rattle.std.proofs.lemmas.Result.{IfOk-weaker, on_err_weaker}
+use Rattle.serial.proofs.Ending.{may_end, ended, taken_back, executed_for}
 use Rattle.interp.specs.Lent.{contracts_view}
-use Rattle.serial.proofs.Ending.{may_end, ended, executed}
 use Rattle.serial.proofs.execute.Goals as goal
 
-pub end_all-requires : goal.end_all-requires
-end_all-requires g c = may_end c.args.cells.now c.play.new.cells c.in_ok-finished.finished.trace c.in_ok-finished.inverses.items c.in_ok-finished.ensures.done c.requires
+pub conclude-requires : goal.conclude-requires
+conclude-requires g c = may_end c.args.cells.now c.play.new.cells c.in_ok-finished.finished.trace c.in_ok-finished.inverses.items c.in_ok-finished.ensures.ok.done c.requires
 
 pub returns-clause-executed : goal.returns-clause-executed
 returns-clause-executed g c =
-    executed (contracts_view c.args.contracts.now) c.args.call.now c.args.cells.now c.play.new.cells c.in_ok-finished.finished c.in_ok-finished.inverses.items c.in_ok-finished.ensures c.used.ensures.run c.requires c.hold.ensures.cells
-    c.outcome.result c.outcome.ensures c.used.result c.used.ensures.used c.returned.result c.returned.ensures c.end_all.new.cells.cells c.end_all.ensures.cells
-    c.trace.result.now c.trace.ensures c.in_ok-touched.touched c.in_ok-touched.ensures
+    IfOk-weaker c.conclude.result _ _
+    (λ e h. executed_for (contracts_view c.args.contracts.now) c.args.call.now c.args.cells.now c.play.new.cells c.in_ok-finished.finished c.in_ok-finished.inverses.items c.in_ok-finished.ensures.ok c.conclude.new.cells.cells e.receipt.outcome e.receipt.used e.touched
+    (h c.args.cells.now c.in_ok-finished.ensures.ok.done c.requires c.hold.ensures.cells))
+    c.conclude.ensures.executed
 
 pub returns-clause-settled : goal.returns-clause-settled
-returns-clause-settled g c = c.end_all.ensures.unsettled ∙ ended c.args.cells.now c.play.new.cells c.in_ok-finished.finished.trace c.in_ok-finished.inverses.items c.in_ok-finished.ensures.done c.requires
+returns-clause-settled g c = c.conclude.ensures.unsettled ∙ ended c.args.cells.now c.play.new.cells c.in_ok-finished.finished.trace c.in_ok-finished.inverses.items c.in_ok-finished.ensures.ok.done c.requires
+
+pub returns-clause-err : goal.returns-clause-err
+returns-clause-err g c =
+    on_err_weaker c.conclude.result
+    (λ back. taken_back c.args.cells.now c.play.new.cells c.in_ok-finished.finished.trace c.in_ok-finished.inverses.items c.in_ok-finished.ensures.ok.done c.requires c.hold.ensures.cells c.conclude.new.cells back c.conclude.ensures.unsettled)
+    c.conclude.ensures.err

@@ -6,7 +6,7 @@ use Rattle.serial.proofs.playing.play.Goals as goal
 pub run-requires-clause-free : goal.run-requires-clause-free
 run-requires-clause-free g c = free_first c.in-Ok.machine.status c.in-Ok.ensures.start.goes_on
 
-pub returns-in-Ok : goal.returns-in-Ok
-returns-in-Ok g c =
+pub returns-in-Ok-clause-ok : goal.returns-in-Ok-clause-ok
+returns-in-Ok-clause-ok g c =
     subst (λ ds. IfOk c.run.result (λ r. IsPlayedOver ds c.args.call.now c.args.cells.now r.0 c.run.new.cells r.1.items)) c.in-Ok.ensures.start.contracts
-    (subst (λ x. IfOk c.run.result (λ r. IsPlayedOver c.in-Ok.machine.contracts x c.args.cells.now r.0 c.run.new.cells r.1.items)) c.in-Ok.ensures.start.call_is c.run.ensures)
+    (subst (λ x. IfOk c.run.result (λ r. IsPlayedOver c.in-Ok.machine.contracts x c.args.cells.now r.0 c.run.new.cells r.1.items)) c.in-Ok.ensures.start.call_is c.run.ensures.ok)

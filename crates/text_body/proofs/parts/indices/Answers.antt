@@ -1,12 +1,10 @@
-use Rattle.std.proofs.Common.{◌≡◌, ◌<◌, List, Some, length, map, sym, ap, ◌∙◌, subst, arith}
-use Rattle.std.specs.Prelude.{IfSome, option_map}
+use Rattle.std.proofs.Common.{◌<◌, List, length, map, sym, ap, ◌∙◌, subst, arith}
 use Rattle.std.proofs.lemmas.List.{map_push, length-map}
-use Rattle.std.proofs.lemmas.Result.{err_from_is_err_and}
 use Rattle.spec_text.specs.Named as N
 use Rattle.text_words.specs.Views.{view, views}
 use Rattle.text_body.specs.Views.{index_of}
 use Rattle.text_body.specs.Reading.{next_index_at, indices_at}
-use Rattle.text_body.proofs.Repeats.{Halfway, hand_on, halfway_end, halfway_fault, halfway_more}
+use Rattle.text_body.proofs.Repeats.{Halfway, halfway_end, halfway_more}
 use Rattle.text_body.proofs.parts.indices.Goals as goal
 
 pub loop-next-preserved : goal.loop-next-preserved

@@ -1,4 +1,4 @@
-use Rattle.std.proofs.Common.{◌≡◌, ◌+◌, ◌*◌, ◌^◌, ◌≤◌, ◌<◌, ◌∷◌, ℕ, List, suc, drop, get_or, sym, ap, ◌∙◌, arith, drop-cons}
+use Rattle.std.proofs.Common.{◌+◌, ◌*◌, ◌^◌, ◌≤◌, ℕ, suc, drop, get_or, sym, ap, ◌∙◌, arith, drop-cons}
 use Rattle.lexer.specs.Reading.{hex_value}
 use Rattle.text_words.specs.Values.{base}
 use Rattle.text_words.proofs.Amounts.{no_room}

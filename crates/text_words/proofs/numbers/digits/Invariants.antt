@@ -1,5 +1,5 @@
 use Rattle.std.proofs.Common.{◌≡◌, drop}
-use Rattle.text_words.specs.Values.{base, value_at}
+use Rattle.text_words.specs.Values.{value_at}
 use Rattle.text_words.proofs.numbers.digits.Given as goal
 
 abbrev pub invariant-loop-b : goal.invariant-loop-b

@@ -1,6 +1,5 @@
-use Rattle.std.proofs.Common.{◌≡◌, ◌<◌, ◌+◌, ◌≤◌, ◌∷◌, [], ◌++◌, List, ℕ, suc, Some, None, length, drop, get_or, sym, ap, ◌∙◌, subst, arith, rules, drop-cons}
+use Rattle.std.proofs.Common.{◌≡◌, ◌<◌, ◌+◌, ◌∷◌, [], List, ℕ, suc, length, drop, get_or, sym, ap, ◌∙◌, subst, arith, drop-cons}
 use Rattle.std.proofs.lemmas.List.{map_push, drop_all}
-use Rattle.spec_text.specs.Lexical.{Lexes}
 use Rattle.spec_text.specs.Words.{AreWords}
 use Rattle.spec_text.specs.Words as W
 use Rattle.spec_text.specs.declared.TokenKind.TheVariants as kind

@@ -3,7 +3,7 @@ use Rattle.std.proofs.lemmas.List.{get_or_read}
 use Rattle.std.specs.List.{Contains}
 use Rattle.schedule.specs.Graph.{successors}
 use Rattle.schedule.specs.Board.{IsWaiting, IsFree, count_of}
-use Rattle.schedule.proofs.Boards.{among_these, in_range, is_waiting, not_waiting, waiting_within, enough_there, freed_exact, freed_rises, board_after}
+use Rattle.schedule.proofs.Boards.{among_these, in_range, is_waiting, never_waits, waiting_within, enough_there, freed_exact, freed_rises, board_after}
 use Rattle.schedule.proofs.board.Board.end.Goals as goal
 
 pub returns-then-at-len-clause-not_ready : goal.returns-then-at-len-clause-not_ready
@@ -27,11 +27,9 @@ returns-then-index-ne0-clause-not_ready c =
 pub returns-then-index-clause-not_ready : goal.returns-then-index-clause-not_ready
 returns-then-index-clause-not_ready c =
     let s = c.self.inside in
-    let lt : c.args.position < length s.edges.items = omega (arith, c.if-at-len.false, c.len.ensures) in
-    let size = c.self.invariant.as_many_counts in
-    let read : c.index.result.now ≡ get_or s.waiting.items c.args.position 0 = get_or_read s.waiting.items c.args.position _ (omega (arith, lt, size)) c.index.ensures 0 in (
+    let lt : c.args.position < length s.edges.items = omega (arith, c.if-at-len.false, c.len.ensures) in (
       λ e. absurd (cc e),
-      λ w. absurd (not_waiting s.edges.items s.waiting.items s.ended.items s.ready.items c.self.invariant c.args.position (sym read ∙ c.if-index-ne0.false) (subst (λ v. IsWaiting v c.args.position) (sym c.self.view_is) w)),
+      λ w. absurd (never_waits s.edges.items s.waiting.items s.ended.items s.ready.items c.self.invariant c.args.self.now c.args.position c.index.result.now c.self.view_is lt c.index.ensures c.if-index-ne0.false w),
     )
 
 pub freed-requires : goal.freed-requires
@@ -46,11 +44,9 @@ freed-requires c = λ j k.
 pub returns-in_default-clause-not_ready : goal.returns-in_default-clause-not_ready
 returns-in_default-clause-not_ready c =
     let s = c.self.inside in
-    let lt : c.args.position < length s.edges.items = omega (arith, c.if-at-len.false, c.len.ensures) in
-    let size = c.self.invariant.as_many_counts in
-    let read : c.index.result.now ≡ get_or s.waiting.items c.args.position 0 = get_or_read s.waiting.items c.args.position _ (omega (arith, lt, size)) c.index.ensures 0 in (
+    let lt : c.args.position < length s.edges.items = omega (arith, c.if-at-len.false, c.len.ensures) in (
       λ e. absurd (cc e),
-      λ w. absurd (not_waiting s.edges.items s.waiting.items s.ended.items s.ready.items c.self.invariant c.args.position (sym read ∙ c.if-index-ne0.false) (subst (λ v. IsWaiting v c.args.position) (sym c.self.view_is) w)),
+      λ w. absurd (never_waits s.edges.items s.waiting.items s.ended.items s.ready.items c.self.invariant c.args.self.now c.args.position c.index.result.now c.self.view_is lt c.index.ensures c.if-index-ne0.false w),
     )
 
 pub lower-requires-clause-within : goal.lower-requires-clause-within
@@ -106,9 +102,7 @@ returns-clause-free c =
 pub returns-clause-not_ready : goal.returns-clause-not_ready
 returns-clause-not_ready c =
     let s = c.self.inside in
-    let lt : c.args.position < length s.edges.items = omega (arith, c.if-at-len.false, c.len.ensures) in
-    let size = c.self.invariant.as_many_counts in
-    let read : c.index.result.now ≡ get_or s.waiting.items c.args.position 0 = get_or_read s.waiting.items c.args.position _ (omega (arith, lt, size)) c.index.ensures 0 in (
+    let lt : c.args.position < length s.edges.items = omega (arith, c.if-at-len.false, c.len.ensures) in (
       λ e. absurd (cc e),
-      λ w. absurd (not_waiting s.edges.items s.waiting.items s.ended.items s.ready.items c.self.invariant c.args.position (sym read ∙ c.if-index-ne0.false) (subst (λ v. IsWaiting v c.args.position) (sym c.self.view_is) w)),
+      λ w. absurd (never_waits s.edges.items s.waiting.items s.ended.items s.ready.items c.self.invariant c.args.self.now c.args.position c.index.result.now c.self.view_is lt c.index.ensures c.if-index-ne0.false w),
     )

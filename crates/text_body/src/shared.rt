@@ -1,0 +1,104 @@
+//! Parts that fields share with bodies, read from the front of the words that are left. Where one refuses, its number
+//! is how many words were left, for people to read.
+ghost use Rattle.std.specs.Prelude.{◌≡◌, ◌≤◌, ◌<◌, ◌∷◌, length, map, IfOk, IfErr};
+ghost use Rattle.spec_text.specs.Words.{RightBracket};
+ghost use Rattle.spec_text.specs.Grammar.{OptionalId, Indices, Bindings, Results, TypeUses};
+ghost use Rattle.text_words.specs.Views.{views};
+ghost use Rattle.text_body.specs.Views.{text_of, index_of, binding_of, use_of};
+ghost use Rattle.text_body.specs.Outcome.{Unless};
+ghost use Rattle.text_body.specs.Reading.{key_of};
+ghost use Rattle.text_body.specs.Shared.{OneIndex, NoneOf, Entered, NotClosed, SharedAreOne};
+
+use crate::flat::{Binding, Index, TypeUse};
+use crate::parts;
+pub use crate::parts::Part;
+use std::alloc::Allocator;
+use text_words::{Piece, TextRefusal, Word};
+use wtypes::ValType;
+
+/// A name, if there is one.
+pub fn optional_id<'w, 'a>(rest: &mut &'w [Word<'a>]) -> Option<Piece<'a>>
+    ensures grammar { OptionalId (views rest.old.now) (views rest.new.now) (text_of result) }
+    ensures shorter { length rest.new.now ≤ length rest.old.now }
+{
+    parts::optional_id(rest)
+}
+
+/// An index.
+pub fn index<'w, 'a>(rest: &mut &'w [Word<'a>]) -> Result<Index<'a>, TextRefusal>
+    ensures grammar { IfOk result (λ i. OneIndex (views rest.old.now) (views rest.new.now) (index_of i)) }
+    ensures refused { IfErr result (Unless (NoneOf OneIndex (views rest.old.now))) }
+    ensures shorter { IfOk result (λ _. length rest.new.now < length rest.old.now) }
+{
+    parts::index(rest)
+}
+
+/// As many indices as there are.
+pub fn indices<'w, 'a, A: Allocator + Clone>(
+    alloc: &A,
+    rest: &mut &'w [Word<'a>],
+) -> Result<Vec<Index<'a>, A>, TextRefusal>
+    ensures grammar { IfOk result (λ found. Indices (views rest.old.now) (views rest.new.now) (map index_of found.items)) }
+    ensures refused { IfErr result (Unless (NoneOf Indices (views rest.old.now))) }
+    ensures shorter { IfOk result (λ _. length rest.new.now ≤ length rest.old.now) }
+{
+    parts::indices(alloc, rest)
+}
+
+/// Parameters or locals, as many as there are.
+pub fn bindings<'w, 'a, A: Allocator + Clone>(
+    alloc: &A,
+    part: Part,
+    rest: &mut &'w [Word<'a>],
+) -> Result<Vec<Binding<'a>, A>, TextRefusal>
+    ensures grammar { IfOk result (λ found. Bindings (key_of part) (views rest.old.now) (views rest.new.now) (map binding_of found.items)) }
+    ensures refused { IfErr result (Unless (NoneOf (Bindings (key_of part)) (views rest.old.now))) }
+    ensures shorter { IfOk result (λ _. length rest.new.now ≤ length rest.old.now) }
+{
+    parts::bindings(alloc, part, rest)
+}
+
+/// Results, as many as there are.
+pub fn results<'w, 'a, A: Allocator + Clone>(
+    alloc: &A,
+    rest: &mut &'w [Word<'a>],
+) -> Result<Vec<ValType, A>, TextRefusal>
+    ensures grammar { IfOk result (λ found. Results (views rest.old.now) (views rest.new.now) found.items) }
+    ensures refused { IfErr result (Unless (NoneOf Results (views rest.old.now))) }
+    ensures shorter { IfOk result (λ _. length rest.new.now ≤ length rest.old.now) }
+{
+    parts::results(alloc, rest)
+}
+
+/// What is written of a function's type.
+pub fn type_use<'w, 'a, A: Allocator + Clone>(
+    alloc: &A,
+    rest: &mut &'w [Word<'a>],
+) -> Result<TypeUse<'a, A>, TextRefusal>
+    ensures grammar { IfOk result (λ found. TypeUses (views rest.old.now) (views rest.new.now) (use_of found)) }
+    ensures refused { IfErr result (Unless (NoneOf TypeUses (views rest.old.now))) }
+    ensures shorter { IfOk result (λ _. length rest.new.now ≤ length rest.old.now) }
+{
+    parts::type_use(alloc, rest)
+}
+
+/// Whether this part is there; then its bracket and its word are passed.
+pub fn enters<'w, 'a>(part: Part, rest: &mut &'w [Word<'a>]) -> bool
+    ensures { Entered (key_of part) (views rest.old.now) (views rest.new.now) result }
+{
+    parts::enters(part, rest)
+}
+
+/// `)`
+pub fn close<'w, 'a>(rest: &mut &'w [Word<'a>]) -> Result<(), TextRefusal>
+    ensures grammar { IfOk result (λ _. views rest.old.now ≡ RightBracket ∷ views rest.new.now) }
+    ensures refused { IfErr result (Unless (NotClosed (views rest.old.now))) }
+    ensures shorter { IfOk result (λ _. length rest.new.now < length rest.old.now) }
+{
+    parts::close(rest)
+}
+
+/// A law: no words begin with two of one of these parts.
+pub fn shared_parts_are_one()
+    ensures { SharedAreOne }
+{}
