@@ -1,4 +1,4 @@
-use super::{LexRefusal, Token, Tokens, tokens};
+use super::{LexRefusal, Token, Tokens, is_unsigned_integer, tokens};
 use LexRefusal::{BadToken, Unclosed};
 use spec_text::TokenKind;
 use std::alloc::Global;
@@ -210,5 +210,18 @@ fn tokens_of_a_contract(rt: HostRuntime) -> Result<(), Fail> {
     for ((kind, from, upto), token) in expected.into_iter().zip(found.items.iter()) {
         assert_eq!(rt; *token, Token { kind, from, upto });
     }
+    Ok(())
+}
+
+#[test]
+fn integers_without_a_sign(rt: HostRuntime) -> Result<(), Fail> {
+    assert!(rt; is_unsigned_integer(b"1_000"));
+    assert!(rt; is_unsigned_integer(b"0xdead_BEEF"));
+    assert!(rt; !is_unsigned_integer(b""));
+    assert!(rt; !is_unsigned_integer(b"1_"));
+    assert!(rt; !is_unsigned_integer(b"_1"));
+    assert!(rt; !is_unsigned_integer(b"1__0"));
+    assert!(rt; !is_unsigned_integer(b"0x"));
+    assert!(rt; !is_unsigned_integer(b"+1"));
     Ok(())
 }

@@ -83,6 +83,21 @@ fn a_call_with_too_high_a_limit_is_left_out(rt: HostRuntime) -> Result<(), Fail>
 }
 
 #[test]
+fn the_calls_left_out_rise(rt: HostRuntime) -> Result<(), Fail> {
+    let alloc = rt.alloc();
+    let calls = [
+        running(alloc, 7, 60)?,
+        running(alloc, 7, 50)?,
+        running(alloc, 7, 40)?,
+    ];
+    let cells = Cells::new(alloc);
+    let published = Publishing::open(alloc, &NONE, &calls, &cells, 45)?.finish()?;
+    assert_eq!(rt; published.order.as_slice(), [2].as_slice());
+    assert_eq!(rt; published.left.as_slice(), [0, 1].as_slice());
+    Ok(())
+}
+
+#[test]
 fn a_sweep_goes_on_behind_what_was_taken(rt: HostRuntime) -> Result<(), Fail> {
     let alloc = rt.alloc();
     let calls = [

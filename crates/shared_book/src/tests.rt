@@ -208,14 +208,14 @@ struct Done {
     outcome: Outcome,
 }
 
-/// What a call does: a cell of its own and the common counter, and of every fourth call also the hot cell.
+/// What a call does: a cell of its own and the common counter, and of every third call also the hot cell.
 fn ops(call: u32) -> [Op; 4] {
     let number = u64::from(call);
     let own = Place {
         contract: 0,
         key: number,
     };
-    let (read, put) = if call % 4 == 0 {
+    let (read, put) = if call % 3 == 0 {
         (HOT, HOT)
     } else {
         (own, own)
@@ -237,7 +237,7 @@ fn outcome(call: u32) -> Outcome {
     }
 }
 
-/// The replies that a live attempt gets, or None where one is refused.
+/// The replies that a live attempt gets, or None where one is refused. Other threads may come in between two operations.
 fn trace_of<R: Wait>(
     rt: &R,
     alloc: Global,
@@ -249,6 +249,7 @@ fn trace_of<R: Wait>(
     for op in ops(call) {
         let reply = book.op(rt, ticket, op).ok()?;
         trace.push(Step { op, reply }).ok()?;
+        thread::yield_now();
     }
     Some(trace)
 }
