@@ -1,13 +1,20 @@
-// Runs of the exports of one module. What they give is what `wasm-interp --run-all-exports` of wabt 1.0.32 prints.
-use crate::programs::{EXPORTS, GROWTH};
+// Runs of exports. The values and the traps are those that `wasm-interp --run-all-exports` of wabt 1.0.32 prints. It knows no
+// fuel and no host calls, and its stack is deeper than 256 frames.
+ghost use Rattle.interp.specs.Progress.{IsFree};
+ghost use Rattle.spec_execution.specs.Run.{IsReply};
+
+use crate::programs::{COUNTDOWN, EXPORTS, FIRST, GROWTH, HOST, ROWS};
 use call::Call;
+use interp::finished::Finished;
 use interp::machine::Machine;
 use interp::stand_in::Runnable;
+use interp::start::StartRefusal;
 use interp::turns::Turn;
 use link::deploy::deploy;
 use loader::load;
-use spec_ledger::Outcome;
+use spec_ledger::{Op, Outcome, Place, Reply, Step};
 use std::alloc::Global;
+use std::process::Abort;
 use std::test::Fail;
 use typing::check::check;
 use wtypes::{TrapCode, Value};
@@ -19,33 +26,85 @@ fn contract(alloc: Global, bytes: &[u8]) -> Result<Runnable<Global>, Fail> {
     Ok(Runnable::accept(deployed).ok().ok_or("forms that are run")?)
 }
 
-// How the export's run ends, and the fuel that it used.
-fn run(
+fn call(alloc: Global, number: u32, name: &str, args: &[Value], fuel: u64) -> Result<Call, Fail> {
+    let call = Call::new(number, name.to_string(alloc)?, args.to_vec(alloc)?, fuel);
+    Ok(call.ok_or("within the limits")?)
+}
+
+// What the host replies, whatever the key.
+fn reply_to(op: Op) -> Reply
+    ensures { IsReply op result }
+{
+    match op {
+        Op::Get(_) => Reply::I64(3),
+        Op::Has(_) => Reply::I32(1),
+        Op::Put(_, _) => Reply::Nothing,
+        Op::Del(_) => Reply::I32(0),
+        Op::Add(_, _) => Reply::Nothing,
+        Op::Total(_) => Reply::I64(12),
+    }
+}
+
+// Makes a turn, with the reply of the host where it was asked.
+fn make_turn<'a>(machine: &mut Machine<'a, Global>) -> Turn
+    requires { IsFree machine.old.status }
+    ensures { IsFree machine.new.status }
+{
+    let turn = machine.next();
+    match turn {
+        Turn::Stepped => {}
+        Turn::Host(op) => machine.answer(reply_to(op)),
+        Turn::NoMemory => {}
+        Turn::Done(_) => {}
+    }
+    turn
+}
+
+fn run<'a>(
+    alloc: Global,
+    contracts: &'a [Runnable<Global>],
+    call: &'a Call,
+) -> Result<Finished<'a, Global>, Fail> {
+    let mut machine = Machine::start(alloc, contracts, call)
+        .ok()
+        .ok_or("a machine")?;
+    for _ in 0..1_000_000 {
+        if let Turn::Done(_) = make_turn(&mut machine) {
+            break;
+        }
+    }
+    Ok(machine.finish().ok().ok_or("its end")?)
+}
+
+// How the run of an export without arguments ends, and the fuel that it used.
+fn ending(
     alloc: Global,
     contracts: &[Runnable<Global>],
     name: &str,
     fuel: u64,
 ) -> Result<(Outcome, u64), Fail> {
-    let call = Call::new(0, name.to_string(alloc)?, Vec::new(alloc), fuel).ok_or("a call")?;
-    let mut machine = Machine::start(alloc, contracts, &call)
-        .ok()
-        .ok_or("a machine")?;
-    for _ in 0..1_000_000 {
-        match machine.next() {
-            Turn::Stepped => {}
-            Turn::Done(_) => break,
-            _ => return Err("no host, and enough memory".into()),
-        }
-    }
-    let finished = machine.finish().ok().ok_or("its end")?;
+    let call = call(alloc, 0, name, &[], fuel)?;
+    let finished = run(alloc, contracts, &call)?;
     Ok((finished.outcome(), finished.used()))
+}
+
+fn assert_values(
+    rt: &impl Abort,
+    alloc: Global,
+    bytes: &[u8],
+    rows: &[(&str, Value)],
+) -> Result<(), Fail> {
+    let contracts = [contract(alloc, bytes)?];
+    for (name, value) in rows {
+        let (outcome, _) = ending(alloc, &contracts, name, 10_000)?;
+        assert_eq!(rt; outcome, Outcome::Returned(Some(*value)), "of {name}");
+    }
+    Ok(())
 }
 
 #[test]
 fn values(rt: HostRuntime) -> Result<(), Fail> {
-    let alloc = rt.alloc();
-    let contracts = [contract(alloc, &EXPORTS)?];
-    for (name, value) in [
+    let rows = [
         ("fac10", Value::I64(3628800)),
         ("sum100", Value::I32(5050)),
         ("pick0", Value::I32(10)),
@@ -66,25 +125,67 @@ fn values(rt: HostRuntime) -> Result<(), Fail> {
         ("wrap", Value::I32(5)),
         ("clz", Value::I64(56)),
         ("lt", Value::I32(1)),
-    ] {
-        let (outcome, _) = run(alloc, &contracts, name, 10_000)?;
-        assert_eq!(rt; outcome, Outcome::Returned(Some(value)), "of {name}");
-    }
-    Ok(())
+    ];
+    assert_values(&rt, rt.alloc(), &EXPORTS, &rows)
+}
+
+#[test]
+fn numbers_and_stores(rt: HostRuntime) -> Result<(), Fail> {
+    let rows = [
+        ("rotl", Value::I32(3)),
+        ("shr_s", Value::I64(-4)),
+        ("clz", Value::I32(32)),
+        ("ctz", Value::I32(32)),
+        ("popcnt", Value::I64(64)),
+        ("extend", Value::I64(4294967295)),
+        ("wrap", Value::I32(7)),
+        ("rem_s", Value::I32(0)),
+        ("low", Value::I32(84281096)),
+        ("high", Value::I32(16909060)),
+        ("whole", Value::I64(72623859790382856)),
+        ("signs", Value::I64(-512)),
+        ("last", Value::I32(0)),
+        // each run begins with the globals of the module
+        ("count", Value::I64(41)),
+        ("count", Value::I64(41)),
+    ];
+    assert_values(&rt, rt.alloc(), &ROWS, &rows)
+}
+
+#[test]
+fn growth(rt: HostRuntime) -> Result<(), Fail> {
+    let rows = [
+        ("grow_by_one", Value::I32(1)),
+        ("grow_too_far", Value::I32(-1)),
+        ("grow_again", Value::I32(-1)),
+        ("size_after", Value::I32(2)),
+        ("new_page", Value::I32(77)),
+    ];
+    assert_values(&rt, rt.alloc(), &GROWTH, &rows)
 }
 
 #[test]
 fn traps(rt: HostRuntime) -> Result<(), Fail> {
     let alloc = rt.alloc();
-    let contracts = [contract(alloc, &EXPORTS)?];
-    for (name, code) in [
-        ("out", TrapCode::MemoryOutOfBounds),
-        ("trap", TrapCode::Unreachable),
-        ("deep_calls", TrapCode::CallDepth),
-        ("div0", TrapCode::DivideByZero),
+    let exports = [contract(alloc, &EXPORTS)?];
+    let rows = [contract(alloc, &ROWS)?];
+    for (contracts, name, code, used) in [
+        (&exports, "out", TrapCode::MemoryOutOfBounds, 2),
+        (&exports, "trap", TrapCode::Unreachable, 1),
+        // one call, and then 255 frames of two instructions each
+        (&exports, "deep_calls", TrapCode::CallDepth, 511),
+        (&exports, "div0", TrapCode::DivideByZero, 3),
+        (&rows, "unreachable", TrapCode::Unreachable, 1),
+        (&rows, "div_u", TrapCode::DivideByZero, 3),
+        (&rows, "rem_u", TrapCode::DivideByZero, 3),
+        (&rows, "div_s", TrapCode::IntegerOverflow, 3),
+        (&rows, "div_s64", TrapCode::IntegerOverflow, 3),
+        (&rows, "offset", TrapCode::MemoryOutOfBounds, 2),
+        (&rows, "past", TrapCode::MemoryOutOfBounds, 3),
+        (&rows, "endless", TrapCode::CallDepth, 256),
     ] {
-        let (outcome, _) = run(alloc, &contracts, name, 10_000)?;
-        assert_eq!(rt; outcome, Outcome::Trapped(code), "of {name}");
+        let found = ending(alloc, contracts, name, 10_000)?;
+        assert_eq!(rt; found, (Outcome::Trapped(code), used), "of {name}");
     }
     Ok(())
 }
@@ -92,32 +193,165 @@ fn traps(rt: HostRuntime) -> Result<(), Fail> {
 #[test]
 fn fuel(rt: HostRuntime) -> Result<(), Fail> {
     let alloc = rt.alloc();
-    let contracts = [contract(alloc, &EXPORTS)?];
-    let (outcome, used) = run(alloc, &contracts, "tee", 10_000)?;
-    assert_eq!(rt;
-        (outcome, used),
-        (Outcome::Returned(Some(Value::I32(42))), 4)
-    );
-    assert_eq!(rt; run(alloc, &contracts, "tee", 3)?, (Outcome::OutOfFuel, 3));
+    let exports = [contract(alloc, &EXPORTS)?];
+    let rows = [contract(alloc, &ROWS)?];
+    let deep = Outcome::Trapped(TrapCode::CallDepth);
+    for (contracts, name, fuel, outcome, used) in [
+        (
+            &exports,
+            "tee",
+            4,
+            Outcome::Returned(Some(Value::I32(42))),
+            4,
+        ),
+        (&exports, "tee", 3, Outcome::OutOfFuel, 3),
+        (&exports, "fac10", 20, Outcome::OutOfFuel, 20),
+        (&rows, "nothing", 2, Outcome::Returned(None), 2),
+        (&rows, "nothing", 0, Outcome::OutOfFuel, 0),
+        (&rows, "endless", 1_000, deep, 256),
+        (&rows, "endless", 256, deep, 256),
+        (&rows, "endless", 255, Outcome::OutOfFuel, 255),
+    ] {
+        let found = ending(alloc, contracts, name, fuel)?;
+        assert_eq!(rt; found, (outcome, used), "of {name} with {fuel}");
+    }
     Ok(())
 }
 
 #[test]
-fn growth(rt: HostRuntime) -> Result<(), Fail> {
+fn countdown(rt: HostRuntime) -> Result<(), Fail> {
     let alloc = rt.alloc();
-    let contracts = [contract(alloc, &GROWTH)?];
-    for (name, value) in [
-        ("grow_by_one", 1),
-        ("grow_too_far", -1),
-        ("size_after", 2),
-        ("new_page", 77),
+    let contracts = [contract(alloc, &COUNTDOWN)?];
+    for (fuel, outcome, used) in [
+        (16, Outcome::Returned(None), 16),
+        (15, Outcome::OutOfFuel, 15),
+        (9, Outcome::OutOfFuel, 9),
     ] {
-        let (outcome, _) = run(alloc, &contracts, name, 10_000)?;
-        assert_eq!(rt;
-            outcome,
-            Outcome::Returned(Some(Value::I32(value))),
-            "of {name}"
-        );
+        let call = call(alloc, 0, "down", &[Value::I64(2)], fuel)?;
+        let finished = run(alloc, &contracts, &call)?;
+        assert_eq!(rt; (finished.outcome(), finished.used()), (outcome, used));
+    }
+    Ok(())
+}
+
+// The first module's operations on its counter 7, with their replies.
+const ADDED: Step = Step {
+    op: Op::Add(
+        Place {
+            contract: 0,
+            key: 7,
+        },
+        5,
+    ),
+    reply: Reply::Nothing,
+};
+
+const TOTALLED: Step = Step {
+    op: Op::Total(Place {
+        contract: 0,
+        key: 7,
+    }),
+    reply: Reply::I64(12),
+};
+
+#[test]
+fn turns(rt: HostRuntime) -> Result<(), Fail> {
+    let alloc = rt.alloc();
+    let contracts = [contract(alloc, &FIRST)?];
+    let call = call(alloc, 0, "run", &[Value::I64(7)], 7)?;
+    let machine = Machine::start(alloc, &contracts, &call)
+        .ok()
+        .ok_or("a machine")?;
+    let mut machine = machine.finish().err().ok_or("no end before a turn")?;
+    let done = Turn::Done(Outcome::Returned(Some(Value::I64(12))));
+    'turns: for (number, turn) in [
+        Turn::Stepped,
+        Turn::Stepped,
+        Turn::Stepped,
+        Turn::Stepped,
+        Turn::Host(ADDED.op),
+        Turn::Stepped,
+        Turn::Host(TOTALLED.op),
+        done,
+        done,
+    ]
+    .iter()
+    .enumerate()
+    {
+        assert_eq!(rt; make_turn(&mut machine), *turn, "turn {number}");
+    }
+    Ok(())
+}
+
+#[test]
+fn fuel_between_operations(rt: HostRuntime) -> Result<(), Fail> {
+    let alloc = rt.alloc();
+    let contracts = [contract(alloc, &FIRST)?];
+    let total = Outcome::Returned(Some(Value::I64(12)));
+    for (fuel, outcome, trace) in [
+        (4, Outcome::OutOfFuel, [].as_slice()),
+        (5, Outcome::OutOfFuel, [ADDED].as_slice()),
+        (6, Outcome::OutOfFuel, [ADDED].as_slice()),
+        (7, total, [ADDED, TOTALLED].as_slice()),
+    ] {
+        let call = call(alloc, 0, "run", &[Value::I64(7)], fuel)?;
+        let finished = run(alloc, &contracts, &call)?;
+        assert_eq!(rt; (finished.outcome(), finished.used()), (outcome, fuel));
+        assert_eq!(rt; finished.trace(), trace, "with {fuel}");
+    }
+    Ok(())
+}
+
+fn place(key: i64) -> Place {
+    Place {
+        contract: 1,
+        key: key.cast_unsigned(),
+    }
+}
+
+#[test]
+fn host_calls(rt: HostRuntime) -> Result<(), Fail> {
+    let alloc = rt.alloc();
+    let contracts = [contract(alloc, &FIRST)?, contract(alloc, &HOST)?];
+    let call = call(alloc, 1, "all", &[], 100)?;
+    let finished = run(alloc, &contracts, &call)?;
+    let value = Outcome::Returned(Some(Value::I64(16)));
+    assert_eq!(rt; (finished.outcome(), finished.used()), (value, 18));
+    let trace = [
+        Op::Put(place(1), 10),
+        Op::Add(place(2), u64::MAX),
+        Op::Get(place(1)),
+        Op::Total(place(2)),
+        Op::Has(place(3)),
+        Op::Del(place(-4)),
+    ]
+    .map(|op| Step {
+        op,
+        reply: reply_to(op),
+    });
+    assert_eq!(rt; finished.trace(), trace.as_slice());
+    Ok(())
+}
+
+#[test]
+fn refusals(rt: HostRuntime) -> Result<(), Fail> {
+    let alloc = rt.alloc();
+    let contracts = [contract(alloc, &ROWS)?, contract(alloc, &COUNTDOWN)?];
+    for (number, name, args, refusal) in [
+        (2, "down", [].as_slice(), StartRefusal::NoContract),
+        (1, "up", [].as_slice(), StartRefusal::NoExport),
+        (0, "memory", [].as_slice(), StartRefusal::NotFunction),
+        (1, "down", [].as_slice(), StartRefusal::ArgCount),
+        (
+            1,
+            "down",
+            [Value::I32(2)].as_slice(),
+            StartRefusal::ArgType(0),
+        ),
+    ] {
+        let call = call(alloc, number, name, args, 100)?;
+        let refused = Machine::start(alloc, &contracts, &call).err();
+        assert_eq!(rt; refused, Some(refusal), "of {name}");
     }
     Ok(())
 }

@@ -1,0 +1,40 @@
+//! Runs of contracts of one module on the machine.
+ghost use Rattle.std.specs.Prelude.{◌≡◌, IfSome};
+ghost use Rattle.interp.specs.Progress.{IsFree};
+
+use interp::finished::Finished;
+use interp::machine::Machine;
+use interp::stand_in::Runnable;
+use interp::turns::Turn;
+use link::deploy::deploy;
+use loader::load;
+use std::alloc::{Allocator, Global};
+use typing::check::check;
+
+/// The contract of these bytes. `None` where they are no module that is valid, is linked and is executed, or where memory was refused.
+pub fn contract(alloc: Global, bytes: &[u8]) -> Option<Runnable<Global>> {
+    let tree = load(alloc, bytes).ok()?;
+    let valid = check(&alloc, tree).ok()?;
+    let deployed = deploy(&alloc, valid).ok()?;
+    Runnable::accept(deployed).ok()
+}
+
+/// Makes the turns of a run up to its end. `None` where the host was asked for an operation, or where memory was refused.
+pub fn run_to_end<'a, A: Allocator>(mut machine: Machine<'a, A>) -> Option<Finished<'a, A>>
+    requires { IsFree machine.status }
+    ensures contracts { IfSome result (λ f. f.contracts ≡ machine.entry.contracts) }
+    ensures call { IfSome result (λ f. f.call ≡ machine.entry.call) }
+{
+    'turns: loop {
+        match machine.next() {
+            Turn::Stepped => {}
+            Turn::Host(_) => return None,
+            Turn::NoMemory => return None,
+            Turn::Done(_) => break,
+        }
+    }
+    match machine.finish() {
+        Ok(finished) => Some(finished),
+        Err(_) => unreachable!(),
+    }
+}
