@@ -1,0 +1,70 @@
+-- The fuel that calls use is within their limits.
+use Rattle.std.proofs.Common.{◌≡◌, ℕ, ◌+◌, ◌≤◌, List, [], ◌∷◌, Some, option_map, slice_get, length, sym, ◌∙◌, ap, refl, arith}
+use Rattle.std.specs.Prelude.{slice_index, sum_by}
+use Rattle.std.proofs.lemmas.Option.{slice_get-map, get_or_from_slice_get}
+use Rattle.std.proofs.lemmas.List.Sums.{sum-map, sum_by-cons}
+use Rattle.spec_ledger.specs.declared.Outcome.{Outcome}
+use Rattle.spec_ledger.specs.declared.Receipt.{Receipt}
+use Rattle.spec_ledger.specs.declared.Step.{Step}
+use Rattle.spec_ledger.specs.Cells.{Cells}
+use Rattle.spec_ledger.specs.Modes.{Modes}
+use Rattle.spec_ledger.specs.Order.{limits_of}
+use Rattle.spec_execution.specs.Configuration.{Deployed, Contract, Config}
+use Rattle.spec_execution.specs.Run.{ContractCall, Reached, at_first, reduced, replied, RunsWith, refused, ran}
+use Rattle.spec_execution.specs.Serial.{Ran, Serial}
+use Rattle.spec_block.specs.Worlds.{limits}
+use Rattle.spec_block.specs.Blocks.{fuel_of}
+use Rattle.serial.specs.Positions.{positions as ran_of}
+use Rattle.serial_block.specs.Ordered.{used_by}
+
+module _ (c : Contract) (first : Config) (limit : ℕ) where
+  reached_within : (trace : List Step) (used : ℕ) (last : Config) → Reached c first limit trace used last → used ≤ limit
+  reached_within trace used last at_first = omega arith
+  reached_within trace used last (reduced t u a charge b r red h) = h
+  reached_within trace used last (replied t u s seq op go r reached asks fits) = reached_within t u _ reached
+
+runs_within : (contracts : List Deployed) (call : ContractCall) (trace : List Step) (o : Outcome) (used : ℕ) → RunsWith contracts call trace o used → used ≤ call.fuel
+runs_within contracts call trace o used (refused code e) = omega arith
+runs_within contracts call trace o used (ran c func t p f e run) = reached_within c _ call.fuel t f run.last run.reached
+
+limit_at : (calls : List ContractCall) (n : ℕ) (call : ContractCall) → slice_get calls n ≡ Some call → slice_index (limits calls) n ≡ call.fuel
+limit_at calls n call at =
+    get_or_from_slice_get (limits calls) n call.fuel 0 (slice_get-map (λ (c : ContractCall). c.fuel) calls n ∙ ap (option_map (λ (c : ContractCall). c.fuel)) at)
+
+abbrev pub used_in : List Ran → ℕ
+used_in rs = sum_by (λ (r : Ran). r.receipt.used) rs
+
+abbrev pub allowed : List ContractCall → List ℕ → ℕ
+allowed calls order = sum_by (λ n. slice_index (limits calls) n) order
+
+-- the calls of an order use no more than their limits together
+serial_within : (contracts : List Deployed) (calls : List ContractCall) (order : List ℕ) (cells : Cells) (rs : List Ran) (last : Cells) → Serial contracts calls order cells rs last → used_in rs ≤ allowed calls order
+serial_within contracts calls [] cells [] last s = omega arith
+serial_within contracts calls [] cells (r ∷ rs) last s = absurd s
+serial_within contracts calls (n ∷ order) cells [] last s = absurd s
+serial_within contracts calls (n ∷ order) cells (r ∷ rs) last s =
+    let one : r.receipt.used ≤ s.0.fuel = runs_within contracts s.0 s.3.trace r.receipt.outcome r.receipt.used s.3.run in
+    let limit : slice_index (limits calls) n ≡ s.0.fuel = limit_at calls n s.0 s.2 in
+    let rest : used_in rs ≤ allowed calls order = serial_within contracts calls order s.1 rs last s.4 in
+    let a : used_in (r ∷ rs) ≡ r.receipt.used + used_in rs = sum_by-cons (λ (x : Ran). x.receipt.used) r rs in
+    let b : allowed calls (n ∷ order) ≡ slice_index (limits calls) n + allowed calls order = sum_by-cons (λ k. slice_index (limits calls) k) n order in
+    omega (arith, one, limit, rest, a, b)
+
+used_again : (rs : List Receipt) (ms : List Modes) → length rs ≡ length ms → used_in (ran_of rs ms) ≡ used_by rs
+used_again [] [] e = refl
+used_again (r ∷ rs) (m ∷ ms) e =
+    sum_by-cons (λ (x : Ran). x.receipt.used) (record { receipt = r; touched = m }) (ran_of rs ms)
+    ∙ (ap (λ n. r.used + n) (used_again rs ms (omega (arith, e))) ∙ sym (sum_by-cons (λ (x : Receipt). x.used) r rs))
+used_again [] (m ∷ ms) e = absurd (omega (arith, e))
+used_again (r ∷ rs) [] e = absurd (omega (arith, e))
+
+pub fuel_is : (rs : List Receipt) (ms : List Modes) → length rs ≡ length ms → used_by rs ≡ fuel_of (ran_of rs ms)
+fuel_is rs ms e = sym (sum-map (λ (r : Ran). r.receipt.used) (ran_of rs ms) ∙ used_again rs ms e)
+
+pub used_within : (contracts : List Deployed) (calls : List ContractCall) (order : List ℕ) (cells : Cells) (rs : List Receipt) (ms : List Modes) (last : Cells)
+    → length rs ≡ length ms → Serial contracts calls order cells (ran_of rs ms) last → used_by rs ≤ limits_of (limits calls) order
+used_within contracts calls order cells rs ms last e s =
+    let a : used_in (ran_of rs ms) ≡ used_by rs = used_again rs ms e in
+    let b : limits_of (limits calls) order ≡ allowed calls order = sum-map (λ n. slice_index (limits calls) n) order in
+    let c : used_in (ran_of rs ms) ≤ allowed calls order = serial_within contracts calls order cells (ran_of rs ms) last s in
+    omega (arith, a, b, c)
