@@ -7,33 +7,14 @@
 #
 #   bench/interp.sh [ROUNDS]
 #
-# ROUNDS is 5 if left out. RT names the kit's command, `rt` if left out. The first run proves and builds the program, which takes
-# some minutes.
-set -euo pipefail
-cd "$(dirname "${BASH_SOURCE[0]}")/.."
-top=$PWD
+# ROUNDS is 5 if left out.
+source "$(dirname "${BASH_SOURCE[0]}")/common.sh" interp_bench wat2wasm wasm-interp
 rounds=${1:-5}
-rt=${RT:-rt}
-program=$top/crates/interp_bench/out/interp_bench
-work=$(mktemp -d)
-trap 'rm -rf "$work"' EXIT
 
 if ! [[ $rounds =~ ^[1-9][0-9]{0,2}$ ]]; then
-  echo "usage: bench/interp.sh [ROUNDS]" >&2
-  exit 2
+  usage "[ROUNDS]"
 fi
-for tool in wat2wasm wasm-interp; do
-  if ! command -v "$tool" >/dev/null; then
-    echo "bench/interp.sh: $tool is missing: apt-get install wabt" >&2
-    exit 2
-  fi
-done
-
-# With no words the program prints its usage line alone; the run proves, builds and leaves it in out/.
-if ! (cd crates/interp_bench && "$rt" run) >"$work/log" 2>&1; then
-  cat "$work/log" >&2
-  exit 1
-fi
+build
 
 cat >"$work/empty.wat" <<'MODULE'
 (module (func (export "run")))

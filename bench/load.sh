@@ -4,24 +4,8 @@
 # as the size doubles is a time that grows linearly. Run it anywhere in the repository:
 #
 #   bench/load.sh
-#
-# RT names the kit's command, `rt` if left out. The first run proves and builds the program, which takes some minutes.
-set -euo pipefail
-cd "$(dirname "${BASH_SOURCE[0]}")/.."
-top=$PWD
-rt=${RT:-rt}
-program=$top/crates/load_bench/out/load_bench
-work=$(mktemp -d)
-trap 'rm -rf "$work"' EXIT
-
-if ! command -v wasm-validate >/dev/null; then
-  echo "bench/load.sh: wasm-validate is missing: apt-get install wabt" >&2
-  exit 2
-fi
-if ! (cd crates/load_bench && "$rt" run) >"$work/log" 2>&1; then
-  cat "$work/log" >&2
-  exit 1
-fi
+source "$(dirname "${BASH_SOURCE[0]}")/common.sh" load_bench wasm-validate
+build
 
 for size in 262144 524288 1048000; do
   python3 - "$size" "$work/module.wasm" <<'MODULE'

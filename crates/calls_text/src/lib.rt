@@ -10,3 +10,4 @@ mod words;
 
 pub use reader::{CallsRefusal, MOST_CALLS, read_calls};
 pub use receipt::{PositionLine, ReceiptText, ValueText};
+pub use words::number_of;

@@ -10,7 +10,7 @@ use std::alloc::{AllocError, Global};
 use wtypes::Value;
 
 /// The number of 64 bits that a word spells, in decimal with no needless zero.
-pub(crate) fn number_of(alloc: Global, word: &str) -> Result<Option<u64>, AllocError>
+pub fn number_of(alloc: Global, word: &str) -> Result<Option<u64>, AllocError>
     ensures { IfOk result (λ found. MatchOption found ((n : ℕ) → n < 2 ^ 64 → word.now ≢ decimal n) (λ n. word.now ≡ decimal n)) }
 {
     let Ok(n) = word.parse::<u64>() else {

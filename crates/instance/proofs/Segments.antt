@@ -17,14 +17,13 @@ use Rattle.module_tree.specs.Modules.{module_view}
 use Rattle.spec_syntax.specs.Syntax.{Plain, Instrs, nothing, seq, FuncType, Limits, Import, ImportDesc, ImportFunc, DataSegment, Module}
 use Rattle.spec_syntax.specs.Profile.{page_size, page_limit}
 use Rattle.spec_numeric.specs.Operators.{bits_of}
-use Rattle.spec_numeric.specs.Memory.{written}
 use Rattle.spec_typing.specs.Modules.{memories, memory_of, MemoryTyped}
 use Rattle.spec_typing.specs.Linking.{IsLinked, Resolves, InMemory, InRange, offset_number}
 use Rattle.spec_execution.specs.Configuration.{constant, size_of, in_place, with_datas}
 use Rattle.spec_execution.specs.Reduction.{most_pages}
 
 -- imports are functions alone
-none_else : {X : Type 0} (f : ImportDesc → Option X) → ((index : ℕ) → f (ImportFunc index) ≡ None) → (types : List FuncType) (is : List Import) (cs : List HostCall) → Resolves types is cs → filter_map (λ (i : Import). f i.desc) is ≡ []
+pub none_else : {X : Type 0} (f : ImportDesc → Option X) → ((index : ℕ) → f (ImportFunc index) ≡ None) → (types : List FuncType) (is : List Import) (cs : List HostCall) → Resolves types is cs → filter_map (λ (i : Import). f i.desc) is ≡ []
 none_else f k types [] [] r = refl
 none_else f k types [] (c ∷ cs) r = absurd r
 none_else f k types (i ∷ is) [] r = absurd r
@@ -32,7 +31,7 @@ none_else f k types (i ∷ is) (c ∷ cs) r =
     let e : f i.desc ≡ None = ap f r.0.1.1 ∙ k r.0.1.0 in
     ap (λ o. cons_option o (filter_map (λ (i : Import). f i.desc) is)) e ∙ none_else f k types is cs r.1
 
-at_map : {X Y : Type 0} (P : Y → Type 0) (f : X → Y) (xs : List X) → All P (map f xs) → (k : ℕ) (d : X) → k < length xs → P (f (slice_index_or xs k d))
+pub at_map : {X Y : Type 0} (P : Y → Type 0) (f : X → Y) (xs : List X) → All P (map f xs) → (k : ℕ) (d : X) → k < length xs → P (f (slice_index_or xs k d))
 at_map P f [] h k d lt = absurd (omega arith)
 at_map P f (x ∷ xs) h zero d lt = All-head P (f x) (map f xs) h
 at_map P f (x ∷ xs) h (suc k) d lt = at_map P f xs (All-tail P (f x) (map f xs) h) k d (omega arith)
@@ -49,13 +48,13 @@ fits_list : (ms : List Limits) → All (λ limits. limits.min ≤ page_limit) ms
 fits_list [] h k = omega arith
 fits_list (l ∷ ls) h k = below_most l.min l.max (All-head (λ (l : Limits). l.min ≤ page_limit) l ls h) (All-head MemoryTyped l ls k).0
 
-only_one : (ms : List Limits) (k : ℕ) (l : Limits) → length ms ≤ 1 → slice_get ms k ≡ Some l → size_of ms ≡ l.min
+pub only_one : (ms : List Limits) (k : ℕ) (l : Limits) → length ms ≤ 1 → slice_get ms k ≡ Some l → size_of ms ≡ l.min
 only_one [] k l le e = absurd (cc)
 only_one (x ∷ []) zero l le e = ap (λ (y : Limits). y.min) (let same : x ≡ l = cc in same)
 only_one (x ∷ []) (suc k) l le e = absurd (cc)
 only_one (x ∷ y ∷ ms) k l le e = absurd (omega arith)
 
-const_number : (e : Instrs) (at : ℕ) → offset_number e ≡ Some at → bits_of (constant e) ≡ at
+pub const_number : (e : Instrs) (at : ℕ) → offset_number e ≡ Some at → bits_of (constant e) ≡ at
 const_number (seq (Plain (Const (value.I32 k))) nothing) at e = (let there : cast_unsigned w32 k ≡ at = cc in there)
 const_number _ at e = absurd (cc)
 
@@ -84,7 +83,7 @@ not_both : (x y : ℕ) → x ≤ y → nat_le x y ≡ false → ⊥
 not_both x y le e = let t : nat_le x y ≡ true = le-leb x y le in cc
 
 -- an order that is only known to be so
-known_le : {X : Type 0} (x y : ℕ) → ∥ X ∥₁ → (X → x ≤ y) → x ≤ y
+pub known_le : {X : Type 0} (x y : ℕ) → ∥ X ∥₁ → (X → x ≤ y) → x ≤ y
 known_le {X} x y known so = by_test (nat_le x y) refl
   where
     by_test : (b : Bool) → nat_le x y ≡ b → x ≤ y
@@ -94,18 +93,18 @@ known_le {X} x y known so = by_test (nat_le x y) refl
 pub fits_known : (m : Module) (calls : List HostCall) → ∥ IsLinked m calls ∥₁ → size_of m.memories ≤ most_pages m.memories
 fits_known m calls linked = known_le _ _ linked (memory_fits m calls)
 
-map_index : {X Y : Type 0} (f : X → Y) (xs : List X) (k : ℕ) (d : X) → slice_index_or (map f xs) k (f d) ≡ f (slice_index_or xs k d)
+pub map_index : {X Y : Type 0} (f : X → Y) (xs : List X) (k : ℕ) (d : X) → slice_index_or (map f xs) k (f d) ≡ f (slice_index_or xs k d)
 map_index f [] k d = refl
 map_index f (x ∷ xs) zero d = refl
 map_index f (x ∷ xs) (suc k) d = map_index f xs k d
 
-length_map : {X Y : Type 0} (f : X → Y) (xs : List X) → length (map f xs) ≡ length xs
+pub length_map : {X Y : Type 0} (f : X → Y) (xs : List X) → length (map f xs) ≡ length xs
 length_map f [] = refl
 length_map f (x ∷ xs) = ap (λ (n : ℕ). suc n) (length_map f xs)
 
-pub length_written : (at : ℕ) (bytes old : List ℕ) → at + length bytes ≤ length old → length (written at bytes old) ≡ length old
-length_written at bytes old le =
-    length-append (take at old) (bytes ++ drop (at + length bytes) old) ∙ (omega (arith, length-append bytes (drop (at + length bytes) old), length-take at old, length-drop (at + length bytes) old))
+pub length_in_place : {X : Type 0} (at : ℕ) (items old : List X) → at + length items ≤ length old → length (in_place at items old) ≡ length old
+length_in_place at items old le =
+    length-append (take at old) (items ++ drop (at + length items) old) ∙ (omega (arith, length-append items (drop (at + length items) old), length-take at old, length-drop (at + length items) old))
 
 with_one_more : (ds : List DataSegment) (d : DataSegment) (m : List ℕ) → with_datas (ds ++ d ∷ []) m ≡ in_place (bits_of (constant d.offset)) d.bytes (with_datas ds m)
 with_one_more [] d m = refl

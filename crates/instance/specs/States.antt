@@ -7,10 +7,11 @@ use Rattle.instance.specs.declared.Instance.{Instance}
 
 -- a state with what the instance has; the rest is the state's own
 abbrev pub based : State → Instance → State
-based b i = record b { globals = i.globals.items; memory = i.memory.bytes }
+based b i = record b { globals = i.globals.items; memory = i.memory.bytes; table = i.table.items }
 
 -- it is a fresh instance of the module
 pub record IsFresh (i : Instance) (m : Module) : Type 0 where
   pub globals : i.globals.items ≡ (fresh m).globals
   pub memory : i.memory.bytes ≡ (fresh m).memory
+  pub table : i.table.items ≡ (fresh m).table
   pub max : i.memory.max ≡ most_pages m.memories

@@ -1,6 +1,8 @@
 // Instances of deployed modules.
 #![tactic(auto)]
 
+mod tables;
+
 ghost use Rattle.std.specs.Prelude.{◌≡◌, ◌+◌, ◌*◌, ◌≤◌, map, replicate, IfOk};
 ghost use Rattle.spec_numeric.specs.Operators.{bits_of};
 ghost use Rattle.module_tree.specs.View.{instrs_view};
@@ -13,6 +15,7 @@ ghost use Rattle.spec_execution.specs.Reduction.{most_pages};
 ghost use Rattle.link.specs.Parts.{tree_of};
 ghost use Rattle.instance.specs.States.{IsFresh};
 
+use crate::tables::open_table;
 use link::deployed::Deployed;
 use memory::{Linear, PAGE_LIMIT, StoreRefusal};
 use module_tree::instr::Instr;
@@ -27,10 +30,13 @@ pub struct Instance {
     pub globals: Vec<Value>,
     /// The memory. Where the module has none, it has no page.
     pub memory: Linear<Global>,
+    /// The number of the function that each element of the table is, or None where it is empty. Where the module has no table, it
+    /// has no element.
+    pub table: Vec<Option<u32>>,
 }
 
 /// A fresh instance (Core Specification, 4.5.4 Instantiation): its globals have their first values, and its data
-/// segments are in place. Its memory may grow to the lesser of the limit and the declared maximum.
+/// segments and element segments are in place. Its memory may grow to the lesser of the limit and the declared maximum.
 ///
 /// # Errors
 ///
@@ -46,7 +52,12 @@ pub fn open_instance<A: Allocator>(
         Err(_) => return Err(NoMemory),
     };
     let memory = open_memory(alloc, deployed)?;
-    Ok(Instance { globals, memory })
+    let table = open_table(alloc, deployed)?;
+    Ok(Instance {
+        globals,
+        memory,
+        table,
+    })
 }
 
 // The memory, with the data segments in place.

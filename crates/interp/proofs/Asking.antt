@@ -20,7 +20,7 @@ use Rattle.interp.specs.declared.turns.Turn.{Turn}
 use Rattle.interp.specs.declared.turns.Turn.TheVariants as turn
 use Rattle.interp.specs.declared.turns.Status.{Status}
 use Rattle.interp.specs.declared.turns.Status.TheVariants as status
-use Rattle.interp.specs.Meaning.{Open, View, listed, put, height, around, frames, at, state, whole, config, calling, invoking, Stands, IsOrdered, IsFineCall, IsReady, ChargedCall, Settles}
+use Rattle.interp.specs.Meaning.{Open, View, listed, put, height, around, frames, at, state, whole, config, calling, invoking, sequence, Stands, IsOrdered, IsFineCall, IsReady, ChargedCall}
 use Rattle.interp.specs.Plain.{onto}
 use Rattle.interp.specs.Calls.{HasEntered}
 use Rattle.interp.specs.Progress.{HasStepped, HasAsked, HasAnswered, AnsweredAt, NextIs}
@@ -29,7 +29,8 @@ use Rattle.interp.proofs.Context.{values_onto, lift, lift_asks}
 use Rattle.interp.proofs.Charging.{next_whole, fine_at, above, Stands_at, length-onto, onto_top, put-append}
 use Rattle.interp.proofs.Finding.{onto_is}
 use Rattle.interp.proofs.Calling.{with_values_is, reverse_onto}
-use Rattle.interp.proofs.Rest.{at_rest}
+use Rattle.interp.specs.Tails.{joined, with_tail, joined_next}
+use Rattle.interp.proofs.Joining.{reduce_joined, reduces_joined, stuck_joined, at_rest}
 use Rattle.interp.proofs.Turning.{live_of, reached_by_frees, below}
 
 -- what a charged call leads to
@@ -37,13 +38,13 @@ pub calling_of : (s : Seen) (f : ℕ) (w : View) → IsMachine s → s.status �
 calling_of s f w m running left charge = record {
   opens = m.opens;
   safe = m.safe;
-  reached = reduced s.trace s.used (config s.view) 1 (calling w f) (live_of s m running).reached charge.reduces (below s m running left);
+  reached = reduced s.trace s.used _ 1 _ (live_of s m running).reached (reduces_joined s.tail s.contract 1 (config s.view) (calling w f) charge.reduces) (below s m running left);
   ordered = charge.ordered;
   within = below s m running left;
 }
 
 pub fine_call : (s : Seen) (f : ℕ) → IsCalling s f → IsFineCall s.contract s.view f
-fine_call s f calls = record { not_stuck = calls.safe _ _ _ _ calls.reached }
+fine_call s f calls = record { not_stuck = λ h. calls.safe _ _ _ _ calls.reached (stuck_joined s.tail s.contract (state s.view) (invoking s.view f) h) }
 
 -- a turn of a charged call, once its function has started
 pub call_stepped : (s : Seen) (f : ℕ) (w : View) (t : Seen) → s.status ≡ status.Running → ChargedCall s.contract s.view f w → IsStarted (record s { used = s.used + 1; view = w }) f t → HasStepped (progress s) (progress t)
@@ -51,7 +52,7 @@ call_stepped s f w t running charge started = subst (λ (x : Status). HasStepped
   same = record { contracts = started.same.contracts; call = started.same.call; contract = started.same.contract; func = started.same.func };
   trace = started.same.trace;
   used = started.same.used;
-  turn = record { charged = calling w f; one = charge.reduces; replied = calling w f; answer = not_asked (calling w f); free = started.frees; at_rest = started.at_rest };
+  turn = record { charged = with_tail s.tail (calling w f); one = reduces_joined s.tail s.contract 1 (config s.view) (calling w f) charge.reduces; replied = with_tail s.tail (calling w f); answer = not_asked (with_tail s.tail (calling w f)); free = started.frees; at_rest = started.at_rest };
   goes_on = started.goes_on;
 })
 
@@ -60,30 +61,36 @@ call_asked s f w op t running charge asked = subst (λ (x : Status). HasAsked (p
   same = record { contracts = asked.same.contracts; call = asked.same.call; contract = asked.same.contract; func = asked.same.func };
   trace = asked.same.trace;
   used = asked.same.used;
-  charged = subst (λ (x : Config). Reduces s.contract (config s.view) 1 x) (sym asked.config) charge.reduces;
+  charged = subst (λ (x : Config). Reduces s.contract (with_tail s.tail (config s.view)) 1 x) (sym asked.config) (reduces_joined s.tail s.contract 1 (config s.view) (calling w f) charge.reduces);
   asking = asked.asking;
 })
 
 module _ (s : Seen) (f : ℕ) (calls : IsCalling s f) where
-  module _ (mid w : View) (enters : HasEntered s.contract s.view f mid) (settles : Settles s.contract mid w) (ready : IsReady w) where
+  module _ (mid w : View) (tail : Seq) (enters : HasEntered s.contract s.view f mid) (frees : Frees s.contract (with_tail s.tail (config mid)) (with_tail tail (config w))) (ordered : IsOrdered w) (ready : IsReady w) (last : w.code ≡ [] → tail ≡ End) where
     abbrev started_seen : Seen
-    started_seen = record s { view = w; status = status.Running }
+    started_seen = record s { view = w; tail = tail; status = status.Running }
 
-    come : Reaches s (config w)
-    come = reached_by_frees _ _ _ _ _ _ _ calls.reached calls.within (one_more _ _ _ enters.reduces settles.frees)
+    all_frees : Frees s.contract (with_tail s.tail (calling s.view f)) (with_tail tail (config w))
+    all_frees = one_more _ _ _ (reduces_joined s.tail s.contract 0 (calling s.view f) (config mid) enters.reduces) frees
+
+    come : Reaches started_seen (config w)
+    come = reached_by_frees _ _ _ _ _ _ _ calls.reached calls.within all_frees
 
     pub machine_started : IsMachine started_seen
-    machine_started = record { opens = calls.opens; safe = calls.safe; at = record { reached = come; ordered = settles.ordered; ready = ready; within = calls.within } }
+    machine_started = record { opens = calls.opens; safe = calls.safe; at = record { reached = come; ordered = ordered; ready = ready; last = last; within = calls.within } }
 
     pub is_started : IsStarted s f started_seen
     is_started = record {
       same = record { contracts = refl; call = refl; contract = refl; func = refl; trace = refl; used = refl };
-      frees = one_more _ _ _ enters.reduces settles.frees;
-      at_rest = at_rest s.contract w settles.ordered (record { not_stuck = calls.safe _ _ _ _ come }) ready;
+      frees = all_frees;
+      at_rest = at_rest s.contract w tail (record { not_stuck = λ h. calls.safe _ _ _ _ come (stuck_joined tail s.contract (state w) (sequence w) h) }) ready last;
       goes_on = tt;
     }
 
   module _ (w : View) (t : TrapCode) (falls : Reduces s.contract (calling s.view f) 0 (Trap (state s.view) t)) (same : w ≡ s.view) where
+    falls_joined : Frees s.contract (with_tail s.tail (calling s.view f)) (Trap (state s.view) t)
+    falls_joined = one_more _ _ _ (reduces_joined s.tail s.contract 0 (calling s.view f) (Trap (state s.view) t) falls) (none _)
+
     abbrev fallen_seen : View → Seen
     fallen_seen v = record s { view = v; status = status.Fallen t }
 
@@ -91,13 +98,13 @@ module _ (s : Seen) (f : ℕ) (calls : IsCalling s f) where
     machine_trapped = subst (λ (v : View). IsMachine (fallen_seen v)) (sym same) (record {
       opens = calls.opens;
       safe = calls.safe;
-      at = record { reached = reached_by_frees _ _ _ _ _ _ _ calls.reached calls.within (one_more _ _ _ falls (none _)); within = calls.within };
+      at = record { reached = reached_by_frees _ _ _ _ _ _ _ calls.reached calls.within falls_joined; within = calls.within };
     })
 
     pub is_trapped : IsStarted s f (fallen_seen w)
     is_trapped = subst (λ (v : View). IsStarted s f (fallen_seen v)) (sym same) (record {
       same = record { contracts = refl; call = refl; contract = refl; func = refl; trace = refl; used = refl };
-      frees = one_more _ _ _ falls (none _);
+      frees = falls_joined;
       at_rest = by_trap (state s.view) t;
       goes_on = tt;
     })
@@ -234,7 +241,7 @@ module _ (s : Seen) (op : Op) (r : Reply) (m : IsMachine s) (waits : s.status �
   pub ordered_reply : IsOrdered (record s.view { stack = stack })
   ordered_reply =
       subst (λ (x : List Value). IsOrdered (record s.view { stack = x })) (sym taken)
-      (record { stands = Stands_at s.view.entries (length s.view.stack) _ (omega (arith, kept_high, length-append kept (value_of_reply r))) waiting.ordered.stands; runs = waiting.ordered.runs; each = waiting.ordered.each })
+      (record { stands = Stands_at s.view.entries (length s.view.stack) _ (omega (arith, kept_high, length-append kept (value_of_reply r))) waiting.ordered.stands; each = waiting.ordered.each })
 
   same_config : config (record s.view { stack = stack }) ≡ Running (state s.view) (going_on s.view op r)
   same_config =
@@ -243,28 +250,31 @@ module _ (s : Seen) (op : Op) (r : Reply) (m : IsMachine s) (waits : s.status �
       (whole_push s.view.entries kept (value_of_reply r) s.view.locals (listed s.view.code End) kept_high
       ∙ ap (whole s.view.entries kept s.view.locals) (sym (replied_is r (listed s.view.code End))))
 
-  module _ (w : View) (settles : Settles s.contract (record s.view { stack = stack }) w) (ready : IsReady w) (trace : List Step) (recorded : trace ≡ s.trace ++ record { op = op; reply = r } ∷ []) where
-    freed : Frees s.contract (Running (state s.view) (going_on s.view op r)) (config w)
-    freed = subst (λ (x : Config). Frees s.contract x (config w)) same_config settles.frees
+  joined_asks : next s.contract (state s.view) (joined (invoking s.view s.asked) s.tail) ≡ Asks op (λ x. joined (going_on s.view op x) s.tail)
+  joined_asks = reduce_joined s.tail s.contract 0 (state s.view) [] (invoking s.view s.asked) ∙ ap (joined_next s.tail (λ ws. reduce s.contract 0 (state s.view) ws s.tail)) waiting.asks
 
-    come_back : Reached s.contract (first_of s) s.call.fuel trace s.used (config w)
-    come_back = subst (λ (t : List Step). Reached s.contract (first_of s) s.call.fuel t s.used (config w)) (sym recorded)
-        (reached_by_frees _ _ _ _ _ _ _ (gets s.trace s.used _ _ op _ r waiting.reached waiting.asks fit) waiting.within freed)
+  module _ (w : View) (tail : Seq) (frees : Frees s.contract (with_tail s.tail (config (record s.view { stack = stack }))) (with_tail tail (config w))) (ordered : IsOrdered w) (ready : IsReady w) (last : w.code ≡ [] → tail ≡ End) (trace : List Step) (recorded : trace ≡ s.trace ++ record { op = op; reply = r } ∷ []) where
+    freed : Frees s.contract (Running (state s.view) (joined (going_on s.view op r) s.tail)) (with_tail tail (config w))
+    freed = subst (λ (x : Config). Frees s.contract (with_tail s.tail x) (with_tail tail (config w))) same_config frees
+
+    come_back : Reached s.contract (first_of s) s.call.fuel trace s.used (with_tail tail (config w))
+    come_back = subst (λ (t : List Step). Reached s.contract (first_of s) s.call.fuel t s.used (with_tail tail (config w))) (sym recorded)
+        (reached_by_frees _ _ _ _ _ _ _ (gets s.trace s.used _ _ op _ r waiting.reached joined_asks fit) waiting.within freed)
 
     abbrev answered_seen : Seen
-    answered_seen = record s { trace = trace; view = w; status = status.Running }
+    answered_seen = record s { trace = trace; view = w; tail = tail; status = status.Running }
 
     pub machine_answered : IsMachine answered_seen
-    machine_answered = record { opens = m.opens; safe = m.safe; at = record { reached = come_back; ordered = settles.ordered; ready = ready; within = waiting.within } }
+    machine_answered = record { opens = m.opens; safe = m.safe; at = record { reached = come_back; ordered = ordered; ready = ready; last = last; within = waiting.within } }
 
     pub has_answered : HasAnswered (progress s) r (progress answered_seen)
     has_answered = subst (λ (x : Status). AnsweredAt (progress (on s x)) r (progress answered_seen) x) (sym waits) (record {
       same = record { contracts = refl; call = refl; contract = refl; func = refl };
       trace = recorded;
       used = refl;
-      asked = record { state = state s.view; seq = invoking s.view s.asked; go = going_on s.view op; is = refl; asks = waiting.asks };
+      asked = record { state = state s.view; seq = joined (invoking s.view s.asked) s.tail; go = λ x. joined (going_on s.view op x) s.tail; is = refl; asks = joined_asks };
       frees = freed;
-      at_rest = at_rest s.contract w settles.ordered (record { not_stuck = m.safe _ _ _ _ come_back }) ready;
+      at_rest = at_rest s.contract w tail (record { not_stuck = λ h. m.safe _ _ _ _ come_back (stuck_joined tail s.contract (state w) (sequence w) h) }) ready last;
       running = refl;
     })
 

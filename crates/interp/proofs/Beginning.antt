@@ -1,13 +1,13 @@
 -- The beginning of a run.
-use Rattle.std.proofs.Common.{◌≡◌, ℕ, true, List, [], ◌∷◌, refl, sym, ap, ◌∙◌, subst, arith, Option, Some, None, true≢false}
-use Rattle.std.specs.Prelude.{is_none}
+use Rattle.std.proofs.Common.{◌≡◌, ℕ, ◌<◌, ◌≤◌, Bool, true, false, nat_lt, List, [], length, refl, sym, ap, ◌∙◌, subst, arith, Option, Some, None}
+use Rattle.std.specs.Prelude.{slice_index_or}
 use Rattle.std.proofs.Math.Logic.{∥∥₁_elim}
-use Rattle.wtypes.specs.declared.Value.{Value}
+use Rattle.std.proofs.lemmas.Bool.{ltb-true, ltb-false}
 use Rattle.wtypes.specs.declared.HostCall.{HostCall}
+use Rattle.wtypes.specs.declared.HostCall.TheVariants as host
 use Rattle.spec_syntax.specs.Syntax.{Module}
-use Rattle.spec_syntax.specs.Limits.{first as left}
 use Rattle.spec_typing.specs.Linking.{IsLinked}
-use Rattle.spec_execution.specs.Configuration.{Deployed, Contract, Seq, End, Val, Invoke, Config, Running, arguments, fresh}
+use Rattle.spec_execution.specs.Configuration.{Deployed, Contract, Seq, End, Invoke, Config, Running, arguments, fresh}
 use Rattle.spec_execution.specs.Run.{ContractCall, opening, Opens, after_start, first, Reached, at_first, IsSafe}
 use Rattle.spec_execution.specs.Turns.{Frees, IsAtRest}
 use Rattle.soundness.specs.Laws.{DeployedCallsAreSafe}
@@ -15,68 +15,132 @@ use Rattle.module_tree.specs.declared.module.Module as in_memory
 use Rattle.module_tree.specs.Modules.{module_view}
 use Rattle.link.specs.declared.deployed.Deployed as linked
 use Rattle.link.specs.Parts.{tree_of, hosts_of}
-use Rattle.interp.specs.Forms.{module_runs}
-use Rattle.interp.specs.Meaning.{View, put, calling, IsOrdered}
-use Rattle.interp.specs.Progress.{IsStartOf}
-use Rattle.interp.specs.Machine.{Seen, progress, first_of, IsCalling, IsStarted}
-use Rattle.interp.proofs.Charging.{mk}
-
-put_is : (vs : List Value) (rest : Seq) → put vs rest ≡ arguments vs rest
-put_is [] rest = refl
-put_is (v ∷ vs) rest = ap (Val v) (put_is vs rest)
-
-no_start : (o : Option ℕ) (rest : Seq) → is_none o ≡ true → after_start o rest ≡ rest
-no_start None rest e = refl
-no_start (Some f) rest e = absurd (true≢false (sym e))
+use Rattle.interp.specs.declared.turns.Status.{Status}
+use Rattle.interp.specs.declared.turns.Status.TheVariants as status
+use Rattle.interp.specs.declared.turns.Turn.{Turn}
+use Rattle.interp.specs.declared.turns.Turn.TheVariants as turn
+use Rattle.interp.specs.Meaning.{View, height, state, sequence, config, calling, IsOrdered, IsReady}
+use Rattle.interp.specs.Tails.{with_tail}
+use Rattle.interp.specs.Waiting.{alone}
+use Rattle.interp.specs.Progress.{IsStartOf, GoesOn}
+use Rattle.interp.specs.Machine.{Seen, on, progress, first_of, arity_of, IsAt, IsLive, IsMachine, IsCalling, IsSame, HasStarted, HasBegun}
+use Rattle.interp.proofs.Joining.{stuck_joined, at_rest}
+use Rattle.interp.proofs.Numbering.{read_at}
+use Rattle.interp.proofs.Turning.{reached_by_frees}
+use Rattle.interp.proofs.Asking.{host_room}
 
 -- no configuration is stuck: from what linking keeps
 pub safe_of : (contracts : List Deployed) (call : ContractCall) (c : Contract) (func : ℕ) → ∥ IsLinked c.deployed.tree c.deployed.hosts ∥₁ → DeployedCallsAreSafe → opening contracts call ≡ Opens c func → IsSafe c (first c func call.args) call.fuel
 safe_of contracts call c func linked law opens = λ trace used s seq reached stuck. ∥∥₁_elim linked (λ a b. absurd a) (λ l. law contracts call c func l opens trace used s seq reached stuck)
 
--- the opening: a call of the entry over its arguments
-pub first_calling : (s : Seen) → opening s.contracts s.call ≡ Opens s.contract s.func → IsSafe s.contract (first_of s) s.call.fuel → module_runs s.contract.deployed.tree ≡ true →
-    (stack : List Value) → stack ≡ s.call.args → s.view ≡ mk (fresh s.contract.deployed.tree) [] stack [] [] → s.trace ≡ [] → s.used ≡ 0 → IsCalling s s.func
-first_calling s opens safe runs stack es ev et eu = record {
-  opens = opens;
-  safe = safe;
-  reached = subst (λ t. Reached s.contract (first_of s) s.call.fuel t s.used (calling s.view s.func)) (sym et)
-      (subst (λ n. Reached s.contract (first_of s) s.call.fuel [] n (calling s.view s.func)) (sym eu)
-      (subst (λ (x : Config). Reached s.contract (first_of s) s.call.fuel [] 0 x) same at_first));
-  ordered = subst (λ (v : View). IsOrdered v) (sym ev) (record { stands = tt; runs = tt; each = tt });
-  within = omega (arith, eu);
-}
-  where
-    t : Module
-    t = s.contract.deployed.tree
+-- with nothing open and the entry waiting, the first configuration is the one in which the start function is called, or else the waiting one itself
+first_without : (m : Module) (start : Option ℕ) (rest : Seq) → start ≡ None → with_tail rest (config (alone (fresh m) [] [])) ≡ Running (fresh m) (after_start start rest)
+first_without m None rest e = refl
+first_without m (Some f) rest e = absurd (cc)
 
-    same : first_of s ≡ calling s.view s.func
-    same =
-        ap (λ q. Running (fresh s.contract.deployed.tree) q) (no_start s.contract.deployed.tree.start (arguments s.call.args (Invoke s.func End)) (left _ _ runs)
-        ∙ sym (put_is s.call.args (Invoke s.func End)) ∙ ap (λ vs. put vs (Invoke s.func End)) (sym es))
-        ∙ ap (λ v. calling v s.func) (sym ev)
+first_with : (m : Module) (start : Option ℕ) (rest : Seq) (f : ℕ) → start ≡ Some f → with_tail rest (calling (alone (fresh m) [] []) f) ≡ Running (fresh m) (after_start start rest)
+first_with m start rest f e = ap (λ o. Running (fresh m) (after_start o rest)) (sym e)
 
--- what a machine is before its first turn
-pub start_of : (s t : Seen) → calling s.view s.func ≡ first_of s → s.trace ≡ [] → s.used ≡ 0 → IsStarted s s.func t → IsStartOf s.contracts s.call (progress t)
-start_of s t same et eu started = start_at (started.same.contracts) (started.same.call)
-  where
-    start_at : t.contracts ≡ s.contracts → t.call ≡ s.call → IsStartOf s.contracts s.call (progress t)
-    start_at a b = record {
-      contracts = a;
-      call_is = b;
-      trace = started.same.trace ∙ et;
-      used = started.same.used ∙ eu;
-      frees = subst (λ (x : Config). Frees t.contract x (progress t).config) firsts (subst (λ (k : Contract). Frees k (calling s.view s.func) (progress t).config) (sym started.same.contract) started.frees);
-      at_rest = subst (λ (k : Contract). IsAtRest k (progress t).config) (sym started.same.contract) started.at_rest;
-      goes_on = started.goes_on;
+module _ (s : Seen) (view : s.view ≡ alone (fresh s.contract.deployed.tree) [] []) (tail : s.tail ≡ arguments s.call.args (Invoke s.func End)) where
+  abbrev m : Module
+  m = s.contract.deployed.tree
+
+  pub opens_without : m.start ≡ None → with_tail s.tail (config s.view) ≡ first_of s
+  opens_without e = ap (λ v. with_tail s.tail (config v)) view ∙ first_without m m.start s.tail e ∙ ap (λ q. Running (fresh m) (after_start m.start q)) tail
+
+  pub opens_with : (f : ℕ) → m.start ≡ Some f → with_tail s.tail (calling s.view f) ≡ first_of s
+  opens_with f e = ap (λ v. with_tail s.tail (calling v f)) view ∙ first_with m m.start s.tail f e ∙ ap (λ q. Running (fresh m) (after_start m.start q)) tail
+
+  module _ (trace : s.trace ≡ []) (used : s.used ≡ 0) where
+    -- at the first configuration
+    pub reached_first : (x : Config) → x ≡ first_of s → Reached s.contract (first_of s) s.call.fuel s.trace s.used x
+    reached_first x e =
+        subst (λ t. Reached s.contract (first_of s) s.call.fuel t s.used x) (sym trace)
+        (subst (λ n. Reached s.contract (first_of s) s.call.fuel [] n x) (sym used)
+        (subst (λ (y : Config). Reached s.contract (first_of s) s.call.fuel [] 0 y) (sym e) at_first))
+
+    -- the call of the start function
+    pub start_calling : opening s.contracts s.call ≡ Opens s.contract s.func → IsSafe s.contract (first_of s) s.call.fuel → (f : ℕ) → m.start ≡ Some f → IsCalling s f
+    start_calling opens safe f e = record {
+      opens = opens;
+      safe = safe;
+      reached = reached_first _ (opens_with f e);
+      ordered = subst (λ (v : View). IsOrdered v) (sym view) (record { stands = tt; each = tt });
+      within = omega (arith, used);
+    }
+
+    some_params : (h : HostCall) → 0 < arity_of h
+    some_params host.Get = omega arith
+    some_params host.Has = omega arith
+    some_params host.Put = omega arith
+    some_params host.Del = omega arith
+    some_params host.Add = omega arith
+    some_params host.Total = omega arith
+
+    -- it is the module's own: a function of the host takes arguments
+    pub start_own : (f : ℕ) → IsCalling s f → length s.contract.deployed.hosts ≤ f
+    start_own f calls = by_test (nat_lt f (length s.contract.deployed.hosts)) refl
+      where
+        hosts : List HostCall
+        hosts = s.contract.deployed.hosts
+
+        h : HostCall
+        h = slice_index_or hosts f host.Get
+
+        none_there : height s.view.entries ≡ 0
+        none_there = ap (λ v. height v.entries) view
+
+        no_values : length s.view.stack ≡ 0
+        no_values = ap (λ v. length v.stack) view
+
+        by_test : (b : Bool) → nat_lt f (length hosts) ≡ b → length hosts ≤ f
+        by_test true e = absurd (omega (arith, host_room s f calls h (read_at hosts f host.Get (ltb-true _ _ e)) (ltb-true _ _ e), some_params h, none_there, no_values))
+        by_test false e = ltb-false _ _ e
+
+    -- what a machine is before its first turn
+    pub start_of : (t : Seen) (x : Config) → x ≡ first_of s → IsSame s t → Frees s.contract x (progress t).config → IsAtRest s.contract (progress t).config → GoesOn t.status → IsStartOf s.contracts s.call (progress t)
+    start_of t x e same frees at_rest goes_on = record {
+      contracts = same.contracts;
+      call_is = same.call;
+      trace = same.trace ∙ trace;
+      used = same.used ∙ used;
+      frees = subst (λ (y : Config). Frees t.contract y (progress t).config) (e ∙ firsts) (subst (λ (k : Contract). Frees k x (progress t).config) (sym same.contract) frees);
+      at_rest = subst (λ (k : Contract). IsAtRest k (progress t).config) (sym same.contract) at_rest;
+      goes_on = goes_on;
     }
       where
-        firsts : calling s.view s.func ≡ first t.contract t.func t.call.args
-        firsts = same ∙ ap (λ k. first k s.func s.call.args) (sym started.same.contract) ∙ ap (λ f. first t.contract f s.call.args) (sym started.same.func) ∙ ap (λ (k : ContractCall). first t.contract t.func k.args) (sym b)
+        firsts : first_of s ≡ first t.contract t.func t.call.args
+        firsts = ap (λ k. first k s.func s.call.args) (sym same.contract) ∙ ap (λ f. first t.contract f s.call.args) (sym same.func) ∙ ap (λ (k : ContractCall). first t.contract t.func k.args) (sym same.call)
 
-pub first_is : (s : Seen) → module_runs s.contract.deployed.tree ≡ true → (stack : List Value) → stack ≡ s.call.args → s.view ≡ mk (fresh s.contract.deployed.tree) [] stack [] [] → calling s.view s.func ≡ first_of s
-first_is s runs stack es ev =
-    ap (λ v. calling v s.func) ev
-    ∙ ap (λ q. Running (fresh s.contract.deployed.tree) q) (ap (λ vs. put vs (Invoke s.func End)) es ∙ put_is s.call.args (Invoke s.func End) ∙ sym (no_start s.contract.deployed.tree.start (arguments s.call.args (Invoke s.func End)) (left _ _ runs)))
+    -- with no start function the entry is entered, and what is at its end is left
+    module _ (opens : opening s.contracts s.call ≡ Opens s.contract s.func) (safe : IsSafe s.contract (first_of s) s.call.fuel) (none : m.start ≡ None) (running : s.status ≡ status.Running)
+        (w : View) (rest : Seq) (frees : Frees s.contract (with_tail s.tail (config s.view)) (with_tail rest (config w))) (ordered : IsOrdered w) (ready : IsReady w) (last : w.code ≡ [] → rest ≡ End) where
+      abbrev entered_seen : Seen
+      entered_seen = record s { view = w; tail = rest }
+
+      come : Reached s.contract (first_of s) s.call.fuel s.trace s.used (with_tail rest (config w))
+      come = reached_by_frees _ _ _ _ _ _ _ (reached_first _ (opens_without none)) (omega (arith, used)) frees
+
+      rests : IsAtRest s.contract (with_tail rest (config w))
+      rests = at_rest s.contract w rest (record { not_stuck = λ h. safe _ _ _ _ come (stuck_joined rest s.contract (state w) (sequence w) h) }) ready last
+
+      pub machine_entered : IsMachine entered_seen
+      machine_entered = record {
+        opens = opens;
+        safe = safe;
+        at = subst (IsAt entered_seen) (sym running) (let now : IsLive entered_seen = record { reached = come; ordered = ordered; ready = ready; last = last; within = omega (arith, used) } in now);
+      }
+
+      pub has_entered : HasBegun s turn.Stepped entered_seen
+      has_entered = subst (λ (x : Status). IsStartOf s.contracts s.call (progress (on entered_seen x))) (sym running)
+          (start_of (on entered_seen status.Running) _ (opens_without none) (record { contracts = refl; call = refl; contract = refl; func = refl; trace = refl; used = refl }) frees rests tt)
+
+    -- the start function is called
+    pub has_started : (f : ℕ) → m.start ≡ Some f → (a : Turn) (t : Seen) → HasStarted s f a t → HasBegun s a t
+    has_started f e turn.Stepped t h = start_of t _ (opens_with f e) h.same h.frees h.at_rest h.goes_on
+    has_started f e (turn.Host op) t h = h
+    has_started f e turn.NoMemory t h = h
+    has_started f e (turn.Done o) t h = h
 
 abbrev pub at_number : {A : Type 0} → ℕ → in_memory.Module A → List HostCall → Contract
 at_number n m hosts = record { number = n; deployed = record { tree = module_view m; hosts = hosts } }

@@ -5,7 +5,7 @@ use Rattle.std.proofs.lemmas.Bool.{leb-true, le-leb}
 use Rattle.std.proofs.lemmas.List.{length-take, length-drop, take-append-drop, take-append-le, drop-append-le}
 use Rattle.std.proofs.Math.Seq.{take-append_seam, drop-append-add}
 use Rattle.wtypes.specs.declared.Value.{Value}
-use Rattle.interp.specs.Meaning.{Item, Scope, Block, Loop, Frame, Open, View, config, state, listed, put, outer, behind, continuation, height, around, whole, frames, deeper, outermost, at, Stands, EachRun, Begins, OnlyRun, IsOrdered}
+use Rattle.interp.specs.Meaning.{Item, Scope, Block, Loop, Frame, Open, View, config, state, listed, put, outer, behind, continuation, height, around, whole, frames, deeper, outermost, at, Stands, EachBegins, Begins, IsOrdered}
 use Rattle.interp.specs.Branches.{in_call, from_call, IsTarget, IsJump}
 use Rattle.interp.specs.Plain.{onto}
 use Rattle.interp.proofs.Context.{values_onto, lift, lift_goes, lift_stuck, through, reduce_put}
@@ -24,7 +24,7 @@ record Climbed (s : State) (es : List Open) (stack locals : List Value) (target 
   outside : List Open
   there : target ≡ entry ∷ outside
   stands : Stands (entry ∷ outside) (length stack)
-  each : EachRun (entry ∷ outside)
+  each : EachBegins (entry ∷ outside)
   lower : entry.height ≤ height es
   same : lift s es (take (height es) stack) locals before ≡ lift s (entry ∷ outside) (take entry.height stack) locals after
   same_locals : outermost es locals ≡ outermost (entry ∷ outside) locals
@@ -54,7 +54,7 @@ climb_out s e es stack locals target before between after h eo ed et f rec =
       same_frames = ed ∙ up.same_frames;
     }
 
-climb : (l : ℕ) (s : State) (es : List Open) (stack locals vs : List Value) (charge : ℕ) → Stands es (length stack) → EachRun es →
+climb : (l : ℕ) (s : State) (es : List Open) (stack locals vs : List Value) (charge : ℕ) → Stands es (length stack) → EachBegins es →
     (IsStuck (lift s es (take (height es) stack) locals (Branches charge l vs)) → ⊥) → Climbed s es stack locals (drop l es) (Branches charge l vs) (Branches charge 0 vs)
 climb zero s [] stack locals vs charge h r f = absurd (f tt)
 climb zero s (e ∷ es) stack locals vs charge h r f = record { entry = e; outside = es; there = refl; stands = h; each = r; lower = omega arith; same = refl; same_locals = refl; same_frames = refl }
@@ -73,7 +73,7 @@ climb (suc l) s (e ∷ es) stack locals vs charge h r f = by_scope (λ g. climb 
         absurd (f (subst IsStuck (sym (ap (λ k. lift s es (take (height es) (take e.height stack)) (outer k locals) (through s k e.ordinal e.arity e.from locals (drop (height es) (take e.height stack)) (Branches charge (suc l) vs))) ek
         ∙ lift_stuck s es (take (height es) (take e.height stack)) saved)) tt))
 
-climb_call : (s : State) (es : List Open) (stack locals vs : List Value) (charge : ℕ) → Stands es (length stack) → EachRun es →
+climb_call : (s : State) (es : List Open) (stack locals vs : List Value) (charge : ℕ) → Stands es (length stack) → EachBegins es →
     (IsStuck (lift s es (take (height es) stack) locals (Returns charge vs)) → ⊥) → Climbed s es stack locals (in_call es) (Returns charge vs) (Returns charge vs)
 climb_call s [] stack locals vs charge h r f = absurd (f tt)
 climb_call s (e ∷ es) stack locals vs charge h r f = by_scope (λ g. climb_call s es stack locals vs charge (Stands-le es _ _ h.0 h.1) r.1 g) e.scope refl
@@ -237,7 +237,7 @@ land d b x seq Loop o a is es low locals xs charge le begins fine e = land_label
 land d b x seq (Frame f saved) o a is es low locals xs charge le begins fine e = land_frame d b a es low xs charge le f saved locals (listed is End) x seq fine e
 
 -- what was landed at is the configuration of a jump
-module _ (v : View) (stands : Stands v.entries (length v.stack)) (e : Open) (outside : List Open) (lower : e.height ≤ height v.entries) (entry_stands : Stands (e ∷ outside) (length v.stack)) (each : EachRun (e ∷ outside)) where
+module _ (v : View) (stands : Stands v.entries (length v.stack)) (e : Open) (outside : List Open) (lower : e.height ≤ height v.entries) (entry_stands : Stands (e ∷ outside) (length v.stack)) (each : EachBegins (e ∷ outside)) where
   abbrev above_it : List Value
   above_it = drop (height v.entries) v.stack
 
@@ -287,8 +287,7 @@ module _ (v : View) (stands : Stands v.entries (length v.stack)) (e : Open) (out
       jump_ordered = record {
         stands = subst (λ (es : List Open). Stands es (length w.stack)) (sym same_outside)
             (Stands-le outside e.height _ (let h = entry_stands.0 in omega (arith, ap length stack_is, length-append low (drop (length above_it - e.arity) above_it), length-take e.height v.stack)) entry_stands.1);
-        runs = subst OnlyRun (sym code_is) each.0.0;
-        each = subst EachRun (sym same_outside) each.1;
+        each = subst EachBegins (sym same_outside) each.1;
       }
 
 -- a branch is to come in the innermost sequence
@@ -307,7 +306,7 @@ module _ (d : Contract) (v : View) (charge l : ℕ) (x : Seq) (ordered : IsOrder
   low_of = take up.entry.height v.stack
 
   landing : (up.entry.arity ≤ length values_above) × Lands d (Running (state v) (whole v.entries v.stack v.locals x)) charge (landed v.base up.entry.scope up.entry.from up.outside (low_of ++ drop (length values_above - up.entry.arity) values_above) v.locals)
-  landing = land d v.base _ _ up.entry.scope up.entry.ordinal up.entry.arity up.entry.from up.outside low_of v.locals values_above charge (low_fits v ordered.stands up.entry up.outside up.lower up.stands up.each) up.each.0.1 fine (step ∙ up.same)
+  landing = land d v.base _ _ up.entry.scope up.entry.ordinal up.entry.arity up.entry.from up.outside low_of v.locals values_above charge (low_fits v ordered.stands up.entry up.outside up.lower up.stands up.each) up.each.0 fine (step ∙ up.same)
 
   pub branch_target : IsTarget v.entries v.stack (drop l v.entries)
   branch_target = record {

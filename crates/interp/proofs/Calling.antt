@@ -17,7 +17,7 @@ use Rattle.spec_execution.specs.Configuration.{Deployed, Contract, Function, Def
 use Rattle.spec_execution.specs.Configuration as cfg
 use Rattle.spec_execution.specs.Reduction.{Next, Goes, Traps, Stuck, reduce, found, with_values, invoke, zero_of}
 use Rattle.spec_execution.specs.Run.{Reduces}
-use Rattle.interp.specs.Meaning.{Item, Scope, Begins, Frame, Open, listed, numbered, item, outer, height, frames, outermost, at, state, whole, Stands, View, config, calling, IsOrdered, IsFineCall, OnlyRun, EachRun}
+use Rattle.interp.specs.Meaning.{Item, Scope, Begins, Frame, Open, listed, numbered, item, outer, height, frames, outermost, at, state, whole, Stands, View, config, calling, IsOrdered, IsFineCall, EachBegins}
 use Rattle.interp.specs.Calls.{HasEntered}
 use Rattle.interp.specs.Plain.{onto}
 use Rattle.interp.proofs.Context.{values_onto}
@@ -31,7 +31,7 @@ slice_get-map f (x ∷ xs) zero = refl
 slice_get-map f (x ∷ xs) (suc n) = slice_get-map f xs n
 
 -- the function behind the imports
-function_is : {A : Type 0} (m : Module A) (hosts : List HostCall) (f : ℕ) (o : Option (Func A)) → length hosts ≤ f → slice_get m.funcs.items (f - length hosts) ≡ o →
+pub function_is : {A : Type 0} (m : Module A) (hosts : List HostCall) (f : ℕ) (o : Option (Func A)) → length hosts ≤ f → slice_get m.funcs.items (f - length hosts) ≡ o →
     function_at (record { tree = module_view m; hosts = hosts }) f ≡ option_and_then (λ g. option_map (λ t. Defined (func_type_view t) (func_view g)) (slice_get m.types.items g.type_index)) o
 function_is {A} m hosts f o le e =
     ap (λ b. if b then option_map Hosted (slice_get hosts f) else option_and_then (defined (module_view m)) (slice_get (map func_view m.funcs.items) (f - length hosts))) (le-ltb f (length hosts) le)
@@ -113,13 +113,13 @@ module _ (c : Contract) (b : State) (es : List Open) (kept args locals : List Va
       (call_local ∙ ap (λ x. if x then Goes 0 (at b locals) (values (onto (drop (height es) kept) []) made) else Traps 0 CallDepth) (le-ltb (frames es 0) 256 deep))
 
   pub started : (e : Open) (body : List Item) (locals' : List Value) → frames es 0 < 256 → e.scope ≡ Frame f locals → e.arity ≡ length t.results → e.height ≡ length kept → e.from ≡ is →
-      body ≡ numbered 0 g.body → locals' ≡ args ++ map zero_of g.locals → OnlyRun body → OnlyRun is → EachRun es → HasEntered c (mk b es (kept ++ args) locals is) f (mk b (e ∷ es) kept locals' body)
-  started e body locals' shallow ek ea eh ef eb el runs behind each = record {
+      body ≡ numbered 0 g.body → locals' ≡ args ++ map zero_of g.locals → EachBegins es → HasEntered c (mk b es (kept ++ args) locals is) f (mk b (e ∷ es) kept locals' body)
+  started e body locals' shallow ek ea eh ef eb el each = record {
     reduces = subst (λ (x : Config). Reduces c (calling (mk b es (kept ++ args) locals is) f) 0 x) (sym same)
         (local c b b es (kept ++ args) kept locals locals 0 _ _ (sym (take-append-le (height es) kept args (height-le es _ stands)))
         (call_local ∙ ap (λ x. if x then Goes 0 (at b locals) (values (onto (drop (height es) kept) []) made) else Traps 0 CallDepth) (lt-ltb (frames es 0) 256 shallow)
         ∙ ap (Goes 0 (at b locals)) (values_onto (drop (height es) kept) [] made)));
-    ordered = record { stands = (omega arith, subst (λ n. Stands es n) (sym eh) stands); runs = runs; each = ((subst OnlyRun (sym ef) behind, subst (λ (k : Scope). Begins k e.ordinal e.from) (sym ek) tt), each) };
+    ordered = record { stands = (omega arith, subst (λ n. Stands es n) (sym eh) stands); each = (subst (λ (k : Scope). Begins k e.ordinal e.from) (sym ek) tt, each) };
   }
     where
       same_outer : outer e.scope locals' ≡ locals
@@ -161,15 +161,15 @@ module _ {A : Type 0} (m : Module A) (hosts : List HostCall) (number : ℕ) (v :
   too_deep_view deep = subst (λ (u : View). Reduces d (calling u f) 0 (Trap (state u) CallDepth)) whole_stack
       (too_deep d v.base v.entries (take cut v.stack) (drop cut v.stack) v.locals v.code f (func_type_view t) (func_view g) stands_cut (call_is m hosts number v f fine le g t eg et) args_fit deep)
 
-  pub started_view : (w : View) (e : Open) → frames v.entries 0 < 256 → w.base ≡ v.base → w.entries ≡ e ∷ v.entries → w.stack ≡ take cut v.stack → w.code ≡ numbered 0 (func_view g).body → OnlyRun w.code →
+  pub started_view : (w : View) (e : Open) → frames v.entries 0 < 256 → w.base ≡ v.base → w.entries ≡ e ∷ v.entries → w.stack ≡ take cut v.stack → w.code ≡ numbered 0 (func_view g).body →
       w.locals ≡ drop cut v.stack ++ map zero_of g.locals.items → e.scope ≡ Frame f v.locals → e.arity ≡ length t.results.items → e.height ≡ cut → e.from ≡ v.code → HasEntered d v f w
-  started_view w e shallow ebase ee es ej runs el ek ea eh ef =
+  started_view w e shallow ebase ee es ej el ek ea eh ef =
       subst (λ (u : View). HasEntered d u f w) whole_stack
       (subst (λ (x : State). HasEntered d u0 f (record w { base = x })) (sym ebase)
       (subst (λ (x : List Open). HasEntered d u0 f (mk v.base x w.stack w.locals w.code)) (sym ee)
       (subst (λ (x : List Value). HasEntered d u0 f (mk v.base (e ∷ v.entries) x w.locals w.code)) (sym es)
       (started d v.base v.entries (take cut v.stack) (drop cut v.stack) v.locals v.code f (func_type_view t) (func_view g) stands_cut (call_is m hosts number v f fine le g t eg et) args_fit
-      e w.code w.locals shallow ek ea (eh ∙ (omega (arith, length-take cut v.stack))) ef ej el runs o.runs o.each))))
+      e w.code w.locals shallow ek ea (eh ∙ (omega (arith, length-take cut v.stack))) ef ej el o.each))))
     where
       u0 : View
       u0 = mk v.base v.entries (take cut v.stack ++ drop cut v.stack) v.locals v.code

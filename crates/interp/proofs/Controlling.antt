@@ -15,7 +15,7 @@ use Rattle.spec_execution.specs.Reduction.{Next, Goes, Branches, Returns, reduce
 use Rattle.spec_execution.specs.Run.{Reduces}
 use Rattle.spec_execution.specs.Turns.{Frees, none, one_more}
 use Rattle.interp.specs.Forms.{HasOne}
-use Rattle.interp.specs.Meaning.{Item, Scope, Block, Loop, Open, View, listed, numbered, put, item, outer, height, frames, outermost, at, whole, state, config, Stands, Begins, OnlyRun, IsOrdered, IsSafeAt, Charged}
+use Rattle.interp.specs.Meaning.{Item, Scope, Block, Loop, Open, View, listed, numbered, put, item, outer, height, frames, outermost, at, whole, state, config, Stands, Begins, IsOrdered, IsSafeAt, Charged}
 use Rattle.interp.specs.Plain.{onto}
 use Rattle.interp.specs.Branches.{in_call, IsTarget, IsJump}
 use Rattle.interp.proofs.Context.{values_onto}
@@ -85,7 +85,7 @@ module _ (c : Contract) (v : View) (safe : IsSafeAt c v) (ordered : IsOrdered v)
 
   -- ---- a branch that is free
 
-  module _ (kept : List Value) (stands : Stands v.entries (length kept)) (runs : OnlyRun is) (l : ℕ) (one : Reduces c (config v) 1 (Running (state v) (whole v.entries kept v.locals (Free (Plain (Br l)) (listed is End))))) where
+  module _ (kept : List Value) (stands : Stands v.entries (length kept)) (l : ℕ) (one : Reduces c (config v) 1 (Running (state v) (whole v.entries kept v.locals (Free (Plain (Br l)) (listed is End))))) where
     abbrev pub freed : View
     freed = record v { stack = kept; code = is }
 
@@ -93,7 +93,7 @@ module _ (c : Contract) (v : View) (safe : IsSafeAt c v) (ordered : IsOrdered v)
     branching = Free (Plain (Br l)) (listed is End)
 
     freed_ordered : IsOrdered freed
-    freed_ordered = record { stands = stands; runs = runs; each = ordered.each }
+    freed_ordered = record { stands = stands; each = ordered.each }
 
     branches_free : reduce c (frames v.entries 0) (at v.base v.locals) (onto (drop (height v.entries) kept) []) branching ≡ Branches 0 l (onto (drop (height v.entries) kept) [])
     unfolding reduce execute execute_plain
@@ -120,7 +120,7 @@ module _ (c : Contract) (v : View) (safe : IsSafeAt c v) (ordered : IsOrdered v)
     pub br_if_choice : (height v.entries + 1 ≤ length v.stack) × HasOne I32 v.stack
     br_if_choice = choice_there if_goes if_asks
 
-    module _ (kept : List Value) (a : Value) (before : v.stack ≡ kept ++ a ∷ []) (typed : type_of a ≡ I32) (stands : Stands v.entries (length kept)) (runs : OnlyRun is) where
+    module _ (kept : List Value) (a : Value) (before : v.stack ≡ kept ++ a ∷ []) (typed : type_of a ≡ I32) (stands : Stands v.entries (length kept)) where
       stays : bits_of a ≡ 0 → Reduces c (config v) 1 (Running (state v) (whole v.entries kept v.locals (listed is End)))
       stays z = choice_goes if_goes if_asks kept a before typed stands (listed is End) (ap (λ b. Goes 1 (at v.base v.locals) (values (onto (drop (height v.entries) kept) []) (if b then listed is End else Free (Plain (Br l)) (listed is End)))) (eq-eqb (bits_of a) 0 z))
 
@@ -130,7 +130,7 @@ module _ (c : Contract) (v : View) (safe : IsSafeAt c v) (ordered : IsOrdered v)
       pub br_if_stays : bits_of a ≡ 0 → (w : View) → w.base ≡ v.base → w.entries ≡ v.entries → w.stack ≡ kept → w.locals ≡ v.locals → w.code ≡ is → Charged c v w
       br_if_stays z w eb ee est el ec =
           subst (λ (x : View). Charged c v x) (sym (view_is w v.base v.entries kept v.locals is eb ee est el ec))
-          (record { middle = _; reduces = stays z; frees = none _; ordered = record { stands = stands; runs = runs; each = ordered.each } })
+          (record { middle = _; reduces = stays z; frees = none _; ordered = record { stands = stands; each = ordered.each } })
 
   -- ---- br_table
 
@@ -154,7 +154,7 @@ module _ (c : Contract) (v : View) (safe : IsSafeAt c v) (ordered : IsOrdered v)
   abbrev label_inside : Scope → ℕ → List Item → List Item → Seq
   label_inside k a from js = item k n a from v.locals (listed js End)
 
-  module _ (k : Scope) (a : ℕ) (from js : List Item) (kept : List Value) (stands : Stands v.entries (length kept)) (same_outer : outer k v.locals ≡ v.locals) (runs : OnlyRun js) (from_runs : OnlyRun from) (begins : Begins k n from)
+  module _ (k : Scope) (a : ℕ) (from js : List Item) (kept : List Value) (stands : Stands v.entries (length kept)) (same_outer : outer k v.locals ≡ v.locals) (begins : Begins k n from)
       (one : Reduces c (config v) 1 (Running (state v) (whole v.entries kept v.locals (label_inside k a from js)))) where
     abbrev opened_entry : Open
     opened_entry = record { scope = k; ordinal = n; arity = a; height = length kept; from = from }
@@ -170,7 +170,7 @@ module _ (c : Contract) (v : View) (safe : IsSafeAt c v) (ordered : IsOrdered v)
           middle = Running (state v) (whole v.entries kept v.locals (label_inside k a from js));
           reduces = one;
           frees = subst (λ (x : Config). Frees c (Running (state v) (whole v.entries kept v.locals (label_inside k a from js))) x) (sym opened_config) (none _);
-          ordered = record { stands = (omega arith, stands); runs = runs; each = ((from_runs, begins), ordered.each) };
+          ordered = record { stands = (omega arith, stands); each = (begins, ordered.each) };
         })
 
   module _ (t : Option ValType) (body : Instrs) (js : List Item) (js_are : js ≡ numbered (n + 1) body) where
@@ -232,8 +232,8 @@ module _ (c : Contract) (v : View) (safe : IsSafeAt c v) (ordered : IsOrdered v)
       pub global_there : x < length v.base.globals
       global_there = within v.base.globals x (λ e. fine_at c v.base v.entries v.stack v.locals (listed v.code End) safe.fine.not_stuck (get_is ∙ ap (λ o. found o (λ a. Goes 1 (at v.base v.locals) (values (onto (drop (height v.entries) v.stack) []) (Val a (listed is End))))) e))
 
-      pub global_got : (a : Value) → slice_get v.base.globals x ≡ Some a → OnlyRun is → (w : View) → w.base ≡ v.base → w.entries ≡ v.entries → w.stack ≡ v.stack ++ a ∷ [] → w.locals ≡ v.locals → w.code ≡ is → Charged c v w
-      global_got a there runs w eb ee est el ec =
+      pub global_got : (a : Value) → slice_get v.base.globals x ≡ Some a → (w : View) → w.base ≡ v.base → w.entries ≡ v.entries → w.stack ≡ v.stack ++ a ∷ [] → w.locals ≡ v.locals → w.code ≡ is → Charged c v w
+      global_got a there w eb ee est el ec =
           subst (λ (x : View). Charged c v x) (sym (view_is w v.base v.entries (v.stack ++ a ∷ []) v.locals is eb ee est el ec)) (record {
             middle = _;
             reduces = local c v.base v.base v.entries v.stack (v.stack ++ a ∷ []) v.locals v.locals 1 (listed v.code End) (listed is End) (take_push v.entries v.stack (a ∷ []) ordered.stands)
@@ -241,7 +241,7 @@ module _ (c : Contract) (v : View) (safe : IsSafeAt c v) (ordered : IsOrdered v)
                 ∙ ap (Goes 1 (at v.base v.locals)) (values_onto (drop (height v.entries) v.stack) [] (Val a (listed is End)) ∙ sym (put-append (drop (height v.entries) v.stack) (a ∷ []) (listed is End))
                 ∙ ap (λ vs. put vs (listed is End)) (sym (drop_push v.entries v.stack (a ∷ []) ordered.stands))));
             frees = none _;
-            ordered = record { stands = Stands_push v.entries v.stack (a ∷ []) ordered.stands; runs = runs; each = ordered.each };
+            ordered = record { stands = Stands_push v.entries v.stack (a ∷ []) ordered.stands; each = ordered.each };
           })
 
     abbrev sets : List Value → Next
@@ -261,9 +261,9 @@ module _ (c : Contract) (v : View) (safe : IsSafeAt c v) (ordered : IsOrdered v)
         within v.base.globals x (λ e. set_value.more (ap (λ o. found o (λ old. Goes 1 (at (record v.base { globals = slice_set v.base.globals x set_value.value }) v.locals) (values set_value.below (listed is End)))) e)),
       )
 
-      pub global_was_set : (kept : List Value) (a old : Value) → v.stack ≡ kept ++ a ∷ [] → slice_get v.base.globals x ≡ Some old → OnlyRun is →
+      pub global_was_set : (kept : List Value) (a old : Value) → v.stack ≡ kept ++ a ∷ [] → slice_get v.base.globals x ≡ Some old →
           (w : View) → w.base ≡ record v.base { globals = slice_set v.base.globals x a } → w.entries ≡ v.entries → w.stack ≡ kept → w.locals ≡ v.locals → w.code ≡ is → Charged c v w
-      global_was_set kept a old before there runs w eb ee est el ec =
+      global_was_set kept a old before there w eb ee est el ec =
           let stands : Stands v.entries (length kept) = Stands_at v.entries (length v.stack) (length kept) (omega (arith, set_there.0, ap length before, length-append kept (a ∷ []))) ordered.stands in
           let b' : State = record v.base { globals = slice_set v.base.globals x a } in
           subst (λ (x : View). Charged c v x) (sym (view_is w b' v.entries kept v.locals is eb ee est el ec)) (record {
@@ -273,5 +273,5 @@ module _ (c : Contract) (v : View) (safe : IsSafeAt c v) (ordered : IsOrdered v)
                 ∙ ap (λ o. found o (λ old. Goes 1 (at b' v.locals) (values (onto (drop (height v.entries) kept) []) (listed is End)))) there
                 ∙ ap (Goes 1 (at b' v.locals)) (values_onto (drop (height v.entries) kept) [] (listed is End)));
             frees = none _;
-            ordered = record { stands = stands; runs = runs; each = ordered.each };
+            ordered = record { stands = stands; each = ordered.each };
           })

@@ -1,19 +1,32 @@
 -- What callers are told of a machine.
-use Rattle.std.proofs.Common.{refl}
+use Rattle.std.proofs.Common.{refl, [], ap, ◌∙◌}
+use Rattle.spec_execution.specs.Reduction.{reduce}
 use Rattle.spec_execution.specs.Run.{trapped}
 use Rattle.interp.specs.declared.turns.Status.{Status}
 use Rattle.interp.specs.declared.turns.Status.TheVariants as status
-use Rattle.interp.specs.Meaning.{state, invoking}
+use Rattle.interp.specs.Meaning.{state, sequence, invoking}
 use Rattle.interp.specs.Progress.{IsProgress, IsProgressAt}
 use Rattle.interp.specs.Machine.{Seen, on, progress, IsAt, IsMachine, going_on}
-use Rattle.interp.proofs.Rest.{at_rest}
+use Rattle.interp.specs.Tails.{joined, joined_next}
+use Rattle.interp.proofs.Joining.{reduce_joined, stuck_joined, at_rest}
 
 pub progress_of : (s : Seen) → IsMachine s → IsProgress (progress s)
 progress_of s m = record { at = by s.status m.at }
   where
     by : (x : Status) → IsAt s x → IsProgressAt (progress (on s x)) x
-    by status.Running live = record { opens = m.opens; reached = live.reached; within = live.within; is_as = at_rest s.contract s.view live.ordered (record { not_stuck = m.safe _ _ _ _ live.reached }) live.ready }
+    by status.Running live = record { opens = m.opens; reached = live.reached; within = live.within; is_as = at_rest s.contract s.view s.tail (record { not_stuck = λ h. m.safe _ _ _ _ live.reached (stuck_joined s.tail s.contract (state s.view) (sequence s.view) h) }) live.ready live.last }
     by (status.Fallen t) fallen = record { opens = m.opens; reached = fallen.reached; within = fallen.within; is_as = trapped s.used (state s.view) t }
-    by (status.Asking op) waits = record { opens = m.opens; reached = waits.reached; within = waits.within; is_as = record { state = state s.view; seq = invoking s.view s.asked; go = going_on s.view op; is = refl; asks = waits.asks } }
+    by (status.Asking op) waits = record {
+      opens = m.opens;
+      reached = waits.reached;
+      within = waits.within;
+      is_as = record {
+        state = state s.view;
+        seq = joined (invoking s.view s.asked) s.tail;
+        go = λ r. joined (going_on s.view op r) s.tail;
+        is = refl;
+        asks = reduce_joined s.tail s.contract 0 (state s.view) [] (invoking s.view s.asked) ∙ ap (joined_next s.tail (λ ws. reduce s.contract 0 (state s.view) ws s.tail)) waits.asks;
+      };
+    }
     by (status.Ended o) over = record { opens = m.opens; reached = over.reached; within = over.within; is_as = over.ends }
     by status.NoMemory none = tt

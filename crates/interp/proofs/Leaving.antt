@@ -4,7 +4,7 @@ use Rattle.std.proofs.lemmas.List.{take-append-le, drop-append-le, take-append-d
 use Rattle.std.proofs.Math.Seq.{drop-length, take-length}
 use Rattle.wtypes.specs.declared.Value.{Value}
 use Rattle.spec_syntax.specs.Syntax.{nothing}
-use Rattle.interp.specs.Meaning.{Item, Scope, Block, Loop, Frame, Open, listed, put, item, outer, behind, continuation, height, around, frames, outermost, at, whole, Stands, View, config, IsOrdered, Settles, OnlyRun, EachRun}
+use Rattle.interp.specs.Meaning.{Item, Scope, Block, Loop, Frame, Open, listed, put, item, outer, behind, continuation, height, around, frames, outermost, at, whole, Stands, View, config, IsOrdered, Settles, EachBegins}
 use Rattle.interp.specs.Plain.{onto}
 use Rattle.interp.proofs.Context.{values_onto, reduce_put}
 use Rattle.interp.proofs.Charging.{mk, around_goes, put-append, height-le, Stands-le}
@@ -66,14 +66,7 @@ leaving k b es (Frame f saved) o a is below xs ys locals =
     after : Seq
     after = listed (behind (Frame f saved) is) End
 
-behind_runs : (s : Scope) (is : List Item) → OnlyRun is → OnlyRun (behind s is)
-behind_runs Loop (i ∷ is) h = h.1
-behind_runs Loop [] h = tt
-behind_runs Block is h = h
-behind_runs (Frame f saved) is h = h
-
--- the innermost is left at the end of its code
-pub settles : (k : Contract) (b : State) (es : List Open) (e : Open) (stack locals : List Value) → Stands (e ∷ es) (length stack) → EachRun (e ∷ es) →
+pub settles : (k : Contract) (b : State) (es : List Open) (e : Open) (stack locals : List Value) → Stands (e ∷ es) (length stack) → EachBegins (e ∷ es) →
     Settles k (mk b (e ∷ es) stack locals []) (mk b es stack (outer e.scope locals) (behind e.scope e.from))
 settles k b es e stack locals h r =
     let le : height es ≤ e.height = height-le es _ h.1 in
@@ -82,7 +75,7 @@ settles k b es e stack locals h r =
           (ap (λ z. around es z (outer e.scope locals) (put (drop (height es) (take e.height stack) ++ drop e.height stack) (listed (behind e.scope e.from) End))) (take_take (height es) e.height stack le h.0)
           ∙ ap (λ vs. around es (take (height es) stack) (outer e.scope locals) (put vs (listed (behind e.scope e.from) End))) (drop_take (height es) e.height stack le h.0))
           (leaving k b es e.scope e.ordinal e.arity e.from (take (height es) (take e.height stack)) (drop (height es) (take e.height stack)) (drop e.height stack) locals);
-      ordered = record { stands = Stands-le es e.height (length stack) h.0 h.1; runs = behind_runs e.scope e.from r.0.0; each = r.1 };
+      ordered = record { stands = Stands-le es e.height (length stack) h.0 h.1; each = r.1 };
     }
 
 -- the same, where the views are given by their fields
@@ -95,4 +88,4 @@ settles_view k v w e s o at_end opens es eb est el ec =
     (subst (λ (x : List Value). Settles k v (mk v.base w.entries v.stack x (behind e.scope e.from))) (sym (el ∙ ap (λ s. outer s v.locals) (sym es)))
     (subst (λ (x : List Open). Settles k (record v { entries = x }) (mk v.base w.entries v.stack (outer e.scope v.locals) (behind e.scope e.from))) (sym opens)
     (subst (λ (x : List Item). Settles k (record v { entries = e ∷ w.entries; code = x }) (mk v.base w.entries v.stack (outer e.scope v.locals) (behind e.scope e.from))) (sym at_end)
-    (settles k v.base w.entries e v.stack v.locals (subst (λ (x : List Open). Stands x (length v.stack)) opens o.stands) (subst EachRun opens o.each)))))))
+    (settles k v.base w.entries e v.stack v.locals (subst (λ (x : List Open). Stands x (length v.stack)) opens o.stands) (subst EachBegins opens o.each)))))))

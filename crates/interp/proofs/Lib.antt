@@ -10,10 +10,15 @@ pub mod Numbering
 pub mod Turning
 pub mod Asking
 pub mod Going
-pub mod Accepting
 pub mod Opened
 pub mod Beginning
 pub mod Branching
 pub mod Jumping
 pub mod Controlling
 pub mod Reaching
+pub mod Joining
+pub mod Entering
+pub mod Selecting
+pub mod Showing
+pub mod Outlook
+pub mod Copying

@@ -14,10 +14,8 @@ use Rattle.module_tree.specs.declared.module.Func.{Func}
 use Rattle.module_tree.specs.declared.module.Module.{Module}
 use Rattle.module_tree.specs.View.{instr_view, instrs_view, view_step, instr_ordinals, ordinals, ordinals_step}
 use Rattle.module_tree.specs.ModuleView.{func_view, func_ordinals, are_numbered}
-use Rattle.module_tree.specs.Modules.{module_view}
 use Rattle.spec_execution.specs.Configuration.{instr_size}
-use Rattle.interp.specs.Forms.{all_run, func_runs, module_runs}
-use Rattle.interp.specs.Meaning.{Item, numbered, OnlyRun}
+use Rattle.interp.specs.Meaning.{Item, numbered}
 use Rattle.interp.specs.Steps.{AreNumbered}
 use Rattle.interp.specs.Views.{item_of, items_of, ordinal_of, ordinal_step}
 
@@ -73,10 +71,6 @@ loop_view A n t b = search (rules, the_lemmas)
 
 pub if_view : (A : Type 0) (n : ℕ) (t : Option ValType) (a b : Vec (Instr A) A) → instr_view {A = A} (If n t a b) ≡ syntax.If t (instrs_view a.items) (instrs_view b.items)
 if_view A n t a b = search (rules, the_lemmas)
-
-pub items_run : {A : Type 0} (is : List (Instr A)) → all_run (instrs_view is) ≡ true → OnlyRun (items_of is)
-items_run [] r = tt
-items_run (i ∷ is) r = (first _ _ r, items_run is (second _ _ r))
 
 -- ---- the ordinal of an instruction is the first of its ordinals
 
@@ -188,14 +182,8 @@ map_at f [] n x e = absurd (cc)
 map_at f (y ∷ ys) zero x e = ap (λ z. Some (f z)) (let same : y ≡ x = cc in same)
 map_at f (y ∷ ys) (suc n) x e = map_at f ys n x e
 
--- a function of a module of these forms
-module _ {A : Type 0} (m : Module A) (n : ℕ) (g : Func A) (here : slice_get m.funcs.items n ≡ Some g) (runs : module_runs (module_view m) ≡ true) where
-  body_run : all_run (instrs_view g.body.items) ≡ true
-  body_run = all_at func_runs (map func_view m.funcs.items) n (func_view g) (second _ _ runs) (map_at func_view m.funcs.items n g here)
-
-  pub body_runs : OnlyRun (items_of g.body.items)
-  body_runs = items_run g.body.items body_run
-
+-- a function of a module
+module _ {A : Type 0} (m : Module A) (n : ℕ) (g : Func A) (here : slice_get m.funcs.items n ≡ Some g) where
   pub body_counted : are_numbered m.funcs.items m.globals.items m.elements.items m.datas.items ≡ true → AreNumbered g.body.items
   body_counted e = are_numbered_all 0 g.body.items (all_at (counts_from 0) (map func_ordinals m.funcs.items) n (func_ordinals g) (first _ _ e) (map_at func_ordinals m.funcs.items n g here))
 

@@ -1,11 +1,14 @@
 -- With what function a call opens.
-use Rattle.std.proofs.Common.{◌≡◌, ℕ, Bool, true, false, List, Option, Some, None, length, option_map, refl, subst}
+use Rattle.std.proofs.Common.{◌≡◌, ℕ, Bool, true, false, List, Option, Some, None, length, option_map, refl, subst, slice_get, ◌==◌}
 use Rattle.std.specs.Prelude.{if◌then◌else◌, nat_lt}
 use Rattle.wtypes.specs.declared.Value.{Value}
 use Rattle.wtypes.specs.declared.HostCall.{HostCall}
 use Rattle.spec_syntax.specs.Syntax.{ExportDesc, ExportFunc, ExportTable, ExportMemory, ExportGlobal}
 use Rattle.spec_execution.specs.Configuration.{Deployed, Contract, Function, Hosted, Defined, function_at}
-use Rattle.spec_execution.specs.Run.{ContractCall, Opens, Refused, by_wrong, by_function, by_export, by_contract, wrong_argument, exported}
+use Rattle.spec_execution.specs.Run.{ContractCall, opening, Opens, Refused, by_wrong, by_function, by_export, by_contract, wrong_argument, exported}
+use Rattle.spec_syntax.specs.Syntax.{FuncType, Func}
+use Rattle.std.proofs.lemmas.Bool.{eqb-true}
+use Rattle.interp.specs.Waiting.{IsEntry}
 
 wrong_same : (c k : Contract) (f func : ℕ) (o : Option ℕ) → by_wrong c f o ≡ Opens k func → f ≡ func
 wrong_same c k f func None e = cc
@@ -37,3 +40,36 @@ pub entry_defined : (d : Deployed) (call : ContractCall) (k : Contract) (func : 
 entry_defined d call k func e =
     let c : Contract = record { number = call.contract; deployed = d } in
     not_hosted c k func func call.args (nat_lt func (length d.hosts)) _ _ (export_found c k call.args func (exported call.entry d.tree.exports) e)
+
+-- ---- the entry takes the arguments
+
+-- what a call that opens has found
+record IsFound (c k : Contract) (args : List Value) (found : Option Function) : Type 0 where
+  type : FuncType
+  function : Func
+  there : found ≡ Some (Defined type function)
+  fit : length args ≡ length type.params
+  same : c ≡ k
+
+wrong_contract : (c k : Contract) (f func : ℕ) (o : Option ℕ) → by_wrong c f o ≡ Opens k func → c ≡ k
+wrong_contract c k f func None e = cc
+wrong_contract c k f func (Some n) e = absurd (cc)
+
+function_found : (c k : Contract) (f func : ℕ) (args : List Value) (found : Option Function) → by_function c f args found ≡ Opens k func → IsFound c k args found
+function_found c k f func args None e = absurd (cc)
+function_found c k f func args (Some (Hosted h)) e = absurd (cc)
+function_found c k f func args (Some (Defined t g)) e = by_test (length args == length t.params) refl e
+  where
+    by_test : (b : Bool) → (length args == length t.params) ≡ b → (if b then by_wrong c f (wrong_argument t.params args) else Refused 3) ≡ Opens k func → IsFound c k args (Some (Defined t g))
+    by_test true h e = record { type = t; function = g; there = refl; fit = eqb-true _ _ h; same = wrong_contract c k f func _ e }
+    by_test false h e = absurd (cc)
+
+pub opened_entry : (contracts : List Deployed) (call : ContractCall) (k : Contract) (func : ℕ) → opening contracts call ≡ Opens k func → IsEntry k func call.args
+opened_entry contracts call k func e = by_place (slice_get contracts call.contract) e
+  where
+    by_place : (o : Option Deployed) → by_contract call o ≡ Opens k func → IsEntry k func call.args
+    by_place None e = absurd (cc)
+    by_place (Some d) e =
+        let c : Contract = record { number = call.contract; deployed = d } in
+        let f = function_found c k func func call.args (function_at d func) (export_found c k call.args func (exported call.entry d.tree.exports) e) in
+        subst (λ (x : Contract). IsEntry x func call.args) f.same (record { type = f.type; function = f.function; found = f.there; fit = f.fit })

@@ -19,7 +19,7 @@ use Rattle.spec_execution.specs.Reduction.{Next, Goes, Traps, reduce, execute, e
 use Rattle.spec_execution.specs.Run.{Reduces}
 use Rattle.spec_execution.specs.Turns.{none}
 use Rattle.interp.specs.Forms.{HasOne}
-use Rattle.interp.specs.Meaning.{Item, View, listed, put, height, frames, outermost, at, config, Stands, OnlyRun, IsOrdered, IsSafeAt, Charged, ChargedTrap}
+use Rattle.interp.specs.Meaning.{Item, View, listed, put, height, frames, outermost, at, config, Stands, IsOrdered, IsSafeAt, Charged, ChargedTrap}
 use Rattle.interp.specs.Memories.{IsLoaded, IsNotLoaded, DidLoad, HasPlace, DidStore, DidGrow, grows, stays}
 use Rattle.spec_syntax.specs.Profile.{page_size}
 use Rattle.memory.specs.Linear.{Memory}
@@ -101,15 +101,15 @@ module _ (c : Contract) (v : View) (safe : IsSafeAt c v) (ordered : IsOrdered v)
   abbrev under : List Value → List Value
   under kept = onto (drop (height v.entries) kept) []
 
-  gone : (b : State) (kept taken given : List Value) → v.stack ≡ kept ++ taken → Stands v.entries (length kept) → OnlyRun is → within v.stack ≡ Goes 1 (at b v.locals) (values (under kept) (put given (listed is End))) →
+  gone : (b : State) (kept taken given : List Value) → v.stack ≡ kept ++ taken → Stands v.entries (length kept) → within v.stack ≡ Goes 1 (at b v.locals) (values (under kept) (put given (listed is End))) →
       (w : View) → w.base ≡ b → w.entries ≡ v.entries → w.stack ≡ kept ++ given → w.locals ≡ v.locals → w.code ≡ is → Charged c v w
-  gone b kept taken given before stands runs e w eb ee est el ec =
+  gone b kept taken given before stands e w eb ee est el ec =
       subst (λ (x : View). Charged c v x) (sym (view_is w b v.entries (kept ++ given) v.locals is eb ee est el ec)) (record {
         middle = _;
         reduces = local c v.base b v.entries v.stack (kept ++ given) v.locals v.locals 1 (listed v.code End) (listed is End) (take_push v.entries kept given stands ∙ sym (ap (take (height v.entries)) before ∙ take_push v.entries kept taken stands))
             (e ∙ ap (Goes 1 (at b v.locals)) (values_onto (drop (height v.entries) kept) [] (put given (listed is End)) ∙ sym (put-append (drop (height v.entries) kept) given (listed is End)) ∙ ap (λ vs. put vs (listed is End)) (sym (drop_push v.entries kept given stands))));
         frees = none _;
-        ordered = record { stands = Stands_push v.entries kept given stands; runs = runs; each = ordered.each };
+        ordered = record { stands = Stands_push v.entries kept given stands; each = ordered.each };
       })
 
   fallen : (t : TrapCode) → within v.stack ≡ Traps 1 t → (w : View) → w.base ≡ v.base → w.entries ≡ v.entries → w.locals ≡ v.locals → ChargedTrap c v t w
@@ -136,19 +136,19 @@ module _ (c : Contract) (v : View) (safe : IsSafeAt c v) (ordered : IsOrdered v)
         let fits = popped v ordered load_place kept a before in
         load_asks v.stack ∙ ap (λ xs. with_number I32 (under xs) load_goes) before ∙ ap (λ vs. with_number I32 vs load_goes) (onto_top v.entries kept (a ∷ []) fits.1) ∙ number_is I32 a (under kept) load_goes fits.0
 
-    pub load_charged : (stack : List Value) → IsLoaded o offset v.base.memory v.stack stack → OnlyRun is → (w : View) → w.base ≡ v.base → w.entries ≡ v.entries → w.stack ≡ stack → w.locals ≡ v.locals → w.code ≡ is → Charged c v w
-    load_charged stack d runs w eb ee est el ec =
+    pub load_charged : (stack : List Value) → IsLoaded o offset v.base.memory v.stack stack → (w : View) → w.base ≡ v.base → w.entries ≡ v.entries → w.stack ≡ stack → w.locals ≡ v.locals → w.code ≡ is → Charged c v w
+    load_charged stack d w eb ee est el ec =
         let fits = popped v ordered load_place d.kept d.address d.before in
-        gone v.base d.kept (d.address ∷ []) (value_of (load_type o) (extended o d.number) ∷ []) d.before fits.1 runs
+        gone v.base d.kept (d.address ∷ []) (value_of (load_type o) (extended o d.number) ∷ []) d.before fits.1
         (load_is d.kept d.address d.before ∙ loaded_ok s (load_type o) (load_width o) (extended o) (bits_of d.address + offset) (under d.kept) (listed is End) d.number d.there) w eb ee (est ∙ d.after) el ec
 
     pub load_fell : (t : TrapCode) → IsNotLoaded o offset v.base.memory v.stack t → (w : View) → w.base ≡ v.base → w.entries ≡ v.entries → w.locals ≡ v.locals → ChargedTrap c v t w
     load_fell t d w = fallen t (load_is d.kept d.address d.before ∙ loaded_err s (load_type o) (load_width o) (extended o) (bits_of d.address + offset) (under d.kept) (listed is End) t d.out) w
 
-    pub load_led : (a : After) (stack : List Value) → DidLoad o offset v.base.memory v.stack a stack → OnlyRun is → (w : View) → w.base ≡ v.base → w.entries ≡ v.entries → w.stack ≡ stack → w.locals ≡ v.locals → w.code ≡ is → LedView c v a w
-    load_led after.Ran stack d runs w eb ee est el ec = load_charged stack d runs w eb ee est el ec
-    load_led (after.Fell t) stack d runs w eb ee est el ec = load_fell t d w eb ee el
-    load_led (after.Calls f) stack d runs w eb ee est el ec = absurd d
+    pub load_led : (a : After) (stack : List Value) → DidLoad o offset v.base.memory v.stack a stack → (w : View) → w.base ≡ v.base → w.entries ≡ v.entries → w.stack ≡ stack → w.locals ≡ v.locals → w.code ≡ is → LedView c v a w
+    load_led after.Ran stack d w eb ee est el ec = load_charged stack d w eb ee est el ec
+    load_led (after.Fell t) stack d w eb ee est el ec = load_fell t d w eb ee el
+    load_led (after.Calls f) stack d w eb ee est el ec = absurd d
 
   -- ---- store
 
@@ -190,25 +190,25 @@ module _ (c : Contract) (v : View) (safe : IsSafeAt c v) (ordered : IsOrdered v)
           ∙ number_is (store_type o) x (a ∷ under kept) (λ x ws. with_number I32 ws (λ a us. store_goes x a us)) (ap type_of same.1 ∙ p.value_type)
           ∙ number_is I32 a (under kept) (λ a us. store_goes (bits_of x) a us) (ap type_of same.0 ∙ p.address_type)
 
-    pub store_charged : (kept : List Value) (a x : Value) → v.stack ≡ kept ++ a ∷ x ∷ [] → bits_of a + offset + store_width o ≤ length v.base.memory → OnlyRun is → (w : View) →
+    pub store_charged : (kept : List Value) (a x : Value) → v.stack ≡ kept ++ a ∷ x ∷ [] → bits_of a + offset + store_width o ≤ length v.base.memory → (w : View) →
         w.base ≡ record v.base { memory = written (bits_of a + offset) (bytes_of_number (store_width o) (bits_of x)) v.base.memory } → w.entries ≡ v.entries → w.stack ≡ kept → w.locals ≡ v.locals → w.code ≡ is → Charged c v w
-    store_charged kept a x before le runs w eb ee est el ec =
-        gone (record v.base { memory = written (bits_of a + offset) (bytes_of_number (store_width o) (bits_of x)) v.base.memory }) kept (a ∷ x ∷ []) [] before (store_stands kept a x before) runs
+    store_charged kept a x before le w eb ee est el ec =
+        gone (record v.base { memory = written (bits_of a + offset) (bytes_of_number (store_width o) (bits_of x)) v.base.memory }) kept (a ∷ x ∷ []) [] before (store_stands kept a x before)
         (store_is kept a x before ∙ stored_ok s (store_width o) (bits_of a + offset) (bits_of x) (under kept) (listed is End) le) w eb ee (est ∙ sym (append-nil kept)) el ec
 
     pub store_fell : (kept : List Value) (a x : Value) → v.stack ≡ kept ++ a ∷ x ∷ [] → length v.base.memory < bits_of a + offset + store_width o → (w : View) → w.base ≡ v.base → w.entries ≡ v.entries → w.locals ≡ v.locals → ChargedTrap c v MemoryOutOfBounds w
     store_fell kept a x before lt w = fallen MemoryOutOfBounds (store_is kept a x before ∙ stored_out s (store_width o) (bits_of a + offset) (bits_of x) (under kept) (listed is End) lt) w
 
-    pub store_led : (old new : Memory) → v.base.memory ≡ old.bytes → (a : After) (stack : List Value) → DidStore o offset old new v.stack a stack → OnlyRun is → (w : View) →
+    pub store_led : (old new : Memory) → v.base.memory ≡ old.bytes → (a : After) (stack : List Value) → DidStore o offset old new v.stack a stack → (w : View) →
         w.base ≡ record v.base { memory = new.bytes } → w.entries ≡ v.entries → w.stack ≡ stack → w.locals ≡ v.locals → w.code ≡ is → LedView c v a w
-    store_led old new e after.Ran stack d runs w eb ee est el ec =
-        store_charged stack d.address d.value d.before (subst (λ m. bits_of d.address + offset + store_width o ≤ length m) (sym e) d.fits) runs w
+    store_led old new e after.Ran stack d w eb ee est el ec =
+        store_charged stack d.address d.value d.before (subst (λ m. bits_of d.address + offset + store_width o ≤ length m) (sym e) d.fits) w
         (eb ∙ ap (λ (m : Memory). record v.base { memory = m.bytes }) d.after ∙ ap (λ m. record v.base { memory = written (bits_of d.address + offset) (bytes_of_number (store_width o) (bits_of d.value)) m }) (sym e)) ee est el ec
-    store_led old new e (after.Fell t) stack d runs w eb ee est el ec =
+    store_led old new e (after.Fell t) stack d w eb ee est el ec =
         subst (λ t. ChargedTrap c v t w) (sym d.code)
         (store_fell d.kept d.address d.value d.before (subst (λ m. length m < bits_of d.address + offset + store_width o) (sym e) d.out) w
         (eb ∙ ap (λ (m : Memory). record v.base { memory = m.bytes }) d.same ∙ ap (λ m. record v.base { memory = m }) (sym e)) ee el)
-    store_led old new e (after.Calls f) stack d runs w eb ee est el ec = absurd d
+    store_led old new e (after.Calls f) stack d w eb ee est el ec = absurd d
 
   -- ---- memory.size
 
@@ -217,8 +217,8 @@ module _ (c : Contract) (v : View) (safe : IsSafeAt c v) (ordered : IsOrdered v)
     unfolding reduce execute execute_plain
     size_is = ap (λ js. reduce c (frames v.entries 0) s (under v.stack) (listed js End)) here
 
-    pub size_charged : OnlyRun is → (w : View) → w.base ≡ v.base → w.entries ≡ v.entries → w.stack ≡ v.stack ++ value_of I32 (pages v.base.memory) ∷ [] → w.locals ≡ v.locals → w.code ≡ is → Charged c v w
-    size_charged runs = gone v.base v.stack [] (value_of I32 (pages v.base.memory) ∷ []) (sym (append-nil v.stack)) ordered.stands runs size_is
+    pub size_charged : (w : View) → w.base ≡ v.base → w.entries ≡ v.entries → w.stack ≡ v.stack ++ value_of I32 (pages v.base.memory) ∷ [] → w.locals ≡ v.locals → w.code ≡ is → Charged c v w
+    size_charged = gone v.base v.stack [] (value_of I32 (pages v.base.memory) ∷ []) (sym (append-nil v.stack)) ordered.stands size_is
 
   -- ---- memory.grow
 
@@ -238,15 +238,15 @@ module _ (c : Contract) (v : View) (safe : IsSafeAt c v) (ordered : IsOrdered v)
         let fits = popped v ordered grow_place kept a before in
         grow_asks v.stack ∙ ap (λ xs. with_number I32 (under xs) grow_goes) before ∙ ap (λ vs. with_number I32 vs grow_goes) (onto_top v.entries kept (a ∷ []) fits.1) ∙ number_is I32 a (under kept) grow_goes fits.0
 
-    pub grow_charged : (old new : Memory) → v.base.memory ≡ old.bytes → old.max ≡ most_pages c.deployed.tree.memories → (stack : List Value) → DidGrow old new v.stack stack → OnlyRun is → (w : View) →
+    pub grow_charged : (old new : Memory) → v.base.memory ≡ old.bytes → old.max ≡ most_pages c.deployed.tree.memories → (stack : List Value) → DidGrow old new v.stack stack → (w : View) →
         w.base ≡ record v.base { memory = new.bytes } → w.entries ≡ v.entries → w.stack ≡ stack → w.locals ≡ v.locals → w.code ≡ is → Charged c v w
-    grow_charged old new e most stack (grows d) runs w eb ee est el ec =
+    grow_charged old new e most stack (grows d) w eb ee est el ec =
         let le : pages v.base.memory + bits_of d.delta ≤ most_pages c.deployed.tree.memories = subst (λ m. pages v.base.memory + bits_of d.delta ≤ m) most (subst (λ m. pages m + bits_of d.delta ≤ old.max) (sym e) d.fits) in
-        gone (record v.base { memory = v.base.memory ++ replicate (page_size * bits_of d.delta) 0 }) d.kept (d.delta ∷ []) (value_of I32 (pages v.base.memory) ∷ []) d.before (popped v ordered grow_place d.kept d.delta d.before).1 runs
+        gone (record v.base { memory = v.base.memory ++ replicate (page_size * bits_of d.delta) 0 }) d.kept (d.delta ∷ []) (value_of I32 (pages v.base.memory) ∷ []) d.before (popped v ordered grow_place d.kept d.delta d.before).1
         (grow_is d.kept d.delta d.before ∙ grown_ok c s (bits_of d.delta) (under d.kept) (listed is End) le) w
         (eb ∙ ap (λ m. record v.base { memory = m }) (d.grown ∙ ap (λ m. m ++ replicate (page_size * bits_of d.delta) 0) (sym e))) ee (est ∙ d.result ∙ ap (λ m. d.kept ++ value_of I32 (pages m) ∷ []) (sym e)) el ec
-    grow_charged old new e most stack (stays d) runs w eb ee est el ec =
+    grow_charged old new e most stack (stays d) w eb ee est el ec =
         let lt : most_pages c.deployed.tree.memories < pages v.base.memory + bits_of d.delta = subst (λ m. m < pages v.base.memory + bits_of d.delta) most (subst (λ m. old.max < pages m + bits_of d.delta) (sym e) d.past) in
-        gone v.base d.kept (d.delta ∷ []) (value_of I32 (2 ^ 32 - 1) ∷ []) d.before (popped v ordered grow_place d.kept d.delta d.before).1 runs
+        gone v.base d.kept (d.delta ∷ []) (value_of I32 (2 ^ 32 - 1) ∷ []) d.before (popped v ordered grow_place d.kept d.delta d.before).1
         (grow_is d.kept d.delta d.before ∙ grown_not c s (bits_of d.delta) (under d.kept) (listed is End) lt) w
         (eb ∙ ap (λ m. record v.base { memory = m }) (d.same ∙ sym e)) ee (est ∙ d.result) el ec

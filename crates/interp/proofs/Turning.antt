@@ -5,7 +5,7 @@ use Rattle.wtypes.specs.declared.TrapCode.{TrapCode}
 use Rattle.spec_ledger.specs.declared.Step.{Step}
 use Rattle.spec_ledger.specs.declared.Outcome.{Outcome}
 use Rattle.spec_ledger.specs.declared.Outcome.TheVariants.{Returned, Trapped, OutOfFuel}
-use Rattle.spec_execution.specs.Configuration.{Contract, Config, Trap}
+use Rattle.spec_execution.specs.Configuration.{Contract, Seq, End, Config, Trap}
 use Rattle.spec_execution.specs.Run.{Reached, reduced, Reduces, Ends, returns, trapped, exhausted, result_of, IsCharged, next}
 use Rattle.spec_execution.specs.Turns.{Frees, none, one_more, by_trap, not_asked}
 use Rattle.interp.specs.declared.turns.Status.{Status}
@@ -14,7 +14,9 @@ use Rattle.interp.specs.Meaning.{Item, View, config, sequence, state, IsOrdered,
 use Rattle.interp.specs.Plain.{onto}
 use Rattle.interp.specs.Progress.{HasStepped, IsDone}
 use Rattle.interp.specs.Machine.{Seen, on, first_of, progress, Reaches, IsLive, IsFallen, IsAt, IsMachine}
-use Rattle.interp.proofs.Rest.{at_rest, is_charged, is_ended}
+use Rattle.interp.specs.Tails.{with_tail}
+use Rattle.interp.proofs.Joining.{with_no_tail, reduces_joined, stuck_joined, charged_joined, at_rest}
+use Rattle.interp.proofs.Rest.{is_charged, is_ended}
 
 pub live_of : (s : Seen) → IsMachine s → s.status ≡ status.Running → IsLive s
 live_of s m e = subst (IsAt s) e m.at
@@ -27,25 +29,31 @@ reached_by_frees c first limit trace used a b r le (one_more x y z h f) =
 
 module _ (s : Seen) (m : IsMachine s) (running : s.status ≡ status.Running) where
   pub fine : IsFine s.contract s.view
-  fine = record { not_stuck = m.safe _ _ _ _ (live_of s m running).reached }
+  fine = record { not_stuck = λ h. m.safe _ _ _ _ (live_of s m running).reached (stuck_joined s.tail s.contract (state s.view) (sequence s.view) h) }
 
   module _ (left : s.used ≢ s.call.fuel) where
     pub below : s.used + 1 ≤ s.call.fuel
     below = let within = (live_of s m running).within in omega arith
 
     pub fine_after : IsFineAfter s.contract s.view
-    fine_after = record { not_stuck = λ t seq one. m.safe _ _ _ _ (reduced s.trace s.used (config s.view) 1 _ (live_of s m running).reached one below) }
+    fine_after = record { not_stuck = λ t seq one h. m.safe _ _ _ _ (reduced s.trace s.used _ 1 _ (live_of s m running).reached (reduces_joined s.tail s.contract 1 _ _ one) below) (stuck_joined s.tail s.contract t seq h) }
 
     pub safe_at : IsSafeAt s.contract s.view
     safe_at = record { fine = fine; after = fine_after }
 
     module _ (mid : Config) (one : Reduces s.contract (config s.view) 1 mid) where
-      pub come : Reached s.contract (first_of s) s.call.fuel s.trace (s.used + 1) mid
-      come = reduced s.trace s.used (config s.view) 1 mid (live_of s m running).reached one below
+      abbrev whole_mid : Config
+      whole_mid = with_tail s.tail mid
 
-      module _ (w : View) (frees : Frees s.contract mid (config w)) (ordered : IsOrdered w) (ready : IsReady w) where
+      joined_one : Reduces s.contract (with_tail s.tail (config s.view)) 1 whole_mid
+      joined_one = reduces_joined s.tail s.contract 1 (config s.view) mid one
+
+      pub come : Reached s.contract (first_of s) s.call.fuel s.trace (s.used + 1) whole_mid
+      come = reduced s.trace s.used _ 1 whole_mid (live_of s m running).reached joined_one below
+
+      module _ (w : View) (tail : Seq) (frees : Frees s.contract whole_mid (with_tail tail (config w))) (ordered : IsOrdered w) (ready : IsReady w) (last : w.code ≡ [] → tail ≡ End) where
         abbrev t : Seen
-        t = record s { used = s.used + 1; view = w }
+        t = record s { used = s.used + 1; view = w; tail = tail }
 
         come_to : Reaches t (config w)
         come_to = reached_by_frees _ _ _ _ _ _ _ come below frees
@@ -54,7 +62,7 @@ module _ (s : Seen) (m : IsMachine s) (running : s.status ≡ status.Running) wh
         machine_stepped = record {
           opens = m.opens;
           safe = m.safe;
-          at = subst (IsAt t) (sym running) (let now : IsLive t = record { reached = come_to; ordered = ordered; ready = ready; within = below } in now);
+          at = subst (IsAt t) (sym running) (let now : IsLive t = record { reached = come_to; ordered = ordered; ready = ready; last = last; within = below } in now);
         }
 
         pub has_stepped : HasStepped (progress s) (progress t)
@@ -62,7 +70,7 @@ module _ (s : Seen) (m : IsMachine s) (running : s.status ≡ status.Running) wh
           same = record { contracts = refl; call = refl; contract = refl; func = refl };
           trace = refl;
           used = refl;
-          turn = record { charged = mid; one = one; replied = mid; answer = not_asked mid; free = frees; at_rest = at_rest s.contract w ordered (record { not_stuck = m.safe _ _ _ _ come_to }) ready };
+          turn = record { charged = whole_mid; one = joined_one; replied = whole_mid; answer = not_asked whole_mid; free = frees; at_rest = at_rest s.contract w tail (record { not_stuck = λ h. m.safe _ _ _ _ come_to (stuck_joined tail s.contract (state w) (sequence w) h) }) ready last };
           goes_on = tt;
         })
 
@@ -78,33 +86,36 @@ module _ (s : Seen) (m : IsMachine s) (running : s.status ≡ status.Running) wh
         same = record { contracts = refl; call = refl; contract = refl; func = refl };
         trace = refl;
         used = refl;
-        turn = record { charged = Trap (state w) code; one = one; replied = Trap (state w) code; answer = not_asked (Trap (state w) code); free = none (Trap (state w) code); at_rest = by_trap (state w) code };
+        turn = record { charged = Trap (state w) code; one = reduces_joined s.tail s.contract 1 (config s.view) (Trap (state w) code) one; replied = Trap (state w) code; answer = not_asked (Trap (state w) code); free = none (Trap (state w) code); at_rest = by_trap (state w) code };
         goes_on = tt;
       })
 
   -- at the end
   module _ (at_end : s.view.code ≡ []) where
-    ends_so : Ends s.contract s.call.fuel s.used (config s.view) (Returned (result_of (onto s.view.stack [])))
-    ends_so = returns s.used _ _ _ (is_ended s.contract s.view at_end ((live_of s m running).ready at_end))
+    ends_so : Ends s.contract s.call.fuel s.used (with_tail s.tail (config s.view)) (Returned (result_of (onto s.view.stack [])))
+    ends_so =
+        subst (λ (x : Seq). Ends s.contract s.call.fuel s.used (with_tail x (config s.view)) (Returned (result_of (onto s.view.stack [])))) (sym ((live_of s m running).last at_end))
+        (subst (λ (x : Config). Ends s.contract s.call.fuel s.used x (Returned (result_of (onto s.view.stack [])))) (sym (with_no_tail (config s.view)))
+        (returns s.used _ _ _ (is_ended s.contract s.view at_end ((live_of s m running).ready at_end))))
 
     pub machine_returned : (r : Option Value) → r ≡ result_of (onto s.view.stack []) → IsMachine (on s (status.Ended (Returned r)))
     machine_returned r e = record {
       opens = m.opens;
       safe = m.safe;
-      at = record { reached = (live_of s m running).reached; ends = subst (λ (o : Option Value). Ends s.contract s.call.fuel s.used (config s.view) (Returned o)) (sym e) ends_so; within = (live_of s m running).within };
+      at = record { reached = (live_of s m running).reached; ends = subst (λ (o : Option Value). Ends s.contract s.call.fuel s.used (with_tail s.tail (config s.view)) (Returned o)) (sym e) ends_so; within = (live_of s m running).within };
     }
 
     pub has_returned : (r : Option Value) → r ≡ result_of (onto s.view.stack []) → IsDone (progress s) (Returned r) (progress (on s (status.Ended (Returned r))))
     has_returned r e = subst (λ (x : Status). IsDone (progress (on s x)) (Returned r) (progress (on s (status.Ended (Returned r))))) (sym running)
-        (record { same = refl; ends = subst (λ (o : Option Value). Ends s.contract s.call.fuel s.used (config s.view) (Returned o)) (sym e) ends_so })
+        (record { same = refl; ends = subst (λ (o : Option Value). Ends s.contract s.call.fuel s.used (with_tail s.tail (config s.view)) (Returned o)) (sym e) ends_so })
 
   module _ (some_left : s.view.code ≢ []) (full : s.used ≡ s.call.fuel) where
-    is_out : Ends s.contract s.call.fuel s.used (config s.view) OutOfFuel
-    is_out = subst (λ n. Ends s.contract s.call.fuel n (config s.view) OutOfFuel) (sym full) (exhausted _ _ (by_code s.view.code refl))
+    is_out : Ends s.contract s.call.fuel s.used (with_tail s.tail (config s.view)) OutOfFuel
+    is_out = subst (λ n. Ends s.contract s.call.fuel n (with_tail s.tail (config s.view)) OutOfFuel) (sym full) (exhausted _ _ (charged_joined s.tail s.contract (state s.view) (sequence s.view) (by_code s.view.code refl)))
       where
         by_code : (is : List Item) → s.view.code ≡ is → IsCharged (next s.contract (state s.view) (sequence s.view))
         by_code [] e = absurd (some_left e)
-        by_code (i ∷ is) e = is_charged s.contract s.view i is (live_of s m running).ordered fine e
+        by_code (i ∷ is) e = is_charged s.contract s.view i is fine e
 
     pub machine_exhausted : IsMachine (on s (status.Ended OutOfFuel))
     machine_exhausted = record { opens = m.opens; safe = m.safe; at = record { reached = (live_of s m running).reached; ends = is_out; within = (live_of s m running).within } }

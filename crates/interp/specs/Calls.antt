@@ -6,7 +6,6 @@ use Rattle.spec_execution.specs.Configuration.{Contract, State, Trap, fresh}
 use Rattle.spec_execution.specs.Run.{Reduces}
 use Rattle.interp.specs.declared.parts.Parts.{Parts}
 use Rattle.interp.specs.declared.calls.Lent.{Lent}
-use Rattle.interp.specs.Forms.{module_runs}
 use Rattle.interp.specs.Meaning.{View, config, calling, state, IsOrdered, IsFineCall}
 use Rattle.interp.specs.Views.{view}
 
@@ -21,7 +20,6 @@ base_of l = fresh (module_view l.module.now)
 pub record CanEnter {A : Type 0} (l : Lent A) (p : Parts A) (f : ℕ) : Type 0 where
   pub defined : length l.hosts.now ≤ f
   pub fine : IsFineCall (contract_of l) (view (base_of l) p) f
-  pub runs : module_runs (module_view l.module.now) ≡ true
 
 pub record HasEntered (c : Contract) (v : View) (f : ℕ) (w : View) : Type 0 where
   pub reduces : Reduces c (calling v f) 0 (config w)

@@ -1,12 +1,10 @@
--- The forms of instructions that the machine executes.
-use Rattle.std.specs.Prelude.{◌≡◌, ℕ, ◌<◌, Bool, true, false, List, [], ◌∷◌, ◌++◌, length, ◌&&◌, is_none}
+-- The forms of instructions, by what they take and what they reach.
+use Rattle.std.specs.Prelude.{◌≡◌, ℕ, ◌<◌, Bool, true, false, List, [], ◌∷◌, ◌++◌, length}
 use Rattle.wtypes.specs.declared.ValType.{ValType}
 use Rattle.wtypes.specs.declared.ValType.TheVariants.{I32}
 use Rattle.wtypes.specs.declared.Value.{Value}
 use Rattle.wtypes.specs.declared.PlainInstr.{PlainInstr}
-use Rattle.wtypes.specs.declared.PlainInstr.TheVariants.{Unreachable, Nop, Br, BrIf, Return, Call, Drop, Select, LocalGet, LocalSet, LocalTee, GlobalGet, GlobalSet, Load, Store, MemorySize, MemoryGrow, Const, Unary, Binary, Test, Compare, Convert}
-use Rattle.std.specs.List.{list_all}
-use Rattle.spec_syntax.specs.Syntax.{Instr, Plain, BrTable, Block, Loop, If, Instrs, nothing, seq, Func, Module}
+use Rattle.wtypes.specs.declared.PlainInstr.TheVariants.{Unreachable, Nop, Call, Drop, Select, LocalGet, LocalSet, LocalTee, GlobalGet, GlobalSet, Load, Store, MemorySize, MemoryGrow, Const, Unary, Binary, Test, Compare, Convert}
 use Rattle.spec_numeric.specs.Operators.{type_of, unary_type, binary_type, test_type, compare_type, convert_from}
 
 -- the next instruction is the one behind it, or it is a call
@@ -36,30 +34,6 @@ runs_on_instance (Store o align offset) = true
 runs_on_instance MemorySize = true
 runs_on_instance MemoryGrow = true
 runs_on_instance _ = false
-
-abbrev pub runs_plain : PlainInstr → Bool
-runs_plain (Br l) = true
-runs_plain (BrIf l) = true
-runs_plain Return = true
-runs_plain (GlobalGet x) = true
-runs_plain (GlobalSet x) = true
-runs_plain (Load o align offset) = true
-runs_plain (Store o align offset) = true
-runs_plain MemorySize = true
-runs_plain MemoryGrow = true
-runs_plain op = runs_on op
-
-abbrev mutual
-  pub runs : Instr → Bool
-  runs (Plain op) = runs_plain op
-  runs (BrTable ls l) = true
-  runs (Block r b) = all_run b
-  runs (Loop r b) = all_run b
-  runs (If r a b) = all_run a && all_run b
-
-  pub all_run : Instrs → Bool
-  all_run nothing = true
-  all_run (seq i is) = runs i && all_run is
 
 -- how many values an instruction takes
 abbrev pub operands : PlainInstr → ℕ
@@ -121,10 +95,3 @@ IsReadyFor (Test o) stack locals = HasOne (test_type o) stack
 IsReadyFor (Compare o) stack locals = HasTwo (compare_type o) stack
 IsReadyFor (Convert o) stack locals = HasOne (convert_from o) stack
 IsReadyFor _ stack locals = ⊥
-
-abbrev pub func_runs : Func → Bool
-func_runs f = all_run f.body
-
--- no start function, and bodies of these forms
-abbrev pub module_runs : Module → Bool
-module_runs m = is_none m.start && list_all func_runs m.funcs

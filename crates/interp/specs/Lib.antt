@@ -2,9 +2,12 @@ pub mod Forms
 pub mod Meaning
 pub mod Plain
 pub mod Views
+pub mod Tails
+pub mod Waiting
 pub mod Steps
 pub mod Calls
 pub mod Codes
+pub mod Elements
 pub mod Played
 pub mod Progress
 pub mod Machine
@@ -13,3 +16,5 @@ pub mod Run
 pub mod Starting
 pub mod Branches
 pub mod Memories
+pub mod Shown
+pub mod Copies

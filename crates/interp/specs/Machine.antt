@@ -22,9 +22,10 @@ use Rattle.interp.specs.declared.turns.Status.TheVariants as status
 use Rattle.interp.specs.declared.turns.Turn.{Turn}
 use Rattle.interp.specs.declared.turns.Turn.TheVariants as turn
 use Rattle.interp.specs.Meaning.{View, height, whole, listed, config, calling, invoking, state, IsOrdered, IsReady}
-use Rattle.interp.specs.Progress.{Progress, GoesOn}
+use Rattle.interp.specs.Progress.{Progress, GoesOn, IsStartOf}
+use Rattle.interp.specs.Tails.{with_tail}
 
--- the parts of a machine in the words of the definitions; asked is the number of the import that is called while the host is asked
+-- the parts of a machine in the words of the definitions; tail is what waits behind all that is open, asked the number of the import that is called while the host is asked
 pub record Seen : Type 0 where
   pub contracts : List Deployed
   pub call : ContractCall
@@ -33,6 +34,7 @@ pub record Seen : Type 0 where
   pub trace : List Step
   pub used : ℕ
   pub view : View
+  pub tail : Seq
   pub status : Status
   pub asked : ℕ
 
@@ -56,10 +58,10 @@ config_at v f (status.Ended o) = ended_at v o
 config_at v f status.NoMemory = config v
 
 abbrev pub progress : Seen → Progress
-progress s = record { contracts = s.contracts; call = s.call; contract = s.contract; func = s.func; trace = s.trace; used = s.used; config = config_at s.view s.asked s.status; status = s.status }
+progress s = record { contracts = s.contracts; call = s.call; contract = s.contract; func = s.func; trace = s.trace; used = s.used; config = with_tail s.tail (config_at s.view s.asked s.status); status = s.status }
 
 abbrev pub Reaches : Seen → Config → Type 0
-Reaches s x = Reached s.contract (first_of s) s.call.fuel s.trace s.used x
+Reaches s x = Reached s.contract (first_of s) s.call.fuel s.trace s.used (with_tail s.tail x)
 
 -- how many arguments an operation takes
 abbrev pub params_of : Op → ℕ
@@ -87,6 +89,7 @@ pub record IsLive (s : Seen) : Type 0 where
   pub reached : Reaches s (config s.view)
   pub ordered : IsOrdered s.view
   pub ready : IsReady s.view
+  pub last : s.view.code ≡ [] → s.tail ≡ End
   pub within : s.used ≤ s.call.fuel
 
 -- a run that trapped
@@ -105,7 +108,7 @@ pub record IsWaiting (s : Seen) (op : Op) : Type 0 where
 -- a run that has ended
 pub record IsOver (s : Seen) (o : Outcome) : Type 0 where
   pub reached : Reaches s (ended_at s.view o)
-  pub ends : Ends s.contract s.call.fuel s.used (ended_at s.view o) o
+  pub ends : Ends s.contract s.call.fuel s.used (with_tail s.tail (ended_at s.view o)) o
   pub within : s.used ≤ s.call.fuel
 
 abbrev pub IsAt : Seen → Status → Type 0
@@ -141,7 +144,7 @@ pub record IsSame (s t : Seen) : Type 0 where
 -- what comes of a call of a function of the module: free reductions, until an instruction is to come or the run has ended
 pub record IsStarted (s : Seen) (f : ℕ) (t : Seen) : Type 0 where
   pub same : IsSame s t
-  pub frees : Frees s.contract (calling s.view f) (progress t).config
+  pub frees : Frees s.contract (with_tail s.tail (calling s.view f)) (progress t).config
   pub at_rest : IsAtRest s.contract (progress t).config
   pub goes_on : GoesOn t.status
 
@@ -150,10 +153,16 @@ HasStarted s f turn.Stepped t = IsStarted s f t
 HasStarted s f turn.NoMemory t = t.status ≡ status.NoMemory
 HasStarted s f _ t = ⊥
 
+-- what comes of the beginning: free reductions of the first configuration
+abbrev pub HasBegun : Seen → Turn → Seen → Type 0
+HasBegun s turn.Stepped t = IsStartOf s.contracts s.call (progress t)
+HasBegun s turn.NoMemory t = t.status ≡ status.NoMemory
+HasBegun s _ t = ⊥
+
 -- what comes of a call of an import: the host is asked
 pub record IsAskedFor (s : Seen) (f : ℕ) (op : Op) (t : Seen) : Type 0 where
   pub same : IsSame s t
-  pub config : (progress t).config ≡ calling s.view f
+  pub config : (progress t).config ≡ with_tail s.tail (calling s.view f)
   pub asking : t.status ≡ status.Asking op
 
 abbrev pub HasAskedFor : Seen → ℕ → Turn → Seen → Type 0

@@ -1,5 +1,5 @@
 -- The configuration that the parts of a machine stand for.
-use Rattle.std.specs.Prelude.{◌≡◌, ℕ, ◌+◌, ◌≤◌, List, [], ◌∷◌, length, take, drop, IsTrue}
+use Rattle.std.specs.Prelude.{◌≡◌, ℕ, ◌+◌, ◌≤◌, List, [], ◌∷◌, length, take, drop}
 use Rattle.wtypes.specs.declared.Value.{Value}
 use Rattle.wtypes.specs.declared.TrapCode.{TrapCode}
 use Rattle.spec_syntax.specs.Syntax.{Instr, Instrs, nothing, seq}
@@ -7,7 +7,6 @@ use Rattle.spec_execution.specs.Configuration as c
 use Rattle.spec_execution.specs.Configuration.{Contract, Seq, End, Val, Code, State, Config, Running, Trap}
 use Rattle.spec_execution.specs.Run.{next, IsStuck, Reduces}
 use Rattle.spec_execution.specs.Turns.{Frees}
-use Rattle.interp.specs.Forms.{runs}
 
 -- an instruction of the code, with its ordinal
 pub record Item : Type 0 where
@@ -131,11 +130,6 @@ invoking v f = whole v.entries v.stack v.locals (c.Invoke f (listed v.code End))
 abbrev pub calling : View → ℕ → Config
 calling v f = Running (state v) (invoking v f)
 
--- the machine executes these instructions
-abbrev pub OnlyRun : List Item → Type 0
-OnlyRun [] = Unit {0}
-OnlyRun (i ∷ is) = IsTrue (runs i.instr) × OnlyRun is
-
 -- a loop has the ordinal of its instruction
 abbrev pub Begins : Scope → ℕ → List Item → Type 0
 Begins Loop n (i ∷ is) = n ≡ i.ordinal
@@ -143,14 +137,13 @@ Begins Loop n [] = Unit {0}
 Begins Block n is = Unit {0}
 Begins (Frame f saved) n is = Unit {0}
 
-abbrev pub EachRun : List Open → Type 0
-EachRun [] = Unit {0}
-EachRun (e ∷ es) = (OnlyRun e.from × Begins e.scope e.ordinal e.from) × EachRun es
+abbrev pub EachBegins : List Open → Type 0
+EachBegins [] = Unit {0}
+EachBegins (e ∷ es) = Begins e.scope e.ordinal e.from × EachBegins es
 
 pub record IsOrdered (v : View) : Type 0 where
   pub stands : Stands v.entries (length v.stack)
-  pub runs : OnlyRun v.code
-  pub each : EachRun v.entries
+  pub each : EachBegins v.entries
 
 -- the reductions are defined at a configuration
 pub record IsFine (k : Contract) (v : View) : Type 0 where

@@ -1,12 +1,14 @@
 -- What the fields of a machine are, in the words of the definitions, and what they keep.
-use Rattle.std.specs.Prelude.{◌≡◌, ℕ, true}
+use Rattle.std.specs.Prelude.{◌≡◌, ℕ, []}
 use Rattle.module_tree.specs.Modules.{module_view}
 use Rattle.interp.specs.declared.machine.Run.{Run}
-use Rattle.interp.specs.Forms.{module_runs}
 use Rattle.interp.specs.Views.{view}
 use Rattle.interp.specs.Calls.{contract_of, base_of}
 use Rattle.interp.specs.Steps.{IsCounted, Suits}
 use Rattle.interp.specs.Lent.{contracts_view}
+use Rattle.interp.specs.Waiting.{alone, tail_of, Waits, HasEach}
+use Rattle.interp.specs.declared.turns.Status.TheVariants as status
+use Rattle.spec_execution.specs.Configuration.{End, Invoke, arguments, fresh}
 use Rattle.spec_execution.specs.Run.{opening, Opens, IsSafe}
 use Rattle.interp.specs.Machine.{Seen, first_of, IsMachine, IsCalling, HasRoom}
 
@@ -19,6 +21,7 @@ seen r = record {
   trace = r.trace.items;
   used = r.used;
   view = view (base_of r.lent) r.parts;
+  tail = tail_of r.call.now.args r.waiting;
   status = r.status;
   asked = r.asked;
 }
@@ -27,19 +30,32 @@ pub record IsKept {A : Type 0} (r : Run A) : Type 0 where
   pub machine : IsMachine (seen r)
   pub counted : IsCounted r.parts
   pub suits : Suits (contract_of r.lent) r.parts
-  pub runs : module_runs (module_view r.lent.module.now) ≡ true
+  pub waits : Waits (contract_of r.lent) r.call.now.args r.waiting
+  pub place : HasEach r.waiting
   pub room : HasRoom r.status r.trace
 
 -- its call opens, and is safe
 pub record IsBegun {A : Type 0} (r : Run A) : Type 0 where
   pub opens : opening (seen r).contracts (seen r).call ≡ Opens (seen r).contract (seen r).func
   pub safe : IsSafe (seen r).contract (first_of (seen r)) (seen r).call.fuel
-  pub runs : module_runs (module_view r.lent.module.now) ≡ true
   pub suits : Suits (contract_of r.lent) r.parts
+  pub waits : Waits (contract_of r.lent) r.call.now.args r.waiting
+  pub place : HasEach r.waiting
+
+-- Nothing is open yet, in a fresh instance, and the entry waits.
+pub record IsFirst {A : Type 0} (r : Run A) : Type 0 where
+  pub begun : IsBegun r
+  pub counted : IsCounted r.parts
+  pub view : (seen r).view ≡ alone (fresh (module_view r.lent.module.now)) [] []
+  pub tail : (seen r).tail ≡ arguments r.call.now.args (Invoke r.func End)
+  pub trace : (seen r).trace ≡ []
+  pub used : r.used ≡ 0
+  pub running : r.status ≡ status.Running
 
 -- a call of a function is to come
 pub record IsToCall {A : Type 0} (r : Run A) (f : ℕ) : Type 0 where
   pub calling : IsCalling (seen r) f
   pub counted : IsCounted r.parts
   pub suits : Suits (contract_of r.lent) r.parts
-  pub runs : module_runs (module_view r.lent.module.now) ≡ true
+  pub waits : Waits (contract_of r.lent) r.call.now.args r.waiting
+  pub place : HasEach r.waiting

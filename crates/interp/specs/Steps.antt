@@ -10,8 +10,10 @@ use Rattle.interp.specs.declared.parts.Entry.{Entry}
 use Rattle.spec_execution.specs.Configuration.{Contract, State}
 use Rattle.spec_execution.specs.Reduction.{most_pages}
 use Rattle.interp.specs.declared.parts.Parts.{Parts}
+use Rattle.interp.specs.declared.calls.Lent.{Lent}
 use Rattle.interp.specs.declared.plain.After.{After}
 use Rattle.interp.specs.declared.plain.After.TheVariants as after
+use Rattle.interp.specs.Calls.{contract_of}
 use Rattle.interp.specs.Meaning.{View, frames, IsOrdered, IsSafeAt, Charged, ChargedCall, ChargedTrap, Settles}
 use Rattle.interp.specs.Views.{view, opens_of, items_of, ordinal_of, scope_of}
 
@@ -23,12 +25,11 @@ abbrev pub IsReadyParts : {A : Type 0} → Parts A → Type 0
 IsReadyParts p = (p.code.now ≡ []) → opens_of p.entries.items ≡ []
 
 -- An instruction is to come, and neither it nor what it becomes is stuck.
-pub record IsReadyToRun {A : Type 0} (p : Parts A) : Type 0 where
-  pub contract : Contract
+pub record IsReadyToRun {A : Type 0} (l : Lent A) (p : Parts A) : Type 0 where
   pub base : State
   pub some : p.code.now ≢ []
   pub ordered : IsOrderedParts p
-  pub safe : IsSafeAt contract (view base p)
+  pub safe : IsSafeAt (contract_of l) (view base p)
 
 abbrev pub LedView : Contract → View → After → View → Type 0
 LedView c v after.Ran w = Charged c v w
@@ -39,9 +40,9 @@ LedView c v (after.Calls f) w = ChargedCall c v f w
 abbrev pub Suits : {A : Type 0} → Contract → Parts A → Type 0
 Suits c p = p.instance.memory.max ≡ most_pages c.deployed.tree.memories
 
--- the same for each contract that it suits and each state, where nothing is stuck
-abbrev pub Led : {A : Type 0} → Parts A → After → Parts A → Type 0
-Led p a q = (c : Contract) (b : State) → IsSafeAt c (view b p) → Suits c p → LedView c (view b p) a (view b q)
+-- the same for the lent contract and each state, where nothing is stuck
+abbrev pub Led : {A : Type 0} → Lent A → Parts A → After → Parts A → Type 0
+Led l p a q = (b : State) → IsSafeAt (contract_of l) (view b p) → Suits (contract_of l) p → LedView (contract_of l) (view b p) a (view b q)
 
 abbrev pub AllSettle : {A : Type 0} → Parts A → Parts A → Type 0
 AllSettle p q = (c : Contract) (b : State) → Settles c (view b p) (view b q)

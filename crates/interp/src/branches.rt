@@ -33,7 +33,7 @@ pub fn leave_call<'a, A: Allocator>(parts: &mut Parts<'a, A>)
 }
 
 // How many are left where those inside the innermost call are left out.
-fn up_to_call<'a, A: Allocator>(entries: &[Entry<'a, A>]) -> usize
+pub fn up_to_call<'a, A: Allocator>(entries: &[Entry<'a, A>]) -> usize
     ensures within { result ≤ length entries.now }
     ensures is { opens_of (take result entries.now) ≡ in_call (opens_of entries.now) }
 {

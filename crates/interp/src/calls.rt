@@ -60,8 +60,12 @@ pub fn enter<'a, A: Allocator>(
     Ok(true)
 }
 
-// The locals of a call: its arguments, and then zeros.
-fn new_locals(alloc: Global, args: &[Value], declared: &[ValType]) -> Result<Vec<Value>, AllocError>
+/// The locals of a call: its arguments, and then zeros.
+pub fn new_locals(
+    alloc: Global,
+    args: &[Value],
+    declared: &[ValType],
+) -> Result<Vec<Value>, AllocError>
     ensures { IfOk result (λ locals. locals.items ≡ args.now ++ map zero_of declared.now) }
 {
     let mut locals = args.to_vec(alloc)?;

@@ -5,9 +5,9 @@ ghost use Rattle.interp.specs.Played.{IsPlayed};
 ghost use Rattle.interp.specs.Starting.{IsOpened, IsRejection};
 ghost use Rattle.interp.specs.Lent.{contracts_view};
 
-use crate::stand_in::Runnable;
 use crate::start::open_call;
 use call::Call;
+use link::deployed::Deployed;
 use spec_ledger::{Outcome, Step};
 use std::alloc::{Allocator, Global};
 use std::marker::Model;
@@ -16,7 +16,7 @@ use std::marker::Model;
 /// that it used. That these are a run of the call over the contracts is kept by the type.
 #[derive(Drop)]
 pub struct Finished<'a, A: Allocator> {
-    contracts: &'a [Runnable<A>],
+    contracts: &'a [Deployed<A>],
     call: &'a Call,
     trace: Vec<Step>,
     outcome: Outcome,
@@ -39,7 +39,7 @@ impl<'a, A: Allocator> Model for Finished<'a, A> {
 impl<'a, A: Allocator> Finished<'a, A> {
     // The finished call of these parts, which are a run.
     pub(crate) fn of(
-        contracts: &'a [Runnable<A>],
+        contracts: &'a [Deployed<A>],
         call: &'a Call,
         trace: Vec<Step>,
         outcome: Outcome,
@@ -61,7 +61,7 @@ impl<'a, A: Allocator> Finished<'a, A> {
     /// opens. Takes no memory.
     pub fn rejected(
         alloc: Global,
-        contracts: &'a [Runnable<A>],
+        contracts: &'a [Deployed<A>],
         call: &'a Call,
     ) -> Option<Finished<'a, A>>
         ensures some { IfSome result (λ f. IsRejection (contracts_view contracts.now) call.now f) }
@@ -77,7 +77,7 @@ impl<'a, A: Allocator> Finished<'a, A> {
     }
 
     /// The contracts.
-    pub fn contracts(&self) -> &'a [Runnable<A>]
+    pub fn contracts(&self) -> &'a [Deployed<A>]
         ensures { contracts_view result.now ≡ self.now.contracts }
     {
         self.contracts

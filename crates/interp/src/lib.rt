@@ -3,13 +3,16 @@
 
 mod branches;
 mod calls;
+mod copies;
+mod elements;
 pub mod finished;
 pub mod machine;
 mod memories;
 mod parts;
 mod plain;
-pub mod stand_in;
+pub mod readers;
 pub mod start;
 mod steps;
 pub mod turns;
 mod values;
+mod waiting;

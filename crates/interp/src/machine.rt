@@ -2,39 +2,41 @@
 ghost use Rattle.std.specs.Prelude.{◌≡◌, ◌≢◌, ◌<◌, ◌≤◌, ◌-◌, ◌++◌, ◌∷◌, [], length, take, drop, vec_len, vec_capacity};
 ghost use Rattle.spec_numeric.specs.Operators.{bits_of};
 ghost use Rattle.spec_execution.specs.Reduction.{op_of};
-ghost use Rattle.interp.specs.Machine.{progress, IsMachine, IsCalling, HasStarted, HasAskedFor, HasRoom, params_of, arity_of, value_of_reply};
+ghost use Rattle.interp.specs.Machine.{progress, IsMachine, IsCalling, HasStarted, HasBegun, HasAskedFor, HasRoom, params_of, arity_of, value_of_reply};
 ghost use Rattle.interp.specs.Progress.{NextIs, IsFree, IsAwaited, HasAnswered, IsFinishOf};
-ghost use Rattle.interp.specs.Run.{seen, IsKept, IsBegun};
+ghost use Rattle.interp.specs.Run.{seen, IsKept, IsBegun, IsFirst};
 
 use crate::calls::{Lent, enter};
 use crate::finished::Finished;
 use crate::parts::Parts;
 use crate::plain::After;
-use crate::stand_in::Runnable;
 use crate::start::{Opened, StartRefusal, open_call, refusal_of};
-use crate::steps::{execute, settle};
+use crate::steps::execute;
 use crate::turns::{Status, Turn};
 use crate::values::bits;
+use crate::waiting::{Waiting, prepare, settle_all};
 use call::Call;
 use instance::open_instance;
+use link::deployed::Deployed;
 use soundness::deployed_calls_are_safe;
 use spec_ledger::{NoMemory, Op, Outcome, Place, Reply, Step};
-use std::alloc::{AllocError, Allocator, Global};
+use std::alloc::{Allocator, Global};
 use wtypes::{HostCall, TrapCode, Value};
 
 // The fields of a machine.
 #[derive(Drop)]
-struct Run<'a, A: Allocator> {
-    alloc: Global,
-    contracts: &'a [Runnable<A>],
-    lent: Lent<'a, A>,
-    call: &'a Call,
-    func: u32,
-    trace: Vec<Step>,
-    used: u64,
-    parts: Parts<'a, A>,
-    status: Status,
-    asked: u32,
+pub(crate) struct Run<'a, A: Allocator> {
+    pub(crate) alloc: Global,
+    pub(crate) contracts: &'a [Deployed<A>],
+    pub(crate) lent: Lent<'a, A>,
+    pub(crate) call: &'a Call,
+    pub(crate) func: u32,
+    pub(crate) trace: Vec<Step>,
+    pub(crate) used: u64,
+    pub(crate) parts: Parts<'a, A>,
+    pub(crate) waiting: Option<Waiting<'a, A>>,
+    pub(crate) status: Status,
+    pub(crate) asked: u32,
 }
 
 // Makes a turn, where the run has not ended.
@@ -70,10 +72,10 @@ fn make_turn<'a, A: Allocator>(run: &mut Run<'a, A>) -> Turn
         run.status = Status::Ended(Outcome::OutOfFuel);
         return Turn::Done(Outcome::OutOfFuel);
     }
-    match execute(&mut run.parts) {
+    match execute(&run.lent, &mut run.parts) {
         Ok(After::Ran) => {
             run.used += 1;
-            settle(&mut run.parts);
+            settle_all(&mut run.parts, &mut run.waiting);
             Turn::Stepped
         }
         Ok(After::Fell(code)) => {
@@ -131,7 +133,7 @@ fn start_function<'a, A: Allocator>(run: &mut Run<'a, A>, func: u32) -> Turn
 {
     match enter(run.alloc, &run.lent, func, &mut run.parts) {
         Ok(true) => {
-            settle(&mut run.parts);
+            settle_all(&mut run.parts, &mut run.waiting);
             run.status = Status::Running;
             Turn::Stepped
         }
@@ -140,6 +142,21 @@ fn start_function<'a, A: Allocator>(run: &mut Run<'a, A>, func: u32) -> Turn
             Turn::Stepped
         }
         Err(_) => give_up(run),
+    }
+}
+
+// The run begins: the start function is called, or else the entry, where the module has none.
+fn start_run<'a, A: Allocator>(run: &mut Run<'a, A>) -> Turn
+    requires first { IsFirst run.old }
+    ensures kept { IsKept run.new }
+    ensures begun { HasBegun (seen run.old) result (seen run.new) }
+{
+    match run.lent.module.start {
+        Some(start) => start_function(run, start),
+        None => {
+            settle_all(&mut run.parts, &mut run.waiting);
+            Turn::Stepped
+        }
     }
 }
 
@@ -197,7 +214,7 @@ fn take_answer<'a, A: Allocator>(run: &mut Run<'a, A>, reply: Reply)
         take_reply(&mut run.parts.stack, op, reply);
         record_step(&mut run.trace, Step { op, reply });
         run.status = Status::Running;
-        settle(&mut run.parts);
+        settle_all(&mut run.parts, &mut run.waiting);
     }
 }
 
@@ -263,6 +280,7 @@ fn finished<'a, A: Allocator>(run: Run<'a, A>, outcome: Outcome) -> Finished<'a,
         trace,
         used,
         parts: _,
+        waiting: _,
         status: _,
         asked: _,
     } = run;
@@ -277,7 +295,7 @@ use std::marker::Model;
 /// A call that runs over lent contracts, a turn at a time.
 #[derive(Drop)]
 pub struct Machine<'a, A: Allocator> {
-    run: Run<'a, A>,
+    pub(crate) run: Run<'a, A>,
 }
 
 impl<'a, A: Allocator> Model for Machine<'a, A> {
@@ -334,7 +352,7 @@ impl<'a, A: Allocator> Machine<'a, A> {
 
 ghost use Rattle.link.specs.Parts.{hosts_of};
 ghost use Rattle.spec_execution.specs.Run.{opening, Opens};
-ghost use Rattle.interp.specs.Lent.{contract_view, contracts_view, deployed_in};
+ghost use Rattle.interp.specs.Lent.{contract_view, contracts_view};
 ghost use Rattle.interp.specs.Progress.{IsStartOf};
 ghost use Rattle.std.specs.Prelude.{IfOk};
 
@@ -342,7 +360,7 @@ impl<'a, A: Allocator> Machine<'a, A> {
     ghost use Rattle.std.specs.Prelude.{◌≡◌, ◌≤◌, length, IfOk, IfErr};
     ghost use Rattle.link.specs.Parts.{hosts_of};
     ghost use Rattle.spec_execution.specs.Run.{opening, Opens};
-    ghost use Rattle.interp.specs.Lent.{contract_view, contracts_view, deployed_in};
+    ghost use Rattle.interp.specs.Lent.{contract_view, contracts_view};
     ghost use Rattle.interp.specs.Progress.{IsStartOf, IsProgress};
     ghost use Rattle.interp.specs.Starting.{IsRefusedFor};
 
@@ -354,7 +372,7 @@ impl<'a, A: Allocator> Machine<'a, A> {
     /// number of arguments, their types, memory.
     pub fn start(
         alloc: Global,
-        contracts: &'a [Runnable<A>],
+        contracts: &'a [Deployed<A>],
         call: &'a Call,
     ) -> Result<Machine<'a, A>, StartRefusal>
         ensures start { IfOk result (λ m. IsStartOf (contracts_view contracts.now) call.now m) }
@@ -362,8 +380,8 @@ impl<'a, A: Allocator> Machine<'a, A> {
         ensures refused { IfErr result (λ refusal. IsRefusedFor refusal (opening (contracts_view contracts.now) call.now)) }
     {
         match open_call(contracts, call) {
-            Ok(Opened { runnable, func }) => {
-                match Machine::begin(alloc, contracts, call, runnable, func) {
+            Ok(Opened { deployed, func }) => {
+                match Machine::begin(alloc, contracts, call, deployed, func) {
                     Ok(machine) => Ok(machine),
                     Err(NoMemory) => Err(StartRefusal::NoMemory),
                 }
@@ -375,30 +393,30 @@ impl<'a, A: Allocator> Machine<'a, A> {
     // The machine of a call that opens with this function of this contract, before its first turn.
     fn begin(
         alloc: Global,
-        contracts: &'a [Runnable<A>],
+        contracts: &'a [Deployed<A>],
         call: &'a Call,
-        runnable: &'a Runnable<A>,
+        deployed: &'a Deployed<A>,
         func: u32,
     ) -> Result<Machine<'a, A>, NoMemory>
-        requires opens { opening (contracts_view contracts.now) call.now ≡ Opens (record { number = call.now.contract; deployed = contract_view runnable.now }) func }
-        requires defined { length (hosts_of (deployed_in runnable.now)) ≤ func }
+        requires opens { opening (contracts_view contracts.now) call.now ≡ Opens (record { number = call.now.contract; deployed = contract_view deployed.now }) func }
+        requires defined { length (hosts_of deployed.now) ≤ func }
         ensures start { IfOk result (λ m. IsStartOf (contracts_view contracts.now) call.now m) }
         ensures on_run { IfOk result (λ m. IsProgress m) }
     {
         deployed_calls_are_safe();
-        let deployed = runnable.deployed();
         deployed.is_linked();
         let tree = deployed.module();
         let instance = open_instance(alloc, deployed)?;
-        let stack = copy_of(alloc, call.args())?;
+        let lent = Lent {
+            number: call.contract(),
+            module: tree,
+            hosts: deployed.hosts(),
+        };
+        let entry = prepare(alloc, &lent, func, call.args())?;
         let mut run = Run {
             alloc,
             contracts,
-            lent: Lent {
-                number: call.contract(),
-                module: tree,
-                hosts: deployed.hosts(),
-            },
+            lent,
             call,
             func,
             trace: Vec::new(alloc),
@@ -407,25 +425,19 @@ impl<'a, A: Allocator> Machine<'a, A> {
                 code: &[],
                 entries: Vec::new(alloc),
                 depth: 0,
-                stack,
+                stack: Vec::new(alloc),
                 locals: Vec::new(alloc),
                 instance,
             },
+            waiting: Some(entry),
             status: Status::Running,
             asked: 0,
         };
-        match start_function(&mut run, func) {
+        match start_run(&mut run) {
             Turn::Stepped => Ok(Machine { run }),
             Turn::NoMemory => Err(NoMemory),
             Turn::Host(_) => unreachable!(),
             Turn::Done(_) => unreachable!(),
         }
     }
-}
-
-// The same values.
-fn copy_of(alloc: Global, values: &[Value]) -> Result<Vec<Value>, AllocError>
-    ensures { IfOk result (λ v. v.items ≡ values.now) }
-{
-    values.to_vec(alloc)
 }

@@ -3,11 +3,11 @@ ghost use Rattle.std.specs.Prelude.{◌≡◌, ◌≤◌, length, IfOk, IfErr};
 ghost use Rattle.spec_execution.specs.Run.{opening, Opens, Refused};
 ghost use Rattle.link.specs.Parts.{hosts_of};
 ghost use Rattle.opening.specs.Views.{code_of};
-ghost use Rattle.interp.specs.Lent.{contract_view, contracts_view, deployed_in};
+ghost use Rattle.interp.specs.Lent.{contract_view, contracts_view};
 ghost use Rattle.interp.specs.Starting.{IsRefusedFor};
 
-use crate::stand_in::Runnable;
 use call::Call;
+use link::deployed::Deployed;
 use opening::{Refusal, entry_of};
 use std::alloc::Allocator;
 
@@ -44,25 +44,25 @@ pub(crate) fn refusal_of(refusal: Refusal) -> StartRefusal
 /// The contract of a call, and the number of the function that the call starts with.
 #[derive(Drop)]
 pub(crate) struct Opened<'a, A: Allocator> {
-    pub(crate) runnable: &'a Runnable<A>,
+    pub(crate) deployed: &'a Deployed<A>,
     pub(crate) func: u32,
 }
 
 // What a call opens with. Of several causes of a refusal it answers the first of: the contract, the export, the
 // function, the number of arguments, their types.
 pub(crate) fn open_call<'a, A: Allocator>(
-    contracts: &'a [Runnable<A>],
+    contracts: &'a [Deployed<A>],
     call: &Call,
 ) -> Result<Opened<'a, A>, Refusal>
-    ensures opens { IfOk result (λ opened. opening (contracts_view contracts.now) call.now ≡ Opens (record { number = call.now.contract; deployed = contract_view opened.runnable.now }) opened.func) }
-    ensures defined { IfOk result (λ opened. length (hosts_of (deployed_in opened.runnable.now)) ≤ opened.func) }
+    ensures opens { IfOk result (λ opened. opening (contracts_view contracts.now) call.now ≡ Opens (record { number = call.now.contract; deployed = contract_view opened.deployed.now }) opened.func) }
+    ensures defined { IfOk result (λ opened. length (hosts_of opened.deployed.now) ≤ opened.func) }
     ensures refused { IfErr result (λ refusal. opening (contracts_view contracts.now) call.now ≡ Refused (code_of refusal)) }
 {
-    let Some(runnable) = contracts.get(call.contract() as usize) else {
+    let Some(deployed) = contracts.get(call.contract() as usize) else {
         return Err(Refusal::NoContract);
     };
-    match entry_of(runnable.deployed(), call) {
-        Ok(func) => Ok(Opened { runnable, func }),
+    match entry_of(deployed, call) {
+        Ok(func) => Ok(Opened { deployed, func }),
         Err(refusal) => Err(refusal),
     }
 }

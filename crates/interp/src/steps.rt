@@ -1,6 +1,7 @@
 // One instruction of the code, and the ends of blocks, loops and calls.
 ghost use Rattle.std.specs.Prelude.{◌≡◌, ◌+◌, ◌<◌, ◌∷◌, [], length, IfOk, vec_len};
 ghost use Rattle.std.specs.Prelude.{false, slice_get, unwrap_or};
+ghost use Rattle.wtypes.specs.declared.PlainInstr.TheVariants.{CallIndirect};
 ghost use Rattle.spec_numeric.specs.Operators.{bits_of};
 ghost use Rattle.spec_execution.specs.Reduction.{arity as arity_of};
 ghost use Rattle.interp.specs.Views.{scope_of};
@@ -10,6 +11,8 @@ ghost use Rattle.interp.specs.Branches.{is_frame};
 ghost use Rattle.interp.specs.Steps.{AreNumbered, IsOperator, HasOpened, IsReadyToRun, Led, IsOrderedParts, IsReadyParts, AllSettle, IsBehind, IsCounted};
 
 use crate::branches::{branch, leave_call};
+use crate::calls::Lent;
+use crate::elements::function_of_element;
 use crate::memories::{execute_grow, execute_load, execute_store, memory_size};
 use crate::parts::{Entry, Kind, Parts};
 use crate::plain::{After, execute_plain};
@@ -19,16 +22,19 @@ use std::alloc::{AllocError, Allocator};
 use wtypes::{PlainInstr, ValType, Value};
 
 /// Makes the charged reduction of the instruction to come, and the free ones of what it becomes.
-pub fn execute<'a, A: Allocator>(parts: &mut Parts<'a, A>) -> Result<After, AllocError>
-    requires ready { IsReadyToRun parts.old }
+pub fn execute<'a, A: Allocator>(
+    lent: &Lent<'a, A>,
+    parts: &mut Parts<'a, A>,
+) -> Result<After, AllocError>
+    requires ready { IsReadyToRun lent.now parts.old }
     requires counted { IsCounted parts.old }
-    ensures led { IfOk result (λ a. Led parts.old a parts.new) }
+    ensures led { IfOk result (λ a. Led lent.now parts.old a parts.new) }
     ensures counted { IfOk result (λ a. IsCounted parts.new) }
     ensures max { parts.new.instance.memory.max ≡ parts.old.instance.memory.max }
 {
     let (instr, rest) = first(parts.code);
     match instr {
-        Instr::Plain(_, op) => execute_operator(parts, op, rest),
+        Instr::Plain(_, op) => execute_operator(lent, parts, op, rest),
         Instr::BrTable(_, labels, fallback) => {
             let choice = pop_top(&mut parts.stack);
             branch(parts, chosen_label(labels, *fallback, choice));
@@ -52,14 +58,15 @@ pub fn execute<'a, A: Allocator>(parts: &mut Parts<'a, A>) -> Result<After, Allo
 
 // The same for an instruction that holds no other one, with those behind it.
 fn execute_operator<'a, A: Allocator>(
+    lent: &Lent<'a, A>,
     parts: &mut Parts<'a, A>,
     op: &PlainInstr,
     rest: &'a [Instr<A>],
 ) -> Result<After, AllocError>
-    requires ready { IsReadyToRun parts.old }
+    requires ready { IsReadyToRun lent.now parts.old }
     requires counted { IsCounted parts.old }
     requires here { IsOperator parts.old op.now rest.now }
-    ensures led { IfOk result (λ a. Led parts.old a parts.new) }
+    ensures led { IfOk result (λ a. Led lent.now parts.old a parts.new) }
     ensures counted { IfOk result (λ a. IsCounted parts.new) }
     ensures max { parts.new.instance.memory.max ≡ parts.old.instance.memory.max }
 {
@@ -81,12 +88,13 @@ fn execute_operator<'a, A: Allocator>(
             leave_call(parts);
             Ok(After::Ran)
         }
-        PlainInstr::GlobalGet(_) => execute_on_instance(parts, op, rest),
-        PlainInstr::GlobalSet(_) => execute_on_instance(parts, op, rest),
-        PlainInstr::Load(_, _, _) => execute_on_instance(parts, op, rest),
-        PlainInstr::Store(_, _, _) => execute_on_instance(parts, op, rest),
-        PlainInstr::MemorySize => execute_on_instance(parts, op, rest),
-        PlainInstr::MemoryGrow => execute_on_instance(parts, op, rest),
+        PlainInstr::CallIndirect(form) => Ok(call_element(lent, parts, *form, rest)),
+        PlainInstr::GlobalGet(_) => execute_on_instance(lent, parts, op, rest),
+        PlainInstr::GlobalSet(_) => execute_on_instance(lent, parts, op, rest),
+        PlainInstr::Load(_, _, _) => execute_on_instance(lent, parts, op, rest),
+        PlainInstr::Store(_, _, _) => execute_on_instance(lent, parts, op, rest),
+        PlainInstr::MemorySize => execute_on_instance(lent, parts, op, rest),
+        PlainInstr::MemoryGrow => execute_on_instance(lent, parts, op, rest),
         _ => {
             parts.code = rest;
             execute_plain(op, &mut parts.stack, &mut parts.locals)
@@ -96,15 +104,16 @@ fn execute_operator<'a, A: Allocator>(
 
 // The same for an instruction that reads or writes the instance.
 fn execute_on_instance<'a, A: Allocator>(
+    lent: &Lent<'a, A>,
     parts: &mut Parts<'a, A>,
     op: &PlainInstr,
     rest: &'a [Instr<A>],
 ) -> Result<After, AllocError>
-    requires ready { IsReadyToRun parts.old }
+    requires ready { IsReadyToRun lent.now parts.old }
     requires counted { IsCounted parts.old }
     requires here { IsOperator parts.old op.now rest.now }
     requires on_instance { runs_on_instance op.now ≡ true }
-    ensures led { IfOk result (λ a. Led parts.old a parts.new) }
+    ensures led { IfOk result (λ a. Led lent.now parts.old a parts.new) }
     ensures counted { IfOk result (λ a. IsCounted parts.new) }
     ensures max { parts.new.instance.memory.max ≡ parts.old.instance.memory.max }
 {
@@ -140,6 +149,30 @@ fn execute_on_instance<'a, A: Allocator>(
             Ok(After::Ran)
         }
         _ => unreachable!(),
+    }
+}
+
+// Calls the function that an element of the table is, where it has the type of this number; the element's number is on top.
+// It stays out of line, for the speed of the other instructions.
+#[inline(never)]
+fn call_element<'a, A: Allocator>(
+    lent: &Lent<'a, A>,
+    parts: &mut Parts<'a, A>,
+    type_index: u32,
+    rest: &'a [Instr<A>],
+) -> After
+    requires ready { IsReadyToRun lent.now parts.old }
+    requires counted { IsCounted parts.old }
+    requires here { IsOperator parts.old (CallIndirect type_index) rest.now }
+    ensures led { Led lent.now parts.old result parts.new }
+    ensures counted { IsCounted parts.new }
+    ensures instance { parts.new.instance ≡ parts.old.instance }
+{
+    parts.code = rest;
+    let element = bits(pop_top(&mut parts.stack));
+    match function_of_element(lent, &parts.instance.table, element, type_index) {
+        Ok(func) => After::Calls(func),
+        Err(code) => After::Fell(code),
     }
 }
 

@@ -4,19 +4,18 @@ ghost use Rattle.interp.specs.Progress.{IsFree};
 
 use interp::finished::Finished;
 use interp::machine::Machine;
-use interp::stand_in::Runnable;
 use interp::turns::Turn;
 use link::deploy::deploy;
+use link::deployed::Deployed;
 use loader::load;
 use std::alloc::{Allocator, Global};
 use typing::check::check;
 
-/// The contract of these bytes. `None` where they are no module that is valid, is linked and is executed, or where memory was refused.
-pub fn contract(alloc: Global, bytes: &[u8]) -> Option<Runnable<Global>> {
+/// The contract of these bytes. `None` where they are no module that is valid and linked, or where memory was refused.
+pub fn contract(alloc: Global, bytes: &[u8]) -> Option<Deployed<Global>> {
     let tree = load(alloc, bytes).ok()?;
     let valid = check(&alloc, tree).ok()?;
-    let deployed = deploy(&alloc, valid).ok()?;
-    Runnable::accept(deployed).ok()
+    deploy(&alloc, valid).ok()
 }
 
 /// Makes the turns of a run up to its end. `None` where the host was asked for an operation, or where memory was refused.

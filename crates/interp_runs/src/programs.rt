@@ -219,3 +219,162 @@ pub const FIRST: [u8; 82] = [
     108, 0, 1, 3, 2, 1, 1, 7, 7, 1, 3, 114, 117, 110, 0, 2, 10, 17, 1, 15, 0, 32, 0, 66, 2, 66, 3,
     124, 16, 0, 32, 0, 16, 1, 11,
 ];
+
+// The same for this text:
+//
+//     (module
+//       (type $unary (func (param i32) (result i32)))
+//       (type $alike (func (param i32) (result i32)))
+//       (type $nullary (func (result i32)))
+//       (type $wide (func (param i64) (result i32)))
+//       (type $narrow (func (param i32) (result i64)))
+//       (table 7 8 funcref)
+//       (elem (i32.const 1) $double $square $seven)
+//       (elem (i32.const 3) $negate $forever)
+//       (func $double (type $unary) (i32.mul (local.get 0) (i32.const 2)))
+//       (func $square (type $alike) (i32.mul (local.get 0) (local.get 0)))
+//       (func $seven (type $nullary) (i32.const 7))
+//       (func $negate (type $unary) (i32.sub (i32.const 0) (local.get 0)))
+//       (func $forever (type $nullary)
+//         (i32.add (i32.const 1) (call_indirect (type $nullary) (i32.const 4))))
+//       (func (export "first") (result i32) (call_indirect (type $unary) (i32.const 21) (i32.const 1)))
+//       (func (export "alike") (result i32) (call_indirect (type $unary) (i32.const 5) (i32.const 2)))
+//       (func (export "later_segment") (result i32)
+//         (call_indirect (type $alike) (i32.const 5) (i32.const 3)))
+//       (func (export "values_below") (result i32)
+//         (i32.add (i32.const 100) (call_indirect (type $unary) (i32.const 5) (i32.const 1))))
+//       (func (export "empty_first") (result i32)
+//         (call_indirect (type $unary) (i32.const 5) (i32.const 0)))
+//       (func (export "empty_last") (result i32) (call_indirect (type $nullary) (i32.const 6)))
+//       (func (export "past_the_end") (result i32) (call_indirect (type $nullary) (i32.const 7)))
+//       (func (export "far_past") (result i32) (call_indirect (type $nullary) (i32.const -1)))
+//       (func (export "no_parameter") (result i32) (call_indirect (type $nullary) (i32.const 1)))
+//       (func (export "parameter_type") (result i32)
+//         (call_indirect (type $wide) (i64.const 5) (i32.const 1)))
+//       (func (export "result_type") (result i64)
+//         (call_indirect (type $narrow) (i32.const 5) (i32.const 1)))
+//       (func (export "deep_calls") (result i32) (call_indirect (type $nullary) (i32.const 4))))
+
+pub const ELEMENTS: [u8; 405] = [
+    0, 97, 115, 109, 1, 0, 0, 0, 1, 29, 6, 96, 1, 127, 1, 127, 96, 1, 127, 1, 127, 96, 0, 1, 127,
+    96, 1, 126, 1, 127, 96, 1, 127, 1, 126, 96, 0, 1, 126, 3, 18, 17, 0, 1, 2, 0, 2, 2, 2, 2, 2, 2,
+    2, 2, 2, 2, 2, 5, 2, 4, 5, 1, 112, 1, 7, 8, 7, 160, 1, 12, 5, 102, 105, 114, 115, 116, 0, 5, 5,
+    97, 108, 105, 107, 101, 0, 6, 13, 108, 97, 116, 101, 114, 95, 115, 101, 103, 109, 101, 110,
+    116, 0, 7, 12, 118, 97, 108, 117, 101, 115, 95, 98, 101, 108, 111, 119, 0, 8, 11, 101, 109,
+    112, 116, 121, 95, 102, 105, 114, 115, 116, 0, 9, 10, 101, 109, 112, 116, 121, 95, 108, 97,
+    115, 116, 0, 10, 12, 112, 97, 115, 116, 95, 116, 104, 101, 95, 101, 110, 100, 0, 11, 8, 102,
+    97, 114, 95, 112, 97, 115, 116, 0, 12, 12, 110, 111, 95, 112, 97, 114, 97, 109, 101, 116, 101,
+    114, 0, 13, 14, 112, 97, 114, 97, 109, 101, 116, 101, 114, 95, 116, 121, 112, 101, 0, 14, 11,
+    114, 101, 115, 117, 108, 116, 95, 116, 121, 112, 101, 0, 15, 10, 100, 101, 101, 112, 95, 99,
+    97, 108, 108, 115, 0, 16, 9, 16, 2, 0, 65, 1, 11, 3, 0, 1, 2, 0, 65, 3, 11, 2, 3, 4, 10, 155,
+    1, 17, 7, 0, 32, 0, 65, 2, 108, 11, 7, 0, 32, 0, 32, 0, 108, 11, 4, 0, 65, 7, 11, 7, 0, 65, 0,
+    32, 0, 107, 11, 10, 0, 65, 1, 65, 4, 17, 2, 0, 106, 11, 9, 0, 65, 21, 65, 1, 17, 0, 0, 11, 9,
+    0, 65, 5, 65, 2, 17, 0, 0, 11, 9, 0, 65, 5, 65, 3, 17, 1, 0, 11, 13, 0, 65, 228, 0, 65, 5, 65,
+    1, 17, 0, 0, 106, 11, 9, 0, 65, 5, 65, 0, 17, 0, 0, 11, 7, 0, 65, 6, 17, 2, 0, 11, 7, 0, 65, 7,
+    17, 2, 0, 11, 7, 0, 65, 127, 17, 2, 0, 11, 7, 0, 65, 1, 17, 2, 0, 11, 9, 0, 66, 5, 65, 1, 17,
+    3, 0, 11, 9, 0, 65, 5, 65, 1, 17, 4, 0, 11, 7, 0, 65, 4, 17, 2, 0, 11,
+];
+
+// The same for this text:
+//
+//     (module
+//       (import "boost" "add" (func $add (param i64 i64)))
+//       (import "boost" "total" (func $total (param i64) (result i64)))
+//       (type $pair (func (param i64 i64)))
+//       (type $single (func (param i64) (result i64)))
+//       (type $test (func (param i64) (result i32)))
+//       (table 2 funcref)
+//       (elem (i32.const 0) $add $total)
+//       (func (export "run") (param i64) (result i64)
+//         (call_indirect (type $pair) (local.get 0) (i64.const 5) (i32.const 0))
+//         (call_indirect (type $single) (local.get 0) (i32.const 1)))
+//       (func (export "other_type") (result i32)
+//         (call_indirect (type $test) (i64.const 7) (i32.const 1))))
+
+pub const IMPORTED_ELEMENTS: [u8; 134] = [
+    0, 97, 115, 109, 1, 0, 0, 0, 1, 20, 4, 96, 2, 126, 126, 0, 96, 1, 126, 1, 126, 96, 1, 126, 1,
+    127, 96, 0, 1, 127, 2, 27, 2, 5, 98, 111, 111, 115, 116, 3, 97, 100, 100, 0, 0, 5, 98, 111,
+    111, 115, 116, 5, 116, 111, 116, 97, 108, 0, 1, 3, 3, 2, 1, 3, 4, 4, 1, 112, 0, 2, 7, 20, 2, 3,
+    114, 117, 110, 0, 2, 10, 111, 116, 104, 101, 114, 95, 116, 121, 112, 101, 0, 3, 9, 8, 1, 0, 65,
+    0, 11, 2, 0, 1, 10, 30, 2, 18, 0, 32, 0, 66, 5, 65, 0, 17, 0, 0, 32, 0, 65, 1, 17, 1, 0, 11, 9,
+    0, 66, 7, 65, 1, 17, 2, 0, 11,
+];
+
+// The same for this text:
+//
+//     (module
+//       (memory 1)
+//       (global $g (mut i64) (i64.const 1))
+//       (func $begin
+//         (global.set $g (i64.const 41)) (i32.store8 (i32.const 7) (i32.const 9)))
+//       (func (export "read") (result i64) (i64.add (global.get $g) (i64.const 1)))
+//       (func (export "byte") (result i32) (i32.load8_u (i32.const 7)))
+//       (func (export "less") (param i64 i64) (result i64)
+//         (i64.sub (i64.sub (global.get $g) (local.get 0)) (local.get 1)))
+//       (func (export "empty"))
+//       (func $forever (call $forever))
+//       (func (export "deep") (call $forever))
+//       (start $begin))
+
+pub const STARTED: [u8; 150] = [
+    0, 97, 115, 109, 1, 0, 0, 0, 1, 18, 4, 96, 0, 0, 96, 0, 1, 126, 96, 0, 1, 127, 96, 2, 126, 126,
+    1, 126, 3, 8, 7, 0, 1, 2, 3, 0, 0, 0, 5, 3, 1, 0, 1, 6, 6, 1, 126, 1, 66, 1, 11, 7, 37, 5, 4,
+    114, 101, 97, 100, 0, 1, 4, 98, 121, 116, 101, 0, 2, 4, 108, 101, 115, 115, 0, 3, 5, 101, 109,
+    112, 116, 121, 0, 4, 4, 100, 101, 101, 112, 0, 6, 8, 1, 0, 10, 55, 7, 13, 0, 66, 41, 36, 0, 65,
+    7, 65, 9, 58, 0, 0, 11, 7, 0, 35, 0, 66, 1, 124, 11, 7, 0, 65, 7, 45, 0, 0, 11, 10, 0, 35, 0,
+    32, 0, 125, 32, 1, 125, 11, 2, 0, 11, 4, 0, 16, 5, 11, 4, 0, 16, 5, 11,
+];
+
+// The same for this text:
+//
+//     (module
+//       (func $begin (block (br 0) (drop (i32.const 1))) (drop (i32.const 2)) unreachable)
+//       (func (export "empty"))
+//       (start $begin))
+
+pub const FALLING: [u8; 54] = [
+    0, 97, 115, 109, 1, 0, 0, 0, 1, 4, 1, 96, 0, 0, 3, 3, 2, 0, 0, 7, 9, 1, 5, 101, 109, 112, 116,
+    121, 0, 1, 8, 1, 0, 10, 19, 2, 14, 0, 2, 64, 12, 0, 65, 1, 26, 11, 65, 2, 26, 0, 11, 2, 0, 11,
+];
+
+// The same for this text:
+//
+//     (module
+//       (import "boost" "add" (func $add (param i64) (param i64)))
+//       (import "boost" "total" (func $total (param i64) (result i64)))
+//       (func $begin (call $add (i64.const 7) (i64.const 5)))
+//       (func (export "peek") (param i64) (result i64) (call $total (local.get 0)))
+//       (func (export "empty"))
+//       (start $begin))
+
+pub const ASKING_FIRST: [u8; 102] = [
+    0, 97, 115, 109, 1, 0, 0, 0, 1, 14, 3, 96, 2, 126, 126, 0, 96, 1, 126, 1, 126, 96, 0, 0, 2, 27,
+    2, 5, 98, 111, 111, 115, 116, 3, 97, 100, 100, 0, 0, 5, 98, 111, 111, 115, 116, 5, 116, 111,
+    116, 97, 108, 0, 1, 3, 4, 3, 2, 1, 2, 7, 16, 2, 4, 112, 101, 101, 107, 0, 3, 5, 101, 109, 112,
+    116, 121, 0, 4, 8, 1, 2, 10, 20, 3, 8, 0, 66, 7, 66, 5, 16, 0, 11, 6, 0, 32, 0, 16, 1, 11, 2,
+    0, 11,
+];
+
+// The same for this text:
+//
+//     (module
+//       (func $begin (call $begin))
+//       (func (export "empty"))
+//       (start $begin))
+
+pub const ENDLESS_START: [u8; 44] = [
+    0, 97, 115, 109, 1, 0, 0, 0, 1, 4, 1, 96, 0, 0, 3, 3, 2, 0, 0, 7, 9, 1, 5, 101, 109, 112, 116,
+    121, 0, 1, 8, 1, 0, 10, 9, 2, 4, 0, 16, 0, 11, 2, 0, 11,
+];
+
+// The same for this text:
+//
+//     (module
+//       (func $begin (export "again") (return))
+//       (func (export "empty"))
+//       (start $begin))
+
+pub const EMPTY_START: [u8; 51] = [
+    0, 97, 115, 109, 1, 0, 0, 0, 1, 4, 1, 96, 0, 0, 3, 3, 2, 0, 0, 7, 17, 2, 5, 97, 103, 97, 105,
+    110, 0, 0, 5, 101, 109, 112, 116, 121, 0, 1, 8, 1, 0, 10, 8, 2, 3, 0, 15, 11, 2, 0, 11,
+];

@@ -3,14 +3,17 @@
 ghost use Rattle.interp.specs.Progress.{IsFree};
 ghost use Rattle.spec_execution.specs.Run.{IsReply};
 
-use crate::programs::{COUNTDOWN, EXPORTS, FIRST, GROWTH, HOST, ROWS};
+use crate::programs::{
+    ASKING_FIRST, COUNTDOWN, ELEMENTS, EMPTY_START, ENDLESS_START, EXPORTS, FALLING, FIRST, GROWTH,
+    HOST, IMPORTED_ELEMENTS, ROWS, STARTED,
+};
 use call::Call;
 use interp::finished::Finished;
 use interp::machine::Machine;
-use interp::stand_in::Runnable;
 use interp::start::StartRefusal;
 use interp::turns::Turn;
 use link::deploy::deploy;
+use link::deployed::Deployed;
 use loader::load;
 use spec_ledger::{Op, Outcome, Place, Reply, Step};
 use std::alloc::Global;
@@ -19,11 +22,10 @@ use std::test::Fail;
 use typing::check::check;
 use wtypes::{TrapCode, Value};
 
-fn contract(alloc: Global, bytes: &[u8]) -> Result<Runnable<Global>, Fail> {
+fn contract(alloc: Global, bytes: &[u8]) -> Result<Deployed<Global>, Fail> {
     let tree = load(alloc, bytes).ok().ok_or("a module")?;
     let valid = check(&alloc, tree).ok().ok_or("a valid module")?;
-    let deployed = deploy(&alloc, valid).ok().ok_or("a module that is linked")?;
-    Ok(Runnable::accept(deployed).ok().ok_or("forms that are run")?)
+    Ok(deploy(&alloc, valid).ok().ok_or("a module that is linked")?)
 }
 
 fn call(alloc: Global, number: u32, name: &str, args: &[Value], fuel: u64) -> Result<Call, Fail> {
@@ -62,7 +64,7 @@ fn make_turn<'a>(machine: &mut Machine<'a, Global>) -> Turn
 
 fn run<'a>(
     alloc: Global,
-    contracts: &'a [Runnable<Global>],
+    contracts: &'a [Deployed<Global>],
     call: &'a Call,
 ) -> Result<Finished<'a, Global>, Fail> {
     let mut machine = Machine::start(alloc, contracts, call)
@@ -79,7 +81,7 @@ fn run<'a>(
 // How the run of an export without arguments ends, and the fuel that it used.
 fn ending(
     alloc: Global,
-    contracts: &[Runnable<Global>],
+    contracts: &[Deployed<Global>],
     name: &str,
     fuel: u64,
 ) -> Result<(Outcome, u64), Fail> {
@@ -165,10 +167,23 @@ fn growth(rt: HostRuntime) -> Result<(), Fail> {
 }
 
 #[test]
+fn calls_of_elements(rt: HostRuntime) -> Result<(), Fail> {
+    let rows = [
+        ("first", Value::I32(42)),
+        ("alike", Value::I32(25)),
+        ("later_segment", Value::I32(-5)),
+        ("values_below", Value::I32(110)),
+    ];
+    assert_values(&rt, rt.alloc(), &ELEMENTS, &rows)
+}
+
+#[test]
 fn traps(rt: HostRuntime) -> Result<(), Fail> {
     let alloc = rt.alloc();
     let exports = [contract(alloc, &EXPORTS)?];
     let rows = [contract(alloc, &ROWS)?];
+    let elements = [contract(alloc, &ELEMENTS)?];
+    let imported = [contract(alloc, &IMPORTED_ELEMENTS)?];
     for (contracts, name, code, used) in [
         (&exports, "out", TrapCode::MemoryOutOfBounds, 2),
         (&exports, "trap", TrapCode::Unreachable, 1),
@@ -183,6 +198,16 @@ fn traps(rt: HostRuntime) -> Result<(), Fail> {
         (&rows, "offset", TrapCode::MemoryOutOfBounds, 2),
         (&rows, "past", TrapCode::MemoryOutOfBounds, 3),
         (&rows, "endless", TrapCode::CallDepth, 256),
+        (&elements, "empty_first", TrapCode::EmptyElement, 3),
+        (&elements, "empty_last", TrapCode::EmptyElement, 2),
+        (&elements, "past_the_end", TrapCode::ElementOutOfTable, 2),
+        (&elements, "far_past", TrapCode::ElementOutOfTable, 2),
+        (&elements, "no_parameter", TrapCode::TypeMismatch, 2),
+        (&elements, "parameter_type", TrapCode::TypeMismatch, 3),
+        (&elements, "result_type", TrapCode::TypeMismatch, 3),
+        // two instructions, and then 255 frames of three each
+        (&elements, "deep_calls", TrapCode::CallDepth, 767),
+        (&imported, "other_type", TrapCode::TypeMismatch, 3),
     ] {
         let found = ending(alloc, contracts, name, 10_000)?;
         assert_eq!(rt; found, (Outcome::Trapped(code), used), "of {name}");
@@ -195,7 +220,9 @@ fn fuel(rt: HostRuntime) -> Result<(), Fail> {
     let alloc = rt.alloc();
     let exports = [contract(alloc, &EXPORTS)?];
     let rows = [contract(alloc, &ROWS)?];
+    let elements = [contract(alloc, &ELEMENTS)?];
     let deep = Outcome::Trapped(TrapCode::CallDepth);
+    let doubled = Outcome::Returned(Some(Value::I32(42)));
     for (contracts, name, fuel, outcome, used) in [
         (
             &exports,
@@ -211,6 +238,9 @@ fn fuel(rt: HostRuntime) -> Result<(), Fail> {
         (&rows, "endless", 1_000, deep, 256),
         (&rows, "endless", 256, deep, 256),
         (&rows, "endless", 255, Outcome::OutOfFuel, 255),
+        (&elements, "first", 6, doubled, 6),
+        (&elements, "first", 5, Outcome::OutOfFuel, 5),
+        (&elements, "first", 2, Outcome::OutOfFuel, 2),
     ] {
         let found = ending(alloc, contracts, name, fuel)?;
         assert_eq!(rt; found, (outcome, used), "of {name} with {fuel}");
@@ -302,6 +332,25 @@ fn fuel_between_operations(rt: HostRuntime) -> Result<(), Fail> {
     Ok(())
 }
 
+#[test]
+fn imports_in_the_table(rt: HostRuntime) -> Result<(), Fail> {
+    let alloc = rt.alloc();
+    let contracts = [contract(alloc, &IMPORTED_ELEMENTS)?];
+    let total = Outcome::Returned(Some(Value::I64(12)));
+    for (fuel, outcome, trace) in [
+        (3, Outcome::OutOfFuel, [].as_slice()),
+        (4, Outcome::OutOfFuel, [ADDED].as_slice()),
+        (6, Outcome::OutOfFuel, [ADDED].as_slice()),
+        (7, total, [ADDED, TOTALLED].as_slice()),
+    ] {
+        let call = call(alloc, 0, "run", &[Value::I64(7)], fuel)?;
+        let finished = run(alloc, &contracts, &call)?;
+        assert_eq!(rt; (finished.outcome(), finished.used()), (outcome, fuel));
+        assert_eq!(rt; finished.trace(), trace, "with {fuel}");
+    }
+    Ok(())
+}
+
 fn place(key: i64) -> Place {
     Place {
         contract: 1,
@@ -353,5 +402,82 @@ fn refusals(rt: HostRuntime) -> Result<(), Fail> {
         let refused = Machine::start(alloc, &contracts, &call).err();
         assert_eq!(rt; refused, Some(refusal), "of {name}");
     }
+    Ok(())
+}
+
+#[test]
+fn the_start_function_runs_first(rt: HostRuntime) -> Result<(), Fail> {
+    let rows = [("read", Value::I64(42)), ("byte", Value::I32(9))];
+    assert_values(&rt, rt.alloc(), &STARTED, &rows)?;
+    let contracts = [contract(rt.alloc(), &STARTED)?];
+    let call = call(rt.alloc(), 0, "less", &[Value::I64(30), Value::I64(4)], 100)?;
+    let finished = run(rt.alloc(), &contracts, &call)?;
+    let value = Outcome::Returned(Some(Value::I64(7)));
+    assert_eq!(rt; (finished.outcome(), finished.used()), (value, 10));
+    Ok(())
+}
+
+// The start function of the first module uses 5 of the fuel.
+#[test]
+fn the_start_function_uses_the_fuel_of_the_call(rt: HostRuntime) -> Result<(), Fail> {
+    let alloc = rt.alloc();
+    let started = [contract(alloc, &STARTED)?];
+    let falling = [contract(alloc, &FALLING)?];
+    let endless = [contract(alloc, &ENDLESS_START)?];
+    let empty = [contract(alloc, &EMPTY_START)?];
+    let read = Outcome::Returned(Some(Value::I64(42)));
+    let deep = Outcome::Trapped(TrapCode::CallDepth);
+    let fell = Outcome::Trapped(TrapCode::Unreachable);
+    for (contracts, name, fuel, outcome, used) in [
+        (&started, "empty", 6, Outcome::Returned(None), 5),
+        (&started, "empty", 5, Outcome::Returned(None), 5),
+        (&started, "empty", 4, Outcome::OutOfFuel, 4),
+        (&started, "empty", 0, Outcome::OutOfFuel, 0),
+        (&started, "read", 8, read, 8),
+        (&started, "read", 7, Outcome::OutOfFuel, 7),
+        (&started, "read", 5, Outcome::OutOfFuel, 5),
+        // the start function has ended, so the entry has all 256 frames
+        (&started, "deep", 1_000, deep, 261),
+        (&falling, "empty", 100, fell, 5),
+        (&falling, "empty", 5, fell, 5),
+        (&falling, "empty", 4, Outcome::OutOfFuel, 4),
+        (&endless, "empty", 1_000, deep, 256),
+        (&empty, "empty", 1, Outcome::Returned(None), 1),
+        (&empty, "again", 2, Outcome::Returned(None), 2),
+        (&empty, "again", 1, Outcome::OutOfFuel, 1),
+    ] {
+        let found = ending(alloc, contracts, name, fuel)?;
+        assert_eq!(rt; found, (outcome, used), "of {name} with {fuel}");
+    }
+    Ok(())
+}
+
+// Before the first turn nothing of the start function has run.
+#[test]
+fn the_start_function_asks_the_host_before_the_entry(rt: HostRuntime) -> Result<(), Fail> {
+    let alloc = rt.alloc();
+    let contracts = [contract(alloc, &ASKING_FIRST)?];
+    let call = call(alloc, 0, "peek", &[Value::I64(7)], 5)?;
+    let machine = Machine::start(alloc, &contracts, &call)
+        .ok()
+        .ok_or("a machine")?;
+    let mut machine = machine.finish().err().ok_or("no end before a turn")?;
+    let done = Turn::Done(Outcome::Returned(Some(Value::I64(12))));
+    'turns: for (number, turn) in [
+        Turn::Stepped,
+        Turn::Stepped,
+        Turn::Host(ADDED.op),
+        Turn::Stepped,
+        Turn::Host(TOTALLED.op),
+        done,
+    ]
+    .iter()
+    .enumerate()
+    {
+        assert_eq!(rt; make_turn(&mut machine), *turn, "turn {number}");
+    }
+    let finished = machine.finish().ok().ok_or("its end")?;
+    assert_eq!(rt; finished.trace(), [ADDED, TOTALLED].as_slice());
+    assert_eq!(rt; finished.used(), 5);
     Ok(())
 }

@@ -14,6 +14,10 @@ byte_in pages at = byte_of (slice_get pages (at / page_size)) (at % page_size)
 abbrev pub bytes_in : {A : Type 0} → List (Vec ℕ A) → List ℕ
 bytes_in pages = map (byte_in pages) (range_with_len 0 (page_size * length pages))
 
+-- the bytes that each page has of its own
+abbrev pub contents : {A : Type 0} → List (Vec ℕ A) → List (List ℕ)
+contents pages = map (λ page. page.items) pages
+
 -- it has no bytes of its own, or all
 abbrev pub IsPage : {A : Type 0} → Vec ℕ A → Type 0
 IsPage page = (vec_len page ≡ 0) ⊎ (vec_len page ≡ page_size)

@@ -2,12 +2,12 @@
 //! bytes. A page gets bytes of its own at the first store that meets it, and reads as zeros before.
 #![tactic(auto)]
 
-ghost use Rattle.std.specs.Prelude.{◌≡◌, ℕ, ◌+◌, ◌*◌, ◌/◌, ◌%◌, ◌^◌, ◌<◌, ◌≤◌, ◌⊎◌, length, replicate, All, IfOk, vec_len, ◌≢◌, slice_index};
+ghost use Rattle.std.specs.Prelude.{◌≡◌, ℕ, ◌+◌, ◌*◌, ◌/◌, ◌%◌, ◌^◌, ◌<◌, ◌≤◌, ◌⊎◌, length, replicate, All, IfOk, vec_len, ◌≢◌, slice_index, take, drop};
 ghost use Rattle.spec_syntax.specs.Profile.{page_size, page_limit};
 ghost use Rattle.spec_numeric.specs.Storage.{bytes_of_number};
 ghost use Rattle.spec_numeric.specs.Memory.{load};
 ghost use Rattle.memory.specs.Linear.{Memory, pages, Stored, Grown};
-ghost use Rattle.memory.specs.Pages.{byte_in, bytes_in, IsPage, IsEmptyPage, IsMade, IsSound, number_in};
+ghost use Rattle.memory.specs.Pages.{byte_in, bytes_in, contents, IsPage, IsEmptyPage, IsMade, IsSound, number_in};
 
 use std::alloc::{AllocError, Allocator};
 use std::marker::Model;
@@ -162,6 +162,37 @@ fn empty_pages<A: Allocator + Clone + Drop>(
     Ok(list)
 }
 
+/// So many bytes from an address on.
+fn read_bytes<A: Allocator, B: Allocator>(
+    pages: &Vec<Vec<u8, A>, A>,
+    alloc: B,
+    from: usize,
+    count: usize,
+) -> Result<Vec<u8, B>, AllocError>
+    requires in_range { from + count ≤ page_size * vec_len pages.now }
+    requires limit { vec_len pages.now ≤ page_limit }
+    ensures { IfOk result (λ bytes. bytes.items ≡ take count (drop from (bytes_in pages.now.items))) }
+{
+    let mut bytes = Vec::with_capacity(alloc, count)?;
+    for index in 0..count {
+        bytes.push(byte(pages, from + index))?;
+    }
+    Ok(bytes)
+}
+
+/// Pages with the same bytes.
+fn copy_pages<A: Allocator + Clone + Drop>(
+    pages: &Vec<Vec<u8, A>, A>,
+) -> Result<Vec<Vec<u8, A>, A>, AllocError>
+    ensures { IfOk result (λ copies. contents copies.items ≡ contents pages.now.items) }
+{
+    let mut copies = Vec::with_capacity(pages.allocator().clone()?, pages.len())?;
+    for page in pages {
+        copies.push(page.to_vec(pages.allocator().clone()?)?)?;
+    }
+    Ok(copies)
+}
+
 impl<A: Allocator + Clone + Drop> Linear<A> {
     /// A memory of so many pages of zeros, which may grow to `max` pages. It makes the list of pages alone.
     ///
@@ -201,11 +232,52 @@ impl<A: Allocator + Clone + Drop> Linear<A> {
         }
     }
 
+    /// The same memory, with pages of its own.
+    ///
+    /// # Errors
+    ///
+    /// `NoMemory` where a page or the list was refused.
+    pub fn copy(&self) -> Result<Linear<A>, NoMemory>
+        ensures { IfOk result (λ copy. copy ≡ self.now) }
+    {
+        match copy_pages(&self.pages) {
+            Ok(pages) => Ok(Linear {
+                pages,
+                max: self.max,
+            }),
+            Err(_) => Err(NoMemory),
+        }
+    }
+
     /// The size in pages.
     pub fn size(&self) -> u32
         ensures { result ≡ pages self.now }
     {
         self.pages.len() as u32
+    }
+
+    /// The size in bytes.
+    pub fn len(&self) -> usize
+        ensures { result ≡ length self.now.bytes }
+    {
+        PAGE_SIZE * self.pages.len()
+    }
+
+    /// So many bytes from an address on.
+    ///
+    /// # Errors
+    ///
+    /// Memory was refused.
+    pub fn bytes<B: Allocator>(
+        &self,
+        alloc: B,
+        from: usize,
+        count: usize,
+    ) -> Result<Vec<u8, B>, AllocError>
+        requires { from + count ≤ length self.now.bytes }
+        ensures { IfOk result (λ bytes. bytes.items ≡ take count (drop from self.now.bytes)) }
+    {
+        read_bytes(&self.pages, alloc, from, count)
     }
 
     /// The little-endian number that `width` bytes spell, from the address `at` plus `offset` on, which never wraps. It takes no memory.
@@ -328,6 +400,36 @@ mod tests {
         assert_eq!(rt; memory.grow(1), Ok(-1));
         assert_eq!(rt; memory.grow(4_294_967_295), Ok(-1));
         assert_eq!(rt; memory.size(), 2);
+    }
+
+    #[test]
+    fn reads_bytes_over_the_border(rt: HostRuntime) {
+        let mut memory = Linear::new(rt.alloc(), 2, 2).expect(&rt, "memory");
+        assert_eq!(rt; memory.store(65_535, 0, 2, 0x0201), Ok(()));
+        let length = memory.len();
+        assert_eq!(rt; length, 131_072);
+        if length == 131_072 {
+            let bytes = memory.bytes(rt.alloc(), 65_534, 4).expect(&rt, "bytes");
+            assert_eq!(rt; bytes.as_slice(), [0, 1, 2, 0].as_slice());
+            let none = memory.bytes(rt.alloc(), length, 0).expect(&rt, "bytes");
+            assert!(rt; none.is_empty());
+        }
+    }
+
+    #[test]
+    fn a_copy_has_bytes_of_its_own(rt: HostRuntime) {
+        let mut memory = Linear::new(rt.alloc(), 3, 4).expect(&rt, "memory");
+        assert_eq!(rt; memory.store(65_535, 0, 2, 0x0201), Ok(()));
+        let mut copy = memory.copy().expect(&rt, "copy");
+        assert_eq!(rt; copy.load(65_535, 0, 2), Ok(0x0201));
+        assert_eq!(rt; copy.store(65_536, 0, 1, 9), Ok(()));
+        assert_eq!(rt; memory.load(65_535, 0, 2), Ok(0x0201));
+        assert_eq!(rt; memory.store(131_072, 0, 1, 7), Ok(()));
+        assert_eq!(rt; copy.load(131_072, 0, 1), Ok(0));
+        assert_eq!(rt; copy.size(), 3);
+        assert_eq!(rt; copy.grow(1), Ok(3));
+        assert_eq!(rt; copy.grow(1), Ok(-1));
+        assert_eq!(rt; memory.size(), 3);
     }
 
     #[test]

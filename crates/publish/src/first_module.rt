@@ -4,8 +4,8 @@ ghost use Rattle.std.specs.Prelude.{◌≡◌, ◌∷◌, [], IfOk, codes, map, 
 ghost use Rattle.spec_syntax.specs.Syntax.{ImportFunc, ExportFunc, Plain, instrs_of};
 ghost use Rattle.module_tree.specs.ModuleView.{func_type_view, import_view, func_view, export_view, func_ordinals, all_numbered};
 
-use interp::stand_in::Runnable as Contract;
 use link::deploy::deploy;
+use link::deployed::Deployed as Contract;
 use module_tree::instr::Instr;
 use module_tree::module::{Export, ExportDesc, Func, Import, ImportDesc, Module};
 use std::alloc::{AllocError, Global};
@@ -103,6 +103,5 @@ fn first_module(alloc: Global) -> Result<Module<Global>, AllocError> {
 /// The module as a contract.
 pub(crate) fn first_contract(alloc: Global) -> Result<Contract<Global>, Fail> {
     let valid = check(&alloc, first_module(alloc)?).map_err(|e| e.1)?;
-    let deployed = deploy(&alloc, valid).map_err(|e| e.1)?;
-    Ok(Contract::accept(deployed).map_err(|_| "another form")?)
+    Ok(deploy(&alloc, valid).map_err(|e| e.1)?)
 }

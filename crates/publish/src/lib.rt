@@ -21,7 +21,7 @@ ghost use Rattle.publish.specs.Publication.{IsSerialOrder, MayFollow, HasTaken, 
 use crate::so_far::{SoFar, unmarked};
 use call::Call;
 use interp::finished::Finished;
-use interp::stand_in::Runnable as Contract;
+use link::deployed::Deployed as Contract;
 use lock_profile::Touched;
 use serial::{execute, replay};
 use spec_ledger::{NoMemory, Receipt};

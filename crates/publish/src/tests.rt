@@ -2,7 +2,7 @@
 use crate::Publishing;
 use crate::first_module::first_contract;
 use call::Call;
-use interp::stand_in::Runnable as Contract;
+use link::deployed::Deployed as Contract;
 use lock_profile::Held;
 use serial::run_alone;
 use spec_ledger::{Kind, Lock, Mode, Outcome, Receipt};

@@ -30,7 +30,7 @@ use crate::locks::touched_by;
 use crate::playing::play;
 use call::Call;
 use interp::finished::Finished;
-use interp::stand_in::Runnable as Contract;
+use link::deployed::Deployed as Contract;
 use lock_profile::Touched;
 use spec_ledger::{Inverse, NoMemory, Receipt};
 use std::alloc::{Allocator, Global};

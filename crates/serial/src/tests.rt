@@ -2,7 +2,7 @@
 use crate::first_module::first_contract;
 use crate::{execute, replay, run_alone, serial_core};
 use call::Call;
-use interp::stand_in::Runnable as Contract;
+use link::deployed::Deployed as Contract;
 use lock_profile::Held;
 use spec_ledger::{Kind, Lock, Mode, Outcome, Receipt};
 use std::alloc::Global;

@@ -1,11 +1,6 @@
 -- Copies of the first contracts, and one more.
 use Rattle.std.proofs.Common.{◌≡◌, ℕ, ◌+◌, ◌<◌, List, [], ◌∷◌, ◌++◌, length, map, take, get_or, sym, ◌∙◌, ap, subst}
-use Rattle.std.specs.List.{AllByRecursion}
 use Rattle.std.proofs.lemmas.List.{take_more, get_or-map, length-map, map-append}
-
-all-push : {X : Type 0} (P : X → Type 0) (xs : List X) (x : X) → AllByRecursion P xs → P x → AllByRecursion P (xs ++ x ∷ [])
-all-push P [] x h p = (p, tt)
-all-push P (y ∷ xs) x h p = (h.0, all-push P xs x h.1 p)
 
 module _ {X Y : Type 0} (f : X → Y) (xs : List X) (i : ℕ) (x : X) (below : i < length xs) (is : x ≡ get_or xs i x) where
   in_views : i < length (map f xs)
@@ -13,11 +8,6 @@ module _ {X Y : Type 0} (f : X → Y) (xs : List X) (i : ℕ) (x : X) (below : i
 
   view_at : get_or (map f xs) i (f x) ≡ f x
   view_at = get_or-map f xs i x (f x) below ∙ ap f (sym is)
-
-  -- what holds of the first, and of the one behind them
-  pub one_holds : (P : Y → Type 0) → AllByRecursion P (take i (map f xs)) → P (f x) → AllByRecursion P (take (i + 1) (map f xs))
-  one_holds P so_far p =
-      subst (AllByRecursion P) (sym (take_more (map f xs) i (f x) in_views)) (all-push P (take i (map f xs)) (get_or (map f xs) i (f x)) so_far (subst P (sym view_at) p))
 
   -- one more is copied
   pub one_copied : {Z : Type 0} (g : Z → Y) (copies next : List Z) (z : Z) → g z ≡ f x → next ≡ copies ++ z ∷ [] → map g copies ≡ take i (map f xs) → map g next ≡ take (i + 1) (map f xs)

@@ -4,25 +4,23 @@
 
 mod contracts;
 mod positions;
-mod refusal;
 #[cfg(test)]
 mod tests;
 
-ghost use Rattle.std.specs.Prelude.{◌≡◌, ◌<◌, ◌≤◌, ◌^◌, IfOk, IfErr, length};
+ghost use Rattle.std.specs.Prelude.{◌≡◌, ◌<◌, ◌≤◌, ◌^◌, IfOk, length};
 ghost use Rattle.std.specs.List.{All};
 ghost use Rattle.spec_ledger.specs.Order.{limits_of};
 ghost use Rattle.spec_block.specs.Worlds.{limits};
 ghost use Rattle.spec_block.specs.Blocks.{block_of, world_after};
 ghost use Rattle.serial.specs.Positions.{positions as ran_of};
 ghost use Rattle.world.specs.Views.{world_view};
-ghost use Rattle.serial_block.specs.Ordered.{IsOutcomeOf, Says, used_by};
+ghost use Rattle.serial_block.specs.Ordered.{IsOutcomeOf, used_by};
 
-use crate::contracts::{copied, runnable};
 use crate::positions::fuel_of;
 use block::{Block, digest_calls};
 use call::Call;
+pub use contracts::copied;
 pub use positions::positions_of;
-pub use refusal::RunRefusal;
 use serial::{Core, serial_core};
 use std::alloc::Global;
 use world::{World, digest_world};
@@ -67,22 +65,19 @@ pub fn seal(
 ///
 /// # Errors
 ///
-/// Memory was refused, or a call touched 2^32 locks or more; or the number of the first contract that the machine does not
-/// execute.
+/// Memory was refused, or a call touched 2^32 locks or more.
 pub fn run(
     alloc: Global,
     world: &World,
     calls: &[Call],
     order: &[u32],
-) -> Result<(Block, World), RunRefusal>
+) -> Result<(Block, World), NoMemory>
     requires calls { length calls.now ≤ 65535 }
     requires order { length order.now ≤ Block.MOST_POSITIONS }
     requires known { All (λ number. number < length calls.now) order.now }
     requires limits { limits_of (limits calls.now) order.now < 2 ^ 64 }
     ensures of_order { IfOk result (λ r. IsOutcomeOf (world_view world.now) calls.now order.now r.0 (world_view r.1)) }
-    ensures refusal { IfErr result (Says (world_view world.now).contracts) }
 {
-    let contracts = runnable(alloc, world.contracts())?;
-    let core = serial_core(alloc, &contracts, world.cells(), calls, order)?;
+    let core = serial_core(alloc, world.contracts(), world.cells(), calls, order)?;
     Ok(seal(alloc, world, calls, order, core)?)
 }

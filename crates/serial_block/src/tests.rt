@@ -1,6 +1,6 @@
 ghost use Rattle.std.specs.Prelude.{◌≡◌, IfOk};
 
-use super::{RunRefusal, positions_of, run, seal};
+use super::{positions_of, run, seal};
 use block::{Block, write_block};
 use call::Call;
 use codec::{Failures, MemorySink};
@@ -32,14 +32,8 @@ const CONTRACT: [u8; 201] = [
     0x20, 0x01, 0x20, 0x00, 0x10, 0x02, 0x10, 0x03, 0x0b,
 ];
 
-/// A module of one function, which is its start function.
-const STARTING: [u8; 27] = [
-    0x00, 0x61, 0x73, 0x6d, 0x01, 0x00, 0x00, 0x00, 0x01, 0x04, 0x01, 0x60, 0x00, 0x00, 0x03, 0x02,
-    0x01, 0x00, 0x08, 0x01, 0x00, 0x0a, 0x04, 0x01, 0x02, 0x00, 0x0b,
-];
-
-fn contract(alloc: Global, bytes: &[u8]) -> Result<Deployed<Global>, Fail> {
-    let module = loader::load(alloc, bytes).or(Err("not loaded"))?;
+fn contract(alloc: Global) -> Result<Deployed<Global>, Fail> {
+    let module = loader::load(alloc, &CONTRACT).or(Err("not loaded"))?;
     let Ok(valid) = typing::check::check(&alloc, module) else {
         return Err(Fail::from("not typed"));
     };
@@ -51,7 +45,7 @@ fn contract(alloc: Global, bytes: &[u8]) -> Result<Deployed<Global>, Fail> {
 
 /// The world of the contract and these cells.
 fn world(alloc: Global, cells: Cells) -> Result<World, Fail> {
-    Ok(World::new(vec![in alloc; contract(alloc, &CONTRACT)?]?, cells))
+    Ok(World::new(vec![in alloc; contract(alloc)?]?, cells))
 }
 
 /// A call of a contract, with 100 of fuel.
@@ -261,16 +255,6 @@ fn calls_with_other_arguments_are_rejected(rt: HostRuntime) -> Result<(), Fail> 
         "57424c4b01000000ddc5e3d488f3844cdf731c6e2fcdb213a1eea2313f8fc0baf8aaafed8b7d0b92b9b481863e2bc294ab4f72c077f2c5a363615adcef27bc8f4631464b36f0bda7020000000000000000000000000000000303000000000100000000000000000000000304000000000000000000000000ddc5e3d488f3844cdf731c6e2fcdb213a1eea2313f8fc0baf8aaafed8b7d0b92"
     );
     assert_eq!(rt; next.cells().get(cell(Kind::Counter, 7)), None);
-    Ok(())
-}
-
-#[test]
-fn a_contract_that_is_not_executed_is_named(rt: HostRuntime) -> Result<(), Fail> {
-    let alloc = rt.alloc();
-    let contracts = vec![in alloc; contract(alloc, &CONTRACT)?, contract(alloc, &STARTING)?]?;
-    let before = World::new(contracts, Cells::new(alloc));
-    let refusal = run(alloc, &before, &[], &[]).err();
-    assert_eq!(rt; refusal, Some(RunRefusal::NotExecuted(1)));
     Ok(())
 }
 

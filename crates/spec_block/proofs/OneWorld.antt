@@ -1,9 +1,13 @@
 -- Bytes spell one world.
 use Rattle.std.proofs.Common.{◌≡◌, ℕ, suc, ◌<◌, ◌≤◌, ◌^◌, Bool, true, false, cond, ◌==◌, List, [], ◌∷◌, ◌++◌, Some, length, filter, flat_map, refl, sym, ap, subst, ◌∙◌, append_assoc, append-nil, arith}
+use Rattle.std.proofs.Math.Logic.{∥∥₁_elim}
+use base.Stored.{Coded-set, coded_list}
+use Rattle.wtypes.specs.contracts.HostCall as host
 use Rattle.std.specs.List.{AllByRecursion}
 use Rattle.std.specs.Ordering.{eq_by_cmp}
 use Rattle.std.specs.Cmp.{IsTotalOrder, on_total, then_total, nat_cmp_total, Equal-is}
 use Rattle.std.specs.FinMap.{IsAntisymmetric, entries, get, find, get-entries, same_map}
+use Rattle.wtypes.specs.declared.HostCall.{HostCall}
 use Rattle.spec_syntax.specs.Syntax.{Module}
 use Rattle.spec_binary.specs.Shortest.{shortest}
 use Rattle.spec_binary.specs.Spells.{Spells}
@@ -18,27 +22,31 @@ use Rattle.spec_block.specs.Bytes.{u32_bytes, u64_bytes, counted, is_map, is_cou
 use Rattle.spec_block.proofs.Locks.{lock_is}
 use Rattle.spec_block.proofs.OneToOne.{halves, IsCode, code32, code64, list_code, counted_code}
 
-lock_cmp_total : IsTotalOrder lock_cmp
+pub lock_cmp_total : IsTotalOrder lock_cmp
 lock_cmp_total = then_total (on_total (λ (a : Lock). a.contract) nat_cmp_total) (then_total (on_total (λ (a : Lock). rank a.kind) nat_cmp_total) (on_total (λ (a : Lock). a.key) nat_cmp_total))
 
-lock_cmp-IsAntisymmetric : IsAntisymmetric lock_cmp
+pub lock_cmp-IsAntisymmetric : IsAntisymmetric lock_cmp
 lock_cmp-IsAntisymmetric a b e = lock_is a b ((Equal-is (lock_cmp a b)).1 e)
 
 -- ---- contracts
 
-contract_code : TreesAreUnique → IsResolvedOnce → IsCode contract_bytes IsTree
+-- the linking is kept truncated, and equations of lists of host calls are propositions
+hosts_set : IsSet (List HostCall)
+hosts_set = Coded-set (coded_list host.the_row.coded)
+
+pub contract_code : TreesAreUnique → IsResolvedOnce → IsCode contract_bytes IsTree
 contract_code unique once x y r s a b e =
     let small = (a.tree).bytes_fit in
     let small' = (b.tree).bytes_fit in
     let n = code32 (length (shortest x.tree)) (length (shortest y.tree)) (shortest x.tree ++ r) (shortest y.tree ++ s) (omega (arith, small)) (omega (arith, small')) e in
     let t = halves (shortest x.tree) (shortest y.tree) r s n.0 n.1 in
     let tree : x.tree ≡ y.tree = unique (shortest y.tree) x.tree y.tree (subst (λ (w : List ℕ). Spells w x.tree) t.0 a.tree) b.tree in
-    let hosts : x.hosts ≡ y.hosts = once y.tree x.hosts y.hosts (subst (λ (m : Module). IsLinked m x.hosts) tree a.linked) b.linked in
+    let hosts : x.hosts ≡ y.hosts = ∥∥₁_elim a.linked (hosts_set x.hosts y.hosts) (λ one. ∥∥₁_elim b.linked (hosts_set x.hosts y.hosts) (λ other. once y.tree x.hosts y.hosts (subst (λ (m : Module). IsLinked m x.hosts) tree one) other)) in
     ((λ i. record { tree = tree i; hosts = hosts i }), t.1)
 
 -- ---- cells
 
-abbrev IsCellOf : Kind → Lock × ℕ → Type 0
+abbrev pub IsCellOf : Kind → Lock × ℕ → Type 0
 IsCellOf kind c = IsCell c × (c.0.kind ≡ kind)
 
 cell_code : (kind : Kind) → IsCode cell_bytes (IsCellOf kind)
@@ -53,7 +61,7 @@ abbrev these : (Kind → Bool) → List (Lock × ℕ) → List (Lock × ℕ)
 these is es = filter (λ (c : Lock × ℕ). is c.0.kind) es
 
 -- what a test that one kind passes keeps
-kept : (is : Kind → Bool) (kind : Kind) → ((k : Kind) → is k ≡ true → k ≡ kind) → (es : List (Lock × ℕ)) → AllByRecursion IsCell es → AllByRecursion (IsCellOf kind) (these is es)
+pub kept : (is : Kind → Bool) (kind : Kind) → ((k : Kind) → is k ≡ true → k ≡ kind) → (es : List (Lock × ℕ)) → AllByRecursion IsCell es → AllByRecursion (IsCellOf kind) (these is es)
 kept is kind only [] all = tt
 kept is kind only (c ∷ es) all =
     elim (is c.0.kind) as (λ b. is c.0.kind ≡ b → AllByRecursion (IsCellOf kind) (cond b (c ∷ these is es) (these is es))) [
@@ -61,7 +69,7 @@ kept is kind only (c ∷ es) all =
       | false ↦ λ e. kept is kind only es all.1
     ] refl
 
-fewer : (is : Kind → Bool) (es : List (Lock × ℕ)) → length (these is es) ≤ length es
+pub fewer : (is : Kind → Bool) (es : List (Lock × ℕ)) → length (these is es) ≤ length es
 fewer is [] = omega arith
 fewer is (c ∷ es) =
     let rest = fewer is es in
@@ -103,11 +111,11 @@ same_cells x y maps counters = same_map lock_cmp_total lock_cmp-IsAntisymmetric 
     at_lock : (lock : Lock) → get x lock ≡ get y lock
     at_lock lock = at_kind lock.kind lock refl
 
-only_map : (k : Kind) → is_map k ≡ true → k ≡ Map
+pub only_map : (k : Kind) → is_map k ≡ true → k ≡ Map
 only_map Map e = refl
 only_map Counter e = absurd (cc e)
 
-only_counter : (k : Kind) → is_counter k ≡ true → k ≡ Counter
+pub only_counter : (k : Kind) → is_counter k ≡ true → k ≡ Counter
 only_counter Map e = absurd (cc e)
 only_counter Counter e = refl
 

@@ -215,13 +215,13 @@ repeated_read next s (more {ws} {ms} {us} {x} {xs} e r) (suc n) l =
 abbrev part_of : {X : Type 0} → (List Word → Read X) → List Word → Option (List Word) → Next X
 part_of {X} one ws a = elim a [ None ↦ Some (None, ws) | Some vs ↦ option_map (λ (r : X × List Word). (Some r.0, r.1)) (one vs) ]
 
-next_ends : {X : Type 0} (one : List Word → Read X) (ws us : List Word) (a : Option (List Word)) → part_of one ws a ≡ Some (None, us) → (a ≡ None) × (ws ≡ us)
+pub next_ends : {X : Type 0} (one : List Word → Read X) (ws us : List Word) (a : Option (List Word)) → part_of one ws a ≡ Some (None, us) → (a ≡ None) × (ws ≡ us)
 next_ends one ws us None e = (refl, ap (λ (p : Option _ × List Word). p.1) (some_same (None, ws) (None, us) e))
 next_ends {X} one ws us (Some vs) e =
     let m = map_some (λ (r : X × List Word). (Some r.0, r.1)) (one vs) (None, us) e in
     absurd (some_none m.0.0 (ap (λ (p : Option X × List Word). p.0) m.2))
 
-next_goes : {X : Type 0} (one : List Word → Read X) (ws us : List Word) (x : X) (a : Option (List Word)) → part_of one ws a ≡ Some (Some x, us)
+pub next_goes : {X : Type 0} (one : List Word → Read X) (ws us : List Word) (x : X) (a : Option (List Word)) → part_of one ws a ≡ Some (Some x, us)
     → (vs : List Word) × (a ≡ Some vs) × (one vs ≡ Some (x, us))
 next_goes {X} one ws us x None e = absurd (none_some x (ap (λ (p : Option X × List Word). p.0) (some_same (None, ws) (Some x, us) e)))
 next_goes {X} one ws us x (Some vs) e =
@@ -236,7 +236,7 @@ next_one {X} p one ws us x e =
     ap (λ (a : Option (List Word)). elim a [ None ↦ Some (None, LeftBracket ∷ Key (key_of p) ∷ ws) | Some vs ↦ option_map (λ (r : X × List Word). (Some r.0, r.1)) (one vs) ]) (ahead_itself p ws)
     ∙ ap (λ (r : Read X). option_map (λ (r : X × List Word). (Some r.0, r.1)) r) e
 
-part_shrinks : {X : Type 0} (p : Part) (one : List Word → Read X) → ((ws us : List Word) (x : X) → one ws ≡ Some (x, us) → length us < length ws) → Shrinks (next_at p one)
+pub part_shrinks : {X : Type 0} (p : Part) (one : List Word → Read X) → ((ws us : List Word) (x : X) → one ws ≡ Some (x, us) → length us < length ws) → Shrinks (next_at p one)
 part_shrinks p one s ws ms x e =
     let g = next_goes one ws ms x (ahead p ws) e in
     let long : length ws ≡ length g.0 + 2 = ap length (ahead_is p ws g.0 g.1) ∙ omega arith in

@@ -182,6 +182,17 @@ pub(crate) fn closes<'w, 'a>(rest: &mut &'w [Word<'a>]) -> bool
     }
 }
 
+/// How many words are left at the fault where neither `)` stands nor a part in brackets that may stand here: the word
+/// behind an opening bracket, or else the first.
+pub(crate) fn left_behind_parts(rest: &[Word<'_>]) -> usize
+    ensures { result ≤ length rest.now }
+{
+    match rest {
+        [Word::LeftBracket, after @ ..] => after.len(),
+        _ => rest.len(),
+    }
+}
+
 /// A value type and `)`.
 pub(crate) fn valued<'w, 'a>(rest: &mut &'w [Word<'a>]) -> Result<ValType, TextRefusal>
     ensures value { Gives (λ t. (t, views rest.new.now)) result (valued_at (views rest.old.now)) }
@@ -425,7 +436,17 @@ fn branch_table<'w, 'a, A: Allocator + Clone>(
     Ok(Flat::BrTable(labels, last))
 }
 
-/// `call_indirect`, behind its name.
+/// How many words are left at the first name of a parameter, of the words before the last `left`; or `left`.
+fn first_name(words: &[Word<'_>], left: usize) -> usize {
+    for at in 0..words.len().saturating_sub(left) {
+        if let [Word::Key(KeyWord::Param), Word::Id(_), ..] = &words[at..] {
+            return words.len() - at - 1;
+        }
+    }
+    left
+}
+
+/// `call_indirect`, behind its name. A parameter's name is at fault.
 fn indirect_call<'w, 'a, A: Allocator + Clone>(
     alloc: &A,
     rest: &mut &'w [Word<'a>],
@@ -433,10 +454,16 @@ fn indirect_call<'w, 'a, A: Allocator + Clone>(
     ensures value { Gives (λ r. (flat_of r, views rest.new.now)) result (indirect_at (views rest.old.now)) }
     ensures shorter { IfOk result (λ _. length rest.new.now ≤ length rest.old.now) }
 {
-    let size = rest.len();
-    let written = type_use(alloc, rest)?;
+    let words = *rest;
+    let written = match type_use(alloc, rest) {
+        Ok(written) => written,
+        Err(TextRefusal::NoMemory) => return Err(TextRefusal::NoMemory),
+        Err(TextRefusal::Unexpected(left)) => {
+            return Err(TextRefusal::Unexpected(first_name(words, left)));
+        }
+    };
     if !unnamed(&written.params) {
-        return Err(TextRefusal::Unexpected(size));
+        return Err(TextRefusal::Unexpected(first_name(words, rest.len())));
     }
     Ok(Flat::CallIndirect(written))
 }

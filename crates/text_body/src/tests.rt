@@ -126,7 +126,9 @@ fn broken_bodies(rt: HostRuntime) -> Result<(), Fail> {
     assert!(rt; refuses(&rt, "block else end)", 3)?);
     assert!(rt; refuses(&rt, "if else else end)", 3)?);
     assert!(rt; refuses(&rt, "(i32.add nop))", 3)?);
-    assert!(rt; refuses(&rt, "(if (then) (then)))", 5)?);
+    assert!(rt; refuses(&rt, "(if (then) (then)))", 4)?);
+    assert!(rt; refuses(&rt, "call_indirect (type 0) (param i32) (param $x i32))", 4)?);
+    assert!(rt; refuses(&rt, "call_indirect (param $x i32) (param))", 7)?);
     assert!(rt; refuses(&rt, "(then))", 3)?);
     assert!(rt; refuses(&rt, "end)", 2)?);
     assert!(rt; refuses(&rt, "i32.load align=4 offset=4)", 2)?);

@@ -6,7 +6,7 @@ ghost use Rattle.text_body.specs.Outcome.{Gives};
 ghost use Rattle.text_body.specs.Turns.{seen_top, move_of, move_at, left_at, folded_at, then_at, right_at, key_at, end_at, else_at, takes_all, opener_of_key, folded_block_at, flat_block_at};
 
 use crate::flat::{Flat, Opener};
-use crate::parts::{Part, closes, enters, header, optional_id, plain};
+use crate::parts::{Part, closes, enters, header, left_behind_parts, optional_id, plain};
 use spec_text::KeyWord;
 use std::alloc::Allocator;
 use text_words::{Piece, TextRefusal, Word};
@@ -201,7 +201,7 @@ fn right<'w, 'a, A: Allocator>(
                 if enters(Part::Else, rest) {
                     return Ok(Turn::Turns(Flat::Else(None), Form::Otherwise));
                 }
-                Err(TextRefusal::Unexpected(rest.len()))
+                Err(TextRefusal::Unexpected(left_behind_parts(rest)))
             }
             Form::Otherwise => {
                 if closes(rest) {

@@ -1,6 +1,5 @@
 -- The contract that a module's bytes give, and why they give none.
-use Rattle.std.specs.Prelude.{◌≡◌, ℕ, List, true, false}
-use Rattle.wtypes.specs.declared.HostCall.{HostCall}
+use Rattle.std.specs.Prelude.{◌≡◌, ℕ, List}
 use Rattle.spec_syntax.specs.Syntax.{Module}
 use Rattle.spec_binary.specs.Spells.{Spells}
 use Rattle.spec_typing.specs.Modules.{ModuleTyped}
@@ -8,17 +7,15 @@ use Rattle.spec_typing.specs.Linking as linking
 use Rattle.spec_typing.specs.Linking.{IsLinked}
 use Rattle.spec_execution.specs.Configuration.{Deployed as Contract}
 use Rattle.loader.specs.Refusals.{NoModule}
-use Rattle.interp.specs.Forms.{module_runs}
 use Rattle.wblock_run.specs.declared.refusals.ModuleRefusal.{ModuleRefusal}
-use Rattle.wblock_run.specs.declared.refusals.ModuleRefusal.TheVariants.{Malformed, Unsupported, TooLarge, Untyped, UnknownImport, ImportType, SegmentRange, TooManyPages, TableTooLarge, NotExecuted}
+use Rattle.wblock_run.specs.declared.refusals.ModuleRefusal.TheVariants.{Malformed, Unsupported, TooLarge, Untyped, UnknownImport, ImportType, SegmentRange, TooManyPages, TableTooLarge}
 use Rattle.wblock_run.specs.declared.contract.Stop.{Stop}
 use Rattle.wblock_run.specs.declared.contract.Stop.TheVariants as stop
 
--- The bytes spell a module that is linked to these calls of the host, and that the machine executes.
+-- The bytes spell a module that is linked to these calls of the host.
 pub record IsContractOf (bytes : List ℕ) (c : Contract) : Type 0 where
   pub spelled : Spells bytes c.tree
   pub linked : ∥ IsLinked c.tree c.hosts ∥₁
-  pub runs : module_runs c.tree ≡ true
 
 -- the bytes spell a module that is not typed
 pub record IsUntyped (bytes : List ℕ) : Type 0 where
@@ -33,14 +30,6 @@ pub record IsUnlinked (bytes : List ℕ) (Fault : Module → Type 0) : Type 0 wh
   pub typed : ModuleTyped tree
   pub fault : Fault tree
 
--- the bytes spell a linked module that the machine does not execute
-pub record IsNotExecuted (bytes : List ℕ) : Type 0 where
-  pub tree : Module
-  pub hosts : List HostCall
-  pub spelled : Spells bytes tree
-  pub linked : ∥ IsLinked tree hosts ∥₁
-  pub other : module_runs tree ≡ false
-
 -- what a refusal says of the bytes
 abbrev pub IsWhy : List ℕ → ModuleRefusal → Type 0
 IsWhy bytes (Malformed at) = NoModule bytes
@@ -52,7 +41,6 @@ IsWhy bytes (ImportType n) = IsUnlinked bytes (λ m. linking.ImportType m n)
 IsWhy bytes (SegmentRange n) = IsUnlinked bytes (λ m. linking.SegmentRange m n)
 IsWhy bytes TooManyPages = IsUnlinked bytes linking.TooManyPages
 IsWhy bytes TableTooLarge = IsUnlinked bytes linking.TableTooLarge
-IsWhy bytes NotExecuted = IsNotExecuted bytes
 
 abbrev pub StopsAt : List ℕ → Stop → Type 0
 StopsAt bytes (stop.Refused refusal) = IsWhy bytes refusal

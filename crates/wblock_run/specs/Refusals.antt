@@ -1,7 +1,7 @@
 -- The texts of refusals of a module.
 use Rattle.std.specs.Prelude.{ℕ, List, ◌++◌, codes, decimal, Some, None}
 use Rattle.wblock_run.specs.declared.refusals.ModuleRefusal.{ModuleRefusal}
-use Rattle.wblock_run.specs.declared.refusals.ModuleRefusal.TheVariants.{Malformed, Unsupported, TooLarge, Untyped, UnknownImport, ImportType, SegmentRange, TooManyPages, TableTooLarge, NotExecuted}
+use Rattle.wblock_run.specs.declared.refusals.ModuleRefusal.TheVariants.{Malformed, Unsupported, TooLarge, Untyped, UnknownImport, ImportType, SegmentRange, TooManyPages, TableTooLarge}
 
 abbrev pub refusal_text : ModuleRefusal → List ℕ
 refusal_text (Malformed at) = codes "refused load 1 " ++ decimal at
@@ -14,4 +14,3 @@ refusal_text (ImportType n) = codes "refused deploy 2 " ++ decimal n
 refusal_text (SegmentRange n) = codes "refused deploy 3 " ++ decimal n
 refusal_text TooManyPages = codes "refused deploy 4 -"
 refusal_text TableTooLarge = codes "refused deploy 5 -"
-refusal_text NotExecuted = codes "refused run"

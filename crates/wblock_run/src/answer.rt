@@ -13,7 +13,7 @@ use crate::runs::run_calls;
 use crate::stored::{CALLS, MODULE};
 use call::Call;
 use calls_text::{CallsRefusal, read_calls};
-use interp::stand_in::Runnable;
+use link::deployed::Deployed;
 use std::alloc::{AllocError, Global};
 use wblock_io::{Files, ReadFault};
 
@@ -52,7 +52,7 @@ fn limits_fit(calls: &[Call]) -> bool
 /// The answer to a text of calls of a contract.
 fn answer_calls(
     alloc: Global,
-    contract: Runnable<Global>,
+    contract: Deployed<Global>,
     text: &[u8],
 ) -> Result<Answer, AllocError>
     ensures { IfOk result (CallsAnswer (contract_view contract) text.now) }

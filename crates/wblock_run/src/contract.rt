@@ -13,8 +13,8 @@ ghost use Rattle.wblock_run.specs.Modules.{IsContractOf, StopsAt};
 
 use crate::refusals::ModuleRefusal;
 use body_typing::scope::TypeRefusal;
-use interp::stand_in::Runnable;
 use link::deploy::deploy;
+use link::deployed::Deployed;
 use link::refusal::LinkRefusal;
 use loader::{LoadRefusal, load};
 use std::alloc::Global;
@@ -70,8 +70,8 @@ fn unlinked(refusal: LinkRefusal) -> Stop
     }
 }
 
-/// The contract of a module's bytes: they are loaded, checked, linked and accepted by the machine, in this order.
-pub(crate) fn read_contract(alloc: Global, bytes: &[u8]) -> Result<Runnable<Global>, Stop>
+/// The contract of a module's bytes: they are loaded, checked and linked, in this order.
+pub(crate) fn read_contract(alloc: Global, bytes: &[u8]) -> Result<Deployed<Global>, Stop>
     ensures contract { IfOk result (λ r. IsContractOf bytes.now (contract_view r)) }
     ensures refused { IfErr result (StopsAt bytes.now) }
 {
@@ -87,8 +87,5 @@ pub(crate) fn read_contract(alloc: Global, bytes: &[u8]) -> Result<Runnable<Glob
         Ok(deployed) => deployed,
         Err((_, refusal)) => return Err(unlinked(refusal)),
     };
-    match Runnable::accept(deployed) {
-        Ok(runnable) => Ok(runnable),
-        Err(_) => Err(Stop::Refused(ModuleRefusal::NotExecuted)),
-    }
+    Ok(deployed)
 }

@@ -5,8 +5,8 @@ ghost use Rattle.wblock_run.specs.Refusals.{refusal_text};
 
 use std::fmt;
 
-/// Why a module's bytes give no contract, printed as the line that tells it: `refused load N P`, `refused check RULE F O`,
-/// `refused deploy N I` or `refused run`.
+/// Why a module's bytes give no contract, printed as the line that tells it: `refused load N P`, `refused check RULE F O`
+/// or `refused deploy N I`.
 #[derive(Clone, Copy, Debug, PartialEq, Eq)]
 pub enum ModuleRefusal {
     /// The grammar has no such form, at this offset.
@@ -34,8 +34,6 @@ pub enum ModuleRefusal {
     TooManyPages,
     /// The table begins with too many elements.
     TableTooLarge,
-    /// The module has a start function, or a body has a form that the machine does not execute yet.
-    NotExecuted,
 }
 
 impl fmt::Display for ModuleRefusal {
@@ -61,7 +59,6 @@ impl fmt::Display for ModuleRefusal {
             ModuleRefusal::SegmentRange(segment) => write!(f, "refused deploy 3 {segment}"),
             ModuleRefusal::TooManyPages => write!(f, "refused deploy 4 -"),
             ModuleRefusal::TableTooLarge => write!(f, "refused deploy 5 -"),
-            ModuleRefusal::NotExecuted => write!(f, "refused run"),
         }
     }
 }

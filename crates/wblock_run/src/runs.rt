@@ -6,7 +6,7 @@ ghost use Rattle.wblock_run.specs.Runs.{Shows, numbers_from, told_of};
 
 use call::Call;
 use calls_text::PositionLine;
-use interp::stand_in::Runnable;
+use link::deployed::Deployed;
 use serial::serial_core;
 use spec_ledger::Receipt;
 use std::alloc::{AllocError, Global};
@@ -54,7 +54,7 @@ fn lines_of(alloc: Global, receipts: &[Receipt]) -> Result<String, AllocError>
 /// The lines of a contract's calls, one after another over empty cells: one for each call, and one for their fuel.
 pub(crate) fn run_calls(
     alloc: Global,
-    contract: Runnable<Global>,
+    contract: Deployed<Global>,
     calls: &[Call],
 ) -> Result<String, AllocError>
     requires { length calls.now ≤ 65535 }

@@ -17,10 +17,50 @@ fn run<'a>(alloc: Global) -> Result<Command<'a>, AllocError> {
         .arg(required(alloc, "CALLS"))
 }
 
+fn check<'a>(alloc: Global) -> Result<Command<'a>, AllocError> {
+    Command::new(alloc, "check")
+        .arg(required(alloc, "MODULE"))?
+        .arg(Arg::new(alloc, "heap").long("heap").value_name("N"))
+}
+
+fn deploy<'a>(alloc: Global) -> Result<Command<'a>, AllocError> {
+    Command::new(alloc, "deploy")
+        .arg(required(alloc, "WORLD"))?
+        .arg(required(alloc, "MODULE").num_args(1..))
+}
+
+fn number<'a>(alloc: Global, name: &'a str) -> Arg<'a> {
+    Arg::new(alloc, name).long(name).value_name("N")
+}
+
+fn mine<'a>(alloc: Global) -> Result<Command<'a>, AllocError> {
+    Command::new(alloc, "mine")
+        .arg(required(alloc, "WORLD"))?
+        .arg(required(alloc, "CALLS"))?
+        .arg(required(alloc, "BLOCK"))?
+        .arg(required(alloc, "NEXT"))?
+        .arg(number(alloc, "fuel").required(true))?
+        .arg(number(alloc, "workers"))?
+        .arg(number(alloc, "tries"))
+}
+
+fn validate<'a>(alloc: Global) -> Result<Command<'a>, AllocError> {
+    Command::new(alloc, "validate")
+        .arg(required(alloc, "WORLD"))?
+        .arg(required(alloc, "CALLS"))?
+        .arg(required(alloc, "BLOCK"))?
+        .arg(number(alloc, "fuel").required(true))?
+        .arg(number(alloc, "workers"))
+}
+
 fn program<'a>(alloc: Global) -> Result<Command<'a>, AllocError> {
     Command::new(alloc, "wblock")
         .no_binary_name(true)
         .subcommand_required(true)
+        .subcommand(check(alloc)?)?
+        .subcommand(deploy(alloc)?)?
+        .subcommand(mine(alloc)?)?
+        .subcommand(validate(alloc)?)?
         .subcommand(run(alloc)?)
 }
 
@@ -56,7 +96,25 @@ mod tests {
             usage_text(alloc, ["run", "m", "c"].as_slice())?.as_str(),
             "usage\n"
         );
+        assert_eq!(rt;
+            usage_text(alloc, ["check", "--heap=2000", "m"].as_slice())?.as_str(),
+            "usage\n"
+        );
+        assert_eq!(rt;
+            usage_text(alloc, ["deploy", "w", "m", "n"].as_slice())?.as_str(),
+            "usage\n"
+        );
+        assert_eq!(rt;
+            usage_text(alloc, ["mine", "w", "c", "--fuel=5", "b", "n"].as_slice())?.as_str(),
+            "usage\n"
+        );
         let rows = [
+            ["check"].as_slice(),
+            ["mine", "w", "c", "b", "n"].as_slice(),
+            ["mine", "w", "c", "b", "--fuel=5"].as_slice(),
+            ["validate", "w", "c", "b", "--fuel=5", "--tries=3"].as_slice(),
+            ["check", "m", "--depth", "3"].as_slice(),
+            ["deploy", "w"].as_slice(),
             ["run", "m"].as_slice(),
             ["run", "m", "c", "d"].as_slice(),
             ["walk"].as_slice(),
@@ -67,6 +125,11 @@ mod tests {
             assert!(rt; text.contains("Usage: "), "{text}");
             assert!(rt; text.ends_with('\n'), "{text}");
         }
+        let bare = usage_text(alloc, ["check", "m", "--heap"].as_slice())?;
+        assert!(rt;
+            bare.contains("a value is required for '--heap <N>'"),
+            "{bare}"
+        );
         Ok(())
     }
 }

@@ -7,4 +7,4 @@ mod value;
 mod write;
 
 pub use value::World;
-pub use write::{digest_world, write_world};
+pub use write::{digest_world, encode_world, write_world};

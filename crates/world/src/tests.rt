@@ -1,4 +1,4 @@
-use super::{World, digest_world, write_world};
+use super::{World, digest_world, encode_world, write_world};
 use block::WriteRefusal;
 use codec::{Failures, MemorySink};
 use link::deploy::deploy;
@@ -97,6 +97,10 @@ fn contracts_come_first_then_maps_then_counters(rt: HostRuntime) -> Result<(), F
     let mut sink = MemorySink::new(alloc, 1_000, Failures::none());
     assert_eq!(rt; write_world(alloc, &world, &mut sink), Ok(()));
     let bytes = sink.bytes();
+    assert_eq!(rt;
+        encode_world(alloc, &world).or(Err("refused"))?.as_slice(),
+        bytes
+    );
     assert_eq!(rt; bytes.len(), 333);
     assert_eq!(rt; &bytes[8..16], [1, 0, 0, 0, 201, 0, 0, 0].as_slice());
     assert_eq!(rt; &bytes[16..217], CONTRACT.as_slice());

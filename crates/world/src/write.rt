@@ -123,6 +123,15 @@ fn append_world(alloc: Global, out: &mut Vec<u8>, world: &World) -> Result<(), N
     Ok(())
 }
 
+/// A world's bytes.
+pub fn encode_world(alloc: Global, world: &World) -> Result<Vec<u8>, NoMemory>
+    ensures { IfOk result (λ bytes. bytes.items ≡ world_bytes (world_view world.now)) }
+{
+    let mut bytes = Vec::new(alloc);
+    append_world(alloc, &mut bytes, world)?;
+    Ok(bytes)
+}
+
 /// Writes a world's bytes.
 pub fn write_world<S: Sink>(alloc: Global, world: &World, sink: &mut S) -> Result<(), WriteRefusal>
     ensures put { OnOk result (IsTrue S.tells → S.told sink.new ≡ S.told sink.old ++ world_bytes (world_view world.now)) }

@@ -3,6 +3,3 @@ use Rattle.encoder.proofs.encode.Goals as goal
 
 pub returns-clause-spells : goal.returns-clause-spells
 returns-clause-spells g c = module_spelled c.args.tree.now
-
-pub returns-in-Err-clause-spells : goal.returns-in-Err-clause-spells
-returns-in-Err-clause-spells g c = module_spelled c.args.tree.now

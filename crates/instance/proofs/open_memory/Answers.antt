@@ -12,7 +12,7 @@ use Rattle.module_tree.specs.Modules.{module_view}
 use Rattle.link.specs.Parts.{tree_of, hosts_of}
 use Rattle.spec_execution.specs.Configuration.{size_of, constant, with_datas}
 use Rattle.spec_execution.specs.Reduction.{most_pages}
-use Rattle.instance.proofs.Segments.{fits_known, segment_fits, segment_small, one_segment_more, length_written}
+use Rattle.instance.proofs.Segments.{fits_known, segment_fits, segment_small, one_segment_more, length_in_place}
 use Rattle.instance.proofs.open_memory.Goals as goal
 
 pub first_memory-requires : goal.first_memory-requires
@@ -71,7 +71,7 @@ loop-segment-preserved g c =
     record {
       bytes = bytes ∙ ap (λ n. written n x.bytes.items old.bytes) at_is ∙ ap (written (bits_of (constant (data_view x).offset)) x.bytes.items) c.loop-segment.invariant.bytes
           ∙ sym (one_segment_more t (hosts_of c.args.deployed.now) c.is_linked.ensures i x lt is _);
-      len = ap length bytes ∙ length_written at x.bytes.items old.bytes (omega (arith, fits, at_is, c.loop-segment.invariant.len)) ∙ c.loop-segment.invariant.len;
+      len = ap length bytes ∙ length_in_place at x.bytes.items old.bytes (omega (arith, fits, at_is, c.loop-segment.invariant.len)) ∙ c.loop-segment.invariant.len;
       max = ap (λ m. m.max) new ∙ c.loop-segment.invariant.max;
     }
 

@@ -3,7 +3,6 @@ use Rattle.spec_ledger.specs.Cells.{Cells}
 use Rattle.spec_execution.specs.Serial.{Serial}
 use Rattle.spec_block.specs.Worlds.{Contract}
 use Rattle.serial.specs.Positions.{positions as ran_of}
-use Rattle.interp.specs.Lent.{contracts_view}
 use Rattle.world.specs.Views.{world_view}
 use Rattle.serial_block.proofs.Limits.{used_within}
 use Rattle.serial_block.proofs.run.Goals as goal
@@ -14,19 +13,21 @@ seal-requires-clause-fuel c =
     let within = used_within _ _ _ _ core.receipts.items core.touched.items _ (c.in_ok-core.ensures.receipts ∙ sym c.in_ok-core.ensures.touched) c.in_ok-core.ensures.serial in
     omega (arith, within, c.requires.limits)
 
-pub returns-clause-of_order : goal.returns-clause-of_order
-returns-clause-of_order c =
+pub returns : goal.returns
+returns c =
     let calls = c.args.calls.now in
     let order = c.args.order.now in
     let ran = ran_of c.in_ok-core.core.receipts.items c.in_ok-core.core.touched.items in
     let last = c.in_ok-core.core.cells.cells in
-    let lent = ap contracts_view c.deref.ensures.value ∙ (c.in_ok-contracts.ensures.same ∙ c.contracts.ensures.contracts) in
+    let lent = c.contracts.ensures.contracts in
     record {
       of_order = record {
-        ran = ran;
-        last = last;
-        serial = subst (λ (cells : Cells). Serial (world_view c.args.world.now).contracts calls order cells ran last) c.cells.ensures (subst (λ (cs : List Contract). Serial cs calls order c.cells.result.now.cells ran last) lent c.in_ok-core.ensures.serial);
-        is = c.in_ok-seal.ensures.block;
+        of_order = record {
+          ran = ran;
+          last = last;
+          serial = subst (λ (cells : Cells). Serial (world_view c.args.world.now).contracts calls order cells ran last) c.cells.ensures (subst (λ (cs : List Contract). Serial cs calls order c.cells.result.now.cells ran last) lent c.in_ok-core.ensures.serial);
+          is = c.in_ok-seal.ensures.block;
+        };
+        storage = c.in_ok-seal.ensures.world;
       };
-      storage = c.in_ok-seal.ensures.world;
     }

@@ -1,7 +1,6 @@
 use Rattle.std.proofs.Common.{◌-◌, ◌+◌, length, refl, sym, ap, ◌∙◌, subst, arith}
 use Rattle.std.proofs.lemmas.Option.{slice_get_read}
 use Rattle.interp.specs.Calls.{base_of}
-use Rattle.interp.specs.Meaning.{OnlyRun}
 use Rattle.interp.specs.Meaning.{Frame as frame}
 use Rattle.interp.specs.declared.parts.Kind.TheVariants.{Frame}
 use Rattle.interp.specs.Views.{view, open_of, opens_of, items_of}
@@ -11,7 +10,7 @@ use Rattle.interp.specs.Steps.{AreNumbered}
 use Rattle.interp.specs.declared.parts.Entry.{Entry}
 use Rattle.interp.specs.declared.parts.Parts.{Parts}
 use Rattle.interp.proofs.Jumping.{pushed_counted}
-use Rattle.interp.proofs.Numbering.{body_runs, body_numbered, body_counted}
+use Rattle.interp.proofs.Numbering.{body_numbered, body_counted}
 use Rattle.interp.proofs.Calling.{call_found, type_found, args_found, too_deep_view, started_view, locals_made}
 use Rattle.interp.proofs.calls.enter.Goals as goal
 
@@ -75,8 +74,7 @@ returns-clause-entered g c =
     (omega (arith, fits, c.len.ensures, c.len-2.ensures, t.params.ok.0, p.stack.ok.0))
     _ (open_of (record { kind = Frame c.args.func c.replace-saved.result; ordinal = 0; arity = c.len-3.result; height = cut; from = p.code }))
     (omega (arith, c.requires.counted.count, c.if-parts-ge-MOST_FRAMES.false)) refl (ap opens_of c.in_ok-push.ensures.items ∙ opens_push p.entries.items _) c.truncate.ensures.items
-    (ap items_of c.deref-parts.ensures.value ∙ body_numbered m (c.args.func - length l.hosts.now) f eg c.requires.call.runs m.numbered)
-    (subst (λ x. OnlyRun x) (sym (ap items_of c.deref-parts.ensures.value)) (body_runs m (c.args.func - length l.hosts.now) f eg c.requires.call.runs))
+    (ap items_of c.deref-parts.ensures.value ∙ body_numbered m (c.args.func - length l.hosts.now) f eg m.numbered)
     (ap (λ v. v.items) c.replace-saved.ensures.after ∙ (c.in_ok-locals.ensures ∙ locals_made zero_of cut v.stack c.deref.result.now f.locals.items c.deref-2.result.now c.deref.ensures.value c.deref-2.ensures.value))
     (ap (λ ls. frame c.args.func ls) (ap (λ v. v.items) c.replace-saved.ensures.value)) (c.len-3.ensures ∙ t.results.ok.0) refl refl
 
@@ -89,4 +87,4 @@ returns-clause-counted g c =
     let eg = slice_get_read m.funcs.items _ (c.args.func - length l.hosts.now) f refl (call_found m l.hosts.now l.number (view (base_of l) p) c.args.func c.requires.call.fine c.requires.call.defined) c.index-function.ensures in
     let q : Parts g.row.A.Denot = record { code = c.deref-parts.result; entries = c.push.new.self; depth = p.depth + 1; stack = c.truncate.new.self; locals = c.replace-saved.new.dest; instance = p.instance } in
     let e : Entry g.row.A.Denot = record { kind = Frame c.args.func c.replace-saved.result; ordinal = 0; arity = c.len-3.result; height = c.len.result - c.len-2.result; from = p.code } in
-    pushed_counted p q e c.in_ok-push.ensures.items c.requires.counted (subst (λ is. AreNumbered is) (sym c.deref-parts.ensures.value) (body_counted m (c.args.func - length l.hosts.now) f eg c.requires.call.runs m.numbered)) c.requires.counted.code refl (omega arith)
+    pushed_counted p q e c.in_ok-push.ensures.items c.requires.counted (subst (λ is. AreNumbered is) (sym c.deref-parts.ensures.value) (body_counted m (c.args.func - length l.hosts.now) f eg m.numbered)) c.requires.counted.code refl (omega arith)

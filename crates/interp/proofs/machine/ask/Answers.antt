@@ -28,6 +28,7 @@ returns-clause-kept g c =
           c.operation-op.result (c.operation-op.ensures ∙ ap (λ n. op_of c.args.run.now.lent.number h (drop (n - arity_of h) c.args.run.now.parts.stack.items)) c.args.run.now.parts.stack.ok.0));
       counted = c.requires.call.counted;
       suits = c.requires.call.suits;
-      runs = c.requires.call.runs;
+      waits = c.requires.call.waits;
+      place = c.requires.call.place;
       room = search (arith, c.reserve.ensures.capacity, c.reserve.ensures.succeeds, c.reserve.ensures.len);
     }

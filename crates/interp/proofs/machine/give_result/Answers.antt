@@ -11,8 +11,9 @@ returns-clause-kept g c =
     record {
       machine = machine_returned s k.machine c.requires.running (ap items_of c.requires.at_end) c.copied.result (c.copied.ensures ∙ c.last.ensures.value ∙ ap (λ xs. slice_get xs (length xs - 1)) c.deref.ensures.value ∙ result_last c.args.run.now.parts.stack.items);
       counted = k.counted;
-      suits = c.requires.kept.suits;
-      runs = k.runs;
+      suits = k.suits;
+      waits = k.waits;
+      place = k.place;
       room = tt;
     }
 

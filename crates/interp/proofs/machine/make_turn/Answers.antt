@@ -3,11 +3,14 @@ use Rattle.std.specs.Prelude.{◌==◌}
 use Rattle.interp.specs.declared.plain.After.{After}
 use Rattle.interp.specs.Calls.{base_of}
 use Rattle.interp.specs.Views.{view}
+use Rattle.interp.specs.Waiting.{tail_of}
 use Rattle.interp.specs.Steps.{Led}
 use Rattle.interp.specs.Run.{seen}
 use Rattle.interp.proofs.Acting.{items_nil, ordered_any}
 use Rattle.interp.proofs.Turning.{live_of, safe_at, machine_exhausted, has_exhausted, machine_stepped, has_stepped, machine_fell, has_fallen}
 use Rattle.interp.proofs.Rest.{Frees_join}
+use Rattle.interp.proofs.Joining.{frees_joined}
+use Rattle.interp.proofs.Entering.{last_of}
 use Rattle.interp.proofs.Asking.{calling_of, asked_turn, started_turn}
 use Rattle.interp.proofs.machine.make_turn.Goals as goal
 
@@ -20,7 +23,8 @@ returns-then-run-fuel-clause-kept g c =
           (λ e. true≢false (sym (ap (λ xs. length xs == 0) (items_nil r.parts.code.now e)) ∙ (sym c.is_empty.ensures ∙ c.if-is_empty.false))) (c.if-run-fuel.true ∙ c.fuel.ensures);
       counted = k.counted;
       suits = k.suits;
-      runs = k.runs;
+      waits = k.waits;
+      place = k.place;
       room = tt;
     }
 
@@ -36,7 +40,6 @@ execute-requires g c =
     let m = c.requires.kept.machine in
     record {
       ready = record {
-        contract = (seen r).contract;
         base = base_of r.lent;
         some = λ e. true≢false (sym (ap (λ xs. length xs == 0) e) ∙ (sym c.is_empty.ensures ∙ c.if-is_empty.false));
         ordered = ordered_any (base_of r.lent) r.parts (live_of (seen r) m c.requires.running).ordered;
@@ -45,11 +48,11 @@ execute-requires g c =
       counted = c.requires.kept.counted;
     }
 
-pub settle-requires-clause-ordered : goal.settle-requires-clause-ordered
-settle-requires-clause-ordered g c =
+pub settle_all-requires-clause-ordered : goal.settle_all-requires-clause-ordered
+settle_all-requires-clause-ordered g c =
     let r = c.args.run.now in
     let safe = safe_at (seen r) c.requires.kept.machine c.requires.running (λ e. c.if-run-fuel.false (e ∙ sym c.fuel.ensures)) in
-    ordered_any (base_of r.lent) c.execute.new.parts (subst (λ (a : After). Led r.parts a c.execute.new.parts) c.in-Ok-Ran.field-0-is c.in-Ok-Ran.ensures.led (seen r).contract (base_of r.lent) safe c.requires.kept.suits).ordered
+    ordered_any (base_of r.lent) c.execute.new.parts (subst (λ (a : After). Led r.lent r.parts a c.execute.new.parts) c.in-Ok-Ran.field-0-is c.in-Ok-Ran.ensures.led (base_of r.lent) safe c.requires.kept.suits).ordered
 
 pub ask-requires-clause-call : goal.ask-requires-clause-call
 ask-requires-clause-call g c =
@@ -57,10 +60,11 @@ ask-requires-clause-call g c =
     let k = c.requires.kept in
     record {
       calling = calling_of (seen r) c.in-Ok-Calls.f (view (base_of r.lent) c.execute.new.parts) k.machine c.requires.running (λ e. c.if-run-fuel.false (e ∙ sym c.fuel.ensures))
-          (subst (λ (a : After). Led r.parts a c.execute.new.parts) c.in-Ok-Calls.field-0-is c.in-Ok-Calls.ensures.led (seen r).contract (base_of r.lent) (safe_at (seen r) c.requires.kept.machine c.requires.running (λ e. c.if-run-fuel.false (e ∙ sym c.fuel.ensures))) c.requires.kept.suits);
+          (subst (λ (a : After). Led r.lent r.parts a c.execute.new.parts) c.in-Ok-Calls.field-0-is c.in-Ok-Calls.ensures.led (base_of r.lent) (safe_at (seen r) c.requires.kept.machine c.requires.running (λ e. c.if-run-fuel.false (e ∙ sym c.fuel.ensures))) c.requires.kept.suits);
       counted = c.in-Ok-Calls.ensures.counted;
       suits = c.execute.ensures.max ∙ k.suits;
-      runs = k.runs;
+      waits = k.waits;
+      place = k.place;
     }
 
 pub start_function-requires-clause-call : goal.start_function-requires-clause-call
@@ -69,10 +73,11 @@ start_function-requires-clause-call g c =
     let k = c.requires.kept in
     record {
       calling = calling_of (seen r) c.in-Ok-Calls.f (view (base_of r.lent) c.execute.new.parts) k.machine c.requires.running (λ e. c.if-run-fuel.false (e ∙ sym c.fuel.ensures))
-          (subst (λ (a : After). Led r.parts a c.execute.new.parts) c.in-Ok-Calls.field-0-is c.in-Ok-Calls.ensures.led (seen r).contract (base_of r.lent) (safe_at (seen r) c.requires.kept.machine c.requires.running (λ e. c.if-run-fuel.false (e ∙ sym c.fuel.ensures))) c.requires.kept.suits);
+          (subst (λ (a : After). Led r.lent r.parts a c.execute.new.parts) c.in-Ok-Calls.field-0-is c.in-Ok-Calls.ensures.led (base_of r.lent) (safe_at (seen r) c.requires.kept.machine c.requires.running (λ e. c.if-run-fuel.false (e ∙ sym c.fuel.ensures))) c.requires.kept.suits);
       counted = c.in-Ok-Calls.ensures.counted;
       suits = c.execute.ensures.max ∙ k.suits;
-      runs = k.runs;
+      waits = k.waits;
+      place = k.place;
     }
 
 pub returns-in-Ok-Ran-clause-kept : goal.returns-in-Ok-Ran-clause-kept
@@ -80,13 +85,16 @@ returns-in-Ok-Ran-clause-kept g c =
     let r = c.args.run.now in
     let k = c.requires.kept in
     let b = base_of r.lent in
-    let charge = subst (λ (a : After). Led r.parts a c.execute.new.parts) c.in-Ok-Ran.field-0-is c.in-Ok-Ran.ensures.led (seen r).contract b (safe_at (seen r) c.requires.kept.machine c.requires.running (λ e. c.if-run-fuel.false (e ∙ sym c.fuel.ensures))) c.requires.kept.suits in
-    let settled = c.settle.ensures.settles (seen r).contract b in
+    let charge = subst (λ (a : After). Led r.lent r.parts a c.execute.new.parts) c.in-Ok-Ran.field-0-is c.in-Ok-Ran.ensures.led b (safe_at (seen r) c.requires.kept.machine c.requires.running (λ e. c.if-run-fuel.false (e ∙ sym c.fuel.ensures))) c.requires.kept.suits in
+    let q = c.settle_all.new.parts in
+    let x = c.settle_all.new.waiting in
+    let come = c.settle_all.ensures.comes (seen r).contract r.call.now.args b c.requires.kept.waits in
     record {
-      machine = machine_stepped (seen r) k.machine c.requires.running (λ e. c.if-run-fuel.false (e ∙ sym c.fuel.ensures)) _ charge.reduces (view b c.settle.new.parts) (Frees_join _ _ _ _ charge.frees settled.frees) settled.ordered (λ e. c.settle.ensures.ready (items_nil c.settle.new.parts.code.now e));
-      counted = c.settle.ensures.counted;
-      suits = ap (λ i. i.memory.max) c.settle.ensures.instance ∙ (c.execute.ensures.max ∙ k.suits);
-      runs = k.runs;
+      machine = machine_stepped (seen r) k.machine c.requires.running (λ e. c.if-run-fuel.false (e ∙ sym c.fuel.ensures)) _ charge.reduces (view b q) (tail_of r.call.now.args x) (Frees_join _ _ _ _ (frees_joined (seen r).tail _ _ _ charge.frees) come.frees) come.ordered (λ e. c.settle_all.ensures.ready (items_nil q.code.now e)) (last_of r.call.now.args q x c.settle_all.ensures.last);
+      counted = c.settle_all.ensures.counted;
+      suits = ap (λ i. i.memory.max) c.settle_all.ensures.instance ∙ (c.execute.ensures.max ∙ k.suits);
+      waits = come.waits;
+      place = c.settle_all.ensures.place;
       room = k.room;
     }
 
@@ -95,21 +103,24 @@ returns-in-Ok-Ran-clause-turn g c =
     let r = c.args.run.now in
     let k = c.requires.kept in
     let b = base_of r.lent in
-    let charge = subst (λ (a : After). Led r.parts a c.execute.new.parts) c.in-Ok-Ran.field-0-is c.in-Ok-Ran.ensures.led (seen r).contract b (safe_at (seen r) c.requires.kept.machine c.requires.running (λ e. c.if-run-fuel.false (e ∙ sym c.fuel.ensures))) c.requires.kept.suits in
-    let settled = c.settle.ensures.settles (seen r).contract b in
-    has_stepped (seen r) k.machine c.requires.running (λ e. c.if-run-fuel.false (e ∙ sym c.fuel.ensures)) _ charge.reduces (view b c.settle.new.parts) (Frees_join _ _ _ _ charge.frees settled.frees) settled.ordered (λ e. c.settle.ensures.ready (items_nil c.settle.new.parts.code.now e))
+    let charge = subst (λ (a : After). Led r.lent r.parts a c.execute.new.parts) c.in-Ok-Ran.field-0-is c.in-Ok-Ran.ensures.led b (safe_at (seen r) c.requires.kept.machine c.requires.running (λ e. c.if-run-fuel.false (e ∙ sym c.fuel.ensures))) c.requires.kept.suits in
+    let q = c.settle_all.new.parts in
+    let x = c.settle_all.new.waiting in
+    let come = c.settle_all.ensures.comes (seen r).contract r.call.now.args b c.requires.kept.waits in
+    has_stepped (seen r) k.machine c.requires.running (λ e. c.if-run-fuel.false (e ∙ sym c.fuel.ensures)) _ charge.reduces (view b q) (tail_of r.call.now.args x) (Frees_join _ _ _ _ (frees_joined (seen r).tail _ _ _ charge.frees) come.frees) come.ordered (λ e. c.settle_all.ensures.ready (items_nil q.code.now e)) (last_of r.call.now.args q x c.settle_all.ensures.last)
 
 pub returns-in-Ok-Fell-clause-kept : goal.returns-in-Ok-Fell-clause-kept
 returns-in-Ok-Fell-clause-kept g c =
     let r = c.args.run.now in
     let k = c.requires.kept in
     let b = base_of r.lent in
-    let fell = subst (λ (a : After). Led r.parts a c.execute.new.parts) c.in-Ok-Fell.field-0-is c.in-Ok-Fell.ensures.led (seen r).contract b (safe_at (seen r) c.requires.kept.machine c.requires.running (λ e. c.if-run-fuel.false (e ∙ sym c.fuel.ensures))) c.requires.kept.suits in
+    let fell = subst (λ (a : After). Led r.lent r.parts a c.execute.new.parts) c.in-Ok-Fell.field-0-is c.in-Ok-Fell.ensures.led b (safe_at (seen r) c.requires.kept.machine c.requires.running (λ e. c.if-run-fuel.false (e ∙ sym c.fuel.ensures))) c.requires.kept.suits in
     record {
       machine = machine_fell (seen r) k.machine c.requires.running (λ e. c.if-run-fuel.false (e ∙ sym c.fuel.ensures)) (view b c.execute.new.parts) c.in-Ok-Fell.code fell.reduces;
       counted = c.in-Ok-Fell.ensures.counted;
       suits = c.execute.ensures.max ∙ k.suits;
-      runs = k.runs;
+      waits = k.waits;
+      place = k.place;
       room = tt;
     }
 
@@ -118,7 +129,7 @@ returns-in-Ok-Fell-clause-turn g c =
     let r = c.args.run.now in
     let k = c.requires.kept in
     let b = base_of r.lent in
-    let fell = subst (λ (a : After). Led r.parts a c.execute.new.parts) c.in-Ok-Fell.field-0-is c.in-Ok-Fell.ensures.led (seen r).contract b (safe_at (seen r) c.requires.kept.machine c.requires.running (λ e. c.if-run-fuel.false (e ∙ sym c.fuel.ensures))) c.requires.kept.suits in
+    let fell = subst (λ (a : After). Led r.lent r.parts a c.execute.new.parts) c.in-Ok-Fell.field-0-is c.in-Ok-Fell.ensures.led b (safe_at (seen r) c.requires.kept.machine c.requires.running (λ e. c.if-run-fuel.false (e ∙ sym c.fuel.ensures))) c.requires.kept.suits in
     has_fallen (seen r) k.machine c.requires.running (λ e. c.if-run-fuel.false (e ∙ sym c.fuel.ensures)) (view b c.execute.new.parts) c.in-Ok-Fell.code fell.reduces
 
 pub returns-then-f-run-clause-turn : goal.returns-then-f-run-clause-turn
@@ -126,11 +137,11 @@ returns-then-f-run-clause-turn g c =
     let r = c.args.run.now in
     let b = base_of r.lent in
     asked_turn (seen r) c.in-Ok-Calls.f (view b c.execute.new.parts) c.ask.result (seen c.ask.new.run) c.requires.running
-    (subst (λ (a : After). Led r.parts a c.execute.new.parts) c.in-Ok-Calls.field-0-is c.in-Ok-Calls.ensures.led (seen r).contract b (safe_at (seen r) c.requires.kept.machine c.requires.running (λ e. c.if-run-fuel.false (e ∙ sym c.fuel.ensures))) c.requires.kept.suits) c.ask.ensures.turn
+    (subst (λ (a : After). Led r.lent r.parts a c.execute.new.parts) c.in-Ok-Calls.field-0-is c.in-Ok-Calls.ensures.led b (safe_at (seen r) c.requires.kept.machine c.requires.running (λ e. c.if-run-fuel.false (e ∙ sym c.fuel.ensures))) c.requires.kept.suits) c.ask.ensures.turn
 
 pub returns-else-f-run-clause-turn : goal.returns-else-f-run-clause-turn
 returns-else-f-run-clause-turn g c =
     let r = c.args.run.now in
     let b = base_of r.lent in
     started_turn (seen r) c.in-Ok-Calls.f (view b c.execute.new.parts) c.start_function.result (seen c.start_function.new.run) c.requires.running
-    (subst (λ (a : After). Led r.parts a c.execute.new.parts) c.in-Ok-Calls.field-0-is c.in-Ok-Calls.ensures.led (seen r).contract b (safe_at (seen r) c.requires.kept.machine c.requires.running (λ e. c.if-run-fuel.false (e ∙ sym c.fuel.ensures))) c.requires.kept.suits) c.start_function.ensures.turn
+    (subst (λ (a : After). Led r.lent r.parts a c.execute.new.parts) c.in-Ok-Calls.field-0-is c.in-Ok-Calls.ensures.led b (safe_at (seen r) c.requires.kept.machine c.requires.running (λ e. c.if-run-fuel.false (e ∙ sym c.fuel.ensures))) c.requires.kept.suits) c.start_function.ensures.turn

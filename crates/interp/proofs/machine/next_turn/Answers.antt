@@ -7,7 +7,8 @@ returns-in-Fallen-clause-kept g c = record {
   machine = machine_told (seen c.args.run.now) c.requires.kept.machine c.in-Fallen.code c.in-Fallen.is;
   counted = c.requires.kept.counted;
   suits = c.requires.kept.suits;
-  runs = c.requires.kept.runs;
+  waits = c.requires.kept.waits;
+  place = c.requires.kept.place;
   room = tt;
 }
 

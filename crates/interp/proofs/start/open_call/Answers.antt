@@ -1,9 +1,8 @@
-use Rattle.std.proofs.Common.{◌≡◌, ◌≤◌, Some, length, option_map, slice_get, refl, sym, ap, ◌∙◌, subst}
+use Rattle.std.proofs.Common.{◌≡◌, Some, length, option_map, slice_get, refl, sym, ap, ◌∙◌}
 use Rattle.std.proofs.lemmas.Bool.{ltb-false}
 use Rattle.std.proofs.lemmas.Option.{slice_get-map, slice_get_read}
 use Rattle.spec_execution.specs.Configuration.{Contract}
 use Rattle.spec_execution.specs.Run.{by_contract}
-use Rattle.link.specs.declared.deployed.Deployed.{Deployed}
 use Rattle.link.specs.Parts.{hosts_of}
 use Rattle.opening.specs.Views.{deployed_view}
 use Rattle.interp.specs.Lent.{contract_view, contracts_view}
@@ -12,17 +11,16 @@ use Rattle.interp.proofs.start.open_call.Goals as goal
 
 pub returns-in-Ok-clause-defined : goal.returns-in-Ok-clause-defined
 returns-in-Ok-clause-defined g c =
-    let d = c.deployed.result.now in
+    let d = c.in-Some.deployed.now in
     let k : Contract = record { number = c.args.call.now.contract; deployed = deployed_view d } in
-    subst (λ (x : Deployed _). length (hosts_of x) ≤ c.in-Ok.func) c.deployed.ensures.is
-    (ltb-false c.in-Ok.func (length (hosts_of d)) (entry_defined (deployed_view d) c.args.call.now k c.in-Ok.func c.in-Ok.ensures.opens))
+    ltb-false c.in-Ok.func (length (hosts_of d)) (entry_defined (deployed_view d) c.args.call.now k c.in-Ok.func c.in-Ok.ensures.opens)
 
 pub returns-in-Err-clause-refused : goal.returns-in-Err-clause-refused
 returns-in-Err-clause-refused g c =
     let lent = c.args.contracts.now in
     let call = c.args.call.now in
     let item = c.in-Some.ensures.lookup in
-    let found : slice_get lent c.contract.result ≡ Some c.in-Some.runnable.now = slice_get_read lent (length lent) c.contract.result c.in-Some.runnable.now refl item.3.0 item.1 in
-    let seen : slice_get (contracts_view lent) call.contract ≡ Some (contract_view c.in-Some.runnable.now) =
+    let found : slice_get lent c.contract.result ≡ Some c.in-Some.deployed.now = slice_get_read lent (length lent) c.contract.result c.in-Some.deployed.now refl item.3.0 item.1 in
+    let seen : slice_get (contracts_view lent) call.contract ≡ Some (contract_view c.in-Some.deployed.now) =
     slice_get-map contract_view lent call.contract ∙ ap (option_map contract_view) (ap (slice_get lent) (sym c.contract.ensures) ∙ found) in
-    ap (by_contract call) seen ∙ (ap (λ (d : Deployed _). by_contract call (Some (deployed_view d))) (sym c.deployed.ensures.is) ∙ c.in-Err.ensures.refused)
+    ap (by_contract call) seen ∙ c.in-Err.ensures.refused

@@ -1,0 +1,5 @@
+pub mod Lists
+pub mod Numbers
+pub mod Profiles
+pub mod Stages
+pub mod Sums

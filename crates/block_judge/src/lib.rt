@@ -1,0 +1,108 @@
+//! What is found of a block before its calls are run: the first seven of the nine reasons for which a validator rejects it (Dickerson, Gazzillo,
+//! Herlihy, Koskinen, "Adding Concurrency to Smart Contracts", PODC 2017, section 4: a validator checks what a miner published).
+#![tactic(auto)]
+
+mod digests;
+mod laws;
+mod order;
+mod reason;
+#[cfg(test)]
+mod tests;
+mod turns;
+
+ghost use Rattle.std.specs.Prelude.{◌≡◌, ◌≤◌, ◌<◌, ℕ, List, All, IfOk, IfErr, OnOk, length};
+ghost use Rattle.spec_block.specs.Worlds.{Block as TheBlock, Call as TheCall, World as TheWorld, order_of, profiles_of};
+ghost use Rattle.spec_block.specs.Bytes.{SpellsBlock};
+ghost use Rattle.spec_block.specs.Schedule.{HaveTurns};
+ghost use Rattle.spec_block.specs.Verdicts.{HoldsOf, IsVerdictOf};
+ghost use Rattle.world.specs.Views.{world_view};
+ghost use Rattle.block_judge.specs.Judging.{IfRejected, IsFirstFrom, NoneFrom, Passes};
+
+use crate::digests::judge_digests;
+pub use crate::laws::first_is_verdict;
+use crate::order::{judge_order, numbers_of};
+pub use crate::reason::{Reason, Unfit};
+use crate::turns::judge_turns;
+use block::{Block, BlockRefusal, read_block};
+use call::Call;
+use lock_profile::Profile;
+use std::alloc::Global;
+use world::World;
+
+/// A block that none of the first seven reasons speaks against.
+#[derive(Drop)]
+pub struct Fit {
+    /// The block.
+    pub block: Block,
+    /// The numbers of its calls, by position.
+    pub order: Vec<u32>,
+    /// The profiles of its positions.
+    pub profiles: Vec<Profile>,
+}
+
+/// The block that the bytes spell.
+fn read(alloc: Global, bytes: &[u8]) -> Result<Block, Unfit>
+    ensures spelled { IfOk result (SpellsBlock bytes.now) }
+    ensures rejected { IfErr result (λ unfit. (world : TheWorld) (calls : List TheCall) (fuel : ℕ) → IfRejected unfit (IsVerdictOf world calls fuel bytes.now)) }
+{
+    match read_block(alloc, bytes) {
+        Ok(block) => Ok(block),
+        Err(BlockRefusal::NoMemory) => Err(Unfit::NoMemory),
+        Err(BlockRefusal::Malformed(_) | BlockRefusal::TooLarge) => {
+            Err(Unfit::Rejected(Reason::Malformed))
+        }
+    }
+}
+
+/// Judges a block that was read.
+fn examine(
+    alloc: Global,
+    world: &World,
+    calls: &[Call],
+    fuel: u64,
+    block: &Block,
+) -> Result<(Vec<u32>, Vec<Profile>), Unfit>
+    requires calls { length calls.now ≤ 65535 }
+    requires order { length (order_of block.now) ≤ 65535 }
+    requires profiles { length (profiles_of block.now) ≤ 65535 }
+    ensures rejected { IfErr result (λ unfit. IfRejected unfit (IsFirstFrom (HoldsOf (world_view world.now) calls.now fuel block.now) 1)) }
+    ensures passed { OnOk result (NoneFrom (HoldsOf (world_view world.now) calls.now fuel block.now) 1 8) }
+    ensures order { IfOk result (λ r. r.0.items ≡ order_of block.now) }
+    ensures profiles { IfOk result (λ r. r.1.items ≡ profiles_of block.now) }
+    ensures known { OnOk result (All (λ number. number < length calls.now) (order_of block.now)) }
+    ensures turns { OnOk result (HaveTurns (profiles_of block.now)) }
+{
+    judge_digests(alloc, world, calls, block)?;
+    let order = numbers_of(alloc, block)?;
+    judge_order(alloc, calls, fuel, &order)?;
+    let profiles = judge_turns(alloc, block)?;
+    Ok((order, profiles))
+}
+
+/// Judges the bytes of a block of calls over a world, with this fuel for the block, without running a call.
+///
+/// # Errors
+///
+/// The first of the reasons 1 to 7 that holds; or memory was refused.
+pub fn judge(
+    alloc: Global,
+    world: &World,
+    calls: &[Call],
+    fuel: u64,
+    bytes: &[u8],
+) -> Result<Fit, Unfit>
+    requires { length calls.now ≤ 65535 }
+    ensures rejected { IfErr result (λ unfit. IfRejected unfit (IsVerdictOf (world_view world.now) calls.now fuel bytes.now)) }
+    ensures passed { IfOk result (λ fit. Passes (world_view world.now) calls.now fuel bytes.now fit.block) }
+    ensures order { IfOk result (λ fit. fit.order.items ≡ order_of fit.block) }
+    ensures profiles { IfOk result (λ fit. fit.profiles.items ≡ profiles_of fit.block) }
+{
+    first_is_verdict();
+    let block = read(alloc, bytes)?;
+    let (order, profiles) = examine(alloc, world, calls, fuel, &block)?;
+    Ok(Fit {
+        block,
+        order,
+        profiles,
+    })
+}

@@ -1,0 +1,109 @@
+//! Whether the order of a block may be published.
+
+ghost use Rattle.std.specs.Prelude.{◌≡◌, ◌≤◌, ◌<◌, ◌^◌, ◌+◌, ℕ, All, IfErr, IfNone, IfOk, IfSome, OnOk, false, length, replicate};
+ghost use Rattle.spec_ledger.specs.Order.{limits_of};
+ghost use Rattle.spec_block.specs.Worlds.{Block as TheBlock, World as TheWorld, limits, order_of};
+ghost use Rattle.spec_block.specs.Verdicts.{HasRoom, HoldsOf, IsBadNumber, IsLeast};
+ghost use Rattle.block_judge.specs.Judging.{IfRejected, IsFirstFrom, NoneFrom};
+ghost use Rattle.block_judge.specs.Marks.{AreMarked};
+
+use crate::reason::{Reason, Unfit};
+use block::Block;
+use call::Call;
+use std::alloc::Global;
+use wtypes::NoMemory;
+
+/// The numbers of a block's calls, by position.
+pub(crate) fn numbers_of(alloc: Global, block: &Block) -> Result<Vec<u32>, NoMemory>
+    ensures { IfOk result (λ numbers. numbers.items ≡ order_of block.now) }
+{
+    let mut numbers = Vec::new(alloc);
+    for position in block.positions() {
+        numbers.push(position.call())?;
+    }
+    Ok(numbers)
+}
+
+/// Marks the calls of an order. Answers the least position whose number is not that of a call, or stood before.
+fn mark(calls: &[Call], order: &[u32], marks: &mut Vec<bool>) -> Option<u32>
+    requires few { length order.now < 2 ^ 32 }
+    requires none { marks.old.items ≡ replicate (length calls.now) false }
+    ensures bad { IfSome result (IsLeast (IsBadNumber calls.now order.now)) }
+    ensures good { IfNone result ((position : ℕ) → ¬ (IsBadNumber calls.now order.now position)) }
+    ensures marked { IfNone result (AreMarked order.now marks.new.items) }
+    ensures size { length marks.new.items ≡ length calls.now }
+{
+    for (position, number) in order.iter().enumerate() {
+        let call = *number as usize;
+        if call >= marks.len() || marks[call] {
+            return Some(position as u32);
+        }
+        marks[call] = true;
+    }
+    None
+}
+
+/// What remains of the fuel when the limits of the calls of an order are taken from it. None where they exceed it.
+fn remaining(calls: &[Call], order: &[u32], fuel: u64) -> Option<u64>
+    requires { All (λ number. number < length calls.now) order.now }
+    ensures within { IfSome result (λ rest. rest + limits_of (limits calls.now) order.now ≡ fuel) }
+    ensures over { IfNone result (fuel < limits_of (limits calls.now) order.now) }
+{
+    let mut rest = fuel;
+    for number in order {
+        rest = rest.checked_sub(calls[*number as usize].fuel())?;
+    }
+    Some(rest)
+}
+
+/// The least call that is not marked and whose limit is not above what remains.
+fn least_with_room(
+    calls: &[Call],
+    order: &[u32],
+    marks: &[bool],
+    fuel: u64,
+    rest: u64,
+) -> Option<u32>
+    requires few { length calls.now < 2 ^ 32 }
+    requires size { length marks.now ≡ length calls.now }
+    requires marked { AreMarked order.now marks.now }
+    requires rest { rest + limits_of (limits calls.now) order.now ≡ fuel }
+    ensures room { IfSome result (IsLeast (HasRoom calls.now fuel order.now)) }
+    ensures none { IfNone result ((call : ℕ) → ¬ (HasRoom calls.now fuel order.now call)) }
+{
+    for (number, call) in calls.iter().enumerate() {
+        if marks[number] {
+            continue;
+        }
+        if call.fuel() <= rest {
+            return Some(number as u32);
+        }
+    }
+    None
+}
+
+/// Judges the order of a block: its numbers, then the sum of its limits, then the calls that are left out.
+pub(crate) fn judge_order(
+    alloc: Global,
+    calls: &[Call],
+    fuel: u64,
+    order: &[u32],
+) -> Result<(), Unfit>
+    requires calls { length calls.now ≤ 65535 }
+    requires order { length order.now ≤ 65535 }
+    ensures rejected { (world : TheWorld) (block : TheBlock) → order_of block ≡ order.now → NoneFrom (HoldsOf world calls.now fuel block) 1 4 → IfErr result (λ unfit. IfRejected unfit (IsFirstFrom (HoldsOf world calls.now fuel block) 1)) }
+    ensures passed { OnOk result ((world : TheWorld) (block : TheBlock) → order_of block ≡ order.now → NoneFrom (HoldsOf world calls.now fuel block) 1 4 → NoneFrom (HoldsOf world calls.now fuel block) 1 7) }
+    ensures known { OnOk result (All (λ number. number < length calls.now) order.now) }
+{
+    let mut marks = vec![in alloc; false; calls.len()]?;
+    if let Some(position) = mark(calls, order, &mut marks) {
+        return Err(Unfit::Rejected(Reason::BadOrder(position)));
+    }
+    let Some(rest) = remaining(calls, order, fuel) else {
+        return Err(Unfit::Rejected(Reason::OverBudget));
+    };
+    if let Some(call) = least_with_room(calls, order, &marks, fuel, rest) {
+        return Err(Unfit::Rejected(Reason::RoomLeft(call)));
+    }
+    Ok(())
+}

@@ -1,0 +1,45 @@
+-- The lines that commands print, each ended by a newline.
+use Rattle.std.specs.Prelude.{◌≡◌, ℕ, List, [], ◌∷◌, ◌++◌, Option, Some, None, codes, decimal}
+use Rattle.hex.specs.Hex.{encode_lower}
+use Rattle.wtypes.specs.declared.Value.{Value}
+use Rattle.spec_ledger.specs.declared.Outcome.{Outcome}
+use Rattle.debugger.specs.Sight.{Sight, ending_at, place_at}
+use Rattle.debugger.specs.declared.session.Refusal.{Refusal}
+use Rattle.debugger.specs.Commands.{code_of}
+use Rattle.calls_text.specs.Texts.{value_text}
+use Rattle.calls_text.specs.Receipts.{receipt_text}
+
+-- where a call stands after so many turns: how it has ended, or else the function and the ordinal of the instruction to come
+abbrev pub standing_text : ℕ → Option Outcome → Option (ℕ × ℕ) → List ℕ
+standing_text turns (Some o) place = codes " done " ++ receipt_text (record { outcome = o; used = turns })
+standing_text turns None (Some p) = codes " at " ++ decimal p.0 ++ codes " " ++ decimal p.1
+standing_text turns None None = []
+
+-- `K at F O` or `K done RECEIPT`
+abbrev pub state_line : Sight → List ℕ
+state_line s = decimal s.turns ++ standing_text s.turns (ending_at s) (place_at s) ++ 10 ∷ []
+
+-- ` VALUE` for each value
+abbrev pub values_text : List Value → List ℕ
+values_text [] = []
+values_text (v ∷ vs) = (codes " " ++ value_text v) ++ values_text vs
+
+-- a name and the values
+abbrev pub values_line : List ℕ → List Value → List ℕ
+values_line name vs = name ++ values_text vs ++ 10 ∷ []
+
+-- `bytes HEX`
+abbrev pub bytes_line : List ℕ → List ℕ
+bytes_line bytes = codes "bytes " ++ encode_lower bytes ++ 10 ∷ []
+
+-- `ok`
+abbrev pub ok_line : List ℕ
+ok_line = codes "ok" ++ 10 ∷ []
+
+-- `refused N`
+abbrev pub refusal_line : Refusal → List ℕ
+refusal_line r = codes "refused " ++ decimal (code_of r) ++ 10 ∷ []
+
+-- `refused start N`
+abbrev pub start_line : ℕ → List ℕ
+start_line code = codes "refused start " ++ decimal code ++ 10 ∷ []

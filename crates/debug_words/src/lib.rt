@@ -1,0 +1,9 @@
+//! The commands of a debugger as words of a line.
+#![tactic(auto)]
+
+mod command;
+mod numbers;
+#[cfg(test)]
+mod tests;
+
+pub use command::{Command, command_of, commands_of};

@@ -1,0 +1,175 @@
+-- What a session keeps.
+use Rattle.std.proofs.Common.{◌≡◌, ◌≢◌, ℕ, suc, ◌+◌, ◌-◌, ◌<◌, ◌≤◌, Bool, true, false, true≢false, List, [], refl, sym, ap, ap₂, ◌∙◌, subst, arith, Option, Some, None, inl, inr, slice_index_or}
+use Rattle.std.specs.Prelude.{◌⊎◌, ◌==◌, IsSome}
+use Rattle.std.proofs.lemmas.Bool.Decides.{eqb_tells}
+use Rattle.spec_ledger.specs.declared.Outcome.{Outcome}
+use Rattle.spec_ledger.specs.declared.Step.{Step}
+use Rattle.spec_ledger.specs.Cells.{Cells}
+use Rattle.storage.specs.Counts.{Store}
+use Rattle.spec_execution.specs.Configuration.{Deployed, Contract, Config}
+use Rattle.spec_execution.specs.Run.{ContractCall}
+use Rattle.spec_execution.specs.Turns.{Turned, opened, turned, IsState, shown, place_of}
+use Rattle.interp.specs.Progress.{Progress, IsSameCall}
+use Rattle.interp.specs.Shown.{ending, ending_of, place_shown}
+use Rattle.debugger.specs.declared.cursor.Cursor.{Cursor}
+use Rattle.debugger.specs.Breaks.{is_set_at}
+use Rattle.debugger.specs.Cursors.{HasTurned, IsAt, IsSameRun, IsCopy}
+use Rattle.debugger.specs.Keeping.{IsOfRun, AreKept, IsKept, seen_at, HasNoBreakBetween}
+use Rattle.debugger.specs.Sight.{Sight, IsSight, sight_of, place_at}
+use Rattle.debugger.specs.Commands as commands
+use Rattle.debugger.proofs.States.{one_state, IsOnTheWay, earlier}
+use Rattle.debugger.proofs.Turning.{is_sight}
+
+pub at_copy : {A : Type 0} (c d : Cursor A) → IsAt c → IsCopy c d → IsAt d
+at_copy c d h k =
+    subst (λ (p : Progress). HasTurned p d.start.now.cells d.cells.cells) (sym k.machine)
+    (subst (λ (s : Store). HasTurned c.machine s.cells d.cells.cells) (sym k.start)
+    (subst (λ (x : Cells). HasTurned c.machine c.start.now.cells x) (sym k.cells) h))
+
+pub run_copy : {A : Type 0} (c d : Cursor A) → IsCopy c d → IsSameRun c d
+run_copy c d k = record {
+  call = record { contracts = ap (λ p. p.contracts) k.machine; call = ap (λ p. p.call) k.machine; contract = ap (λ p. p.contract) k.machine; func = ap (λ p. p.func) k.machine };
+  start = k.start;
+}
+
+pub run_on : {A : Type 0} (c d e : Cursor A) → IsSameRun c d → IsSameRun d e → IsSameRun c e
+run_on c d e h k = record {
+  call = record { contracts = k.call.contracts ∙ h.call.contracts; call = k.call.call ∙ h.call.call; contract = k.call.contract ∙ h.call.contract; func = k.call.func ∙ h.call.func };
+  start = k.start ∙ h.start;
+}
+
+pub run_back : {A : Type 0} (c d : Cursor A) → IsSameRun c d → IsSameRun d c
+run_back c d h = record {
+  call = record { contracts = sym h.call.contracts; call = sym h.call.call; contract = sym h.call.contract; func = sym h.call.func };
+  start = sym h.start;
+}
+
+-- no run makes more turns than its limit
+within : (c : Contract) (start : Config) (limit k : ℕ) (t : List Step) (x : Config) → Turned c start limit k t x → k ≤ limit
+within c start limit k t x (opened y f r) = omega arith
+within c start limit k t x (turned n front steps y z w lt turn) = omega (arith, lt)
+
+pub at_within : {A : Type 0} (c : Cursor A) → IsAt c → c.machine.used ≤ c.machine.call.fuel
+at_within c h = within _ _ _ _ _ _ h.turned
+
+-- ---- two states of one run
+
+module _ {A : Type 0} (c : Cursor A) (h : IsAt c) (contracts : List Deployed) (call : ContractCall) (cells : Cells) (k : ℕ) (x : Config) (state : IsState contracts call cells k x)
+    (same_contracts : contracts ≡ c.machine.contracts) (same_call : call ≡ c.machine.call) (same_cells : cells ≡ c.start.now.cells) (same_turns : k ≡ c.machine.used) where
+  there : IsState c.machine.contracts c.machine.call c.start.now.cells c.machine.used x
+  there =
+      subst (λ (ds : List Deployed). IsState ds c.machine.call c.start.now.cells c.machine.used x) same_contracts
+      (subst (λ (l : ContractCall). IsState contracts l c.start.now.cells c.machine.used x) same_call
+      (subst (λ (m : Cells). IsState contracts call m c.machine.used x) same_cells
+      (subst (λ (n : ℕ). IsState contracts call cells n x) same_turns state)))
+
+  pub same_config : x ≡ c.machine.config
+  same_config = one_state c.machine.contracts c.machine.call c.start.now.cells c.machine.used x c.machine.config there (is_sight c.machine c.start.now.cells c.cells.cells [] h).state
+
+-- turns that stop before a state that was reached do not stop at an end
+no_end : (o : Option Outcome) → o ≡ None → IsSome o → ⊥
+no_end None e h = absurd (true≢false (sym h))
+no_end (Some r) e h = absurd (cc)
+
+module _ {A : Type 0} (here cursor : Cursor A) (h : IsAt here) (k : IsAt cursor) (run : IsSameRun here cursor) where
+  goes_on_before : cursor.machine.used < here.machine.used → ending cursor.machine ≡ None
+  goes_on_before below =
+      let e : IsOnTheWay here.machine.contracts here.machine.call here.start.now.cells here.machine.contract cursor.machine.used =
+      earlier here.machine.contracts here.machine.call here.start.now.cells here.machine.used cursor.machine.used here.machine.config (is_sight here.machine here.start.now.cells here.cells.cells [] h).state below in
+      let config_is : e.config ≡ cursor.machine.config =
+      same_config cursor k here.machine.contracts here.machine.call here.start.now.cells cursor.machine.used e.config e.state (sym run.call.contracts) (sym run.call.call) (ap (λ s. s.cells) (sym run.start)) refl in
+      ap₂ (λ (c : Contract) (l : ContractCall). ending_of c l.fuel cursor.machine.used cursor.machine.config) run.call.contract run.call.call
+      ∙ ap (ending_of here.machine.contract here.machine.call.fuel cursor.machine.used) (sym config_is) ∙ e.goes_on
+
+  pub reaches : (n : ℕ) → cursor.machine.used ≤ n → n ≤ here.machine.used → (cursor.machine.used ≡ n) ⊎ IsSome (ending cursor.machine) → cursor.machine.used ≡ n
+  reaches n most less (inl e) = e
+  reaches n most less (inr some) = by_test (eqb_tells cursor.machine.used n)
+    where
+      by_test : ((cursor.machine.used == n) ≡ true) × (cursor.machine.used ≡ n) ⊎ ((cursor.machine.used == n) ≡ false) × (cursor.machine.used ≢ n) → cursor.machine.used ≡ n
+      by_test (inl t) = t.1
+      by_test (inr t) = absurd (no_end (ending cursor.machine) (goes_on_before (let apart = t.1 in omega (arith, most, less, apart))) some)
+
+-- ---- a state with as many turns has the same place
+
+module _ {A : Type 0} (c d : Cursor A) (k : IsAt d) (run : IsSameRun c d) (u : Sight) (is : IsSight u) (same : commands.IsSameRun (seen_at c) u) where
+  pub same_place : u.turns ≡ d.machine.used → place_at u ≡ place_shown d.machine
+  same_place turns =
+      let config_is : u.config ≡ d.machine.config =
+      same_config d k u.contracts u.call u.cells u.turns u.config is.state (same.contracts ∙ sym run.call.contracts) (same.call ∙ sym run.call.call) (same.cells ∙ ap (λ s. s.cells) (sym run.start)) turns in
+      ap₂ (λ (c : Contract) (l : ContractCall). place_of (shown c l.fuel u.turns u.config)) (same.contract ∙ sym run.call.contract) (same.call ∙ sym run.call.call)
+      ∙ ap₂ (λ (n : ℕ) (x : Config). place_of (shown d.machine.contract d.machine.call.fuel n x)) turns config_is
+
+-- one turn more, at whose end there is no break
+pub no_break_more : {A : Type 0} (breaks : List (ℕ × ℕ)) (c e : Cursor A) (m n : ℕ) → IsOfRun c e → e.machine.used ≡ n + 1 → is_set_at breaks (place_shown e.machine) ≡ false
+    → ((u : Sight) → IsSight u → commands.IsSameRun (seen_at c) u → m < u.turns → u.turns ≤ n → is_set_at breaks (place_at u) ≡ false)
+    → (u : Sight) → IsSight u → commands.IsSameRun (seen_at c) u → m < u.turns → u.turns ≤ e.machine.used → is_set_at breaks (place_at u) ≡ false
+no_break_more breaks c e m n k used none so_far u is same above below = by_test (eqb_tells u.turns e.machine.used)
+  where
+    by_test : ((u.turns == e.machine.used) ≡ true) × (u.turns ≡ e.machine.used) ⊎ ((u.turns == e.machine.used) ≡ false) × (u.turns ≢ e.machine.used) → is_set_at breaks (place_at u) ≡ false
+    by_test (inl t) = ap (is_set_at breaks) (same_place c e k.at k.same u is same t.1) ∙ none
+    by_test (inr t) = so_far u is same above (let apart = t.1 in omega (arith, used, below, apart))
+
+pub moved_more : {A : Type 0} (c d e : Cursor A) → (c.machine.used < d.machine.used) ⊎ (d ≡ c) → e.machine.used ≡ d.machine.used + 1 → c.machine.used < e.machine.used
+moved_more c d e (inl h) used = omega (arith, h, used)
+moved_more c d e (inr h) used = omega (arith, used, ap (λ x. x.machine.used) h)
+
+-- ---- states that are kept
+
+pub copy_of_run : {A : Type 0} (here c d : Cursor A) → IsOfRun here c → IsCopy c d → IsOfRun here d
+copy_of_run here c d h k = record { at = at_copy c d h.at k; same = run_on here c d h.same (run_copy c d k) }
+
+pub of_run_itself : {A : Type 0} (here d : Cursor A) → IsAt here → IsCopy here d → IsOfRun here d
+of_run_itself here d h k = record { at = at_copy here d h k; same = run_copy here d k }
+
+-- seen from another state of the run
+pub of_run_from : {A : Type 0} (a b c : Cursor A) → IsSameRun a b → IsOfRun a c → IsOfRun b c
+of_run_from a b c run h = record { at = h.at; same = run_on b a c (run_back a b run) h.same }
+
+pub kept_from : {A : Type 0} (a b : Cursor A) (cs : List (Cursor A)) → IsSameRun a b → AreKept a cs → AreKept b cs
+kept_from a b cs run h = record { all = λ k d below. of_run_from a b (slice_index_or cs k d) run (h.all k d below); few = h.few }
+
+-- what a session keeps, after it has gone on to another state of the run
+pub kept_on : {A : Type 0} (origin here next : Cursor A) (old new : List (Cursor A)) → IsKept origin here old → IsOfRun here next → AreKept here new → IsKept origin next new
+kept_on origin here next old new k h kept = record {
+  first = record { of_run = of_run_from here next origin h.same k.first.of_run; before = k.first.before };
+  at = h.at;
+  kept = kept_from here next new h.same kept;
+}
+
+-- what a session keeps at first
+pub kept_first : {A : Type 0} (origin here : Cursor A) (others : List (Cursor A)) → IsAt origin → origin.machine.used ≡ 0 → IsCopy origin here → others ≡ [] → IsKept origin here others
+kept_first origin here others h none k no_others = record {
+  first = record { of_run = record { at = h; same = run_back origin here (run_copy origin here k) }; before = omega (arith, none) };
+  at = at_copy origin here h k;
+  kept = subst (AreKept here) (sym no_others) (record { all = λ i d below. absurd (omega (arith, below)); few = omega arith });
+}
+
+-- ---- on to a break
+
+module _ {A : Type 0} (here start end : Cursor A) (breaks set : List (ℕ × ℕ)) (set_is : set ≡ breaks) (k : IsCopy here start) (run : IsSameRun here end)
+    (moves : (start.machine.used < end.machine.used) ⊎ (IsSome (ending start.machine) × (end ≡ start)))
+    (stops : (is_set_at set (place_shown end.machine) ≡ true) ⊎ IsSome (ending end.machine)) (least : HasNoBreakBetween set here start.machine.used end.machine.used) where
+  no_less : (start.machine.used < end.machine.used) ⊎ (IsSome (ending start.machine) × (end ≡ start)) → start.machine.used ≤ end.machine.used
+  no_less (inl h) = omega (arith, h)
+  no_less (inr h) = omega (arith, ap (λ x. x.machine.used) h.1)
+
+  pub continued : (before after : ℕ) → before ≡ here.machine.used → after ≡ end.machine.used
+      → commands.HasContinued (sight_of here.machine here.start.now.cells breaks) (after - before) (sight_of end.machine end.start.now.cells breaks)
+  continued before after before_is after_is =
+      let first : start.machine.used ≡ here.machine.used = ap (λ p. p.used) k.machine in
+      record {
+        same = record { run = record { contracts = run.call.contracts; call = run.call.call; contract = run.call.contract; cells = ap (λ s. s.cells) run.start }; breaks = refl };
+        turns = omega (arith, first, before_is, after_is, no_less moves);
+        moves = has_moved moves first;
+        stops = stops_at stops;
+        least = λ u is same above below. ap (λ bs. is_set_at bs (place_at u)) (sym set_is)
+            ∙ least u is (record { contracts = same.contracts; call = same.call; contract = same.contract; cells = same.cells }) (omega (arith, first, above)) below;
+      }
+    where
+      has_moved : (start.machine.used < end.machine.used) ⊎ (IsSome (ending start.machine) × (end ≡ start)) → start.machine.used ≡ here.machine.used → (0 < after - before) ⊎ IsSome (ending here.machine)
+      has_moved (inl h) first = inl (omega (arith, h, first, before_is, after_is))
+      has_moved (inr h) first = inr (subst (λ (p : Progress). IsSome (ending p)) k.machine h.0)
+
+      stops_at : (is_set_at set (place_shown end.machine) ≡ true) ⊎ IsSome (ending end.machine) → (is_set_at breaks (place_shown end.machine) ≡ true) ⊎ IsSome (ending end.machine)
+      stops_at (inl h) = inl (ap (λ bs. is_set_at bs (place_shown end.machine)) (sym set_is) ∙ h)
+      stops_at (inr h) = inr h

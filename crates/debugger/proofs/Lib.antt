@@ -1,0 +1,4 @@
+pub mod States
+pub mod Turning
+pub mod Replies
+pub mod Keeping

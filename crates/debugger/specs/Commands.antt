@@ -1,0 +1,91 @@
+-- What the commands of a session do.
+use Rattle.std.specs.Prelude.{◌≡◌, ℕ, ◌+◌, ◌<◌, ◌≤◌, ◌⊎◌, false, true, Bool, List, [], Result, Ok, Err, Option, None, IsSome, take, drop, length, Vec}
+use Rattle.std.specs.declared.alloc.Global.{Global}
+use Rattle.debugger.specs.declared.session.Refusal.{Refusal}
+use Rattle.debugger.specs.declared.session.Refusal.TheVariants.{BeforeStart, NoSuchPlace, OutOfRange, NoMemory}
+use Rattle.spec_ledger.specs.Cells.{Cells}
+use Rattle.spec_execution.specs.Configuration.{Deployed}
+use Rattle.spec_execution.specs.Run.{ContractCall}
+use Rattle.spec_execution.specs.Turns.{state_of}
+use Rattle.debugger.specs.Breaks.{is_set_at, with_break, without_break, instr_there}
+use Rattle.debugger.specs.Sight.{Sight, IsSight, ending_at, place_at}
+
+-- the number of each refusal
+abbrev pub code_of : Refusal → ℕ
+code_of BeforeStart = 1
+code_of NoSuchPlace = 2
+code_of OutOfRange = 3
+code_of NoMemory = 4
+
+-- the call over these cells, before its first turn, without a break
+pub record IsOpened (contracts : List Deployed) (call : ContractCall) (cells : Cells) (s : Sight) : Type 0 where
+  pub contracts_are : s.contracts ≡ contracts
+  pub call_is : s.call ≡ call
+  pub cells_are : s.cells ≡ cells
+  pub turns : s.turns ≡ 0
+  pub breaks : s.breaks ≡ []
+
+-- the same call over the same cells
+pub record IsSameRun (s t : Sight) : Type 0 where
+  pub contracts : t.contracts ≡ s.contracts
+  pub call : t.call ≡ s.call
+  pub contract : t.contract ≡ s.contract
+  pub cells : t.cells ≡ s.cells
+
+-- the same run, with the same breaks
+pub record IsSame (s t : Sight) : Type 0 where
+  pub run : IsSameRun s t
+  pub breaks : t.breaks ≡ s.breaks
+
+-- so many turns more: n, or as many as there are
+pub record HasStepped (s : Sight) (n made : ℕ) (t : Sight) : Type 0 where
+  pub same : IsSame s t
+  pub turns : t.turns ≡ s.turns + made
+  pub most : made ≤ n
+  pub all : (made ≡ n) ⊎ IsSome (ending_at t)
+
+-- n turns less
+pub record HasGoneBack (s : Sight) (n : ℕ) (t : Sight) : Type 0 where
+  pub same : IsSame s t
+  pub turns : t.turns + n ≡ s.turns
+
+-- a state has a break at its place
+abbrev pub IsAtBreak : List (ℕ × ℕ) → Sight → Type 0
+IsAtBreak breaks s = is_set_at breaks (place_at s) ≡ true
+
+-- on to the least later state that has a break at its place, or to the end; at the end it stays
+pub record HasContinued (s : Sight) (made : ℕ) (t : Sight) : Type 0 where
+  pub same : IsSame s t
+  pub turns : t.turns ≡ s.turns + made
+  pub moves : (0 < made) ⊎ IsSome (ending_at s)
+  pub stops : IsAtBreak s.breaks t ⊎ IsSome (ending_at t)
+  pub least : (u : Sight) → IsSight u → IsSameRun s u → s.turns < u.turns → u.turns < t.turns → is_set_at s.breaks (place_at u) ≡ false
+
+-- what a command answers and what it leaves; a refusal leaves all as it was
+abbrev pub Steps : Sight → ℕ → Result ℕ Refusal → Sight → Type 0
+Steps s n (Ok made) t = HasStepped s n made t
+Steps s n (Err r) t = (r ≡ NoMemory) × (t ≡ s)
+
+abbrev pub GoesBack : {U : Type 0} → Sight → ℕ → Result U Refusal → Sight → Type 0
+GoesBack s n (Ok u) t = HasGoneBack s n t
+GoesBack s n (Err BeforeStart) t = (s.turns < n) × (t ≡ s)
+GoesBack s n (Err r) t = (r ≡ NoMemory) × (n ≤ s.turns) × (t ≡ s)
+
+abbrev pub Continues : Sight → Result ℕ Refusal → Sight → Type 0
+Continues s (Ok made) t = HasContinued s made t
+Continues s (Err r) t = (r ≡ NoMemory) × (t ≡ s)
+
+abbrev pub Breaks : {U : Type 0} → Sight → ℕ × ℕ → Result U Refusal → Sight → Type 0
+Breaks s p (Ok u) t = IsSome (instr_there s.contract.deployed.tree p) × (t ≡ record s { breaks = with_break s.breaks p })
+Breaks s p (Err NoSuchPlace) t = (instr_there s.contract.deployed.tree p ≡ None) × (t ≡ s)
+Breaks s p (Err r) t = (r ≡ NoMemory) × IsSome (instr_there s.contract.deployed.tree p) × (t ≡ s)
+
+abbrev pub Clears : {U : Type 0} → Sight → ℕ × ℕ → Result U Refusal → Sight → Type 0
+Clears s p (Ok u) t = IsSome (instr_there s.contract.deployed.tree p) × (t ≡ record s { breaks = without_break s.breaks p })
+Clears s p (Err r) t = (r ≡ NoSuchPlace) × (instr_there s.contract.deployed.tree p ≡ None) × (t ≡ s)
+
+-- the bytes, exactly where all of them lie in memory
+abbrev pub Reads : Sight → (from count : ℕ) → Result (Vec ℕ Global) Refusal → Type 0
+Reads s from count (Ok bytes) = (from + count ≤ length (state_of s.config).memory) × (bytes.items ≡ take count (drop from (state_of s.config).memory))
+Reads s from count (Err OutOfRange) = length (state_of s.config).memory < from + count
+Reads s from count (Err r) = (r ≡ NoMemory) × (from + count ≤ length (state_of s.config).memory)

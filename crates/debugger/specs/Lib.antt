@@ -1,0 +1,5 @@
+pub mod Sight
+pub mod Breaks
+pub mod Commands
+pub mod Cursors
+pub mod Keeping

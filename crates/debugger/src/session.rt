@@ -1,0 +1,353 @@
+// A debugger's session.
+ghost use Rattle.std.specs.Prelude.{◌≡◌, ◌+◌, ◌<◌, ◌≤◌, ◌⊎◌, IsSome, IsTrue, ◌↔◌, IfOk, OnOk, true};
+ghost use Rattle.interp.specs.Progress.{IsSameCall};
+ghost use Rattle.interp.specs.Shown.{ending, place_shown};
+ghost use Rattle.debugger.specs.Breaks.{is_set_at, instr_there};
+ghost use Rattle.debugger.specs.Cursors.{IsAt, IsSameRun};
+ghost use Rattle.debugger.specs.Keeping.{IsOfRun, AreKept, IsEarlier, HasNoBreakBetween};
+
+use crate::Contract;
+use crate::breaks::{clear_break, has_break, set_break};
+use crate::cursor::{Cursor, copy, make_turns, open};
+use crate::kept::{Kept, nearest, none_kept, turn_and_keep};
+use call::Call;
+use interp::readers::BytesRefusal;
+use interp::start::StartRefusal;
+use spec_ledger::{NoMemory, Outcome};
+use std::alloc::{Allocator, Global};
+use std::marker::Model;
+use storage::Cells;
+use wtypes::Value;
+
+/// Why a session refuses a command.
+#[derive(Clone, Copy, Debug, PartialEq, Eq)]
+pub enum Refusal {
+    /// No turn was made so long ago.
+    BeforeStart,
+    /// There is no instruction at the place.
+    NoSuchPlace,
+    /// The bytes do not all lie in memory.
+    OutOfRange,
+    /// Memory was refused.
+    NoMemory,
+}
+
+impl Refusal {
+    ghost use Rattle.std.specs.Prelude.{◌≡◌};
+    ghost use Rattle.debugger.specs.Commands.{code_of};
+
+    /// The number of the refusal, from 1.
+    pub fn code(self) -> u8
+        ensures { result ≡ code_of self }
+    {
+        match self {
+            Refusal::BeforeStart => 1,
+            Refusal::NoSuchPlace => 2,
+            Refusal::OutOfRange => 3,
+            Refusal::NoMemory => 4,
+        }
+    }
+}
+
+impl From<NoMemory> for Refusal {
+    ghost use Rattle.std.specs.Prelude.{◌≡◌};
+    ghost use Rattle.debugger.specs.declared.session.Refusal.{Refusal};
+
+    ghost from_gives = { λ _ r. r ≡ Refusal.NoMemory };
+
+    fn from(_refused: NoMemory) -> Refusal {
+        Refusal::NoMemory
+    }
+}
+
+/// A call that runs alone over cells, at one of its states. Contracts see the call, the number of turns that were made, and the
+/// configuration after them, which the type keeps to be that state. Beside the first state and the present one it holds copies of at
+/// most 64 others, each with the memory, the cells and the trace of its time, so that few turns are made again to go back.
+#[derive(Drop)]
+pub struct Session<'a, A: Allocator> {
+    alloc: Global,
+    origin: Cursor<'a, A>,
+    here: Cursor<'a, A>,
+    kept: Kept<'a, A>,
+    breaks: Vec<(u32, u32)>,
+}
+
+impl<'a, A: Allocator> Model for Session<'a, A> {
+    ghost use Rattle.debugger.specs.Sight.{Sight, coded_sight, sight_of};
+    ghost use Rattle.debugger.specs.Keeping.{IsKept};
+
+    ghost Value = { Sight };
+
+    ghost coded = { coded_sight };
+
+    ghost view = { λ s. sight_of s.here.machine s.here.start.now.cells s.breaks.items };
+
+    ghost invariant = { λ s. IsKept s.origin s.here s.kept.cursors.items };
+}
+
+// The state after so many turns, which were made once, from an earlier state on.
+fn state_after<'a, A: Allocator>(
+    alloc: Global,
+    earlier: &Cursor<'a, A>,
+    here: &Cursor<'a, A>,
+    turns: u64,
+) -> Result<Cursor<'a, A>, NoMemory>
+    requires here { IsAt here.now }
+    requires earlier { IsEarlier here.now turns earlier.now }
+    requires before { turns ≤ here.now.machine.used }
+    ensures at { IfOk result (λ cursor. IsAt cursor) }
+    ensures same { IfOk result (λ cursor. IsSameRun here.now cursor) }
+    ensures turns { IfOk result (λ cursor. cursor.machine.used ≡ turns) }
+{
+    let mut cursor = copy(alloc, earlier)?;
+    let count = turns - cursor.machine.used();
+    make_turns(&mut cursor, count)?;
+    Ok(cursor)
+}
+
+// Whether a break is set at the place of the instruction to come.
+fn is_at_break<'a, A: Allocator>(cursor: &Cursor<'a, A>, breaks: &[(u32, u32)]) -> bool
+    requires { IsAt cursor.now }
+    ensures { result ≡ is_set_at breaks.now (place_shown cursor.now.machine) }
+{
+    match cursor.machine.place() {
+        Some(place) => has_break(breaks, place),
+        None => false,
+    }
+}
+
+// Whether there is an instruction of this ordinal in the body of this function.
+fn is_place<'a, A: Allocator>(cursor: &Cursor<'a, A>, func: u32, ordinal: u32) -> bool
+    ensures { IsTrue result ↔ IsSome (instr_there cursor.now.machine.contract.deployed.tree (func, ordinal)) }
+{
+    cursor.machine.module().instr_at(func, ordinal).is_some()
+}
+
+// Makes so many turns, or as many as there are, and answers how many. It keeps states on the way.
+fn advance<'a, A: Allocator>(
+    alloc: Global,
+    here: &Cursor<'a, A>,
+    cursor: &mut Cursor<'a, A>,
+    kept: &mut Kept<'a, A>,
+    count: u64,
+) -> Result<u64, NoMemory>
+    requires cursor { IsOfRun here.now cursor.old }
+    requires kept { AreKept here.now kept.old.cursors.items }
+    ensures cursor { OnOk result (IsOfRun here.now cursor.new) }
+    ensures made { IfOk result (λ made. cursor.new.machine.used ≡ cursor.old.machine.used + made) }
+    ensures most { IfOk result (λ made. made ≤ count) }
+    ensures all { IfOk result (λ made. (made ≡ count) ⊎ IsSome (ending cursor.new.machine)) }
+    ensures kept { AreKept here.now kept.new.cursors.items }
+{
+    for made in 0..count {
+        if !turn_and_keep(alloc, here, cursor, kept)? {
+            return Ok(made);
+        }
+    }
+    Ok(count)
+}
+
+// Makes turns up to the first state with a break at its place, or up to the end. It keeps states on the way.
+fn go_on<'a, A: Allocator>(
+    alloc: Global,
+    here: &Cursor<'a, A>,
+    cursor: &mut Cursor<'a, A>,
+    kept: &mut Kept<'a, A>,
+    breaks: &[(u32, u32)],
+) -> Result<(), NoMemory>
+    requires cursor { IsOfRun here.now cursor.old }
+    requires kept { AreKept here.now kept.old.cursors.items }
+    ensures cursor { OnOk result (IsOfRun here.now cursor.new) }
+    ensures moves { OnOk result ((cursor.old.machine.used < cursor.new.machine.used) ⊎ (IsSome (ending cursor.old.machine) × (cursor.new ≡ cursor.old))) }
+    ensures stops { OnOk result ((is_set_at breaks.now (place_shown cursor.new.machine) ≡ true) ⊎ IsSome (ending cursor.new.machine)) }
+    ensures least { OnOk result (HasNoBreakBetween breaks.now here.now cursor.old.machine.used cursor.new.machine.used) }
+    ensures kept { AreKept here.now kept.new.cursors.items }
+{
+    while turn_and_keep(alloc, here, cursor, kept)? {
+        if is_at_break(cursor, breaks) {
+            return Ok(());
+        }
+    }
+    Ok(())
+}
+
+impl<'a, A: Allocator> Session<'a, A> {
+    ghost use Rattle.std.specs.Prelude.{◌≡◌, IfOk, IfErr};
+    ghost use Rattle.spec_execution.specs.Run.{opening};
+    ghost use Rattle.interp.specs.Lent.{contracts_view};
+    ghost use Rattle.interp.specs.Starting.{IsRefusedFor};
+    ghost use Rattle.debugger.specs.Sight.{IsSight, ending_at, place_at, stack_at, locals_at, globals_at};
+    ghost use Rattle.debugger.specs.Commands.{IsOpened, Steps, GoesBack, Continues, Breaks, Clears, Reads};
+
+    /// A session of the call alone over these cells, before its first turn.
+    ///
+    /// # Errors
+    ///
+    /// Why the call does not start.
+    pub fn open(
+        alloc: Global,
+        contracts: &'a [Contract<A>],
+        cells: &'a Cells,
+        call: &'a Call,
+    ) -> Result<Session<'a, A>, StartRefusal>
+        ensures opened { IfOk result (λ session. IsOpened (contracts_view contracts.now) call.now cells.now.cells session) }
+        ensures refused { IfErr result (λ refusal. IsRefusedFor refusal (opening (contracts_view contracts.now) call.now)) }
+    {
+        let origin = open(alloc, contracts, cells, call)?;
+        match copy(alloc, &origin) {
+            Ok(here) => Ok(Session {
+                alloc,
+                origin,
+                here,
+                kept: none_kept(alloc),
+                breaks: Vec::new(alloc),
+            }),
+            Err(NoMemory) => Err(StartRefusal::NoMemory),
+        }
+    }
+
+    /// Makes so many turns, or as many as there are, and answers how many.
+    ///
+    /// # Errors
+    ///
+    /// `NoMemory` where memory was refused. The session is as it was.
+    pub fn step(&mut self, count: u64) -> Result<u64, Refusal>
+        ensures { Steps self.old count result self.new }
+    {
+        let mut cursor = copy(self.alloc, &self.here)?;
+        let made = advance(self.alloc, &self.here, &mut cursor, &mut self.kept, count)?;
+        self.here = cursor;
+        Ok(made)
+    }
+
+    /// Goes so many turns back.
+    ///
+    /// # Errors
+    ///
+    /// `BeforeStart` exactly where fewer turns were made, else `NoMemory` where memory was refused. The session is as it was.
+    pub fn back(&mut self, count: u64) -> Result<(), Refusal>
+        ensures { GoesBack self.old count result self.new }
+    {
+        let turns = self.here.machine.used();
+        if count > turns {
+            return Err(Refusal::BeforeStart);
+        }
+        let earlier = nearest(&self.origin, &self.here, &self.kept.cursors, turns - count);
+        let cursor = state_after(self.alloc, earlier, &self.here, turns - count)?;
+        self.here = cursor;
+        Ok(())
+    }
+
+    /// Goes on to the next state that has a break at its place, or to the end, and answers how many turns this made. It
+    /// makes at least one turn, if there is one.
+    ///
+    /// # Errors
+    ///
+    /// `NoMemory` where memory was refused. The session is as it was.
+    pub fn cont(&mut self) -> Result<u64, Refusal>
+        ensures { Continues self.old result self.new }
+    {
+        let turns = self.here.machine.used();
+        let mut cursor = copy(self.alloc, &self.here)?;
+        go_on(
+            self.alloc,
+            &self.here,
+            &mut cursor,
+            &mut self.kept,
+            &self.breaks,
+        )?;
+        let made = cursor.machine.used() - turns;
+        self.here = cursor;
+        Ok(made)
+    }
+
+    /// Sets a break at the instruction of this ordinal in the body of this function. Imported functions are counted, and
+    /// have no body.
+    ///
+    /// # Errors
+    ///
+    /// `NoSuchPlace` exactly where there is no such instruction, else `NoMemory` where memory was refused. The session is as
+    /// it was.
+    pub fn break_at(&mut self, func: u32, ordinal: u32) -> Result<(), Refusal>
+        ensures { Breaks self.old (func, ordinal) result self.new }
+    {
+        if !is_place(&self.here, func, ordinal) {
+            return Err(Refusal::NoSuchPlace);
+        }
+        set_break(&mut self.breaks, (func, ordinal))?;
+        Ok(())
+    }
+
+    /// Clears the break at this instruction, if there is one.
+    ///
+    /// # Errors
+    ///
+    /// `NoSuchPlace` exactly where there is no such instruction. The session is as it was.
+    pub fn clear(&mut self, func: u32, ordinal: u32) -> Result<(), Refusal>
+        ensures { Clears self.old (func, ordinal) result self.new }
+    {
+        if !is_place(&self.here, func, ordinal) {
+            return Err(Refusal::NoSuchPlace);
+        }
+        clear_break(&mut self.breaks, (func, ordinal));
+        Ok(())
+    }
+
+    /// How many turns were made, which is the fuel that they used. What the session shows is the state after them.
+    pub fn turns(&self) -> u64
+        ensures turns { result ≡ self.now.turns }
+        ensures state { IsSight self.now }
+    {
+        self.here.machine.used()
+    }
+
+    /// How the run has ended, if it has.
+    pub fn ending(&self) -> Option<Outcome>
+        ensures { result ≡ ending_at self.now }
+    {
+        self.here.machine.ending()
+    }
+
+    /// The number of the function and the ordinal of the instruction to come. None after the end.
+    pub fn place(&self) -> Option<(u32, u32)>
+        ensures { result ≡ place_at self.now }
+    {
+        self.here.machine.place()
+    }
+
+    /// The values of the innermost frame, bottom first. After the end they are the returned value, if there is one.
+    pub fn stack(&self) -> &[Value]
+        ensures { result.now ≡ stack_at self.now }
+    {
+        self.here.machine.stack()
+    }
+
+    /// The locals of the innermost frame. After the end there are none.
+    pub fn locals(&self) -> &[Value]
+        ensures { result.now ≡ locals_at self.now }
+    {
+        self.here.machine.locals()
+    }
+
+    /// The globals. After the end they are as they stood.
+    pub fn globals(&self) -> &[Value]
+        ensures { result.now ≡ globals_at self.now }
+    {
+        self.here.machine.globals()
+    }
+
+    /// So many bytes of memory from an address on. After the end they are as they stood.
+    ///
+    /// # Errors
+    ///
+    /// `OutOfRange` exactly where the bytes do not all lie in memory, else `NoMemory` where memory was refused.
+    pub fn bytes(&self, from: u64, count: u64) -> Result<Vec<u8>, Refusal>
+        ensures { Reads self.now from count result }
+    {
+        match self.here.machine.bytes(from, count) {
+            Ok(bytes) => Ok(bytes),
+            Err(BytesRefusal::OutOfRange) => Err(Refusal::OutOfRange),
+            Err(BytesRefusal::NoMemory) => Err(Refusal::NoMemory),
+        }
+    }
+}

@@ -1,0 +1,337 @@
+use crate::programs::{COUNTDOWN, EXAMPLE, TWO, WRITER};
+use call::Call;
+use debugger::Contract;
+use debugger::session::{Refusal, Session};
+use interp::start::StartRefusal;
+use link::deploy::deploy;
+use loader::load;
+use spec_ledger::Outcome;
+use std::alloc::Global;
+use std::process::Abort;
+use std::test::Fail;
+use storage::Cells;
+use typing::check::check;
+use wtypes::{TrapCode, Value};
+
+// What is asked of a session, with what it must answer.
+#[derive(Clone, Copy)]
+enum Ask<'a> {
+    // So many turns, of which so many are made.
+    Step(u64, u64),
+    Back(u64, Result<(), Refusal>),
+    // So many times one turn back.
+    BackByOnes(u64),
+    // On to a break or to the end, by so many turns.
+    Cont(u64),
+    Break(u32, u32, Result<(), Refusal>),
+    Clear(u32, u32, Result<(), Refusal>),
+    // It is after so many turns, before this instruction of this function.
+    At(u64, u32, u32),
+    // It is at its end, after so many turns.
+    Done(u64, Outcome),
+    Stack(&'a [Value]),
+    Locals(&'a [Value]),
+    Globals(&'a [Value]),
+    // These are the bytes of memory from an address on.
+    Bytes(u64, &'a [u8]),
+    // So many bytes from an address on do not all lie in memory.
+    OutOfRange(u64, u64),
+}
+
+fn contracts(alloc: Global, bytes: &[u8]) -> Result<Vec<Contract<Global>>, Fail> {
+    let tree = load(alloc, bytes).ok().ok_or("a module")?;
+    let valid = check(&alloc, tree).ok().ok_or("a valid module")?;
+    let deployed = deploy(&alloc, valid).ok().ok_or("a module that is linked")?;
+    Ok(vec![in alloc; deployed]?)
+}
+
+fn call(alloc: Global, name: &str, args: &[Value], fuel: u64) -> Result<Call, Fail> {
+    let call = Call::new(0, name.to_string(alloc)?, args.to_vec(alloc)?, fuel);
+    Ok(call.ok_or("within the limits")?)
+}
+
+fn open<'a>(
+    alloc: Global,
+    contracts: &'a [Contract<Global>],
+    cells: &'a Cells,
+    call: &'a Call,
+) -> Result<Session<'a, Global>, Fail> {
+    let session = Session::open(alloc, contracts, cells, call);
+    Ok(session.ok().ok_or("it starts")?)
+}
+
+fn is_at(session: &Session<'_, Global>, turns: u64, place: (u32, u32)) -> bool {
+    session.turns() == turns && session.place() == Some(place) && session.ending().is_none()
+}
+
+fn is_done(session: &Session<'_, Global>, turns: u64, outcome: Outcome) -> bool {
+    session.turns() == turns && session.place().is_none() && session.ending() == Some(outcome)
+}
+
+fn has_bytes(session: &Session<'_, Global>, from: u64, bytes: &[u8]) -> bool {
+    match session.bytes(from, bytes.len() as u64) {
+        Ok(found) => found.as_slice() == bytes,
+        Err(_) => false,
+    }
+}
+
+fn goes_back_by_ones(session: &mut Session<'_, Global>, count: u64) -> bool {
+    for _ in 0..count {
+        if session.back(1) != Ok(()) {
+            return false;
+        }
+    }
+    true
+}
+
+// Whether the session answers as it must.
+fn agrees(session: &mut Session<'_, Global>, ask: &Ask<'_>) -> bool {
+    match ask {
+        Ask::Step(count, made) => session.step(*count) == Ok(*made),
+        Ask::Back(count, answer) => session.back(*count) == *answer,
+        Ask::BackByOnes(count) => goes_back_by_ones(session, *count),
+        Ask::Cont(made) => session.cont() == Ok(*made),
+        Ask::Break(func, ordinal, answer) => session.break_at(*func, *ordinal) == *answer,
+        Ask::Clear(func, ordinal, answer) => session.clear(*func, *ordinal) == *answer,
+        Ask::At(turns, func, ordinal) => is_at(session, *turns, (*func, *ordinal)),
+        Ask::Done(turns, outcome) => is_done(session, *turns, *outcome),
+        Ask::Stack(values) => session.stack() == *values,
+        Ask::Locals(values) => session.locals() == *values,
+        Ask::Globals(values) => session.globals() == *values,
+        Ask::Bytes(from, bytes) => has_bytes(session, *from, bytes),
+        Ask::OutOfRange(from, count) => { session.bytes(*from, *count) == Err(Refusal::OutOfRange) }
+    }
+}
+
+fn all_agree<R: Abort>(rt: &R, session: &mut Session<'_, Global>, asks: &[Ask<'_>]) {
+    for (index, ask) in asks.iter().enumerate() {
+        assert!(rt; agrees(session, ask), "at {index}");
+    }
+}
+
+// The call of the module's export, alone over no cells, answers each of these in turn.
+fn debugs<R: Abort>(
+    rt: &R,
+    alloc: Global,
+    module: &[u8],
+    call: &Call,
+    asks: &[Ask<'_>],
+) -> Result<(), Fail> {
+    let contracts = contracts(alloc, module)?;
+    let cells = Cells::new(alloc);
+    let mut session = open(alloc, &contracts, &cells, call)?;
+    all_agree(rt, &mut session, asks);
+    Ok(())
+}
+
+#[test]
+fn forward_and_back(rt: HostRuntime) -> Result<(), Fail> {
+    let call = call(rt.alloc(), "down", &[Value::I64(2)], 16)?;
+    let asks = [
+        Ask::At(0, 0, 0),
+        Ask::Step(3, 3),
+        Ask::At(3, 0, 3),
+        Ask::Stack(&[Value::I64(2), Value::I64(1)]),
+        Ask::Back(1, Ok(())),
+        Ask::At(2, 0, 2),
+        Ask::Stack(&[Value::I64(2)]),
+        Ask::Back(5, Err(Refusal::BeforeStart)),
+        Ask::At(2, 0, 2),
+        Ask::Step(6, 6),
+        Ask::At(8, 0, 0),
+        Ask::Locals(&[Value::I64(1)]),
+        Ask::Step(99, 8),
+        Ask::Done(16, Outcome::Returned(None)),
+        Ask::Step(1, 0),
+        Ask::Cont(0),
+        Ask::Done(16, Outcome::Returned(None)),
+        Ask::Stack(&[]),
+        Ask::Locals(&[]),
+    ];
+    debugs(&rt, rt.alloc(), &COUNTDOWN, &call, &asks)
+}
+
+#[test]
+fn on_to_a_break(rt: HostRuntime) -> Result<(), Fail> {
+    let call = call(rt.alloc(), "down", &[Value::I64(2)], 16)?;
+    let asks = [
+        Ask::Break(0, 6, Ok(())),
+        Ask::Break(0, 6, Ok(())),
+        Ask::Cont(6),
+        Ask::At(6, 0, 6),
+        Ask::Cont(8),
+        Ask::At(14, 0, 6),
+        Ask::Cont(2),
+        Ask::Done(16, Outcome::Returned(None)),
+        Ask::Back(2, Ok(())),
+        Ask::At(14, 0, 6),
+        Ask::Clear(0, 6, Ok(())),
+        Ask::Clear(0, 5, Ok(())),
+        Ask::Back(14, Ok(())),
+        Ask::Cont(16),
+        Ask::Break(0, 9, Err(Refusal::NoSuchPlace)),
+        Ask::Break(1, 0, Err(Refusal::NoSuchPlace)),
+        Ask::Clear(0, 9, Err(Refusal::NoSuchPlace)),
+        Ask::OutOfRange(0, 1),
+        Ask::OutOfRange(0, u64::MAX),
+        Ask::OutOfRange(u64::MAX, 0),
+    ];
+    debugs(&rt, rt.alloc(), &COUNTDOWN, &call, &asks)
+}
+
+#[test]
+fn back_over_a_host_call_that_added(rt: HostRuntime) -> Result<(), Fail> {
+    let call = call(rt.alloc(), "both", &[Value::I64(7), Value::I64(1)], 100)?;
+    let asks = [
+        Ask::Step(4, 4),
+        Ask::At(4, 6, 4),
+        Ask::Stack(&[Value::I64(7)]),
+        Ask::Back(2, Ok(())),
+        Ask::At(2, 6, 2),
+        Ask::Break(0, 0, Err(Refusal::NoSuchPlace)),
+        Ask::Cont(3),
+        Ask::Done(5, Outcome::Returned(Some(Value::I64(1)))),
+        Ask::Stack(&[Value::I64(1)]),
+    ];
+    debugs(&rt, rt.alloc(), &EXAMPLE, &call, &asks)
+}
+
+#[test]
+fn back_over_a_store(rt: HostRuntime) -> Result<(), Fail> {
+    let call = call(rt.alloc(), "w", &[], 100)?;
+    let asks = [
+        Ask::Step(5, 5),
+        Ask::Done(5, Outcome::Returned(None)),
+        Ask::Globals(&[Value::I64(5)]),
+        Ask::Bytes(0, &[9]),
+        Ask::Back(4, Ok(())),
+        Ask::At(1, 0, 1),
+        Ask::Globals(&[Value::I64(1)]),
+        Ask::Bytes(0, &[0]),
+        Ask::Bytes(65_536, &[]),
+        Ask::OutOfRange(65_536, 1),
+    ];
+    debugs(&rt, rt.alloc(), &WRITER, &call, &asks)
+}
+
+// 72623859790382856 is 0x0102030405060708, whose double is 0x020406080A0C0E10.
+#[test]
+fn two_functions_and_a_page_border(rt: HostRuntime) -> Result<(), Fail> {
+    let call = call(
+        rt.alloc(),
+        "border",
+        &[Value::I64(72_623_859_790_382_856)],
+        100,
+    )?;
+    let asks = [
+        Ask::At(0, 1, 0),
+        Ask::Step(2, 2),
+        Ask::At(2, 2, 0),
+        Ask::Globals(&[Value::I64(20)]),
+        Ask::Locals(&[Value::I64(72_623_859_790_382_856)]),
+        Ask::Break(0, 2, Ok(())),
+        Ask::Break(2, 6, Ok(())),
+        Ask::Cont(5),
+        Ask::At(7, 0, 2),
+        Ask::Stack(&[
+            Value::I64(72_623_859_790_382_856),
+            Value::I64(72_623_859_790_382_856),
+        ]),
+        Ask::Bytes(65_534, &[0, 0, 0, 0]),
+        Ask::Cont(4),
+        Ask::At(11, 2, 6),
+        Ask::Bytes(65_534, &[12, 10, 8, 6]),
+        Ask::Cont(4),
+        Ask::At(15, 0, 2),
+        Ask::Locals(&[Value::I64(20)]),
+        Ask::Cont(2),
+        Ask::Done(
+            17,
+            Outcome::Returned(Some(Value::I64(145_247_719_580_765_752))),
+        ),
+        Ask::Back(9, Ok(())),
+        Ask::At(8, 2, 3),
+        Ask::Bytes(65_534, &[0, 0, 0, 0]),
+    ];
+    debugs(&rt, rt.alloc(), &TWO, &call, &asks)
+}
+
+#[test]
+fn a_trap(rt: HostRuntime) -> Result<(), Fail> {
+    let call = call(rt.alloc(), "trap", &[Value::I64(3)], 100)?;
+    let asks = [
+        Ask::Step(8, 8),
+        Ask::At(8, 3, 3),
+        Ask::Cont(1),
+        Ask::Done(9, Outcome::Trapped(TrapCode::Unreachable)),
+        Ask::Stack(&[]),
+        Ask::Locals(&[]),
+        Ask::Globals(&[Value::I64(20)]),
+        Ask::Bytes(0, &[0, 0]),
+        Ask::Back(2, Ok(())),
+        Ask::At(7, 3, 2),
+        Ask::Stack(&[Value::I64(6)]),
+    ];
+    debugs(&rt, rt.alloc(), &TWO, &call, &asks)
+}
+
+#[test]
+fn want_of_fuel(rt: HostRuntime) -> Result<(), Fail> {
+    let call = call(rt.alloc(), "down", &[Value::I64(2)], 15)?;
+    let asks = [
+        Ask::Step(99, 15),
+        Ask::Done(15, Outcome::OutOfFuel),
+        Ask::Stack(&[]),
+        Ask::Locals(&[]),
+        Ask::Back(1, Ok(())),
+        Ask::At(14, 0, 6),
+    ];
+    debugs(&rt, rt.alloc(), &COUNTDOWN, &call, &asks)
+}
+
+#[test]
+fn a_call_that_does_not_start(rt: HostRuntime) -> Result<(), Fail> {
+    let alloc = rt.alloc();
+    let contracts = contracts(alloc, &COUNTDOWN)?;
+    let up = call(alloc, "up", &[], 15)?;
+    let cells = Cells::new(alloc);
+    assert_eq!(rt;
+        Session::open(alloc, &contracts, &cells, &up).err(),
+        Some(StartRefusal::NoExport)
+    );
+    Ok(())
+}
+
+// 12,500 rounds of 8 turns. States are kept on the way, so that few of the turns are made again.
+#[test]
+fn back_in_a_long_run(rt: HostRuntime) -> Result<(), Fail> {
+    let call = call(rt.alloc(), "down", &[Value::I64(12_500)], 200_000)?;
+    let asks = [
+        Ask::Step(99_990, 99_990),
+        Ask::At(99_990, 0, 6),
+        Ask::Locals(&[Value::I64(1)]),
+        Ask::BackByOnes(20),
+        Ask::At(99_970, 0, 2),
+        Ask::Stack(&[Value::I64(4)]),
+        Ask::Back(99_000, Ok(())),
+        Ask::At(970, 0, 2),
+        Ask::Stack(&[Value::I64(12_379)]),
+        Ask::Break(0, 2, Ok(())),
+        Ask::Cont(8),
+        Ask::Clear(0, 2, Ok(())),
+        Ask::Cont(99_022),
+        Ask::Done(100_000, Outcome::Returned(None)),
+    ];
+    debugs(&rt, rt.alloc(), &COUNTDOWN, &call, &asks)
+}
+
+#[test]
+fn codes_of_refusals(rt: HostRuntime) {
+    let refusals = [
+        Refusal::BeforeStart,
+        Refusal::NoSuchPlace,
+        Refusal::OutOfRange,
+        Refusal::NoMemory,
+    ];
+    assert_eq!(rt; refusals.map(Refusal::code), [1, 2, 3, 4]);
+}

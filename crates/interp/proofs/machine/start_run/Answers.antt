@@ -1,0 +1,54 @@
+use Rattle.std.proofs.Common.{ap, ◌∙◌}
+use Rattle.interp.specs.Calls.{base_of}
+use Rattle.interp.specs.Views.{view}
+use Rattle.interp.specs.Waiting.{tail_of}
+use Rattle.interp.specs.Run.{seen}
+use Rattle.interp.proofs.Acting.{items_nil}
+use Rattle.interp.proofs.Entering.{last_of}
+use Rattle.interp.proofs.Beginning.{start_calling, start_own, machine_entered, has_entered}
+use Rattle.interp.proofs.machine.start_run.Goals as goal
+
+pub start_function-requires-clause-call : goal.start_function-requires-clause-call
+start_function-requires-clause-call g c =
+    let r = c.args.run.now in
+    let f = c.requires.first in
+    record {
+      calling = start_calling (seen r) f.view f.tail f.trace f.used f.begun.opens f.begun.safe c.in-Some.start c.in-Some.is;
+      counted = f.counted;
+      suits = f.begun.suits;
+      waits = f.begun.waits;
+      place = f.begun.place;
+    }
+
+pub start_function-requires-clause-defined : goal.start_function-requires-clause-defined
+start_function-requires-clause-defined g c =
+    let r = c.args.run.now in
+    let f = c.requires.first in
+    start_own (seen r) f.view f.tail f.trace f.used c.in-Some.start (start_calling (seen r) f.view f.tail f.trace f.used f.begun.opens f.begun.safe c.in-Some.start c.in-Some.is)
+
+pub returns-in-None-clause-kept : goal.returns-in-None-clause-kept
+returns-in-None-clause-kept g c =
+    let r = c.args.run.now in
+    let f = c.requires.first in
+    let b = base_of r.lent in
+    let q = c.settle_all.new.parts in
+    let x = c.settle_all.new.waiting in
+    let come = c.settle_all.ensures.comes (seen r).contract r.call.now.args b f.begun.waits in
+    record {
+      machine = machine_entered (seen r) f.view f.tail f.trace f.used f.begun.opens f.begun.safe c.in-None.is f.running (view b q) (tail_of r.call.now.args x) come.frees come.ordered (λ e. c.settle_all.ensures.ready (items_nil q.code.now e)) (last_of r.call.now.args q x c.settle_all.ensures.last);
+      counted = c.settle_all.ensures.counted;
+      suits = ap (λ i. i.memory.max) c.settle_all.ensures.instance ∙ f.begun.suits;
+      waits = come.waits;
+      place = c.settle_all.ensures.place;
+      room = search (f.running);
+    }
+
+pub returns-in-None-clause-begun : goal.returns-in-None-clause-begun
+returns-in-None-clause-begun g c =
+    let r = c.args.run.now in
+    let f = c.requires.first in
+    let b = base_of r.lent in
+    let q = c.settle_all.new.parts in
+    let x = c.settle_all.new.waiting in
+    let come = c.settle_all.ensures.comes (seen r).contract r.call.now.args b f.begun.waits in
+    has_entered (seen r) f.view f.tail f.trace f.used f.begun.opens f.begun.safe c.in-None.is f.running (view b q) (tail_of r.call.now.args x) come.frees come.ordered (λ e. c.settle_all.ensures.ready (items_nil q.code.now e)) (last_of r.call.now.args q x c.settle_all.ensures.last)

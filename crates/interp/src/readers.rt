@@ -1,0 +1,300 @@
+// What a debugger reads off a machine.
+ghost use Rattle.std.specs.Prelude.{◌≡◌, ◌<◌, ◌≤◌, IfOk, length, drop, option_map, vec_len, vec_capacity};
+ghost use Rattle.spec_execution.specs.Configuration.{End};
+ghost use Rattle.spec_execution.specs.Turns.{state_of, place_in};
+ghost use Rattle.interp.specs.Meaning.{height, listed};
+ghost use Rattle.interp.specs.Views.{open_of, opens_of, items_of, ordinal_of};
+ghost use Rattle.interp.specs.Branches.{in_call};
+ghost use Rattle.interp.specs.Machine.{progress};
+ghost use Rattle.interp.specs.Run.{seen, IsKept};
+ghost use Rattle.interp.specs.Shown.{innermost, function_in, is_out, ending, stack_shown, locals_shown, place_shown, IsOpen, IsReadOf};
+
+use crate::branches::up_to_call;
+use crate::calls::Lent;
+use crate::copies::{copy_parts, copy_waiting};
+use crate::machine::{Machine, Run};
+use crate::parts::{Entry, Kind, Parts};
+use crate::turns::Status;
+use module_tree::instr::Instr;
+use module_tree::module::Module;
+use spec_ledger::{NoMemory, Outcome, Step};
+use std::alloc::{Allocator, Global};
+use wtypes::Value;
+
+/// Why bytes are not read.
+#[derive(Clone, Copy, Debug, PartialEq, Eq)]
+pub enum BytesRefusal {
+    /// They do not all lie in memory.
+    OutOfRange,
+    /// Memory was refused.
+    NoMemory,
+}
+
+// The innermost call that is open.
+fn innermost_call<'b, 'a, A: Allocator>(entries: &'b [Entry<'a, A>]) -> Option<&'b Entry<'a, A>>
+    ensures { option_map (λ e. open_of e.now) result ≡ innermost (in_call (opens_of entries.now)) }
+{
+    let left = up_to_call(entries);
+    if left == 0 {
+        return None;
+    }
+    Some(&entries[left - 1])
+}
+
+// The ordinal of an instruction.
+fn ordinal<A: Allocator>(instr: &Instr<A>) -> u32
+    ensures { result ≡ ordinal_of instr.now }
+{
+    match instr {
+        Instr::Plain(ordinal, _) => *ordinal,
+        Instr::BrTable(ordinal, _, _) => *ordinal,
+        Instr::Block(ordinal, _, _) => *ordinal,
+        Instr::Loop(ordinal, _, _) => *ordinal,
+        Instr::If(ordinal, _, _, _) => *ordinal,
+    }
+}
+
+// How the run has ended, if it has.
+fn ending_of_run<'a, A: Allocator>(run: &Run<'a, A>) -> Option<Outcome>
+    requires { IsKept run.now }
+    ensures { IsOpen run.now.status → result ≡ ending (progress (seen run.now)) }
+{
+    match run.status {
+        Status::Ended(outcome) => Some(outcome),
+        Status::Fallen(code) => Some(Outcome::Trapped(code)),
+        Status::Asking(_) => None,
+        Status::NoMemory => None,
+        Status::Running => {
+            if run.parts.code.is_empty() {
+                Some(Outcome::Returned(run.parts.stack.last().copied()))
+            } else if run.used == run.call.fuel() {
+                Some(Outcome::OutOfFuel)
+            } else {
+                None
+            }
+        }
+    }
+}
+
+// Whether the fuel is out and an instruction is to come.
+fn has_run_out<'a, A: Allocator>(run: &Run<'a, A>) -> bool
+    requires { IsKept run.now }
+    ensures { IsOpen run.now.status → result ≡ is_out (ending (progress (seen run.now))) }
+{
+    matches!(ending_of_run(run), Some(Outcome::OutOfFuel))
+}
+
+// The values from this one on.
+fn above(stack: &[Value], height: usize) -> &[Value]
+    ensures { height ≤ length stack.now → result.now ≡ drop height stack.now }
+{
+    if height <= stack.len() {
+        &stack[height..]
+    } else {
+        &[]
+    }
+}
+
+// How many values stand below the innermost call.
+fn height_of_call<'a, A: Allocator>(entries: &[Entry<'a, A>]) -> usize
+    ensures { result ≡ height (in_call (opens_of entries.now)) }
+{
+    match innermost_call(entries) {
+        Some(entry) => entry.height,
+        None => 0,
+    }
+}
+
+// The values of the innermost call, bottom first.
+fn stack_of_call<'b, 'a, A: Allocator>(run: &'b Run<'a, A>) -> &'b [Value]
+    requires { IsKept run.now }
+    ensures { IsOpen run.now.status → result.now ≡ stack_shown (progress (seen run.now)) }
+{
+    let out = has_run_out(run);
+    match run.status {
+        Status::Running | Status::Asking(_) if !out => {
+            above(&run.parts.stack, height_of_call(&run.parts.entries))
+        }
+        _ => &[],
+    }
+}
+
+// The locals of the innermost call.
+fn locals_of_call<'b, 'a, A: Allocator>(run: &'b Run<'a, A>) -> &'b [Value]
+    requires { IsKept run.now }
+    ensures { IsOpen run.now.status → result.now ≡ locals_shown (progress (seen run.now)) }
+{
+    match ending_of_run(run) {
+        None => &run.parts.locals,
+        Some(_) => &[],
+    }
+}
+
+// The function and the ordinal of the first instruction of the code that is left.
+fn place_in_code<'a, A: Allocator>(parts: &Parts<'a, A>) -> Option<(u32, u32)>
+    ensures { result ≡ place_in (function_in (in_call (opens_of parts.now.entries.items))) (listed (items_of parts.now.code.now) End) }
+{
+    let (Some(instr), Some(entry)) = (parts.code.first(), innermost_call(&parts.entries)) else {
+        return None;
+    };
+    match &entry.kind {
+        Kind::Frame(func, _) => Some((*func, ordinal(instr))),
+        Kind::Block | Kind::Loop => None,
+    }
+}
+
+// The function and the ordinal of the instruction to come.
+fn place_of_run<'a, A: Allocator>(run: &Run<'a, A>) -> Option<(u32, u32)>
+    requires { IsKept run.now }
+    ensures { IsOpen run.now.status → result ≡ place_shown (progress (seen run.now)) }
+{
+    let out = has_run_out(run);
+    match run.status {
+        Status::Running if out => None,
+        Status::Running => place_in_code(&run.parts),
+        Status::Asking(_) => None,
+        Status::Fallen(_) | Status::Ended(_) | Status::NoMemory => None,
+    }
+}
+
+// The globals.
+fn globals_of_run<'b, 'a, A: Allocator>(run: &'b Run<'a, A>) -> &'b [Value]
+    ensures { result.now ≡ (state_of (progress (seen run.now)).config).globals }
+{
+    &run.parts.instance.globals
+}
+
+// So many bytes of memory from an address on.
+fn bytes_of_run<'a, A: Allocator>(
+    run: &Run<'a, A>,
+    from: u64,
+    count: u64,
+) -> Result<Vec<u8>, BytesRefusal>
+    ensures { IsReadOf (progress (seen run.now)).config from count result }
+{
+    let memory = &run.parts.instance.memory;
+    let length = memory.len() as u64;
+    if from > length || count > length - from {
+        return Err(BytesRefusal::OutOfRange);
+    }
+    match memory.bytes(run.alloc, from as usize, count as usize) {
+        Ok(bytes) => Ok(bytes),
+        Err(_) => Err(BytesRefusal::NoMemory),
+    }
+}
+
+// The same steps, with room for one more.
+fn copy_trace(alloc: Global, trace: &[Step]) -> Result<Vec<Step>, NoMemory>
+    ensures same { IfOk result (λ copy. copy.items ≡ trace.now) }
+    ensures room { IfOk result (λ copy. vec_len copy < vec_capacity copy) }
+{
+    let mut copy = trace.to_vec(alloc)?;
+    copy.reserve(1)?;
+    Ok(copy)
+}
+
+// The same run, with memory of its own.
+fn copy_run<'a, A: Allocator>(run: &Run<'a, A>) -> Result<Run<'a, A>, NoMemory>
+    requires { IsKept run.now }
+    ensures kept { IfOk result (λ copy. IsKept copy) }
+    ensures same { IfOk result (λ copy. seen copy ≡ seen run.now) }
+{
+    Ok(Run {
+        alloc: run.alloc,
+        contracts: run.contracts,
+        lent: Lent {
+            number: run.lent.number,
+            module: run.lent.module,
+            hosts: run.lent.hosts,
+        },
+        call: run.call,
+        func: run.func,
+        trace: copy_trace(run.alloc, &run.trace)?,
+        used: run.used,
+        parts: copy_parts(run.alloc, &run.parts)?,
+        waiting: copy_waiting(run.alloc, &run.waiting)?,
+        status: run.status,
+        asked: run.asked,
+    })
+}
+
+impl<'a, A: Allocator> Machine<'a, A> {
+    ghost use Rattle.std.specs.Prelude.{◌≡◌, IfOk};
+    ghost use Rattle.module_tree.specs.Modules.{module_view};
+    ghost use Rattle.spec_execution.specs.Turns.{state_of};
+    ghost use Rattle.interp.specs.Shown.{ending, stack_shown, locals_shown, place_shown, IsOpen, IsReadOf};
+
+    /// The same machine, with memory of its own.
+    ///
+    /// # Errors
+    ///
+    /// Memory was refused.
+    pub fn copy(&self) -> Result<Machine<'a, A>, NoMemory>
+        ensures { IfOk result (λ copy. copy ≡ self.now) }
+    {
+        let run = copy_run(&self.run)?;
+        Ok(Machine { run })
+    }
+
+    /// The module of the contract that is called.
+    pub fn module(&self) -> &'a Module<A>
+        ensures { module_view result.now ≡ self.now.contract.deployed.tree }
+    {
+        self.run.lent.module
+    }
+
+    /// The fuel that is used, which is the number of turns that were made.
+    pub fn used(&self) -> u64
+        ensures { result ≡ self.now.used }
+    {
+        self.run.used
+    }
+
+    /// How the run has ended, if it has; else None. Of a machine that was told its end or refused memory nothing is said
+    /// here, nor by `place`, `stack` and `locals`.
+    pub fn ending(&self) -> Option<Outcome>
+        ensures { IsOpen self.now.status → result ≡ ending self.now }
+    {
+        ending_of_run(&self.run)
+    }
+
+    /// The number of the function and the ordinal of the instruction to come. None where the run has ended, and while the
+    /// host is asked.
+    pub fn place(&self) -> Option<(u32, u32)>
+        ensures { IsOpen self.now.status → result ≡ place_shown self.now }
+    {
+        place_of_run(&self.run)
+    }
+
+    /// The values of the innermost frame, bottom first. After the end they are the returned value, if there is one.
+    pub fn stack(&self) -> &[Value]
+        ensures { IsOpen self.now.status → result.now ≡ stack_shown self.now }
+    {
+        stack_of_call(&self.run)
+    }
+
+    /// The locals of the innermost frame. After the end there are none.
+    pub fn locals(&self) -> &[Value]
+        ensures { IsOpen self.now.status → result.now ≡ locals_shown self.now }
+    {
+        locals_of_call(&self.run)
+    }
+
+    /// The globals. After the end they are as they stood.
+    pub fn globals(&self) -> &[Value]
+        ensures { result.now ≡ (state_of self.now.config).globals }
+    {
+        globals_of_run(&self.run)
+    }
+
+    /// So many bytes of memory from an address on. After the end they are as they stood.
+    ///
+    /// # Errors
+    ///
+    /// `OutOfRange` exactly where the bytes do not all lie in memory, else `NoMemory` where memory was refused.
+    pub fn bytes(&self, from: u64, count: u64) -> Result<Vec<u8>, BytesRefusal>
+        ensures { IsReadOf self.now.config from count result }
+    {
+        bytes_of_run(&self.run, from, count)
+    }
+}

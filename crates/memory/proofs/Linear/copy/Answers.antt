@@ -1,0 +1,9 @@
+use Rattle.std.proofs.Common.{ap, ◌∙◌}
+use Rattle.memory.proofs.Copies.{same_bytes, same_sound}
+use Rattle.memory.proofs.Linear.copy.Goals as goal
+
+pub invariant_of-result : goal.invariant_of-result
+invariant_of-result g c = same_sound c.self.inside.pages.items c.in-Ok.pages.items c.in-Ok.ensures c.self.inside.max c.self.invariant
+
+pub returns-in-Ok : goal.returns-in-Ok
+returns-in-Ok g c = ap (λ bs. record { bytes = bs; max = c.self.inside.max }) (same_bytes c.self.inside.pages.items c.in-Ok.pages.items c.in-Ok.ensures) ∙ c.self.view_is

@@ -1,0 +1,97 @@
+//! Mining of blocks: calls are run by workers at once, and what they come to is published as the block of an order that anyone
+//! can run again, one call after another (Dickerson, Gazzillo, Herlihy, Koskinen, "Adding Concurrency to Smart Contracts", PODC
+//! 2017, section 4: the miner).
+#![tactic(auto)]
+
+#[cfg(test)]
+mod tests;
+
+ghost use Rattle.std.specs.Prelude.{◌≤◌, IfOk, length};
+ghost use Rattle.spec_block.specs.Worlds.{order_of};
+ghost use Rattle.spec_block.specs.Headline.{Headline, IsLeft};
+ghost use Rattle.world.specs.Views.{world_view};
+
+use block::Block;
+use call::Call;
+use miner::{MinedCore, mine_core};
+use pace::Pace;
+use serial::Core;
+use serial_block::seal;
+use std::alloc::Global;
+use std::sync::Wait;
+use std::thread::Threads;
+use world::World;
+use wtypes::NoMemory;
+
+/// What was mined.
+#[derive(Drop)]
+pub struct Mined {
+    /// The block of the published order.
+    pub block: Block,
+    /// The world after the block: the same contracts with the cells that the calls left.
+    pub world: World,
+    /// The numbers of the calls outside the order, rising.
+    pub left: Vec<u32>,
+    /// How many calls of the order the workers committed. The others ran alone, after the workers.
+    pub by_workers: u32,
+}
+
+/// Mines a block of calls in a world, with this many workers at once, of which the calling thread is one. The limits of the
+/// calls that are published add up to at most the block's fuel, and no call is left out that had room. A worker tries a call
+/// at most so often; the calls that it tried in vain run alone when the workers have ended. The pace is told each step of the
+/// workers. The world is as it was.
+///
+/// Whatever the workers do at once, the block and the world after it are those of its calls run one after another in its order.
+///
+/// # Errors
+///
+/// Memory was refused to the caller or to a worker, or a call touched 2^32 locks or more.
+pub fn mine<R: Threads + Wait + Sync, P: Pace>(
+    rt: &R,
+    alloc: Global,
+    world: &World,
+    calls: &[Call],
+    block_fuel: u64,
+    workers: u32,
+    tries: u32,
+    pace: &P,
+) -> Result<Mined, NoMemory>
+    requires calls { length calls.now ≤ 65535 }
+    requires workers { (1 ≤ workers) × (workers ≤ 64) }
+    requires tries { (1 ≤ tries) × (tries ≤ 16) }
+    ensures headline { IfOk result (λ mined. Headline (world_view world.now) calls.now block_fuel mined.block (world_view mined.world)) }
+    ensures left { IfOk result (λ mined. IsLeft calls.now (order_of mined.block) mined.left.items) }
+    ensures by_workers { IfOk result (λ mined. mined.by_workers ≤ length mined.block.positions) }
+{
+    let MinedCore {
+        order,
+        receipts,
+        touched,
+        cells,
+        fuel: _,
+        left,
+        by_workers,
+    } = mine_core(
+        rt,
+        alloc,
+        world.contracts(),
+        world.cells(),
+        calls,
+        block_fuel,
+        workers,
+        tries,
+        pace,
+    )?;
+    let core = Core {
+        receipts,
+        touched,
+        cells,
+    };
+    let (block, world) = seal(alloc, world, calls, &order, core)?;
+    Ok(Mined {
+        block,
+        world,
+        left,
+        by_workers,
+    })
+}

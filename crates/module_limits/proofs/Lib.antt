@@ -1,0 +1,4 @@
+pub mod Depths
+pub mod Below
+pub mod Fitting
+pub mod Counted

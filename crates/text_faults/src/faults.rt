@@ -1,0 +1,74 @@
+//! Faults of a text.
+
+use text_names::AsmRefusal;
+use wtypes::NoMemory;
+
+/// The faults of a text that have been met: the one at the least place, and the least limit that is passed.
+#[derive(Drop)]
+pub struct Faults {
+    placed: Option<(usize, AsmRefusal)>,
+    limit: Option<u8>,
+}
+
+impl Faults {
+    /// No fault.
+    pub fn none() -> Faults {
+        Faults {
+            placed: None,
+            limit: None,
+        }
+    }
+
+    // A fault at a place.
+    fn put(&mut self, at: usize, fault: AsmRefusal) {
+        let is_less = match self.placed {
+            None => true,
+            Some((least, _)) => at < least,
+        };
+        if is_less {
+            self.placed = Some((at, fault));
+        }
+    }
+
+    /// A limit is passed.
+    pub fn pass(&mut self, limit: u8) {
+        let is_less = match self.limit {
+            None => true,
+            Some(least) => limit < least,
+        };
+        if is_less {
+            self.limit = Some(limit);
+        }
+    }
+
+    /// A fault is met.
+    pub fn note(&mut self, fault: AsmRefusal) -> Result<(), NoMemory> {
+        match fault {
+            AsmRefusal::Unexpected(at) => self.put(at, fault),
+            AsmRefusal::UnknownName(at) => self.put(at, fault),
+            AsmRefusal::RepeatedName(at) => self.put(at, fault),
+            AsmRefusal::NumberRange(at) => self.put(at, fault),
+            AsmRefusal::TooLarge(limit) => self.pass(limit),
+            AsmRefusal::Lex(_) => self.put(0, fault),
+            AsmRefusal::NoMemory => return Err(NoMemory),
+        }
+        Ok(())
+    }
+
+    /// Notes the fault of an outcome, if it is one.
+    pub fn take<T: Drop>(&mut self, outcome: Result<T, AsmRefusal>) -> Result<(), NoMemory> {
+        match outcome {
+            Ok(_) => Ok(()),
+            Err(fault) => self.note(fault),
+        }
+    }
+
+    /// The refusal of the text: the fault at the least place, else the least limit. Where neither is met, the module is
+    /// too long.
+    pub fn refusal(&self) -> AsmRefusal {
+        match self.placed {
+            Some((_, fault)) => fault,
+            None => AsmRefusal::TooLarge(self.limit.unwrap_or(1)),
+        }
+    }
+}

@@ -1,0 +1,3 @@
+pub mod Outcome
+pub mod Lookup
+pub mod Firsts

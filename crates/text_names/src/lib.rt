@@ -1,0 +1,54 @@
+//! The index spaces of a text in the text format of WebAssembly: names, and what indices stand for (Core
+//! Specification, 6.1.5 Contexts, 6.3.5 Identifiers).
+#![tactic(auto)]
+
+ghost use Rattle.std.specs.Prelude.{◌≡◌};
+ghost use Rattle.text_names.specs.declared.AsmRefusal.TheVariants.{NoMemory};
+
+mod indices;
+mod labels;
+mod space;
+
+pub use indices::{Finds, are_in_range, index_in, indices_in, number};
+pub use labels::Labels;
+use lexer::LexRefusal;
+pub use space::Space;
+use std::alloc::{AllocError, AllocFailed};
+
+/// Why a text is refused. A place is the number of bytes before it, and is for people to read: no clause speaks of it.
+#[derive(Clone, Copy, Debug, PartialEq, Eq)]
+pub enum AsmRefusal {
+    /// It does not lex.
+    Lex(LexRefusal),
+    /// What stands at this place may not stand there.
+    Unexpected(usize),
+    /// The name or the type index at this place stands for nothing, or for something else than what is written there.
+    UnknownName(usize),
+    /// The name at this place stands before in the same space.
+    RepeatedName(usize),
+    /// The integer at this place is out of range.
+    NumberRange(usize),
+    /// A limit is passed: 1 bytes, 2 functions, 3 locals, 4 nesting, 5 labels.
+    TooLarge(u8),
+    /// Memory was refused.
+    NoMemory,
+}
+
+impl From<AllocError> for AsmRefusal {
+    ghost from_gives = { λ _ e. e ≡ NoMemory };
+
+    fn from(_e: AllocError) -> AsmRefusal {
+        AsmRefusal::NoMemory
+    }
+}
+
+impl<T: Drop> From<AllocFailed<T>> for AsmRefusal {
+    ghost from_gives = { λ _ e. e ≡ NoMemory };
+
+    fn from(_e: AllocFailed<T>) -> AsmRefusal {
+        AsmRefusal::NoMemory
+    }
+}
+
+#[cfg(test)]
+mod tests;

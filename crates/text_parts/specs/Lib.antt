@@ -1,0 +1,2 @@
+pub mod PartsView
+pub mod Counted

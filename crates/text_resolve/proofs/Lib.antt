@@ -1,0 +1,5 @@
+pub mod Numbers
+pub mod Alike
+pub mod Turns
+pub mod Plains
+pub mod Bodied

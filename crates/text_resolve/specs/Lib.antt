@@ -1,0 +1,4 @@
+pub mod Types
+pub mod Plain
+pub mod Views
+pub mod Bodies

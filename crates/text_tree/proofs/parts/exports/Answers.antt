@@ -1,0 +1,34 @@
+use Rattle.std.proofs.Common.{◌<◌, ℕ, List, Some, length, map, sym, ap, ◌∙◌, subst, arith}
+use Rattle.std.specs.Prelude.{IfSome, option_map, string_bytes}
+use Rattle.std.proofs.lemmas.List.{map_push, length-map}
+use Rattle.std.proofs.lemmas.Result.{err_from_is_err_and}
+use Rattle.text_words.specs.Views.{view, views}
+use Rattle.text_body.proofs.Repeats.{Halfway, hand_on, halfway_end, halfway_fault, halfway_more}
+use Rattle.text_tree.specs.Reading.{next_export_at, exports_at}
+use Rattle.text_tree.proofs.parts.exports.Goals as goal
+
+pub returns-in_err-next-clause-value : goal.returns-in_err-next-clause-value
+returns-in_err-next-clause-value g c =
+    let l = c.loop-found in
+    let p = err_from_is_err_and c.from_residual-in_err-next.result c.from_residual-in_err-next.ensures.1 in
+    rw (p.1, p.2) (hand_on c.in_err-next.field-0.0 (halfway_fault next_export_at (exports_at (views c.args.rest.now.now)) (views l.rest.now) (map string_bytes l.found.items) l.invariant.half) c.in_err-next.ensures.value)
+
+pub loop-found-preserved : goal.loop-found-preserved
+loop-found-preserved g c =
+    let l = c.loop-found in
+    let new = c.next_export.new.rest.now in
+    let short : length new < length l.rest.now = subst (λ o. IfSome o (λ _. length new < length l.rest.now)) c.in-Some.is c.in_ok-next.ensures.shorter in
+    let whole = exports_at (views c.args.rest.now.now) in
+    record {
+      half = subst (λ (xs : List (List ℕ)). Halfway next_export_at whole (views new) xs) (sym (ap (map string_bytes) c.in_ok-push.ensures.items ∙ map_push string_bytes l.found.items c.in-Some.next))
+          (halfway_more next_export_at whole (views l.rest.now) (map string_bytes l.found.items) l.invariant.half (views new) (string_bytes c.in-Some.next)
+          (c.in_ok-next.ensures.value ∙ ap (λ o. Some (option_map string_bytes o, views new)) c.in-Some.is) (omega (arith, short, length-map new view, length-map l.rest.now view)));
+      within = omega (arith, short, l.invariant.within);
+    }
+
+pub returns-clause-value : goal.returns-clause-value
+returns-clause-value g c =
+    let l = c.loop-found in
+    let new = c.next_export.new.rest.now in
+    halfway_end next_export_at (exports_at (views c.args.rest.now.now)) (views l.rest.now) (map string_bytes l.found.items) l.invariant.half (views new)
+    (c.in_ok-next.ensures.value ∙ ap (λ o. Some (option_map string_bytes o, views new)) c.in_default.is)

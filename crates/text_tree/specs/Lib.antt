@@ -1,0 +1,4 @@
+pub mod Views
+pub mod Order
+pub mod Texts
+pub mod Reading

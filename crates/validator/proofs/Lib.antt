@@ -1,0 +1,6 @@
+pub mod Agreeing
+pub mod Counters
+pub mod Crossing
+pub mod Ends
+pub mod Fits
+pub mod Runs

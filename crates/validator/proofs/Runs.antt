@@ -1,0 +1,22 @@
+-- Runs that are handed back.
+use Rattle.std.proofs.Common.{◌≡◌, ℕ, List, [], ◌∷◌, ◌++◌, Option, Some, IfSome, set, slice_get, IfOk, sym, ap, subst, ◌∙◌}
+use Rattle.std.proofs.lemmas.List.Elements.{All-push, All-set}
+use Rattle.std.specs.declared.result.Result.{Result}
+use Rattle.std.specs.declared.result.Result.TheVariants.{Ok, Err}
+use Rattle.spec_execution.specs.Configuration.{Deployed}
+use Rattle.spec_execution.specs.Run.{ContractCall}
+use Rattle.interp.specs.Played.{Played}
+use Rattle.validator.specs.declared.job.Made.{Made}
+use Rattle.validator.specs.Handed.{IsRunOf, IsMade, AreMade, AreFound}
+
+-- what a machine that was started with the call of this number ends in
+pub is_run : {E : Type 0} (r : Result Played E) (contracts lent : List Deployed) (calls : List ContractCall) (number : ℕ) (call : ContractCall)
+    → IfOk r (λ f. f.contracts ≡ lent) → IfOk r (λ f. f.call ≡ call) → lent ≡ contracts → slice_get calls number ≡ Some call → IfOk r (IsRunOf contracts calls number)
+is_run (Ok f) contracts lent calls number call l c same at = record { lent = l ∙ same; call_is = at ∙ ap (λ x. Some x) (sym c) }
+is_run (Err e) contracts lent calls number call l c same at = tt
+
+pub one_more_made : {A : Type 0} (contracts : List Deployed) (calls : List ContractCall) (xs zs : List (Made A)) (x : Made A) → zs ≡ xs ++ x ∷ [] → AreMade contracts calls xs → IsMade contracts calls x → AreMade contracts calls zs
+one_more_made contracts calls xs zs x is all one = subst (AreMade contracts calls) (sym is) (All-push (IsMade contracts calls) xs x all one)
+
+pub one_noted : {A : Type 0} (contracts : List Deployed) (calls : List ContractCall) (xs : List (Option (Made A))) (i : ℕ) (x : Made A) → AreFound contracts calls xs → IsMade contracts calls x → AreFound contracts calls (set xs i (Some x))
+one_noted contracts calls xs i x all one = All-set (λ o. IfSome o (IsMade contracts calls)) xs i (Some x) one all

@@ -1,0 +1,6 @@
+use Rattle.std.proofs.Common.{◌≡◌, ◌+◌, take}
+use Rattle.serial_block.specs.Ordered.{used_by}
+use Rattle.validator.proofs.compare.is_total.Given as goal
+
+abbrev pub invariant-loop-receipt : goal.invariant-loop-receipt
+invariant-loop-receipt l = l.rest + used_by (take l.receipt-index l.receipts) ≡ l.fuel

@@ -1,0 +1,10 @@
+-- What a verdict of the code stands for.
+use Rattle.spec_block.specs.Verdicts.{Verdict, Accept}
+use Rattle.block_judge.specs.Judging.{told}
+use Rattle.world.specs.Views.{world_view}
+use Rattle.validator.specs.declared.verdict.Verdict as code
+use Rattle.validator.specs.declared.verdict.Verdict.TheVariants as verdict
+
+abbrev pub told_by : code.Verdict → Verdict
+told_by (verdict.Accept w) = Accept (world_view w)
+told_by (verdict.Reject r) = told r

@@ -1,0 +1,87 @@
+//! What a block says of its positions beside what the serial execution came to.
+
+ghost use Rattle.std.specs.Prelude.{◌≡◌, ◌<◌, ◌^◌, ◌↔◌, ℕ, IfNone, IfSome, IsTrue, length};
+ghost use Rattle.lock_profile.specs.Groups.{pairs};
+ghost use Rattle.serial.specs.Positions.{positions as ran_of};
+ghost use Rattle.serial_block.specs.Ordered.{used_by};
+ghost use Rattle.spec_block.specs.Worlds.{held_in};
+ghost use Rattle.spec_block.specs.Verdicts.{Agrees, IsLeast, IsOther};
+
+use block::Position;
+use lock_profile::{Held, Touched};
+use spec_ledger::{Entry, Receipt};
+
+fn is_receipt(a: Receipt, b: Receipt) -> bool
+    ensures { IsTrue result ↔ (a ≡ b) }
+{
+    a == b
+}
+
+fn is_held(held: Held, entry: Entry) -> bool
+    ensures { IsTrue result ↔ (held ≡ record { lock = entry.lock; mode = entry.mode }) }
+{
+    let published = Held {
+        lock: entry.lock,
+        mode: entry.mode,
+    };
+    held == published
+}
+
+/// Whether the entries have these locks and modes.
+fn are_held(entries: &[Entry], held: &[Held]) -> bool
+    ensures { IsTrue result ↔ (held_in entries.now ≡ pairs held.now) }
+{
+    if entries.len() != held.len() {
+        return false;
+    }
+    for (at, entry) in entries.iter().enumerate() {
+        if !is_held(held[at], *entry) {
+            return false;
+        }
+    }
+    true
+}
+
+/// Whether a position has this receipt, and these locks and modes.
+fn agrees(position: &Position, receipt: Receipt, touched: &Touched) -> bool
+    ensures { IsTrue result ↔ Agrees position.now (record { receipt = receipt; touched = touched.now }) }
+{
+    if !is_receipt(position.receipt(), receipt) {
+        return false;
+    }
+    are_held(position.profile().entries(), touched.held())
+}
+
+/// The least position that does not agree with these receipts and locks.
+pub(crate) fn first_deviating(
+    positions: &[Position],
+    receipts: &[Receipt],
+    touched: &[Touched],
+) -> Option<u32>
+    requires few { length positions.now < 2 ^ 32 }
+    requires receipts { length receipts.now ≡ length positions.now }
+    requires touched { length touched.now ≡ length positions.now }
+    ensures other { IfSome result (IsLeast (IsOther positions.now (ran_of receipts.now touched.now))) }
+    ensures same { IfNone result ((position : ℕ) → ¬ (IsOther positions.now (ran_of receipts.now touched.now) position)) }
+{
+    for (at, position) in positions.iter().enumerate() {
+        if !agrees(position, receipts[at], &touched[at]) {
+            return Some(at as u32);
+        }
+    }
+    None
+}
+
+/// Whether this is the fuel that calls with these receipts used.
+pub(crate) fn is_total(fuel: u64, receipts: &[Receipt]) -> bool
+    ensures { IsTrue result ↔ (fuel ≡ used_by receipts.now) }
+{
+    let mut rest = fuel;
+    for receipt in receipts {
+        match rest.checked_sub(receipt.used) {
+            Some(less) => rest = less,
+            None => return false,
+        }
+    }
+    rest == 0
+}

@@ -1,0 +1,116 @@
+//! What the calls of a block come to one after another.
+
+ghost use Rattle.std.specs.Prelude.{◌≡◌, ◌≤◌, ◌<◌, All, IfOk, IfNone, IfSome, Some, length, slice_get};
+ghost use Rattle.std.specs.FinMap as finite;
+ghost use Rattle.spec_execution.specs.Exec.{Executes};
+ghost use Rattle.spec_execution.specs.Run.{ContractCall};
+ghost use Rattle.spec_execution.specs.Serial.{Serial};
+ghost use Rattle.interp.specs.Lent.{contracts_view};
+ghost use Rattle.serial.specs.Positions.{positions};
+ghost use Rattle.validator.specs.Handed.{AreFound, IsMade};
+
+use crate::job::{Job, Made};
+use pace::Pace;
+use serial::{Core, Executed, execute, replay};
+use spec_ledger::NoMemory;
+use std::alloc::Allocator;
+use storage::Cells;
+
+/// What the calls came to.
+#[derive(Drop)]
+pub(crate) struct Folded {
+    pub(crate) core: Core,
+    /// How many of them were run, since no run that was made of them had the replies of the cells.
+    pub(crate) again: u32,
+}
+
+/// What one call came to.
+#[derive(Drop)]
+struct Done {
+    executed: Executed,
+    /// Whether it was run.
+    again: bool,
+}
+
+/// Executes the call of a number by the run that was made of it, where there is one whose replies are those of the cells.
+fn execute_by<'a, A: Allocator, P: Pace>(
+    job: &Job<'_, 'a, A, P>,
+    number: u32,
+    run: &Option<Made<'a, A>>,
+    cells: &mut Cells,
+) -> Result<Option<Executed>, NoMemory>
+    requires run { IfSome run.now (IsMade (contracts_view job.now.contracts.now) job.now.calls.now) }
+    requires settled { cells.old.unsettled ≡ finite.empty }
+    ensures executed { IfOk result (λ o. IfSome o (λ e. (call : ContractCall) → slice_get job.now.calls.now number ≡ Some call → Executes (contracts_view job.now.contracts.now) call cells.old.cells cells.new.cells e.receipt.outcome e.receipt.used e.touched)) }
+    ensures other { IfOk result (λ o. IfNone o (cells.new ≡ cells.old)) }
+    ensures settled { cells.new.unsettled ≡ finite.empty }
+{
+    let Some(made) = run else {
+        return Ok(None);
+    };
+    if made.call != number {
+        return Ok(None);
+    }
+    let executed = replay(job.alloc, &made.finished, cells)?;
+    Ok(executed)
+}
+
+/// Executes the call of a number by a run that was made of it, and else runs it.
+fn execute_one<'a, A: Allocator, P: Pace>(
+    job: &Job<'_, 'a, A, P>,
+    number: u32,
+    run: &Option<Made<'a, A>>,
+    cells: &mut Cells,
+) -> Result<Done, NoMemory>
+    requires known { number < length job.now.calls.now }
+    requires run { IfSome run.now (IsMade (contracts_view job.now.contracts.now) job.now.calls.now) }
+    requires settled { cells.old.unsettled ≡ finite.empty }
+    ensures executed { IfOk result (λ done. (call : ContractCall) → slice_get job.now.calls.now number ≡ Some call → Executes (contracts_view job.now.contracts.now) call cells.old.cells cells.new.cells done.executed.receipt.outcome done.executed.receipt.used done.executed.touched) }
+    ensures settled { cells.new.unsettled ≡ finite.empty }
+{
+    if let Some(executed) = execute_by(job, number, run, cells)? {
+        return Ok(Done {
+            executed,
+            again: false,
+        });
+    }
+    let call = &job.calls[number as usize];
+    let executed = execute(job.alloc, job.contracts, call, cells)?;
+    Ok(Done {
+        executed,
+        again: true,
+    })
+}
+
+/// Executes the calls of the order one after another, the first over a copy of the cells, by the runs that were made at their positions.
+pub(crate) fn fold<'a, A: Allocator, P: Pace>(
+    job: &Job<'_, 'a, A, P>,
+    cells: &Cells,
+    runs: &[Option<Made<'a, A>>],
+) -> Result<Folded, NoMemory>
+    requires few { length job.now.order.now ≤ 65535 }
+    requires known { All (λ number. number < length job.now.calls.now) job.now.order.now }
+    requires size { length runs.now ≡ length job.now.order.now }
+    requires runs { AreFound (contracts_view job.now.contracts.now) job.now.calls.now runs.now }
+    ensures serial { IfOk result (λ folded. Serial (contracts_view job.now.contracts.now) job.now.calls.now job.now.order.now cells.now.cells (positions folded.core.receipts.items folded.core.touched.items) folded.core.cells.cells) }
+    ensures receipts { IfOk result (λ folded. length folded.core.receipts.items ≡ length job.now.order.now) }
+    ensures touched { IfOk result (λ folded. length folded.core.touched.items ≡ length job.now.order.now) }
+    ensures again { IfOk result (λ folded. folded.again ≤ length job.now.order.now) }
+{
+    let mut receipts = Vec::new(job.alloc);
+    let mut touched = Vec::new(job.alloc);
+    let mut current = cells.copy(job.alloc)?;
+    let mut again: u32 = 0;
+    for (position, number) in job.order.iter().enumerate() {
+        let done = execute_one(job, *number, &runs[position], &mut current)?;
+        receipts.push(done.executed.receipt)?;
+        touched.push(done.executed.touched)?;
+        again += u32::from(done.again);
+    }
+    let core = Core {
+        receipts,
+        touched,
+        cells: current,
+    };
+    Ok(Folded { core, again })
+}

@@ -1,0 +1,29 @@
+//! What the workers share, and what they hand back.
+
+use call::Call;
+use interp::finished::Finished;
+use link::deployed::Deployed as Contract;
+use lock_profile::Profile;
+use pace::Pace;
+use std::alloc::{Allocator, Global};
+
+/// What the workers share: the calls that a block orders, and what it publishes of them by position.
+#[derive(Drop)]
+pub(crate) struct Job<'s, 'a, A: Allocator, P: Pace> {
+    pub(crate) alloc: Global,
+    pub(crate) contracts: &'a [Contract<A>],
+    pub(crate) calls: &'a [Call],
+    pub(crate) order: &'s [u32],
+    pub(crate) profiles: &'s [Profile],
+    pub(crate) pace: &'s P,
+}
+
+/// A run that a worker made.
+#[derive(Drop)]
+pub(crate) struct Made<'a, A: Allocator> {
+    /// The position.
+    pub(crate) position: u32,
+    /// The number of the call.
+    pub(crate) call: u32,
+    pub(crate) finished: Finished<'a, A>,
+}

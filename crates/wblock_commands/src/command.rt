@@ -1,0 +1,115 @@
+//! What a line of words asks for.
+
+ghost use Rattle.std.specs.Prelude.{◌≡◌, ◌≢◌, ◌≤◌, ◌↔◌, ℕ, List, Option, IfOk, IsTrue, MatchOption, decimal};
+ghost use Rattle.wblock_line.specs.Words.{line_of};
+ghost use Rattle.wblock_commands.specs.Words.{AsksHeap, IsSize, AsksCheck, AsksDeploy, IsLineOf, texts, choices};
+ghost use Rattle.wblock_commands.specs.declared.command.Command.{Command as Asked};
+
+use calls_text::number_of;
+use std::alloc::{AllocError, Global};
+use wblock_line::Line;
+
+/// The least and the most bytes of the heap of `check`.
+const LEAST_HEAP: u64 = 1_024;
+
+const MOST_HEAP: u64 = 16_777_216;
+
+/// A command with its words.
+#[derive(Clone, Copy, Debug)]
+pub enum Command<'l, 'w> {
+    /// `check MODULE [--heap N]`: whether a module is valid, its tree in an arena or in a heap of N bytes, 1,024 to 16,777,216.
+    Check(&'w str, Option<u32>),
+    /// `deploy WORLD MODULE...`: the world of these modules, 1 to 1,024.
+    Deploy(&'w str, &'l [&'w str]),
+}
+
+/// The size of a heap that a word spells, in decimal with no needless zero.
+fn size_of(alloc: Global, word: &str) -> Result<Option<u32>, AllocError>
+    ensures { IfOk result (λ found. MatchOption found ((n : ℕ) → 1024 ≤ n → n ≤ 16777216 → word.now ≢ decimal n) (λ n. IsSize word.now n)) }
+{
+    let Some(size) = number_of(alloc, word)? else {
+        return Ok(None);
+    };
+    if size < LEAST_HEAP {
+        return Ok(None);
+    }
+    if size > MOST_HEAP {
+        return Ok(None);
+    }
+    Ok(Some(size as u32))
+}
+
+/// Whether a word is this one.
+fn is_word(word: &str, name: &str) -> bool
+    ensures { IsTrue result ↔ (word.now ≡ name.now) }
+{
+    word == name
+}
+
+/// The heap that options ask for, if any; or None where they are no options of `check`.
+fn heap_of(alloc: Global, options: &[(&str, &str)]) -> Result<Option<Option<u32>>, AllocError>
+    ensures { IfOk result (λ found. MatchOption found ((heap : Option ℕ) → ¬ AsksHeap (choices options.now) heap) (AsksHeap (choices options.now))) }
+{
+    if options.is_empty() {
+        return Ok(Some(None));
+    }
+    if options.len() > 1 || !is_word(options[0].0, "--heap") {
+        return Ok(None);
+    }
+    match size_of(alloc, options[0].1)? {
+        Some(size) => Ok(Some(Some(size))),
+        None => Ok(None),
+    }
+}
+
+/// The module and the heap of `check`.
+fn check_of<'w>(
+    alloc: Global,
+    words: &[&'w str],
+    options: &[(&str, &str)],
+) -> Result<Option<(&'w str, Option<u32>)>, AllocError>
+    ensures { IfOk result (λ found. MatchOption found ((target : List ℕ) (heap : Option ℕ) → ¬ AsksCheck (record { words = texts words.now; options = choices options.now }) target heap) (λ x. AsksCheck (record { words = texts words.now; options = choices options.now }) x.0.now x.1)) }
+{
+    if words.len() != 2 || !is_word(words[0], "check") {
+        return Ok(None);
+    }
+    match heap_of(alloc, options)? {
+        Some(heap) => Ok(Some((words[1], heap))),
+        None => Ok(None),
+    }
+}
+
+/// The world and the modules of `deploy`.
+fn deploy_of<'l, 'w>(
+    words: &'l [&'w str],
+    options: &[(&str, &str)],
+) -> Option<(&'w str, &'l [&'w str])>
+    ensures { MatchOption result ((world : List ℕ) (modules : List (List ℕ)) → ¬ AsksDeploy (record { words = texts words.entry.now; options = choices options.now }) world modules) (λ x. AsksDeploy (record { words = texts words.entry.now; options = choices options.now }) x.0.now (texts x.1.now)) }
+{
+    if !options.is_empty()
+        || words.len() < 3
+        || words.len() > 1_026
+        || !is_word(words[0], "deploy")
+    {
+        return None;
+    }
+    Some((words[1], &words[2..]))
+}
+
+/// The command of a line, or None where the line asks for nothing.
+pub fn command_of<'l, 'w>(
+    alloc: Global,
+    line: &'l Line<'w>,
+) -> Result<Option<Command<'l, 'w>>, AllocError>
+    ensures { IfOk result (λ found. MatchOption found ((c : Asked) → ¬ IsLineOf (line_of line.entry.now) c) (IsLineOf (line_of line.entry.now))) }
+{
+    let words = line.words.as_slice();
+    let options = line.options.as_slice();
+    if let Some((target, heap)) = check_of(alloc, words, options)? {
+        return Ok(Some(Command::Check(target, heap)));
+    }
+    match deploy_of(words, options) {
+        Some((world, modules)) => Ok(Some(Command::Deploy(world, modules))),
+        None => Ok(None),
+    }
+}

@@ -1,0 +1,71 @@
+-- What a command comes to, and what it is to write and to print.
+use Rattle.std.specs.Prelude.{◌≡◌, ℕ, ◌⊎◌, List, [], ◌∷◌, ◌++◌, map, string_bytes}
+use Rattle.codec.specs.Putting.{IsCutShort, IsRaised}
+use Rattle.wblock_io.specs.Holding.{Holding, Changes, IsCutShortIn}
+use Rattle.wblock_line.specs.declared.answer.Answer.{Answer}
+use Rattle.wblock_line.specs.declared.answer.Answer.TheVariants.{Done, Refused}
+use Rattle.wblock_line.specs.declared.answer.Write.{Write}
+use Rattle.wblock_line.specs.declared.answer.Fault.{Fault}
+use Rattle.wblock_line.specs.declared.answer.Fault.TheVariants.{File, NoMemory}
+use Rattle.wblock_line.specs.declared.perform.Status.{Status}
+use Rattle.wblock_line.specs.declared.perform.Status.TheVariants as status
+
+-- a file's name and all of its bytes
+abbrev pub Written : Type 0
+Written = List ℕ × List ℕ
+
+abbrev pub write_of : Write → Written
+write_of w = (w.name.now, w.bytes.items)
+
+-- the files that are to be written, in their order
+abbrev pub writes_of : Answer → List Written
+writes_of (Done writes text) = map write_of writes.items
+writes_of (Refused line) = []
+
+-- what is to be printed
+abbrev pub text_of : Answer → List ℕ
+text_of (Done writes text) = string_bytes text
+text_of (Refused line) = string_bytes line
+
+-- the status of an answer that was printed
+abbrev pub status_of : Answer → Status
+status_of (Done writes text) = status.Done
+status_of (Refused line) = status.Refused
+
+-- the files were written, one after another, and every other file is as it was
+abbrev pub Wrote : List Written → Holding → Holding → Type 0
+Wrote [] old new = new ≡ old
+Wrote (w ∷ ws) old new = (mid : Holding) × Changes old mid w.0 w.1 × Wrote ws mid new
+
+-- a file is as it was or holds a beginning of its bytes, and those before it were written
+abbrev pub WroteSome : List Written → Holding → Holding → Type 0
+WroteSome [] old new = ⊥
+WroteSome (w ∷ ws) old new = IsCutShortIn old new w.0 w.1 ⊎ ((mid : Holding) × Changes old mid w.0 w.1 × WroteSome ws mid new)
+
+-- all was written and printed
+pub record IsPerformed (a : Answer) (old new : Holding) (before after : List ℕ) : Type 0 where
+  pub wrote : Wrote (writes_of a) old new
+  pub told : after ≡ before ++ text_of a
+
+-- a file was cut short and nothing was printed
+pub record IsCutInFiles (a : Answer) (old new : Holding) (before after : List ℕ) : Type 0 where
+  pub wrote : WroteSome (writes_of a) old new
+  pub told : after ≡ before
+
+-- all files were written, and the text was cut short
+pub record IsCutInText (a : Answer) (old new : Holding) (before after : List ℕ) : Type 0 where
+  pub wrote : Wrote (writes_of a) old new
+  pub told : IsCutShort before after (text_of a)
+
+abbrev pub IsCut : Answer → Holding → Holding → List ℕ → List ℕ → Type 0
+IsCut a old new before after = IsCutInFiles a old new before after ⊎ IsCutInText a old new before after
+
+-- a file's fault is counted
+abbrev pub CountsFault : Fault → ℕ → ℕ → Type 0
+CountsFault (File name) old new = IsRaised old new
+CountsFault NoMemory old new = Unit {0}
+
+-- the status of a fault
+abbrev pub status_of_fault : Fault → Status
+status_of_fault (File name) = status.File
+status_of_fault NoMemory = status.Memory

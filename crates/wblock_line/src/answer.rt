@@ -1,0 +1,52 @@
+//! What a command comes to before anything is written or printed.
+
+ghost use Rattle.std.specs.Prelude.{◌≡◌, IsTrue, IfOk, IfErr, OnOk, Some};
+ghost use Rattle.wblock_line.specs.Answers.{CountsFault};
+
+use std::alloc::Global;
+use wblock_io::{Files, ReadFault};
+
+/// What a file is to hold.
+#[derive(Debug, Drop)]
+pub struct Write<'a> {
+    /// The file's name.
+    pub name: &'a str,
+    /// All of its bytes.
+    pub bytes: Vec<u8>,
+}
+
+/// What a command comes to.
+#[derive(Debug, Drop)]
+pub enum Answer<'a> {
+    /// It is done: these files are to be written, one after another, and then this text is to be printed.
+    Done(Vec<Write<'a>>, String),
+    /// It is refused: this line is to be printed.
+    Refused(String),
+}
+
+/// Why a command comes to nothing.
+#[derive(Clone, Copy, Debug)]
+pub enum Fault<'a> {
+    /// The file of this name was not read or not written.
+    File(&'a str),
+    /// Memory was refused.
+    NoMemory,
+}
+
+/// The bytes of a file.
+pub fn read_file<'a, F: Files>(
+    alloc: Global,
+    files: &mut F,
+    name: &'a str,
+) -> Result<Vec<u8>, Fault<'a>>
+    ensures bytes { IfOk result (λ v. IsTrue F.tells → F.holds files.old name.entry.now ≡ Some v.items) }
+    ensures kept { IsTrue F.tells → F.holds files.new ≡ F.holds files.old }
+    ensures calm { OnOk result (F.failures files.new ≡ F.failures files.old) }
+    ensures counted { IfErr result (λ f. CountsFault f (F.failures files.old) (F.failures files.new)) }
+{
+    match files.read_all(alloc, name) {
+        Ok(bytes) => Ok(bytes),
+        Err(ReadFault::Failed) => Err(Fault::File(name)),
+        Err(ReadFault::NoMemory) => Err(Fault::NoMemory),
+    }
+}

@@ -1,0 +1,70 @@
+//! The words of a line, with its options taken out.
+
+ghost use Rattle.std.specs.Prelude.{◌≡◌, ◌≤◌, ◌<◌, IfOk, IfSome, Some, None, length, map, option_map, if◌then◌else◌};
+ghost use Rattle.wblock_line.specs.Words.{split, line_of, is_option, has_value, halves, IsTaken};
+
+use std::alloc::{AllocError, Global};
+
+/// The words of a line and its options.
+#[derive(Debug, Drop)]
+pub struct Line<'a> {
+    /// The words that are no options, in their order.
+    pub words: Vec<&'a str>,
+    /// The options, each with its name, hyphens included, and its value, in their order.
+    pub options: Vec<(&'a str, &'a str)>,
+}
+
+fn begins_option(word: &str) -> bool
+    ensures { result ≡ is_option word.now }
+{
+    word.starts_with('-')
+}
+
+/// The two parts of `NAME=VALUE`.
+fn halves_of<'a>(word: &'a str) -> Option<(&'a str, &'a str)>
+    ensures { option_map (λ x. (x.0.now, x.1.now)) result ≡ (if has_value word.entry.now then Some (halves word.entry.now) else None) }
+{
+    word.split_once('=')
+}
+
+/// Takes the first word into the line, an option with its value, and says how many words that were; or None where the value is not there.
+fn take_word<'a>(line: &mut Line<'a>, words: &[&'a str]) -> Result<Option<usize>, AllocError>
+    requires { 0 < length words.now }
+    ensures taken { IfOk result (λ n. IsTaken (line_of line.old) (map (λ w. w.now) words.now) (line_of line.new) n) }
+    ensures some { IfOk result (λ found. IfSome found (λ n. 0 < n)) }
+    ensures within { IfOk result (λ found. IfSome found (λ n. n ≤ length words.now)) }
+{
+    let word = words[0];
+    if !begins_option(word) {
+        line.words.push(word)?;
+        return Ok(Some(1));
+    }
+    if let Some(halves) = halves_of(word) {
+        line.options.push(halves)?;
+        return Ok(Some(1));
+    }
+    if words.len() == 1 {
+        return Ok(None);
+    }
+    line.options.push((word, words[1]))?;
+    Ok(Some(2))
+}
+
+/// The words of a line with its options taken out: a word that begins with a hyphen is an option, `NAME=VALUE` or `NAME VALUE`, and stands
+/// anywhere. None where the last word is an option without its value.
+pub fn split_words<'a>(alloc: Global, words: &'a [&'a str]) -> Result<Option<Line<'a>>, AllocError>
+    ensures { IfOk result (λ found. option_map line_of found ≡ split (map (λ w. w.now) words.entry.now)) }
+{
+    let mut line = Line {
+        words: Vec::new(alloc),
+        options: Vec::new(alloc),
+    };
+    let mut at = 0;
+    while at < words.len() {
+        match take_word(&mut line, &words[at..])? {
+            Some(taken) => at += taken,
+            None => return Ok(None),
+        }
+    }
+    Ok(Some(line))
+}
