@@ -1,6 +1,12 @@
-//! Tests of the loader and the encoder together, and of the loader in an arena and in heaps of fixed size. There is no
-//! code here.
+//! Tests of numbers, expressions and modules in binary: of the loader and the encoder, apart and together, and of the loader in an arena and in
+//! heaps of fixed size. There is no code here.
 #![tactic(auto)]
 
 #[cfg(test)]
-mod tests;
+mod both;
+#[cfg(test)]
+mod expressions;
+#[cfg(test)]
+mod loading;
+#[cfg(test)]
+mod numbers;

@@ -4,8 +4,6 @@
 mod calls;
 mod read;
 mod refusal;
-#[cfg(test)]
-mod tests;
 mod value;
 mod write;
 

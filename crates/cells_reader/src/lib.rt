@@ -5,7 +5,5 @@ mod cell;
 mod list;
 mod read;
 mod store;
-#[cfg(test)]
-mod tests;
 
 pub use read::read_cells;

@@ -41,6 +41,3 @@ impl<T: Drop> From<AllocFailed<T>> for LoadRefusal {
         LoadRefusal::NoMemory
     }
 }
-
-#[cfg(test)]
-mod tests;

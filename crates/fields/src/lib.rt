@@ -5,8 +5,6 @@ mod append;
 mod fault;
 mod laws;
 mod read;
-#[cfg(test)]
-mod tests;
 
 pub use append::{append_u32, append_u64};
 pub use fault::Fault;

@@ -40,6 +40,7 @@ pub(crate) struct Run<'a, A: Allocator> {
 }
 
 // Makes a turn, where the run has not ended.
+#[inline(always)]
 fn next_turn<'a, A: Allocator>(run: &mut Run<'a, A>) -> Turn
     requires kept { IsKept run.old }
     requires free { IsFree run.old.status }
@@ -59,6 +60,7 @@ fn next_turn<'a, A: Allocator>(run: &mut Run<'a, A>) -> Turn
 }
 
 // The run goes on: it makes a turn, or it is found at its end.
+#[inline(always)]
 fn make_turn<'a, A: Allocator>(run: &mut Run<'a, A>) -> Turn
     requires kept { IsKept run.old }
     requires running { run.old.status ≡ Status.Running }
@@ -316,6 +318,7 @@ impl<'a, A: Allocator> Model for Machine<'a, A> {
 impl<'a, A: Allocator> Machine<'a, A> {
     /// Makes a turn: one charged reduction and the free ones that follow, or its trap. Where the run has ended it makes
     /// none and answers Done. After want of memory it always answers NoMemory.
+    #[inline(always)]
     pub fn next(&mut self) -> Turn
         requires { IsFree self.old.status }
         ensures turn { NextIs self.old result self.new }

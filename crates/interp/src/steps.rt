@@ -22,6 +22,7 @@ use std::alloc::{AllocError, Allocator};
 use wtypes::{PlainInstr, ValType, Value};
 
 /// Makes the charged reduction of the instruction to come, and the free ones of what it becomes.
+#[inline(always)]
 pub fn execute<'a, A: Allocator>(
     lent: &Lent<'a, A>,
     parts: &mut Parts<'a, A>,
@@ -57,6 +58,7 @@ pub fn execute<'a, A: Allocator>(
 }
 
 // The same for an instruction that holds no other one, with those behind it.
+#[inline(always)]
 fn execute_operator<'a, A: Allocator>(
     lent: &Lent<'a, A>,
     parts: &mut Parts<'a, A>,

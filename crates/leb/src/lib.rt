@@ -219,6 +219,3 @@ pub fn write_s64<A: Allocator>(out: &mut Vec<u8, A>, z: i64) -> Result<(), Alloc
     }
     Ok(())
 }
-
-#[cfg(test)]
-mod tests;

@@ -78,6 +78,3 @@ pub fn no_text_lexes_to_two_lists()
 pub fn unsigned_integers_are_tested()
     ensures { UnsignedIsTested }
 {}
-
-#[cfg(test)]
-mod tests;

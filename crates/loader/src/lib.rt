@@ -10,6 +10,3 @@ mod vectors;
 
 pub use expr_reader::LoadRefusal;
 pub use modules::load;
-
-#[cfg(test)]
-mod tests;

@@ -290,6 +290,3 @@ pub fn turns(alloc: Global, touched: &[Touched]) -> Result<Vec<Profile>, NoMemor
     }
     Ok(profiles)
 }
-
-#[cfg(test)]
-mod tests;

@@ -5,8 +5,6 @@ mod entry;
 mod position;
 mod profile;
 mod receipt;
-#[cfg(test)]
-mod tests;
 mod value;
 
 pub use entry::{append_entry, read_entry};

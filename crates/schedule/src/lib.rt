@@ -77,6 +77,3 @@ impl Graph {
         &self.waves
     }
 }
-
-#[cfg(test)]
-mod tests;

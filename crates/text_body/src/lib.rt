@@ -10,7 +10,4 @@ mod whole;
 
 pub use whole::{body, no_words_begin_with_two_bodies};
 
-#[cfg(test)]
-mod tests;
-
 pub use flat::{Binding, Flat, Index, Opener, TypeUse};

@@ -8,6 +8,3 @@ mod part;
 
 pub use field::part_of;
 pub use part::Part;
-
-#[cfg(test)]
-mod tests;

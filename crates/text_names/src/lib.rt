@@ -49,6 +49,3 @@ impl<T: Drop> From<AllocFailed<T>> for AsmRefusal {
         AsmRefusal::NoMemory
     }
 }
-
-#[cfg(test)]
-mod tests;

@@ -6,6 +6,3 @@ mod parts;
 
 pub use collect::parts_of_text;
 pub use parts::{Parts, put};
-
-#[cfg(test)]
-mod tests;

@@ -12,6 +12,3 @@ pub use body::{expression, no_instructions_are_two_expressions};
 pub use instrs::plain;
 pub use spaces::Spaces;
 pub use types::{first_type, type_number, written_type};
-
-#[cfg(test)]
-mod tests;

@@ -5,6 +5,3 @@
 mod spaces;
 
 pub use spaces::{no_text_has_two_lists_of_spaces, spaces_of_text};
-
-#[cfg(test)]
-mod tests;

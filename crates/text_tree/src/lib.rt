@@ -12,6 +12,3 @@ pub use field::{
     ImportField, Kind, Text, TypeField,
 };
 pub use text::{no_words_are_two_texts, parse};
-
-#[cfg(test)]
-mod tests;

@@ -5,6 +5,3 @@
 mod added;
 
 pub use added::{no_text_has_two_lists_of_types, types_of_text};
-
-#[cfg(test)]
-mod tests;

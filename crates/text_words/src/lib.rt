@@ -42,6 +42,3 @@ impl From<AllocError> for TextRefusal {
         TextRefusal::NoMemory
     }
 }
-
-#[cfg(test)]
-mod tests;

@@ -1,0 +1,38 @@
+#!/usr/bin/env bash
+# Prints the microseconds that a debugger's session takes for a million turns of a countdown, and those of one turn back after them,
+# and below them the load of the machine. It fails where going back takes a tenth of the run or more. Run it anywhere in the repository:
+#
+#   bench/debug.sh
+source "$(dirname "${BASH_SOURCE[0]}")/common.sh" debug_bench wat2wasm
+
+if (($# > 0)); then
+  usage
+fi
+build
+
+# 8 instructions a round
+cat >"$work/countdown.wat" <<'MODULE'
+(module
+  (func (export "run") (local i64)
+    i64.const 1000000
+    local.set 0
+    loop
+      local.get 0
+      i64.const 1
+      i64.sub
+      local.tee 0
+      i64.eqz
+      i32.eqz
+      br_if 0
+    end))
+MODULE
+wat2wasm "$work/countdown.wat" -o "$work/countdown.wasm"
+
+line=$("$program" "$work/countdown.wasm" run 1000000)
+read -r turns _ forward _ _ back _ <<<"$line"
+printf '%s turns %d us, back %d us\n' "$turns" $((forward / 1000)) $((back / 1000))
+uptime | sed 's/.*load/load/'
+if ((back * 10 >= forward)); then
+  echo "$script: going back takes a tenth of the run or more" >&2
+  exit 1
+fi

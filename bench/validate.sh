@@ -1,0 +1,35 @@
+#!/usr/bin/env bash
+# Prints how many calls a second are run one after another ("serial"), mined, and validated, by 1, 2 and 4 workers: 2,000 calls of 10,005
+# instructions, each of which uses a cell of its own, and below it the load of the machine. Each number is the best of three runs, and counts the
+# digests of the block too. Run it anywhere in the repository:
+#
+#   bench/validate.sh
+source "$(dirname "${BASH_SOURCE[0]}")/common.sh" validate_bench
+
+if (($# > 0)); then
+  usage
+fi
+
+# The best rate of three runs with these words.
+best() {
+  local rate best=0
+  for _ in 1 2 3; do
+    rate=$("$program" "$@" | sed 's/.*a second //')
+    if ((rate > best)); then
+      best=$rate
+    fi
+  done
+  echo "$best"
+}
+
+build
+printf '%-10s %10s %10s %10s\n' workers 1 2 4
+printf '%-10s %10s\n' serial "$(best serial 1)"
+for work in mine validate; do
+  row=$(printf '%-10s' "$work")
+  for workers in 1 2 4; do
+    row+=$(printf ' %10s' "$(best "$work" "$workers")")
+  done
+  echo "$row"
+done
+uptime | sed 's/.*load/load/'

@@ -1,0 +1,4 @@
+pub mod Limits
+pub mod Naming
+pub mod Sealing
+pub mod Turned

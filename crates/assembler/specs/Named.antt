@@ -1,0 +1,26 @@
+-- Texts that name a module, and texts that name none.
+use Rattle.std.specs.Prelude.{List, ℕ}
+use Rattle.spec_syntax.specs.Syntax.{Module}
+use Rattle.spec_binary.specs.Spells.{ModuleFits}
+use Rattle.spec_text.specs.Lexical.{Token, Lexes}
+use Rattle.spec_text.specs.Named.{Field}
+use Rattle.spec_text.specs.Resolve.{Resolves}
+use Rattle.spec_text.specs.Names.{Names}
+use Rattle.text_tree.specs.Texts.{IsText}
+
+abbrev pub NamesNothing : List ℕ → Type 0
+NamesNothing text = (m : Module) → Names text m → ⊥
+
+abbrev pub LexesToNothing : List ℕ → Type 0
+LexesToNothing text = (tokens : List Token) → Lexes text tokens → ⊥
+
+-- the text lexes to tokens that are these fields, and it names what they make
+pub record HasFields (text : List ℕ) (fields : List Field) : Type 0 where
+  pub tokens : List Token
+  pub lexes : Lexes text tokens
+  pub is_text : IsText tokens fields
+  pub only : (m : Module) → Names text m → Resolves fields m
+
+-- the fields make no module within the limits
+abbrev pub ResolveToNothing : List Field → Type 0
+ResolveToNothing fields = (m : Module) → Resolves fields m → ModuleFits m → ⊥

@@ -1,0 +1,67 @@
+//! The assembler: a text in the text format of WebAssembly becomes the module that it names (Core Specification, 6 Text
+//! Format).
+#![tactic(auto)]
+
+ghost use Rattle.std.specs.Prelude.{◌≡◌, IfOk, IfErr};
+ghost use Rattle.module_tree.specs.Modules.{module_view};
+ghost use Rattle.spec_text.specs.Names.{Names};
+ghost use Rattle.text_names.specs.Outcome.{Unless};
+ghost use Rattle.text_names.specs.declared.AsmRefusal.TheVariants.{NoMemory};
+ghost use Rattle.assembler.specs.Named.{NamesNothing};
+
+mod fields;
+mod lists;
+mod whole;
+
+use fields::tree_of;
+use module_tree::module::Module;
+use std::alloc::Allocator;
+use text_faults::first_fault;
+pub use text_names::AsmRefusal;
+use text_tree::Text;
+use whole::module_of;
+
+// Bytes of a text or a module.
+const BYTE_LIMIT: usize = 1_048_576;
+
+// The refusal of a text whose fields make no module within the limits, which is `met` where that is of memory.
+fn fault_of<A: Allocator + Clone>(
+    alloc: &A,
+    text: &str,
+    tree: &Text<'_, A>,
+    met: AsmRefusal,
+) -> AsmRefusal
+    ensures memory { met ≡ NoMemory → result ≡ NoMemory }
+{
+    match met {
+        AsmRefusal::NoMemory => AsmRefusal::NoMemory,
+        _ => match first_fault(alloc, tree) {
+            AsmRefusal::TooLarge(_) if text.len() > BYTE_LIMIT => AsmRefusal::TooLarge(1),
+            fault => fault,
+        },
+    }
+}
+
+/// The module that a text names (Core Specification, 6 Text Format): its tokens are words, whose fields make the module, and
+/// text and module are within the limits of this profile. It is refused for another cause than memory only where the text
+/// names no module. Which refusal is answered, and its place, are for people to read, and no clause speaks of them.
+///
+/// # Errors
+///
+/// First `Lex`, then `Unexpected` at the least place where the text leaves the grammar, then `UnknownName`, `RepeatedName` or
+/// `NumberRange` at the least place of such a fault, then `TooLarge` with the least limit that is passed. `NoMemory` may come
+/// at any time.
+pub fn assemble<A: Allocator + Clone>(alloc: A, text: &str) -> Result<Module<A>, AsmRefusal>
+    ensures names { IfOk result (λ m. Names text.now (module_view m)) }
+    ensures refused { IfErr result (Unless (NamesNothing text.now)) }
+{
+    let tree = tree_of(&alloc, text)?;
+    let module = match module_of(&alloc, &tree) {
+        Ok(module) => module,
+        Err(met) => return Err(fault_of(&alloc, text, &tree, met)),
+    };
+    if text.len() > BYTE_LIMIT {
+        return Err(AsmRefusal::TooLarge(1));
+    }
+    Ok(module)
+}

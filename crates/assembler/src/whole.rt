@@ -1,0 +1,39 @@
+//! The module of a text's fields.
+ghost use Rattle.std.specs.Prelude.{◌≡◌, IfOk, IfErr};
+ghost use Rattle.module_tree.specs.Modules.{module_view};
+ghost use Rattle.spec_binary.specs.Spells.{ModuleFits};
+ghost use Rattle.spec_text.specs.Resolve.{Resolves};
+ghost use Rattle.text_names.specs.Outcome.{Unless};
+ghost use Rattle.text_tree.specs.Views.{fields_of};
+ghost use Rattle.assembler.specs.Named.{ResolveToNothing};
+
+use crate::lists::lists_of;
+use module_limits::{Unsealed, seal};
+use module_tree::module::Module;
+use std::alloc::Allocator;
+use text_module::reading_of_fields_is_exact;
+use text_names::AsmRefusal;
+use text_parts::parts_of_text;
+use text_spaces::{no_text_has_two_lists_of_spaces, spaces_of_text};
+use text_tree::Text;
+
+/// The module that fields make, within its limits. They are refused for another cause than memory only where they make no
+/// such module.
+pub fn module_of<A: Allocator + Clone>(
+    alloc: &A,
+    tree: &Text<'_, A>,
+) -> Result<Module<A>, AsmRefusal>
+    ensures resolves { IfOk result (λ m. Resolves (fields_of tree.now) (module_view m)) }
+    ensures fits { IfOk result (λ m. ModuleFits (module_view m)) }
+    ensures refused { IfErr result (Unless (ResolveToNothing (fields_of tree.now))) }
+{
+    no_text_has_two_lists_of_spaces();
+    reading_of_fields_is_exact();
+    let spaces = spaces_of_text(alloc, tree)?;
+    let parts = parts_of_text(alloc, &spaces, tree)?;
+    match seal(lists_of(spaces.types, parts)) {
+        Ok(module) => Ok(module),
+        Err(Unsealed::NoMemory) => Err(AsmRefusal::NoMemory),
+        Err(Unsealed::TooLarge) => Err(AsmRefusal::TooLarge(1)),
+    }
+}

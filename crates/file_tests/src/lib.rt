@@ -1,0 +1,15 @@
+//! Tests of files in parts: numbers, records, lock profiles, blocks and cells; and of the graph of lock profiles. There is no code here.
+#![tactic(auto)]
+
+#[cfg(test)]
+mod blocks;
+#[cfg(test)]
+mod cells;
+#[cfg(test)]
+mod graphs;
+#[cfg(test)]
+mod numbers;
+#[cfg(test)]
+mod profiles;
+#[cfg(test)]
+mod records_of_calls;

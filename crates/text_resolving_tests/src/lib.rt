@@ -1,0 +1,15 @@
+//! Tests of the names, types, spaces and parts of a text. There is no code here.
+#![tactic(auto)]
+
+#[cfg(test)]
+mod fields;
+#[cfg(test)]
+mod instructions;
+#[cfg(test)]
+mod names;
+#[cfg(test)]
+mod parts;
+#[cfg(test)]
+mod spaces;
+#[cfg(test)]
+mod types;

@@ -1,0 +1,10 @@
+//! What the program does with no words: it runs two stored calls of a stored contract and tells their receipts.
+#![tactic(auto)]
+
+mod answer;
+mod runs;
+mod stored;
+#[cfg(test)]
+mod tests;
+
+pub use answer::show_stored;
