@@ -1,5 +1,5 @@
 -- Lists of words, word by word.
-use Rattle.std.proofs.Common.{◌≡◌, ℕ, ◌<◌, ◌≤◌, ◌-◌, List, [], ◌∷◌, take, drop, length, slice_index_or, Bor, refl, sym, ap, arith}
+use Rattle.std.proofs.Common.{◌≡◌, Option, Some, None, MatchOption, ℕ, ◌<◌, ◌≤◌, ◌-◌, List, [], ◌∷◌, take, drop, length, slice_index_or, Bor, refl, sym, ap, arith}
 use Rattle.std.proofs.lemmas.List.{take_all, length-drop}
 use Rattle.wblock_commands.specs.Words.{texts, choices}
 
@@ -14,6 +14,13 @@ two_words (v ∷ w ∷ []) e = refl
 two_words [] e = absurd (omega (arith, e))
 two_words (v ∷ []) e = absurd (omega (arith, e))
 two_words (v ∷ w ∷ x ∷ ws) e = absurd (omega (arith, e))
+
+pub three_words : (ws : List (Bor (List ℕ))) → length ws ≡ 3 → texts ws ≡ word_at ws 0 ∷ word_at ws 1 ∷ word_at ws 2 ∷ []
+three_words (v ∷ w ∷ x ∷ []) e = refl
+three_words [] e = absurd (omega (arith, e))
+three_words (v ∷ []) e = absurd (omega (arith, e))
+three_words (v ∷ w ∷ []) e = absurd (omega (arith, e))
+three_words (v ∷ w ∷ x ∷ y ∷ ws) e = absurd (omega (arith, e))
 
 abbrev pub from_third : List (Bor (List ℕ)) → List (Bor (List ℕ))
 from_third ws = take (length ws - 2) (drop 2 ws)
@@ -33,3 +40,7 @@ pub one_choice : (os : List (Bor (List ℕ) × Bor (List ℕ))) → 0 < length o
 one_choice [] lt le = absurd (omega (arith, lt))
 one_choice (o ∷ []) lt le = refl
 one_choice (o ∷ p ∷ os) lt le = absurd (omega (arith, le))
+
+pub if_none : {A : Type 0} (o : Option A) (P : Type 0) (Q : A → Type 0) → o ≡ None → MatchOption o P Q → P
+if_none None P Q e h = h
+if_none (Some x) P Q e h = absurd cc

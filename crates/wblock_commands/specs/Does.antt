@@ -4,16 +4,31 @@ use Rattle.wblock_io.specs.Holding.{Holding}
 use Rattle.wblock_line.specs.declared.answer.Answer.{Answer}
 use Rattle.wblock_line.specs.declared.perform.Status.{Status}
 use Rattle.wblock_line.specs.Answers.{status_of, IsPerformed, IsCut}
+use Rattle.wblock_stored.specs.Stored.{ShowsStored}
+use Rattle.wblock_asm.specs.Assembles.{Assembles}
 use Rattle.wblock_check.specs.Checks.{Checks}
 use Rattle.wblock_deploy.specs.Deploys.{Deploys}
+use Rattle.wblock_mine.specs.Mines.{Mines}
+use Rattle.wblock_validate.specs.Validates.{Validates}
+use Rattle.wblock_debug.specs.Debugs.{Debugs, IsNotListed}
 use Rattle.wblock_commands.specs.declared.command.Command.{Command}
-use Rattle.wblock_commands.specs.declared.command.Command.TheVariants.{Check, Deploy}
+use Rattle.wblock_commands.specs.declared.command.Command.TheVariants.{Stored, Asm, Check, Deploy, Mine, Validate, Debug}
 use Rattle.wblock_commands.specs.Words.{texts}
 
 -- what a command comes to over files
 abbrev pub Answers : Command → Holding → Answer → Type 0
+Answers Stored holds answer = ShowsStored answer
+Answers (Asm text target) holds answer = Assembles holds text.now target.now answer
 Answers (Check target heap) holds answer = Checks holds target.now answer
 Answers (Deploy world modules) holds answer = Deploys holds world.now (texts modules.now) answer
+Answers (Mine task) holds answer = Mines holds task answer
+Answers (Validate task) holds answer = Validates holds task answer
+Answers (Debug task) holds answer = Debugs holds task answer
+
+-- there is no call of the number that is asked for
+abbrev pub Misses : Command → Holding → Type 0
+Misses (Debug task) holds = IsNotListed holds task
+Misses c holds = ⊥
 
 -- the answer of this status was written and printed whole
 pub record Does (c : Command) (status : Status) (old new : Holding) (before after : List ℕ) : Type 0 where

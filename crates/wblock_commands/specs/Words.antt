@@ -3,7 +3,12 @@ use Rattle.std.specs.Prelude.{◌≡◌, ℕ, ◌<◌, ◌≤◌, List, [], ◌�
 use Rattle.std.specs.Borrow.{Bor}
 use Rattle.wblock_line.specs.Words.{Line, Choice, split}
 use Rattle.wblock_commands.specs.declared.command.Command.{Command}
-use Rattle.wblock_commands.specs.declared.command.Command.TheVariants.{Check, Deploy}
+use Rattle.wblock_commands.specs.declared.command.Command.TheVariants.{Stored, Asm, Check, Deploy, Mine, Validate, Debug}
+use Rattle.wblock_commands.specs.Options.{AsksFuel, AsksWorkers, AsksTries, HasOnlyMining, HasOnlyValidation}
+use Rattle.debug_asked.specs.Asks.{AsksDebug}
+use Rattle.debug_asked.specs.declared.Debugging.{Debugging}
+use Rattle.wblock_mine.specs.declared.Mining.{Mining}
+use Rattle.wblock_validate.specs.declared.Validation.{Validation}
 
 abbrev pub texts : List (Bor (List ℕ)) → List (List ℕ)
 texts words = map (λ w. w.now) words
@@ -22,6 +27,16 @@ abbrev pub AsksHeap : List Choice → Option ℕ → Type 0
 AsksHeap options None = options ≡ []
 AsksHeap options (Some n) = (word : List ℕ) × (options ≡ (codes "--heap", word) ∷ []) × IsSize word n
 
+-- no words
+pub record AsksStored (line : Line) : Type 0 where
+  pub words : line.words ≡ []
+  pub options : line.options ≡ []
+
+-- `asm TEXT MODULE`
+pub record AsksAsm (line : Line) (text target : List ℕ) : Type 0 where
+  pub words : line.words ≡ codes "asm" ∷ text ∷ target ∷ []
+  pub options : line.options ≡ []
+
 -- `check MODULE [--heap N]`
 pub record AsksCheck (line : Line) (target : List ℕ) (heap : Option ℕ) : Type 0 where
   pub words : line.words ≡ codes "check" ∷ target ∷ []
@@ -34,15 +49,46 @@ pub record AsksDeploy (line : Line) (world : List ℕ) (modules : List (List ℕ
   pub some : 0 < length modules
   pub few : length modules ≤ 1024
 
+-- `mine WORLD CALLS BLOCK NEXT --fuel N [--workers 4] [--tries 3]`
+pub record AsksMine (line : Line) (m : Mining) : Type 0 where
+  pub words : line.words ≡ codes "mine" ∷ m.world.now ∷ m.calls.now ∷ m.block.now ∷ m.next.now ∷ []
+  pub fuel : AsksFuel line.options m.fuel
+  pub workers : AsksWorkers line.options m.workers
+  pub tries : AsksTries line.options m.tries
+  pub only : HasOnlyMining line.options
+
+-- `validate WORLD CALLS BLOCK --fuel N [--workers 4]`
+pub record AsksValidate (line : Line) (v : Validation) : Type 0 where
+  pub words : line.words ≡ codes "validate" ∷ v.world.now ∷ v.calls.now ∷ v.block.now ∷ []
+  pub fuel : AsksFuel line.options v.fuel
+  pub workers : AsksWorkers line.options v.workers
+  pub only : HasOnlyValidation line.options
+
+-- the line asks for no command over a world and calls
+pub record AsksNoTask (line : Line) : Type 0 where
+  pub mining : (m : Mining) → ¬ AsksMine line m
+  pub validation : (v : Validation) → ¬ AsksValidate line v
+  pub debugging : (d : Debugging) → ¬ AsksDebug line d
+
 abbrev pub IsLineOf : Line → Command → Type 0
+IsLineOf line Stored = AsksStored line
+IsLineOf line (Asm text target) = AsksAsm line text.now target.now
 IsLineOf line (Check target heap) = AsksCheck line target.now heap
 IsLineOf line (Deploy world modules) = AsksDeploy line world.now (texts modules.now)
+IsLineOf line (Mine task) = AsksMine line task
+IsLineOf line (Validate task) = AsksValidate line task
+IsLineOf line (Debug task) = AsksDebug line task
 
 -- the words of a line, its options taken out, ask for this
 abbrev pub Says : List (List ℕ) → Command → Type 0
 Says words c = (line : Line) × (split words ≡ Some line) × IsLineOf line c
 
--- a world has at most 1,024 contracts
+-- a world has at most 1,024 contracts, 1 to 64 workers run calls, and a worker tries a call at most 1 to 16 times
 abbrev pub HasFew : Command → Type 0
+HasFew Stored = Unit {0}
+HasFew (Asm text target) = Unit {0}
 HasFew (Check target heap) = Unit {0}
 HasFew (Deploy world modules) = length modules.now ≤ 1024
+HasFew (Mine task) = ((1 ≤ task.workers) × (task.workers ≤ 64)) × ((1 ≤ task.tries) × (task.tries ≤ 16))
+HasFew (Validate task) = (1 ≤ task.workers) × (task.workers ≤ 64)
+HasFew (Debug task) = Unit {0}

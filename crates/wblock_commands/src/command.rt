@@ -2,12 +2,18 @@
 
 ghost use Rattle.std.specs.Prelude.{◌≡◌, ◌≢◌, ◌≤◌, ◌↔◌, ℕ, List, Option, IfOk, IsTrue, MatchOption, decimal};
 ghost use Rattle.wblock_line.specs.Words.{line_of};
-ghost use Rattle.wblock_commands.specs.Words.{AsksHeap, IsSize, AsksCheck, AsksDeploy, IsLineOf, texts, choices};
+ghost use Rattle.wblock_commands.specs.Words.{AsksStored, AsksAsm, AsksHeap, IsSize, AsksCheck, AsksDeploy, AsksMine, AsksValidate, AsksNoTask, IsLineOf, texts, choices};
 ghost use Rattle.wblock_commands.specs.declared.command.Command.{Command as Asked};
+ghost use Rattle.wblock_mine.specs.declared.Mining.{Mining as TheMining};
+ghost use Rattle.wblock_validate.specs.declared.Validation.{Validation as TheValidation};
 
+use crate::options::{fuel_in, has_only_mining, has_only_validation, tries_in, workers_in};
 use calls_text::number_of;
+use debug_asked::{Debugging, debugging_of};
 use std::alloc::{AllocError, Global};
 use wblock_line::Line;
+use wblock_mine::Mining;
+use wblock_validate::Validation;
 
 /// The least and the most bytes of the heap of `check`.
 const LEAST_HEAP: u64 = 1_024;
@@ -15,12 +21,29 @@ const LEAST_HEAP: u64 = 1_024;
 const MOST_HEAP: u64 = 16_777_216;
 
 /// A command with its words.
-#[derive(Clone, Copy, Debug)]
+#[derive(Debug, Drop)]
 pub enum Command<'l, 'w> {
+    /// No words: the two stored calls of the stored contract.
+    Stored,
+    /// `asm TEXT MODULE`: the module that a text names, in its shortest spelling.
+    Asm(&'w str, &'w str),
     /// `check MODULE [--heap N]`: whether a module is valid, its tree in an arena or in a heap of N bytes, 1,024 to 16,777,216.
     Check(&'w str, Option<u32>),
     /// `deploy WORLD MODULE...`: the world of these modules, 1 to 1,024.
     Deploy(&'w str, &'l [&'w str]),
+    /// `mine WORLD CALLS BLOCK NEXT --fuel N [--workers 4] [--tries 3]`: a block of the calls over the world, and the world after it.
+    Mine(Mining<'w>),
+    /// `validate WORLD CALLS BLOCK --fuel N [--workers 4]`: the verdict on the block.
+    Validate(Validation<'w>),
+    /// `debug WORLD CALLS CALL CMD...`: a call that runs alone, turn by turn.
+    Debug(Debugging<'w>),
+}
+
+/// Whether a line has neither words nor options.
+fn is_stored(words: &[&str], options: &[(&str, &str)]) -> bool
+    ensures { IsTrue result ↔ AsksStored (record { words = texts words.now; options = choices options.now }) }
+{
+    words.is_empty() && options.is_empty()
 }
 
 /// The size of a heap that a word spells, in decimal with no needless zero.
@@ -79,6 +102,16 @@ fn check_of<'w>(
     }
 }
 
+/// The text and the module of `asm`.
+fn asm_of<'w>(words: &[&'w str], options: &[(&str, &str)]) -> Option<(&'w str, &'w str)>
+    ensures { MatchOption result ((text target : List ℕ) → ¬ AsksAsm (record { words = texts words.now; options = choices options.now }) text target) (λ x. AsksAsm (record { words = texts words.now; options = choices options.now }) x.0.now x.1.now) }
+{
+    if !options.is_empty() || words.len() != 3 || !is_word(words[0], "asm") {
+        return None;
+    }
+    Some((words[1], words[2]))
+}
+
 /// The world and the modules of `deploy`.
 fn deploy_of<'l, 'w>(
     words: &'l [&'w str],
@@ -96,6 +129,81 @@ fn deploy_of<'l, 'w>(
     Some((words[1], &words[2..]))
 }
 
+/// What `mine` is asked for.
+fn mining_of<'w>(
+    alloc: Global,
+    words: &[&'w str],
+    options: &[(&'w str, &'w str)],
+) -> Result<Option<Mining<'w>>, AllocError>
+    ensures { IfOk result (λ found. MatchOption found ((m : TheMining) → ¬ AsksMine (record { words = texts words.now; options = choices options.now }) m) (AsksMine (record { words = texts words.now; options = choices options.now }))) }
+{
+    if words.len() != 5 || !is_word(words[0], "mine") || !has_only_mining(options) {
+        return Ok(None);
+    }
+    let Some(fuel) = fuel_in(alloc, options)? else {
+        return Ok(None);
+    };
+    let Some(workers) = workers_in(alloc, options)? else {
+        return Ok(None);
+    };
+    let Some(tries) = tries_in(alloc, options)? else {
+        return Ok(None);
+    };
+    Ok(Some(Mining {
+        world: words[1],
+        calls: words[2],
+        block: words[3],
+        next: words[4],
+        fuel,
+        workers,
+        tries,
+    }))
+}
+
+/// What `validate` is asked for.
+fn validation_of<'w>(
+    alloc: Global,
+    words: &[&'w str],
+    options: &[(&'w str, &'w str)],
+) -> Result<Option<Validation<'w>>, AllocError>
+    ensures { IfOk result (λ found. MatchOption found ((v : TheValidation) → ¬ AsksValidate (record { words = texts words.now; options = choices options.now }) v) (AsksValidate (record { words = texts words.now; options = choices options.now }))) }
+{
+    if words.len() != 4 || !is_word(words[0], "validate") || !has_only_validation(options) {
+        return Ok(None);
+    }
+    let Some(fuel) = fuel_in(alloc, options)? else {
+        return Ok(None);
+    };
+    let Some(workers) = workers_in(alloc, options)? else {
+        return Ok(None);
+    };
+    Ok(Some(Validation {
+        world: words[1],
+        calls: words[2],
+        block: words[3],
+        fuel,
+        workers,
+    }))
+}
+
+/// The command over a world and calls that a line asks for.
+fn task_of<'l, 'w>(alloc: Global, line: &'l Line<'w>) -> Result<Option<Command<'l, 'w>>, AllocError>
+    ensures { IfOk result (λ found. MatchOption found (AsksNoTask (line_of line.entry.now)) (IsLineOf (line_of line.entry.now))) }
+{
+    let words = line.words.as_slice();
+    let options = line.options.as_slice();
+    if let Some(task) = mining_of(alloc, words, options)? {
+        return Ok(Some(Command::Mine(task)));
+    }
+    if let Some(task) = validation_of(alloc, words, options)? {
+        return Ok(Some(Command::Validate(task)));
+    }
+    match debugging_of(alloc, line)? {
+        Some(task) => Ok(Some(Command::Debug(task))),
+        None => Ok(None),
+    }
+}
+
 /// The command of a line, or None where the line asks for nothing.
 pub fn command_of<'l, 'w>(
     alloc: Global,
@@ -105,11 +213,20 @@ pub fn command_of<'l, 'w>(
 {
     let words = line.words.as_slice();
     let options = line.options.as_slice();
+    if is_stored(words, options) {
+        return Ok(Some(Command::Stored));
+    }
+    if let Some((text, target)) = asm_of(words, options) {
+        return Ok(Some(Command::Asm(text, target)));
+    }
     if let Some((target, heap)) = check_of(alloc, words, options)? {
         return Ok(Some(Command::Check(target, heap)));
     }
-    match deploy_of(words, options) {
-        Some((world, modules)) => Ok(Some(Command::Deploy(world, modules))),
+    if let Some((world, modules)) = deploy_of(words, options) {
+        return Ok(Some(Command::Deploy(world, modules)));
+    }
+    match task_of(alloc, line)? {
+        Some(task) => Ok(Some(task)),
         None => Ok(None),
     }
 }

