@@ -6,8 +6,6 @@ mod digests;
 mod laws;
 mod order;
 mod reason;
-#[cfg(test)]
-mod tests;
 mod turns;
 
 ghost use Rattle.std.specs.Prelude.{◌≡◌, ◌≤◌, ◌<◌, ℕ, List, All, IfOk, IfErr, OnOk, length};

@@ -5,8 +5,6 @@ mod lines;
 mod perform;
 mod printed;
 mod run;
-#[cfg(test)]
-mod tests;
 
 pub use printed::Printed;
 pub use run::debug_call;

@@ -5,8 +5,6 @@
 
 mod attempt;
 mod outcome;
-#[cfg(test)]
-mod tests;
 mod worker;
 
 ghost use Rattle.std.specs.Prelude.{◌≡◌, ◌≤◌, All, IfOk, length};

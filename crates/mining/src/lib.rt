@@ -3,9 +3,6 @@
 //! 2017, section 4: the miner).
 #![tactic(auto)]
 
-#[cfg(test)]
-mod tests;
-
 ghost use Rattle.std.specs.Prelude.{◌≤◌, IfOk, length};
 ghost use Rattle.spec_block.specs.Worlds.{order_of};
 ghost use Rattle.spec_block.specs.Headline.{Headline, IsLeft};

@@ -3,11 +3,7 @@
 //! that a miner publishes).
 #![tactic(auto)]
 
-#[cfg(test)]
-mod first_module;
 mod so_far;
-#[cfg(test)]
-mod tests;
 
 ghost use Rattle.std.specs.Prelude.{◌≡◌, ◌<◌, ◌^◌, ◌↔◌, [], Ok, Some, true, false, IsTrue, IfOk, OnOk, OnErr, length, slice_get};
 ghost use Rattle.std.specs.FinMap as finite;

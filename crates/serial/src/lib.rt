@@ -4,12 +4,8 @@
 
 mod again;
 mod changes;
-#[cfg(test)]
-mod first_module;
 mod locks;
 mod playing;
-#[cfg(test)]
-mod tests;
 
 ghost use Rattle.std.specs.Prelude.{◌≡◌, ◌<◌, ◌↔◌, IfOk, OnErr, IfSome, IfNone, IsSome, length};
 ghost use Rattle.std.specs.List.{All};

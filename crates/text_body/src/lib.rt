@@ -8,6 +8,5 @@ pub mod shared;
 mod turns;
 mod whole;
 
-pub use whole::{body, no_words_begin_with_two_bodies};
-
 pub use flat::{Binding, Flat, Index, Opener, TypeUse};
+pub use whole::{body, no_words_begin_with_two_bodies};

@@ -8,6 +8,3 @@ mod labels;
 mod names;
 
 pub use fields::first_fault;
-
-#[cfg(test)]
-mod tests;

@@ -1,6 +1,8 @@
-//! Tests of the names, types, spaces and parts of a text. There is no code here.
+//! Tests of the names, types, spaces and parts of a text, and of the refusals of broken texts. There is no code here.
 #![tactic(auto)]
 
+#[cfg(test)]
+mod faults;
 #[cfg(test)]
 mod fields;
 #[cfg(test)]

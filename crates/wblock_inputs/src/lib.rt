@@ -1,9 +1,6 @@
 //! The files that the commands over a world share: a world and a text of calls, read and judged.
 #![tactic(auto)]
 
-#[cfg(test)]
-mod tests;
-
 ghost use Rattle.std.specs.Prelude.{◌≡◌, ◌≤◌, IsTrue, IfOk, IfErr, OnOk, MatchResult, vec_len, string_bytes};
 ghost use Rattle.spec_block.specs.Bytes.{SpellsWorld};
 ghost use Rattle.world.specs.Views.{world_view};

@@ -5,8 +5,6 @@ mod disk;
 mod files;
 mod memory;
 mod stream;
-#[cfg(test)]
-mod tests;
 
 pub use disk::Disk;
 pub use files::{Files, ReadFault, StartFault, write_file};

@@ -1,8 +1,6 @@
 //! The command `mine WORLD CALLS BLOCK NEXT --fuel N [--workers 4] [--tries 3]`: a block of calls over a world, and the world after it.
 #![tactic(auto)]
 
-#[cfg(test)]
-mod tests;
 mod text;
 
 ghost use Rattle.std.specs.Prelude.{◌≡◌, ◌≤◌, IsTrue, IfOk, IfErr, OnOk, length};

@@ -1,9 +1,6 @@
 //! The command `validate WORLD CALLS BLOCK --fuel N [--workers 4]`: the verdict on a block of calls over a world.
 #![tactic(auto)]
 
-#[cfg(test)]
-mod tests;
-
 ghost use Rattle.std.specs.Prelude.{◌≡◌, ◌≤◌, IsTrue, IfOk, IfErr, OnOk, length, string_bytes};
 ghost use Rattle.spec_block.specs.Verdicts.{IsVerdictOf};
 ghost use Rattle.block_judge.specs.Judging.{told};

@@ -1,8 +1,6 @@
 //! Worlds, which are contracts and cells, and their bytes.
 #![tactic(auto)]
 
-#[cfg(test)]
-mod tests;
 mod value;
 mod write;
 

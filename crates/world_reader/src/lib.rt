@@ -4,7 +4,5 @@
 mod contracts;
 mod judge;
 mod read;
-#[cfg(test)]
-mod tests;
 
 pub use read::{ReadRefusal, read_world};

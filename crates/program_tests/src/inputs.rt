@@ -1,9 +1,9 @@
 //! Files of worlds and of calls that are read or refused.
 
-use crate::{Inputs, read_inputs};
 use codec::Failures;
 use std::alloc::Global;
 use std::test::Fail;
+use wblock_inputs::{Inputs, read_inputs};
 use wblock_io::MemoryFiles;
 use wblock_line::Fault;
 

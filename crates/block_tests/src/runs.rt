@@ -1,9 +1,9 @@
 // Calls of the first module, and calls of contracts that are not there.
-use crate::first_module::first_contract;
-use crate::{execute, replay, run_alone, serial_core};
+use crate::contracts::first_contract;
 use call::Call;
 use link::deployed::Deployed as Contract;
 use lock_profile::Held;
+use serial::{execute, replay, run_alone, serial_core};
 use spec_ledger::{Kind, Lock, Mode, Outcome, Receipt};
 use std::alloc::Global;
 use std::test::Fail;

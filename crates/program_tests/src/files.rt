@@ -1,9 +1,9 @@
 //! Files and streams, at each failure in turn.
 
-use crate::{Disk, Files, MemoryFiles, ReadFault, StartFault, Stream, write_file};
 use codec::{Failures, Sink, put_all};
 use std::alloc::Global;
 use std::test::Fail;
+use wblock_io::{Disk, Files, MemoryFiles, ReadFault, StartFault, Stream, write_file};
 
 /// Files that hold `a` as `one` and `b` as `two`, taken two bytes at a time.
 fn two_files(alloc: Global, failures: Failures) -> Result<MemoryFiles, Fail> {

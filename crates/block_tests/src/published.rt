@@ -1,9 +1,9 @@
 // Orders of calls of one contract, and of calls of none.
-use crate::Publishing;
-use crate::first_module::first_contract;
+use crate::contracts::first_contract;
 use call::Call;
 use link::deployed::Deployed as Contract;
 use lock_profile::Held;
+use publish::Publishing;
 use serial::run_alone;
 use spec_ledger::{Kind, Lock, Mode, Outcome, Receipt};
 use std::alloc::Global;

@@ -1,8 +1,8 @@
-use super::first_fault;
 use lexer::tokens;
 use std::alloc::Global;
 use std::process::Abort;
 use std::test::Fail;
+use text_faults::first_fault;
 use text_names::AsmRefusal::{self, NumberRange, RepeatedName, TooLarge, UnknownName};
 use text_tree::parse;
 

@@ -2,7 +2,6 @@
 
 ghost use Rattle.std.specs.Prelude.{◌≡◌, ◌≤◌};
 
-use crate::{Mining, mine_block};
 use codec::Failures;
 use std::alloc::Global;
 use std::sync::Wait;
@@ -10,6 +9,7 @@ use std::test::Fail;
 use std::thread::Threads;
 use wblock_io::MemoryFiles;
 use wblock_line::{Answer, Fault, Write};
+use wblock_mine::{Mining, mine_block};
 
 /// A contract of six functions over maps and counters, in its shortest spelling.
 const CONTRACT: [u8; 201] = [

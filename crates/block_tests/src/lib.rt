@@ -1,0 +1,17 @@
+//! Tests of serial execution, publishing, worlds and blocks. There is no code here.
+#![tactic(auto)]
+
+#[cfg(test)]
+mod contracts;
+#[cfg(test)]
+mod judged_blocks;
+#[cfg(test)]
+mod orders_of_blocks;
+#[cfg(test)]
+mod published;
+#[cfg(test)]
+mod runs;
+#[cfg(test)]
+mod worlds;
+#[cfg(test)]
+mod worlds_read;
