@@ -56,6 +56,7 @@ pub fn prepare<'a, A: Allocator>(
 
 /// Leaves blocks, loops and calls as long as they are at their end, and enters the function that waits once nothing
 /// is open. Takes no memory.
+#[inline(always)]
 pub fn settle_all<'a, A: Allocator>(parts: &mut Parts<'a, A>, waiting: &mut Option<Waiting<'a, A>>)
     requires ordered { IsOrderedParts parts.old }
     requires counted { IsCounted parts.old }
