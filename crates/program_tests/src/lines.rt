@@ -65,17 +65,26 @@ fn run_calm<R: Threads + Wait + Sync>(rt: &R, alloc: Global, words: &[&str]) -> 
 #[test]
 fn assembles_texts(rt: HostRuntime) -> Result<(), Fail> {
     let alloc = rt.alloc();
-    let run = run_calm(&rt, alloc, ["asm", "text", "w"].as_slice())?;
-    assert_eq!(rt; run.status, Status::Done);
-    assert_eq!(rt; run.out.bytes(), b"assembled 8 bytes\n".as_slice());
-    assert_eq!(rt;
-        run.world.as_deref(),
-        Some([0, 97, 115, 109, 1, 0, 0, 0].as_slice())
-    );
-    let run = run_calm(&rt, alloc, ["asm", "broken", "w"].as_slice())?;
-    assert_eq!(rt; run.status, Status::Refused);
-    assert_eq!(rt; run.out.bytes(), b"refused assemble 2 7\n".as_slice());
-    assert_eq!(rt; run.world.as_deref(), Some(b"old".as_slice()));
+    let rows = [
+        (
+            ["asm", "text", "w"].as_slice(),
+            0,
+            "assembled 8 bytes\n",
+            b"\0asm\x01\0\0\0".as_slice(),
+        ),
+        (
+            ["asm", "broken", "w"].as_slice(),
+            1,
+            "refused assemble 2 7\n",
+            b"old".as_slice(),
+        ),
+    ];
+    for (words, status, printed, world) in rows {
+        let run = run_calm(&rt, alloc, words)?;
+        assert_eq!(rt; run.out.bytes(), printed.as_bytes(), "{printed}");
+        assert_eq!(rt; run.status as u8, status, "{printed}");
+        assert_eq!(rt; run.world.as_deref(), Some(world));
+    }
     Ok(())
 }
 
