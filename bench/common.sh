@@ -32,3 +32,34 @@ usage() {
   echo "usage: $script $*" >&2
   exit 2
 }
+
+# The best rate of three runs of the program with these words; its line ends with the rate, behind 'a second'.
+best() {
+  local rate best=0
+  for _ in 1 2 3; do
+    rate=$("$program" "$@" | sed 's/.*a second //')
+    if ((rate > best)); then
+      best=$rate
+    fi
+  done
+  echo "$best"
+}
+
+# A module whose `run` counts down from a number, 8 instructions a round.
+countdown() {
+  cat <<MODULE
+(module
+  (func (export "run") (local i64)
+    i64.const $1
+    local.set 0
+    loop
+      local.get 0
+      i64.const 1
+      i64.sub
+      local.tee 0
+      i64.eqz
+      i32.eqz
+      br_if 0
+    end))
+MODULE
+}

@@ -10,22 +10,7 @@ if (($# > 0)); then
 fi
 build
 
-# 8 instructions a round
-cat >"$work/countdown.wat" <<'MODULE'
-(module
-  (func (export "run") (local i64)
-    i64.const 1000000
-    local.set 0
-    loop
-      local.get 0
-      i64.const 1
-      i64.sub
-      local.tee 0
-      i64.eqz
-      i32.eqz
-      br_if 0
-    end))
-MODULE
+countdown 1000000 >"$work/countdown.wat"
 wat2wasm "$work/countdown.wat" -o "$work/countdown.wasm"
 
 line=$("$program" "$work/countdown.wasm" run 1000000)

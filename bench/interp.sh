@@ -20,22 +20,7 @@ cat >"$work/empty.wat" <<'MODULE'
 (module (func (export "run")))
 MODULE
 
-# 8 instructions a round
-cat >"$work/countdown.wat" <<'MODULE'
-(module
-  (func (export "run") (local i64)
-    i64.const 1250000
-    local.set 0
-    loop
-      local.get 0
-      i64.const 1
-      i64.sub
-      local.tee 0
-      i64.eqz
-      i32.eqz
-      br_if 0
-    end))
-MODULE
+countdown 1250000 >"$work/countdown.wat"
 
 # 14 of 16 pages are filled 8 times, 8 bytes by each store
 cat >"$work/fill.wat" <<'MODULE'

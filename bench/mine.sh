@@ -10,18 +10,6 @@ if (($# > 0)); then
   usage
 fi
 
-# The best rate of three runs with these words.
-best() {
-  local rate best=0
-  for _ in 1 2 3; do
-    rate=$("$program" "$@" | sed 's/.* a second //')
-    if ((rate > best)); then
-      best=$rate
-    fi
-  done
-  echo "$best"
-}
-
 build
 printf '%-6s %6s %10s %10s %10s %10s\n' calls shared serial 1 2 4
 for length in short long; do

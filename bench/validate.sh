@@ -10,25 +10,13 @@ if (($# > 0)); then
   usage
 fi
 
-# The best rate of three runs with these words.
-best() {
-  local rate best=0
-  for _ in 1 2 3; do
-    rate=$("$program" "$@" | sed 's/.*a second //')
-    if ((rate > best)); then
-      best=$rate
-    fi
-  done
-  echo "$best"
-}
-
 build
 printf '%-10s %10s %10s %10s\n' workers 1 2 4
 printf '%-10s %10s\n' serial "$(best serial 1)"
-for work in mine validate; do
-  row=$(printf '%-10s' "$work")
+for task in mine validate; do
+  row=$(printf "%-10s" "$task")
   for workers in 1 2 4; do
-    row+=$(printf ' %10s' "$(best "$work" "$workers")")
+    row+=$(printf ' %10s' "$(best "$task" "$workers")")
   done
   echo "$row"
 done
