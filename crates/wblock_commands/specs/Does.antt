@@ -25,6 +25,11 @@ Answers (Mine task) holds answer = Mines holds task answer
 Answers (Validate task) holds answer = Validates holds task answer
 Answers (Debug task) holds answer = Debugs holds task answer
 
+-- a call is asked for by its number
+abbrev pub AsksCall : Command → Type 0
+AsksCall (Debug task) = Unit {0}
+AsksCall c = ⊥
+
 -- there is no call of the number that is asked for
 abbrev pub Misses : Command → Holding → Type 0
 Misses (Debug task) holds = IsNotListed holds task

@@ -4,7 +4,7 @@ ghost use Rattle.std.specs.Prelude.{◌≡◌, ◌≢◌, ◌≤◌, ◌⊎◌, 
 ghost use Rattle.codec.specs.Putting.{IsRaised};
 ghost use Rattle.wblock_line.specs.Answers.{CountsFault};
 ghost use Rattle.wblock_commands.specs.Words.{Says, HasFew};
-ghost use Rattle.wblock_commands.specs.Does.{Answers, Misses, Does, Cuts, IsKept};
+ghost use Rattle.wblock_commands.specs.Does.{Answers, AsksCall, Misses, Does, Cuts, IsKept};
 ghost use Rattle.wblock_commands.specs.declared.command.Command.{Command as Asked};
 
 use crate::command::{Command, command_of};
@@ -32,6 +32,7 @@ fn answer_of<'l, 'w, R: Threads + Wait + Sync, F: Files>(
 ) -> Result<Option<Answer<'w>>, Fault<'w>>
     requires { HasFew command }
     ensures answers { IfOk result (λ found. IsTrue F.tells → MatchOption found (Misses command.entry (F.holds files.old)) (Answers command.entry (F.holds files.old))) }
+    ensures asked { IfOk result (λ found. MatchOption found (AsksCall command.entry) (λ a. Unit {0})) }
     ensures kept { IsTrue F.tells → F.holds files.new ≡ F.holds files.old }
     ensures calm { OnOk result (F.failures files.new ≡ F.failures files.old) }
     ensures counted { IfErr result (λ f. CountsFault f (F.failures files.old) (F.failures files.new)) }
@@ -77,6 +78,7 @@ fn run_command<'a, R: Threads + Wait + Sync, F: Files, O: Sink, E: Sink>(
     ensures cut { result ≡ Status.File → IsTrue F.tells → IsTrue O.tells → IsKept (F.holds files.old) (F.holds files.new) (O.told out.old) (O.told out.new) ⊎ Cuts command.entry (F.holds files.old) (F.holds files.new) (O.told out.old) (O.told out.new) }
     ensures counted { result ≡ Status.File → IsRaised (F.failures files.old) (F.failures files.new) ⊎ IsRaised (O.failures out.old) (O.failures out.new) }
     ensures silent { (result ≡ Status.Usage) ⊎ (result ≡ Status.Memory) → IsTrue F.tells → IsKept (F.holds files.old) (F.holds files.new) (O.told out.old) (O.told out.new) }
+    ensures asked { result ≡ Status.Usage → AsksCall command.entry }
     ensures missed { result ≡ Status.Usage → IsTrue F.tells → Misses command.entry (F.holds files.old) }
 {
     match answer_of(rt, alloc, command, files) {
@@ -99,7 +101,7 @@ pub fn run_line<'a, R: Threads + Wait + Sync, F: Files, O: Sink, E: Sink>(
 ) -> Status
     ensures done { result ≡ Status.Done → (c : Asked) × Says (map (λ w. w.now) words.entry.now) c × (IsTrue F.tells → IsTrue O.tells → Does c Status.Done (F.holds files.old) (F.holds files.new) (O.told out.old) (O.told out.new)) }
     ensures refused { result ≡ Status.Refused → (c : Asked) × Says (map (λ w. w.now) words.entry.now) c × (IsTrue F.tells → IsTrue O.tells → Does c Status.Refused (F.holds files.old) (F.holds files.new) (O.told out.old) (O.told out.new)) }
-    ensures usage { result ≡ Status.Usage → ((c : Asked) → ¬ Says (map (λ w. w.now) words.entry.now) c) ⊎ ((c : Asked) × Says (map (λ w. w.now) words.entry.now) c × (IsTrue F.tells → Misses c (F.holds files.old))) }
+    ensures usage { result ≡ Status.Usage → ((c : Asked) → ¬ Says (map (λ w. w.now) words.entry.now) c) ⊎ ((c : Asked) × Says (map (λ w. w.now) words.entry.now) c × AsksCall c × (IsTrue F.tells → Misses c (F.holds files.old))) }
     ensures cut { result ≡ Status.File → (c : Asked) × Says (map (λ w. w.now) words.entry.now) c × (IsTrue F.tells → IsTrue O.tells → IsKept (F.holds files.old) (F.holds files.new) (O.told out.old) (O.told out.new) ⊎ Cuts c (F.holds files.old) (F.holds files.new) (O.told out.old) (O.told out.new)) }
     ensures counted { result ≡ Status.File → IsRaised (F.failures files.old) (F.failures files.new) ⊎ IsRaised (O.failures out.old) (O.failures out.new) }
     ensures silent { (result ≡ Status.Usage) ⊎ (result ≡ Status.Memory) → IsTrue F.tells → IsKept (F.holds files.old) (F.holds files.new) (O.told out.old) (O.told out.new) }
