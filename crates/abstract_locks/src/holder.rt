@@ -3,18 +3,18 @@ ghost use Rattle.std.specs.Prelude.{◌≡◌, ◌<◌, Some, IsSome, IfSome, If
 ghost use Rattle.std.specs.FinMap as finite;
 
 use spec_ledger::Mode;
-use std::alloc::Global;
+use std::alloc::{Allocator, Global};
 use std::collections::BTreeMap;
 use std::marker::Model;
 use storage::{Lock, NoMemory};
 
 /// The locks of a call, each with the join of the modes that it asked for.
 #[derive(Drop)]
-pub(crate) struct Holder {
-    held: BTreeMap<Lock, Mode>,
+pub(crate) struct Holder<A: Allocator = Global> {
+    held: BTreeMap<Lock, Mode, A>,
 }
 
-impl Model for Holder {
+impl<A: Allocator> Model for Holder<A> {
     ghost use Rattle.std.specs.FinMap.{from_entries};
     ghost use Rattle.spec_ledger.specs.Modes.{Modes as TheModes};
     ghost use Rattle.spec_ledger.specs.Codes.{coded_modes};
@@ -26,8 +26,8 @@ impl Model for Holder {
     ghost view = { λ h. from_entries h.held.entries };
 }
 
-impl Holder {
-    pub(crate) fn new(alloc: Global) -> Holder
+impl<A: Allocator + Copy> Holder<A> {
+    pub(crate) fn new(alloc: A) -> Self
         ensures { result ≡ finite.empty }
     {
         Holder {

@@ -15,7 +15,7 @@ mod tests;
 use holder::Holder;
 use sharing::{Shared, Sharing, let_all_go};
 pub use spec_ledger::Mode;
-use std::alloc::Global;
+use std::alloc::{Allocator, Global};
 use std::marker::Model;
 use std::mem;
 use storage::{Lock, NoMemory};
@@ -91,13 +91,13 @@ pub enum LockRefusal {
 
 /// The modes that each call holds. A lock is taken in time logarithmic in the number of locks, without a look at the other calls.
 #[derive(Drop)]
-pub struct Table {
-    alloc: Global,
-    holders: Vec<Holder>,
-    locks: Sharing,
+pub struct Table<A: Allocator = Global> {
+    alloc: A,
+    holders: Vec<Holder<A>, A>,
+    locks: Sharing<A>,
 }
 
-impl Model for Table {
+impl<A: Allocator> Model for Table<A> {
     ghost use Rattle.std.specs.Prelude.{List, length, ◌<◌, ◌^◌};
     ghost use Rattle.std.specs.Coded.{coded_list};
     ghost use Rattle.spec_ledger.specs.Modes.{Modes as TheModes};
@@ -113,9 +113,9 @@ impl Model for Table {
     ghost invariant = { λ t. AreShared t.locks t.holders.items × (length t.holders.items < 2 ^ 32) };
 }
 
-impl Table {
+impl<A: Allocator + Copy> Table<A> {
     /// A table of this many calls, none of which holds a lock.
-    pub fn open(alloc: Global, calls: u32) -> Result<Table, NoMemory>
+    pub fn open(alloc: A, calls: u32) -> Result<Self, NoMemory>
         ensures { IfOk result (λ table. table ≡ replicate calls finite.empty) }
     {
         let mut holders = Vec::new(alloc);

@@ -7,7 +7,7 @@ ghost use Rattle.abstract_locks.specs.Held.{AreShared, HasHolder, one_less};
 
 use crate::holder::Holder;
 use spec_ledger::Mode;
-use std::alloc::Global;
+use std::alloc::{Allocator, Global};
 use std::collections::BTreeMap;
 use std::marker::Model;
 use storage::{Lock, NoMemory};
@@ -21,11 +21,11 @@ pub(crate) struct Shared {
 
 /// The locks that are held.
 #[derive(Drop)]
-pub(crate) struct Sharing {
-    map: BTreeMap<Lock, Shared>,
+pub(crate) struct Sharing<A: Allocator = Global> {
+    map: BTreeMap<Lock, Shared, A>,
 }
 
-impl Model for Sharing {
+impl<A: Allocator> Model for Sharing<A> {
     ghost use Rattle.std.specs.FinMap.{from_entries};
     ghost use Rattle.abstract_locks.specs.Held.{Sharings, coded_sharings};
 
@@ -36,8 +36,8 @@ impl Model for Sharing {
     ghost view = { λ s. from_entries s.map.entries };
 }
 
-impl Sharing {
-    pub(crate) fn new(alloc: Global) -> Sharing
+impl<A: Allocator + Copy> Sharing<A> {
+    pub(crate) fn new(alloc: A) -> Self
         ensures { result ≡ finite.empty }
     {
         Sharing {
@@ -102,7 +102,7 @@ impl Sharing {
 }
 
 /// Lets go of all that a call holds, whoever the other calls are.
-pub(crate) fn let_all_go(locks: &mut Sharing, mut held: Holder)
+pub(crate) fn let_all_go<A: Allocator + Copy>(locks: &mut Sharing<A>, mut held: Holder<A>)
     requires { (before : List Modes) × (later : List Modes) × AreShared locks.old (before ++ held ∷ later) }
     ensures { (before later : List Modes) → AreShared locks.old (before ++ held ∷ later) → AreShared locks.new (before ++ finite.empty ∷ later) }
 {

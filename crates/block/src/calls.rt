@@ -13,13 +13,13 @@ use codec::Sink;
 use fields::{append_u32, append_u64};
 use records::append_value;
 use sha2::{Digest, Sha256};
-use std::alloc::{AllocError, Global};
+use std::alloc::{AllocError, Allocator};
 use wtypes::{NoMemory, Value};
 
 /// The magic, `57 42 43 4C`, as a number.
 const CALLS_MAGIC: u32 = 0x4c43_4257;
 
-fn append_values(out: &mut Vec<u8>, values: &[Value]) -> Result<(), AllocError>
+fn append_values<A: Allocator>(out: &mut Vec<u8, A>, values: &[Value]) -> Result<(), AllocError>
     requires { length values.now ≤ Call.MOST_ARGS }
     ensures { OnOk result (out.new.items ≡ out.old.items ++ counted value_bytes values.now) }
 {
@@ -30,7 +30,7 @@ fn append_values(out: &mut Vec<u8>, values: &[Value]) -> Result<(), AllocError>
     Ok(())
 }
 
-fn append_call(out: &mut Vec<u8>, call: &Call) -> Result<(), AllocError>
+fn append_call<A: Allocator>(out: &mut Vec<u8, A>, call: &Call) -> Result<(), AllocError>
     ensures { OnOk result (out.new.items ≡ out.old.items ++ call_bytes call.now) }
 {
     append_u32(out, call.contract())?;
@@ -41,7 +41,7 @@ fn append_call(out: &mut Vec<u8>, call: &Call) -> Result<(), AllocError>
     Ok(())
 }
 
-fn append_calls(out: &mut Vec<u8>, calls: &[Call]) -> Result<(), AllocError>
+fn append_calls<A: Allocator>(out: &mut Vec<u8, A>, calls: &[Call]) -> Result<(), AllocError>
     requires { length calls.now ≤ 65535 }
     ensures { OnOk result (out.new.items ≡ out.old.items ++ calls_bytes calls.now) }
 {
@@ -55,7 +55,11 @@ fn append_calls(out: &mut Vec<u8>, calls: &[Call]) -> Result<(), AllocError>
 }
 
 /// Writes the bytes of a list of calls.
-pub fn write_calls<S: Sink>(alloc: Global, calls: &[Call], sink: &mut S) -> Result<(), WriteRefusal>
+pub fn write_calls<A: Allocator, S: Sink>(
+    alloc: A,
+    calls: &[Call],
+    sink: &mut S,
+) -> Result<(), WriteRefusal>
     requires { length calls.now ≤ 65535 }
     ensures put { OnOk result (IsTrue S.tells → S.told sink.new ≡ S.told sink.old ++ calls_bytes calls.now) }
     ensures calm { OnOk result (S.failures sink.new ≡ S.failures sink.old) }
@@ -69,7 +73,7 @@ pub fn write_calls<S: Sink>(alloc: Global, calls: &[Call], sink: &mut S) -> Resu
 }
 
 /// SHA-256 of the bytes of a list of calls.
-pub fn digest_calls(alloc: Global, calls: &[Call]) -> Result<[u8; 32], NoMemory>
+pub fn digest_calls<A: Allocator>(alloc: A, calls: &[Call]) -> Result<[u8; 32], NoMemory>
     requires { length calls.now ≤ 65535 }
     ensures { IfOk result (λ digest. digest ≡ sha256 (calls_bytes calls.now)) }
 {

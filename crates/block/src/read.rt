@@ -12,7 +12,7 @@ use crate::refusal::BlockRefusal;
 use crate::value::Block;
 use fields::{Fault, read_tag, read_u32, read_u64};
 use records::{Position, read_position};
-use std::alloc::Global;
+use std::alloc::Allocator;
 
 /// The magic, `57 42 4C 4B`, as a number.
 pub(crate) const MAGIC: u32 = 0x4b4c_4257;
@@ -29,7 +29,11 @@ fn digest_of(bytes: &[u8]) -> Result<([u8; 32], &[u8]), Fault>
     }
 }
 
-fn items_of(alloc: Global, count: u32, bytes: &[u8]) -> Result<(Vec<Position>, &[u8]), Fault>
+fn items_of<A: Allocator + Copy>(
+    alloc: A,
+    count: u32,
+    bytes: &[u8],
+) -> Result<(Vec<Position<A>, A>, &[u8]), Fault>
     ensures { Gives (λ x. (x.0.items, x.1.now)) result (items_at next_position_at count None bytes.now) }
 {
     let mut positions = Vec::new(alloc);
@@ -43,7 +47,10 @@ fn items_of(alloc: Global, count: u32, bytes: &[u8]) -> Result<(Vec<Position>, &
 }
 
 #[tactic(auto, unfolding(crate::specs::Reading::positions_at))]
-fn list_of(alloc: Global, bytes: &[u8]) -> Result<(Vec<Position>, &[u8]), Fault>
+fn list_of<A: Allocator + Copy>(
+    alloc: A,
+    bytes: &[u8],
+) -> Result<(Vec<Position<A>, A>, &[u8]), Fault>
     ensures { Gives (λ x. (x.0.items, x.1.now)) result (positions_at bytes.now) }
 {
     let (count, rest) = read_u32(bytes)?;
@@ -57,7 +64,10 @@ fn list_of(alloc: Global, bytes: &[u8]) -> Result<(Vec<Position>, &[u8]), Fault>
 }
 
 /// The same, with the limit on what was read.
-fn positions_of(alloc: Global, bytes: &[u8]) -> Result<(Vec<Position>, &[u8]), Fault>
+fn positions_of<A: Allocator + Copy>(
+    alloc: A,
+    bytes: &[u8],
+) -> Result<(Vec<Position<A>, A>, &[u8]), Fault>
     ensures few { IfOk result (λ x. length x.0.items ≤ Block.MOST_POSITIONS) }
     ensures first { Gives (λ x. (x.0.items, x.1.now)) result (positions_at bytes.now) }
 {
@@ -66,7 +76,7 @@ fn positions_of(alloc: Global, bytes: &[u8]) -> Result<(Vec<Position>, &[u8]), F
 }
 
 #[tactic(auto, unfolding(crate::specs::Reading::block_at))]
-fn block_of(alloc: Global, bytes: &[u8]) -> Result<(Block, &[u8]), Fault>
+fn block_of<A: Allocator + Copy>(alloc: A, bytes: &[u8]) -> Result<(Block<A>, &[u8]), Fault>
     ensures { Gives (λ x. (x.0, x.1.now)) result (block_at bytes.now) }
 {
     let rest = read_tag(bytes, MAGIC)?;
@@ -82,7 +92,7 @@ fn block_of(alloc: Global, bytes: &[u8]) -> Result<(Block, &[u8]), Fault>
     }
 }
 
-fn all_of(alloc: Global, bytes: &[u8]) -> Result<Block, Fault>
+fn all_of<A: Allocator + Copy>(alloc: A, bytes: &[u8]) -> Result<Block<A>, Fault>
     ensures { Gives (λ b. b) result (whole (block_at bytes.now)) }
 {
     let (block, rest) = block_of(alloc, bytes)?;
@@ -93,7 +103,7 @@ fn all_of(alloc: Global, bytes: &[u8]) -> Result<Block, Fault>
 }
 
 /// The block of all of the bytes, and what is known of it.
-fn exactly_of(alloc: Global, bytes: &[u8]) -> Result<Block, Fault>
+fn exactly_of<A: Allocator + Copy>(alloc: A, bytes: &[u8]) -> Result<Block<A>, Fault>
     ensures spelled { IfOk result (λ b. SpellsBlock bytes.now b) }
     ensures only { (b : TheBlock) → SpellsBlock bytes.now b → Gives {Y = TheBlock} (λ x. x) result (Ok b) }
     ensures first { Gives (λ b. b) result (whole (block_at bytes.now)) }
@@ -104,7 +114,7 @@ fn exactly_of(alloc: Global, bytes: &[u8]) -> Result<Block, Fault>
 
 /// Reads the block that the bytes spell, all of them. They are refused exactly where they spell none, memory aside. Reading goes from front
 /// to back and the first fault is answered.
-pub fn read_block(alloc: Global, bytes: &[u8]) -> Result<Block, BlockRefusal>
+pub fn read_block<A: Allocator + Copy>(alloc: A, bytes: &[u8]) -> Result<Block<A>, BlockRefusal>
     ensures spelled { IfOk result (SpellsBlock bytes.now) }
     ensures none { IfErr result (λ refusal. (refusal ≡ NoMemory) ⊎ ((b : TheBlock) → ¬ (SpellsBlock bytes.now b))) }
     ensures first { IfErr result (λ refusal. Refuses (length bytes.now) refusal (whole (block_at bytes.now))) }

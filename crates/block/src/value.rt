@@ -5,20 +5,21 @@ ghost use Rattle.std.specs.List.{AllByRecursion};
 ghost use Rattle.spec_block.specs.Bytes.{IsBlock, IsDigest, IsPosition};
 
 use records::Position;
+use std::alloc::{Allocator, Global};
 use std::marker::Model;
 
 /// A block of calls: the digests of the world before, of the calls and of the world after, the positions in their order, and the fuel that
 /// the calls used. Its type keeps that it has a spelling: at most 65,535 positions, and what `Position` keeps.
 #[derive(Drop)]
-pub struct Block {
+pub struct Block<A: Allocator = Global> {
     before: [u8; 32],
     calls: [u8; 32],
-    positions: Vec<Position>,
+    positions: Vec<Position<A>, A>,
     fuel: u64,
     after: [u8; 32],
 }
 
-impl Model for Block {
+impl<A: Allocator> Model for Block<A> {
     ghost use Rattle.spec_block.specs.Worlds.{Block as TheBlock};
     ghost use Rattle.spec_block.specs.Bytes.{IsBlock};
 
@@ -38,7 +39,7 @@ fn note_digest(digest: &[u8])
 }
 
 /// Positions are of their type.
-fn note_positions(positions: &[Position])
+fn note_positions<A: Allocator>(positions: &[Position<A>])
     ensures { AllByRecursion IsPosition positions.now }
 {
     for position in positions {
@@ -49,23 +50,25 @@ fn note_positions(positions: &[Position])
 impl Block {
     /// The most positions.
     pub const MOST_POSITIONS: usize = 65_535;
+}
 
+impl<A: Allocator> Block<A> {
     /// The block with these parts. There is none with more than 65,535 positions.
     pub fn new(
         before: [u8; 32],
         calls: [u8; 32],
-        positions: Vec<Position>,
+        positions: Vec<Position<A>, A>,
         fuel: u64,
         after: [u8; 32],
-    ) -> Option<Block>
-        ensures there { IsSome result ↔ (vec_len positions ≤ Self.MOST_POSITIONS) }
+    ) -> Option<Self>
+        ensures there { IsSome result ↔ (vec_len positions ≤ Block.MOST_POSITIONS) }
         ensures is { IfSome result (λ b. b ≡ record { before = before; calls = calls; positions = positions.items; fuel = fuel; after = after }) }
     {
         note_digest(&before);
         note_digest(&calls);
         note_digest(&after);
         note_positions(&positions);
-        if positions.len() > Self::MOST_POSITIONS {
+        if positions.len() > Block::MOST_POSITIONS {
             return None;
         }
         Some(Block {
@@ -92,7 +95,7 @@ impl Block {
     }
 
     /// What the block says of each call, in the block's order.
-    pub fn positions(&self) -> &[Position]
+    pub fn positions(&self) -> &[Position<A>]
         ensures { result.now ≡ self.now.positions }
     {
         &self.positions

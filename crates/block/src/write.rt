@@ -10,7 +10,7 @@ use crate::value::Block;
 use codec::{Sink, put_all};
 use fields::{append_u32, append_u64};
 use records::{Position, append_position};
-use std::alloc::{AllocError, Global};
+use std::alloc::{AllocError, Allocator};
 
 /// Puts bytes that are made.
 pub(crate) fn put_made<S: Sink>(sink: &mut S, bytes: &[u8]) -> Result<(), WriteRefusal>
@@ -26,7 +26,10 @@ pub(crate) fn put_made<S: Sink>(sink: &mut S, bytes: &[u8]) -> Result<(), WriteR
     }
 }
 
-fn append_positions(out: &mut Vec<u8>, positions: &[Position]) -> Result<(), AllocError>
+fn append_positions<A: Allocator>(
+    out: &mut Vec<u8, A>,
+    positions: &[Position<A>],
+) -> Result<(), AllocError>
     requires { length positions.now ≤ Block.MOST_POSITIONS }
     ensures { OnOk result (out.new.items ≡ out.old.items ++ counted position_bytes positions.now) }
 {
@@ -37,7 +40,7 @@ fn append_positions(out: &mut Vec<u8>, positions: &[Position]) -> Result<(), All
     Ok(())
 }
 
-fn append_block(out: &mut Vec<u8>, block: &Block) -> Result<(), AllocError>
+fn append_block<A: Allocator>(out: &mut Vec<u8, A>, block: &Block<A>) -> Result<(), AllocError>
     ensures { OnOk result (out.new.items ≡ out.old.items ++ block_bytes block.now) }
 {
     block.hold();
@@ -52,7 +55,11 @@ fn append_block(out: &mut Vec<u8>, block: &Block) -> Result<(), AllocError>
 }
 
 /// Writes a block's bytes.
-pub fn write_block<S: Sink>(alloc: Global, block: &Block, sink: &mut S) -> Result<(), WriteRefusal>
+pub fn write_block<A: Allocator, S: Sink>(
+    alloc: A,
+    block: &Block<A>,
+    sink: &mut S,
+) -> Result<(), WriteRefusal>
     ensures put { OnOk result (IsTrue S.tells → S.told sink.new ≡ S.told sink.old ++ block_bytes block.now) }
     ensures calm { OnOk result (S.failures sink.new ≡ S.failures sink.old) }
     ensures unchanged { IsErrOf result WriteRefusal.NoMemory → sink.new ≡ sink.old }

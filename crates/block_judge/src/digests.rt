@@ -8,7 +8,7 @@ ghost use Rattle.block_judge.specs.Judging.{IfRejected, IsFirstFrom, NoneFrom};
 use crate::reason::{Reason, Unfit};
 use block::{Block, digest_calls};
 use call::Call;
-use std::alloc::Global;
+use std::alloc::Allocator;
 use world::{World, digest_world};
 
 fn is_same(a: &[u8; 32], b: &[u8; 32]) -> bool
@@ -18,11 +18,11 @@ fn is_same(a: &[u8; 32], b: &[u8; 32]) -> bool
 }
 
 /// Judges the digests of the world before and of the calls.
-pub(crate) fn judge_digests(
-    alloc: Global,
-    world: &World,
+pub(crate) fn judge_digests<A: Allocator + Copy>(
+    alloc: A,
+    world: &World<A>,
     calls: &[Call],
-    block: &Block,
+    block: &Block<A>,
 ) -> Result<(), Unfit>
     requires { length calls.now ≤ 65535 }
     ensures rejected { (fuel : ℕ) → IfErr result (λ unfit. IfRejected unfit (IsFirstFrom (HoldsOf (world_view world.now) calls.now fuel block.now) 1)) }

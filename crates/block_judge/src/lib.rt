@@ -24,22 +24,22 @@ use crate::turns::judge_turns;
 use block::{Block, BlockRefusal, read_block};
 use call::Call;
 use lock_profile::Profile;
-use std::alloc::Global;
+use std::alloc::{Allocator, Global};
 use world::World;
 
 /// A block that none of the first seven reasons speaks against.
 #[derive(Drop)]
-pub struct Fit {
+pub struct Fit<A: Allocator = Global> {
     /// The block.
-    pub block: Block,
+    pub block: Block<A>,
     /// The numbers of its calls, by position.
-    pub order: Vec<u32>,
+    pub order: Vec<u32, A>,
     /// The profiles of its positions.
-    pub profiles: Vec<Profile>,
+    pub profiles: Vec<Profile<A>, A>,
 }
 
 /// The block that the bytes spell.
-fn read(alloc: Global, bytes: &[u8]) -> Result<Block, Unfit>
+fn read<A: Allocator + Copy>(alloc: A, bytes: &[u8]) -> Result<Block<A>, Unfit>
     ensures spelled { IfOk result (SpellsBlock bytes.now) }
     ensures rejected { IfErr result (λ unfit. (world : TheWorld) (calls : List TheCall) (fuel : ℕ) → IfRejected unfit (IsVerdictOf world calls fuel bytes.now)) }
 {
@@ -53,13 +53,13 @@ fn read(alloc: Global, bytes: &[u8]) -> Result<Block, Unfit>
 }
 
 /// Judges a block that was read.
-fn examine(
-    alloc: Global,
-    world: &World,
+fn examine<A: Allocator + Copy>(
+    alloc: A,
+    world: &World<A>,
     calls: &[Call],
     fuel: u64,
-    block: &Block,
-) -> Result<(Vec<u32>, Vec<Profile>), Unfit>
+    block: &Block<A>,
+) -> Result<(Vec<u32, A>, Vec<Profile<A>, A>), Unfit>
     requires calls { length calls.now ≤ 65535 }
     requires order { length (order_of block.now) ≤ 65535 }
     requires profiles { length (profiles_of block.now) ≤ 65535 }
@@ -82,13 +82,13 @@ fn examine(
 /// # Errors
 ///
 /// The first of the reasons 1 to 7 that holds; or memory was refused.
-pub fn judge(
-    alloc: Global,
-    world: &World,
+pub fn judge<A: Allocator + Copy>(
+    alloc: A,
+    world: &World<A>,
     calls: &[Call],
     fuel: u64,
     bytes: &[u8],
-) -> Result<Fit, Unfit>
+) -> Result<Fit<A>, Unfit>
     requires { length calls.now ≤ 65535 }
     ensures rejected { IfErr result (λ unfit. IfRejected unfit (IsVerdictOf (world_view world.now) calls.now fuel bytes.now)) }
     ensures passed { IfOk result (λ fit. Passes (world_view world.now) calls.now fuel bytes.now fit.block) }

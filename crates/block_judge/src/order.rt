@@ -10,11 +10,11 @@ ghost use Rattle.block_judge.specs.Marks.{AreMarked};
 use crate::reason::{Reason, Unfit};
 use block::Block;
 use call::Call;
-use std::alloc::Global;
+use std::alloc::Allocator;
 use wtypes::NoMemory;
 
 /// The numbers of a block's calls, by position.
-pub(crate) fn numbers_of(alloc: Global, block: &Block) -> Result<Vec<u32>, NoMemory>
+pub(crate) fn numbers_of<A: Allocator>(alloc: A, block: &Block<A>) -> Result<Vec<u32, A>, NoMemory>
     ensures { IfOk result (λ numbers. numbers.items ≡ order_of block.now) }
 {
     let mut numbers = Vec::new(alloc);
@@ -25,7 +25,7 @@ pub(crate) fn numbers_of(alloc: Global, block: &Block) -> Result<Vec<u32>, NoMem
 }
 
 /// Marks the calls of an order. Answers the least position whose number is not that of a call, or stood before.
-fn mark(calls: &[Call], order: &[u32], marks: &mut Vec<bool>) -> Option<u32>
+fn mark<A: Allocator>(calls: &[Call], order: &[u32], marks: &mut Vec<bool, A>) -> Option<u32>
     requires few { length order.now < 2 ^ 32 }
     requires none { marks.old.items ≡ replicate (length calls.now) false }
     ensures bad { IfSome result (IsLeast (IsBadNumber calls.now order.now)) }
@@ -83,8 +83,8 @@ fn least_with_room(
 }
 
 /// Judges the order of a block: its numbers, then the sum of its limits, then the calls that are left out.
-pub(crate) fn judge_order(
-    alloc: Global,
+pub(crate) fn judge_order<A: Allocator>(
+    alloc: A,
     calls: &[Call],
     fuel: u64,
     order: &[u32],

@@ -12,11 +12,11 @@ use crate::reason::{Reason, Unfit};
 use block::{Block, Position};
 use lock_profile::{Held, Profile, Touched, turns};
 use spec_ledger::Entry;
-use std::alloc::Global;
+use std::alloc::Allocator;
 use wtypes::NoMemory;
 
 /// The locks of a profile with their modes.
-fn touched_of(alloc: Global, profile: &Profile) -> Result<Touched, NoMemory>
+fn touched_of<A: Allocator>(alloc: A, profile: &Profile<A>) -> Result<Touched<A>, NoMemory>
     ensures { IfOk result (λ touched. finite.entries touched ≡ held_in profile.now) }
 {
     profile.hold();
@@ -34,7 +34,10 @@ fn touched_of(alloc: Global, profile: &Profile) -> Result<Touched, NoMemory>
 }
 
 /// The locks of each position with their modes.
-fn all_touched(alloc: Global, positions: &[Position]) -> Result<Vec<Touched>, NoMemory>
+fn all_touched<A: Allocator + Copy>(
+    alloc: A,
+    positions: &[Position<A>],
+) -> Result<Vec<Touched<A>, A>, NoMemory>
     ensures { IfOk result (λ all. map finite.entries all.items ≡ map held_in (lists_of positions.now)) }
 {
     let mut all = Vec::new(alloc);
@@ -65,7 +68,7 @@ fn are_entries(a: &[Entry], b: &[Entry]) -> bool
 }
 
 /// The least position whose entries are not these.
-fn first_other(positions: &[Position], profiles: &[Profile]) -> Option<u32>
+fn first_other<A: Allocator>(positions: &[Position<A>], profiles: &[Profile<A>]) -> Option<u32>
     requires few { length positions.now < 2 ^ 32 }
     requires size { length profiles.now ≡ length positions.now }
     ensures other { IfSome result (IsLeast (IsUnlike (lists_of positions.now) profiles.now)) }
@@ -80,7 +83,10 @@ fn first_other(positions: &[Position], profiles: &[Profile]) -> Option<u32>
 }
 
 /// Judges the turns of a block, and gives its profiles.
-pub(crate) fn judge_turns(alloc: Global, block: &Block) -> Result<Vec<Profile>, Unfit>
+pub(crate) fn judge_turns<A: Allocator + Copy>(
+    alloc: A,
+    block: &Block<A>,
+) -> Result<Vec<Profile<A>, A>, Unfit>
     requires { length (profiles_of block.now) ≤ 65535 }
     ensures rejected { (world : TheWorld) (calls : List TheCall) (fuel : ℕ) → NoneFrom (HoldsOf world calls fuel block.now) 1 7 → IfErr result (λ unfit. IfRejected unfit (IsFirstFrom (HoldsOf world calls fuel block.now) 1)) }
     ensures passed { OnOk result ((world : TheWorld) (calls : List TheCall) (fuel : ℕ) → NoneFrom (HoldsOf world calls fuel block.now) 1 7 → NoneFrom (HoldsOf world calls fuel block.now) 1 8) }

@@ -11,19 +11,19 @@ ghost use Rattle.boost.specs.Counted.{closed_all, AreUnsettled, AreCounts};
 use crate::trace::same_trace;
 use abstract_locks::Table;
 use spec_ledger::{Inverse, Mode, Op, Outcome, Reply, Step};
-use std::alloc::Global;
+use std::alloc::{Allocator, Global};
 use std::marker::Model;
 use storage::{Cells, NoMemory, lock};
 
 /// A committed call.
 #[derive(Drop)]
-pub struct Entry {
+pub struct Entry<A: Allocator = Global> {
     pub(crate) call: u32,
-    pub(crate) trace: Vec<Step>,
+    pub(crate) trace: Vec<Step, A>,
     pub(crate) outcome: Outcome,
 }
 
-impl Model for Entry {
+impl<A: Allocator> Model for Entry<A> {
     ghost use Rattle.spec_ledger.specs.Book.{Entry as TheEntry};
     ghost use Rattle.spec_ledger.specs.Codes.{coded_entry};
     ghost use Rattle.spec_ledger.specs.Modes.{touched};
@@ -37,14 +37,14 @@ impl Model for Entry {
 
 /// A live try of a call.
 #[derive(Drop)]
-pub struct Attempt {
+pub struct Attempt<A: Allocator = Global> {
     pub(crate) call: u32,
     pub(crate) number: u64,
-    pub(crate) trace: Vec<Step>,
-    pub(crate) inverses: Vec<Inverse>,
+    pub(crate) trace: Vec<Step, A>,
+    pub(crate) inverses: Vec<Inverse, A>,
 }
 
-impl Model for Attempt {
+impl<A: Allocator> Model for Attempt<A> {
     ghost use Rattle.spec_ledger.specs.Book.{Attempt as TheAttempt};
     ghost use Rattle.spec_ledger.specs.Codes.{coded_attempt};
     ghost use Rattle.spec_ledger.specs.Modes.{touched};
@@ -57,7 +57,10 @@ impl Model for Attempt {
 }
 
 /// Takes inverses back, last first.
-pub(crate) fn take_all_back(cells: &mut Cells, mut inverses: Vec<Inverse>)
+pub(crate) fn take_all_back<A: Allocator + Copy>(
+    cells: &mut Cells<A>,
+    mut inverses: Vec<Inverse, A>,
+)
     requires { AreUnsettled inverses.items cells.old.unsettled }
     ensures cells { cells.new.cells ≡ back_all inverses.items cells.old.cells }
     ensures unsettled { cells.new.unsettled ≡ closed_all inverses.items cells.old.unsettled }
@@ -68,7 +71,7 @@ pub(crate) fn take_all_back(cells: &mut Cells, mut inverses: Vec<Inverse>)
 }
 
 /// Lets changes stand.
-pub(crate) fn settle_all(cells: &mut Cells, mut inverses: Vec<Inverse>)
+pub(crate) fn settle_all<A: Allocator + Copy>(cells: &mut Cells<A>, mut inverses: Vec<Inverse, A>)
     requires { AreUnsettled inverses.items cells.old.unsettled }
     ensures cells { cells.new.cells ≡ cells.old.cells }
     ensures unsettled { cells.new.unsettled ≡ closed_all inverses.items cells.old.unsettled }
@@ -89,12 +92,12 @@ pub(crate) fn mode(op: Op) -> Mode
     }
 }
 
-impl Attempt {
+impl<A: Allocator + Copy> Attempt<A> {
     /// Does an operation, takes its lock and notes it. The lock comes second: a change can be taken back without memory, one lock of a call cannot. Where memory is refused, all is as it was.
     pub(crate) fn act(
         &mut self,
-        cells: &mut Cells,
-        locks: &mut Table,
+        cells: &mut Cells<A>,
+        locks: &mut Table<A>,
         op: Op,
     ) -> Result<Reply, NoMemory>
         requires call { self.old.call < length locks.old }
@@ -139,7 +142,11 @@ pub(crate) fn returned(outcome: Outcome) -> bool
 }
 
 /// Ends the changes of a call: they stand if it returned, and else are taken back.
-pub(crate) fn end_all(cells: &mut Cells, inverses: Vec<Inverse>, stands: bool)
+pub(crate) fn end_all<A: Allocator + Copy>(
+    cells: &mut Cells<A>,
+    inverses: Vec<Inverse, A>,
+    stands: bool,
+)
     requires { AreUnsettled inverses.items cells.old.unsettled }
     ensures cells { cells.new.cells ≡ (if stands then cells.old.cells else back_all inverses.items cells.old.cells) }
     ensures unsettled { cells.new.unsettled ≡ closed_all inverses.items cells.old.unsettled }
@@ -151,8 +158,8 @@ pub(crate) fn end_all(cells: &mut Cells, inverses: Vec<Inverse>, stands: bool)
     }
 }
 
-impl Attempt {
-    pub(crate) fn into_inverses(self) -> Vec<Inverse>
+impl<A: Allocator + Copy> Attempt<A> {
+    pub(crate) fn into_inverses(self) -> Vec<Inverse, A>
         ensures { result.items ≡ self.inverses }
     {
         let Attempt {
@@ -165,7 +172,7 @@ impl Attempt {
     }
 
     /// The entry of an attempt, and its inverses.
-    pub(crate) fn into_entry(self, outcome: Outcome) -> (Entry, Vec<Inverse>)
+    pub(crate) fn into_entry(self, outcome: Outcome) -> (Entry<A>, Vec<Inverse, A>)
         ensures entry { result.0 ≡ entry_of self outcome }
         ensures inverses { result.1.items ≡ self.inverses }
     {
@@ -184,7 +191,7 @@ impl Attempt {
     }
 
     /// An attempt with an empty trace.
-    pub(crate) fn fresh(alloc: Global, call: u32, number: u64) -> Self
+    pub(crate) fn fresh(alloc: A, call: u32, number: u64) -> Self
         ensures { result ≡ fresh_of call number }
     {
         Attempt {

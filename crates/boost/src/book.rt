@@ -11,7 +11,7 @@ use crate::attempt::{Attempt, Entry, end_all, mode, returned, take_all_back};
 use crate::standing::{Standing, note_places, place_of};
 use abstract_locks::Table;
 use spec_ledger::{Lock, Op, Outcome, Reply, Step};
-use std::alloc::Global;
+use std::alloc::{Allocator, Global};
 use std::marker::Model;
 use storage::{Cells, NoMemory, lock};
 
@@ -68,28 +68,28 @@ pub enum BeginRefusal {
 
 /// What is left of a book.
 #[derive(Drop)]
-pub struct Closed {
+pub struct Closed<A: Allocator = Global> {
     /// The cells that the book was opened with.
-    pub opening: Cells,
+    pub opening: Cells<A>,
     /// The cells after every live call is undone.
-    pub cells: Cells,
+    pub cells: Cells<A>,
     /// The committed calls in their order.
-    pub entries: Vec<Entry>,
+    pub entries: Vec<Entry<A>, A>,
 }
 
 /// The committed calls, which are a serial run from the opening cells, and the live attempts, whose operations go together (Dickerson, Gazzillo, Herlihy, Koskinen, "Adding Concurrency to Smart Contracts", PODC 2017, sections 3 and 4).
-pub struct Book {
-    alloc: Global,
-    opening: Cells,
-    cells: Cells,
-    entries: Vec<Entry>,
-    attempts: Vec<Attempt>,
-    begun: Vec<u64>,
-    locks: Table,
-    standings: Vec<Standing>,
+pub struct Book<A: Allocator = Global> {
+    alloc: A,
+    opening: Cells<A>,
+    cells: Cells<A>,
+    entries: Vec<Entry<A>, A>,
+    attempts: Vec<Attempt<A>, A>,
+    begun: Vec<u64, A>,
+    locks: Table<A>,
+    standings: Vec<Standing, A>,
 }
 
-impl Model for Book {
+impl<A: Allocator> Model for Book<A> {
     ghost use Rattle.spec_ledger.specs.Book.{Content};
     ghost use Rattle.spec_ledger.specs.Codes.{coded_content};
     ghost use Rattle.boost.specs.Kept.{IsBook};
@@ -104,7 +104,11 @@ impl Model for Book {
 }
 
 /// Where the attempt of a ticket stands, if it lives.
-fn find(attempts: &[Attempt], standings: &[Standing], ticket: &Ticket) -> Option<usize>
+fn find<A: Allocator + Copy>(
+    attempts: &[Attempt<A>],
+    standings: &[Standing],
+    ticket: &Ticket,
+) -> Option<usize>
     requires { AreStanding attempts.now standings.now }
     ensures found { IfSome result (λ i. IsPlace attempts.now i ticket.now.call ticket.now.number) }
     ensures none { IfNone result (AllByRecursion (λ a. ¬ ((a.call ≡ ticket.now.call) × (a.number ≡ ticket.now.number))) attempts.now) }
@@ -118,7 +122,7 @@ fn find(attempts: &[Attempt], standings: &[Standing], ticket: &Ticket) -> Option
     Some(place)
 }
 
-impl Book {
+impl<A: Allocator + Copy> Book<A> {
     /// Does an operation for a live attempt.
     pub fn op(&mut self, ticket: &Ticket, op: Op) -> Result<Reply, OpRefusal>
         ensures ok { IfOk result (λ reply. OpDone self.old self.new ticket.now.call ticket.now.number op reply) }
@@ -184,7 +188,7 @@ impl Book {
     }
 
     /// A book of this many calls, with no entry and no attempt, over a copy of the opening cells in which nothing is unsettled.
-    pub fn open(alloc: Global, opening: Cells, calls: u32) -> Result<Book, NoMemory>
+    pub fn open(alloc: A, opening: Cells<A>, calls: u32) -> Result<Self, NoMemory>
         ensures opening { IfOk result (λ book. book.opening ≡ opening.cells) }
         ensures now { IfOk result (λ book. book.now ≡ opening.cells) }
         ensures entries { IfOk result (λ book. book.entries ≡ []) }
@@ -228,7 +232,7 @@ impl Book {
     }
 
     /// The opening cells, the entries, and the cells after every live call is undone.
-    pub fn close(mut self) -> Closed
+    pub fn close(mut self) -> Closed<A>
         ensures opening { result.opening.cells ≡ self.opening }
         ensures entries { result.entries.items ≡ self.entries }
         ensures cells { result.cells.cells ≡ settled self.opening self.entries }
@@ -311,7 +315,7 @@ impl Book {
     }
 }
 
-impl Drop for Book {
+impl<A: Allocator> Drop for Book<A> {
     fn drop(self) {
         let Book {
             alloc: _,
@@ -327,7 +331,11 @@ impl Drop for Book {
 }
 
 /// The ticket of a call's attempt among these.
-fn ticket_in(attempts: &[Attempt], standings: &[Standing], call: u32) -> Option<Ticket>
+fn ticket_in<A: Allocator + Copy>(
+    attempts: &[Attempt<A>],
+    standings: &[Standing],
+    call: u32,
+) -> Option<Ticket>
     requires { AreStanding attempts.now standings.now }
     ensures found { IfSome result (λ t. (t.call ≡ call) × ¬ (AllByRecursion (λ a. ¬ ((a.call ≡ call) × (a.number ≡ t.number))) attempts.now)) }
     ensures none { IfNone result (HasNoAttempt call attempts.now) }

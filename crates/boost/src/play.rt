@@ -5,7 +5,7 @@ ghost use Rattle.boost.specs.Play.{Plays, event_of, opened, Happens, Begin, Act,
 
 use crate::book::{BeginRefusal, Book, CommitRefusal, OpRefusal, Run};
 use spec_ledger::{Op, Reply};
-use std::alloc::Global;
+use std::alloc::Allocator;
 use storage::{Cells, NoMemory};
 
 /// How many calls the book of a list of events has.
@@ -43,7 +43,7 @@ pub enum Event<'a> {
     Commit(u32, Run<'a>),
 }
 
-impl Book {
+impl<A: Allocator + Copy> Book<A> {
     fn begin_event(&mut self, call: u32) -> Result<Answer, NoMemory>
         ensures ok { IfOk result (λ answer. Happens self.old (Begin call) answer self.new) }
         ensures err { OnErr result (self.new ≡ self.old) }
@@ -110,10 +110,10 @@ impl Book {
 
     /// Plays a list of events over these cells, in a book of 65,535 calls. The ticket of an event is that of its call's live attempt.
     pub fn play(
-        alloc: Global,
-        opening: Cells,
+        alloc: A,
+        opening: Cells<A>,
         events: &[Event<'_>],
-    ) -> Result<(Book, Vec<Answer>), NoMemory>
+    ) -> Result<(Self, Vec<Answer, A>), NoMemory>
         ensures { IfOk result (λ both. Plays (opened opening.cells 65535) (map event_of events.now) both.1.items both.0) }
     {
         let mut book = Book::open(alloc, opening, CALLS)?;
@@ -122,7 +122,7 @@ impl Book {
     }
 
     /// Plays a list of events, one after another.
-    pub fn play_all(&mut self, alloc: Global, events: &[Event<'_>]) -> Result<Vec<Answer>, NoMemory>
+    pub fn play_all(&mut self, alloc: A, events: &[Event<'_>]) -> Result<Vec<Answer, A>, NoMemory>
         ensures { IfOk result (λ answers. Plays self.old (map event_of events.now) answers.items self.new) }
     {
         let mut answers = Vec::new(alloc);

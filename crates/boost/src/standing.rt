@@ -4,6 +4,7 @@ ghost use Rattle.std.specs.List.{AllByRecursion};
 ghost use Rattle.boost.specs.Kept.{live_with};
 
 use crate::attempt::Attempt;
+use std::alloc::Allocator;
 
 /// How a call stands.
 #[derive(Clone, Copy)]
@@ -31,7 +32,11 @@ pub(crate) fn place_of(standings: &[Standing], call: u32) -> Option<usize>
 }
 
 /// Notes where the attempts from a place on stand.
-pub(crate) fn note_places(standings: &mut Vec<Standing>, attempts: &[Attempt], from: usize)
+pub(crate) fn note_places<A: Allocator + Copy>(
+    standings: &mut Vec<Standing, A>,
+    attempts: &[Attempt<A>],
+    from: usize,
+)
     requires { AllByRecursion (λ a. a.call < length standings.old.items) attempts.now }
     ensures { standings.new.items ≡ live_with from (drop from attempts.now) standings.old.items }
 {

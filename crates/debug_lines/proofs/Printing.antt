@@ -8,13 +8,13 @@ use Rattle.debug_lines.specs.declared.printed.Printed.{Printed}
 use Rattle.debug_lines.specs.Lines.{refusal_line}
 use Rattle.debug_lines.specs.Prints.{Does, Refuses, IsPrinted, nothing, done, refused, AddsCommand}
 
-pub adds_line : (c : Command) (s t : Sight) (old new : Printed) (line : List ℕ) → Does c s t line → IsSight t → new.refused ≡ old.refused → string_bytes new.text ≡ string_bytes old.text ++ line → AddsCommand c s t old new
+pub adds_line : {A : Type 0} (c : Command) (s t : Sight) (old new : Printed A) (line : List ℕ) → Does c s t line → IsSight t → new.refused ≡ old.refused → string_bytes new.text ≡ string_bytes old.text ++ line → AddsCommand c s t old new
 adds_line c s t old new line does sight same pushed = λ first given h.
     subst (λ (text : List ℕ). IsPrinted first (given ++ c ∷ []) t new.refused text) (sym pushed)
     (subst (λ (b : Bool). IsPrinted first (given ++ c ∷ []) t b (string_bytes old.text ++ line)) (sym same)
     (done given s old.refused (string_bytes old.text) c t line h does sight))
 
-pub adds_refusal : (c : Command) (s t : Sight) (old new : Printed) (r : Refusal) (line : List ℕ) → Refuses c s r → t ≡ s → line ≡ refusal_line r → new.refused ≡ true → string_bytes new.text ≡ string_bytes old.text ++ line → AddsCommand c s t old new
+pub adds_refusal : {A : Type 0} (c : Command) (s t : Sight) (old new : Printed A) (r : Refusal) (line : List ℕ) → Refuses c s r → t ≡ s → line ≡ refusal_line r → new.refused ≡ true → string_bytes new.text ≡ string_bytes old.text ++ line → AddsCommand c s t old new
 adds_refusal c s t old new r line why stays is told pushed = λ first given h.
     subst (λ (u : Sight). IsPrinted first (given ++ c ∷ []) u new.refused (string_bytes new.text)) (sym stays)
     (subst (λ (text : List ℕ). IsPrinted first (given ++ c ∷ []) s new.refused text) (sym (pushed ∙ ap (λ l. string_bytes old.text ++ l) is))

@@ -45,12 +45,12 @@ pub data IsPrinted (first : Sight) : List Command → Sight → (refused : Bool)
   refused : (cs : List Command) (s : Sight) (refused : Bool) (text : List ℕ) (c : Command) (r : Refusal) → IsPrinted first cs s refused text → Refuses c s r → IsPrinted first (cs ++ c ∷ []) s true (text ++ refusal_line r)
 
 -- what one command does and says
-abbrev pub Performs : Command → Sight → Sight → Said → Type 0
+abbrev pub Performs : {A : Type 0} → Command → Sight → Sight → Said A → Type 0
 Performs c s t (said.Line line) = Does c s t (string_bytes line)
 Performs c s t (said.Refused r) = Refuses c s r × (t ≡ s)
 
 -- one more command was given
-abbrev pub AddsCommand : Command → Sight → Sight → Printed → Printed → Type 0
+abbrev pub AddsCommand : {A : Type 0} → Command → Sight → Sight → Printed A → Printed A → Type 0
 AddsCommand c s t old new = (first : Sight) (given : List Command) → IsPrinted first given s old.refused (string_bytes old.text) → IsPrinted first (given ++ c ∷ []) t new.refused (string_bytes new.text)
 
 -- the call does not start, for the cause of a number

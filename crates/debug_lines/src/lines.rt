@@ -6,14 +6,14 @@ ghost use Rattle.debug_lines.specs.Lines.{state_line, values_text, values_line, 
 use calls_text::{ReceiptText, ValueText};
 use debugger::session::Session;
 use spec_ledger::Receipt;
-use std::alloc::{AllocError, Allocator, Global};
+use std::alloc::{AllocError, Allocator};
 use wtypes::Value;
 
 /// `K at F O`, or `K done RECEIPT`.
-pub(crate) fn state_line_of<A: Allocator>(
-    alloc: Global,
+pub(crate) fn state_line_of<A: Allocator + Copy>(
+    alloc: A,
     session: &Session<'_, A>,
-) -> Result<String, AllocError>
+) -> Result<String<A>, AllocError>
     ensures { IfOk result (λ line. string_bytes line ≡ state_line session.now) }
 {
     let used = session.turns();
@@ -30,7 +30,7 @@ pub(crate) fn state_line_of<A: Allocator>(
 }
 
 /// ` VALUE` for each value.
-fn values_text_of(alloc: Global, values: &[Value]) -> Result<String, AllocError>
+fn values_text_of<A: Allocator + Copy>(alloc: A, values: &[Value]) -> Result<String<A>, AllocError>
     ensures { IfOk result (λ text. string_bytes text ≡ values_text values.now) }
 {
     let mut text = String::new(alloc);
@@ -43,11 +43,11 @@ fn values_text_of(alloc: Global, values: &[Value]) -> Result<String, AllocError>
 }
 
 /// A name and ` VALUE` for each value.
-pub(crate) fn values_line_of(
-    alloc: Global,
+pub(crate) fn values_line_of<A: Allocator + Copy>(
+    alloc: A,
     name: &str,
     values: &[Value],
-) -> Result<String, AllocError>
+) -> Result<String<A>, AllocError>
     ensures { IfOk result (λ line. string_bytes line ≡ values_line name.now values.now) }
 {
     let values = values_text_of(alloc, values)?;
@@ -56,7 +56,10 @@ pub(crate) fn values_line_of(
 }
 
 /// `bytes HEX`.
-pub(crate) fn bytes_line_of(alloc: Global, bytes: &[u8]) -> Result<String, AllocError>
+pub(crate) fn bytes_line_of<A: Allocator + Copy>(
+    alloc: A,
+    bytes: &[u8],
+) -> Result<String<A>, AllocError>
     ensures { IfOk result (λ line. string_bytes line ≡ bytes_line bytes.now) }
 {
     let digits = hex::encode(alloc, bytes)?;

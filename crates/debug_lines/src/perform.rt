@@ -6,24 +6,24 @@ ghost use Rattle.debug_lines.specs.Prints.{Performs};
 use crate::lines::{bytes_line_of, state_line_of, values_line_of};
 use debug_words::Command;
 use debugger::session::{Refusal, Session};
-use std::alloc::{Allocator, Global};
+use std::alloc::Allocator;
 use wtypes::NoMemory;
 
 /// What a command prints.
 #[derive(Debug, Drop)]
-pub(crate) enum Said {
+pub(crate) enum Said<A: Allocator> {
     /// This line, with its newline.
-    Line(String),
+    Line(String<A>),
     /// That it is refused.
     Refused(Refusal),
 }
 
 /// Makes so many turns.
-fn step<A: Allocator>(
-    alloc: Global,
+fn step<A: Allocator + Copy>(
+    alloc: A,
     session: &mut Session<'_, A>,
     count: u64,
-) -> Result<Said, NoMemory>
+) -> Result<Said<A>, NoMemory>
     ensures { IfOk result (Performs (Command.Step count) session.old session.new) }
 {
     match session.step(count) {
@@ -33,11 +33,11 @@ fn step<A: Allocator>(
 }
 
 /// Goes so many turns back.
-fn back<A: Allocator>(
-    alloc: Global,
+fn back<A: Allocator + Copy>(
+    alloc: A,
     session: &mut Session<'_, A>,
     count: u64,
-) -> Result<Said, NoMemory>
+) -> Result<Said<A>, NoMemory>
     ensures { IfOk result (Performs (Command.Back count) session.old session.new) }
 {
     match session.back(count) {
@@ -48,7 +48,7 @@ fn back<A: Allocator>(
 }
 
 /// Goes on to a break or to the end.
-fn cont<A: Allocator>(alloc: Global, session: &mut Session<'_, A>) -> Result<Said, NoMemory>
+fn cont<A: Allocator + Copy>(alloc: A, session: &mut Session<'_, A>) -> Result<Said<A>, NoMemory>
     ensures { IfOk result (Performs Command.Cont session.old session.new) }
 {
     match session.cont() {
@@ -58,12 +58,12 @@ fn cont<A: Allocator>(alloc: Global, session: &mut Session<'_, A>) -> Result<Sai
 }
 
 /// Sets a break.
-fn break_at<A: Allocator>(
-    alloc: Global,
+fn break_at<A: Allocator + Copy>(
+    alloc: A,
     session: &mut Session<'_, A>,
     func: u32,
     ordinal: u32,
-) -> Result<Said, NoMemory>
+) -> Result<Said<A>, NoMemory>
     ensures { IfOk result (Performs (Command.Break func ordinal) session.old session.new) }
 {
     match session.break_at(func, ordinal) {
@@ -74,12 +74,12 @@ fn break_at<A: Allocator>(
 }
 
 /// Clears a break.
-fn clear<A: Allocator>(
-    alloc: Global,
+fn clear<A: Allocator + Copy>(
+    alloc: A,
     session: &mut Session<'_, A>,
     func: u32,
     ordinal: u32,
-) -> Result<Said, NoMemory>
+) -> Result<Said<A>, NoMemory>
     ensures { IfOk result (Performs (Command.Clear func ordinal) session.old session.new) }
 {
     match session.clear(func, ordinal) {
@@ -89,12 +89,12 @@ fn clear<A: Allocator>(
 }
 
 /// Shows bytes of memory.
-fn bytes<A: Allocator>(
-    alloc: Global,
+fn bytes<A: Allocator + Copy>(
+    alloc: A,
     session: &Session<'_, A>,
     from: u64,
     count: u64,
-) -> Result<Said, NoMemory>
+) -> Result<Said<A>, NoMemory>
     ensures { IfOk result (Performs (Command.Bytes from count) session.now session.now) }
 {
     match session.bytes(from, count) {
@@ -105,11 +105,11 @@ fn bytes<A: Allocator>(
 }
 
 /// Does a command.
-pub(crate) fn perform<A: Allocator>(
-    alloc: Global,
+pub(crate) fn perform<A: Allocator + Copy>(
+    alloc: A,
     session: &mut Session<'_, A>,
     command: Command,
-) -> Result<Said, NoMemory>
+) -> Result<Said<A>, NoMemory>
     ensures { IfOk result (Performs command session.old session.new) }
 {
     match command {

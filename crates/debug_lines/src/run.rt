@@ -16,12 +16,12 @@ use debug_words::Command;
 use debugger::Contract;
 use debugger::session::{Refusal, Session};
 use interp::start::StartRefusal;
-use std::alloc::{AllocError, Allocator, Global};
+use std::alloc::{AllocError, Allocator};
 use storage::Cells;
 use wtypes::NoMemory;
 
 /// `refused N`.
-fn refusal_line_of(alloc: Global, refusal: Refusal) -> Result<String, AllocError>
+fn refusal_line_of<A: Allocator>(alloc: A, refusal: Refusal) -> Result<String<A>, AllocError>
     ensures { IfOk result (λ line. string_bytes line ≡ refusal_line refusal) }
 {
     let code = refusal.code();
@@ -30,18 +30,18 @@ fn refusal_line_of(alloc: Global, refusal: Refusal) -> Result<String, AllocError
 }
 
 /// A session is at a state of its call.
-fn hold<A: Allocator>(session: &Session<'_, A>)
+fn hold<A: Allocator + Copy>(session: &Session<'_, A>)
     ensures { IsSight session.now }
 {
     let _turns = session.turns();
 }
 
 /// Does a command, and appends what it prints.
-fn append<A: Allocator>(
-    alloc: Global,
+fn append<A: Allocator + Copy>(
+    alloc: A,
     session: &mut Session<'_, A>,
     command: Command,
-    printed: &mut Printed,
+    printed: &mut Printed<A>,
 ) -> Result<(), NoMemory>
     ensures { OnOk result (AddsCommand command session.old session.new printed.old printed.new) }
 {
@@ -61,11 +61,11 @@ fn append<A: Allocator>(
 }
 
 /// Does the commands, one after another. One that is refused does not end them.
-fn perform_all<A: Allocator>(
-    alloc: Global,
+fn perform_all<A: Allocator + Copy>(
+    alloc: A,
     session: &mut Session<'_, A>,
     commands: &[Command],
-) -> Result<Printed, NoMemory>
+) -> Result<Printed<A>, NoMemory>
     ensures { IfOk result (λ p. IsPrinted session.old commands.now session.new p.refused (string_bytes p.text)) }
 {
     let mut printed = Printed {
@@ -93,7 +93,7 @@ fn start_code(refusal: StartRefusal) -> Option<u8>
 }
 
 /// What is printed of a call that does not start: `refused start N`.
-fn refuse_start(alloc: Global, refusal: StartRefusal) -> Result<Printed, NoMemory>
+fn refuse_start<A: Allocator>(alloc: A, refusal: StartRefusal) -> Result<Printed<A>, NoMemory>
     ensures { (contracts : List ADeployed) (call : ContractCall) → IsRefusedFor refusal (opening contracts call) → IfOk result (λ p. IsNotStarted contracts call p.refused (string_bytes p.text)) }
 {
     let Some(code) = start_code(refusal) else {
@@ -113,13 +113,13 @@ fn refuse_start(alloc: Global, refusal: StartRefusal) -> Result<Printed, NoMemor
 /// # Errors
 ///
 /// Memory was refused.
-pub fn debug_call<A: Allocator>(
-    alloc: Global,
+pub fn debug_call<A: Allocator + Copy>(
+    alloc: A,
     contracts: &[Contract<A>],
-    cells: &Cells,
+    cells: &Cells<A>,
     call: &Call,
     commands: &[Command],
-) -> Result<Printed, NoMemory>
+) -> Result<Printed<A>, NoMemory>
     ensures { IfOk result (λ p. IsDebugged (contracts_view contracts.now) cells.now.cells call.now commands.now p.refused (string_bytes p.text)) }
 {
     match Session::open(alloc, contracts, cells, call) {

@@ -1,6 +1,5 @@
 -- What the commands of a session do.
 use Rattle.std.specs.Prelude.{◌≡◌, ℕ, ◌+◌, ◌<◌, ◌≤◌, ◌⊎◌, false, true, Bool, List, [], Result, Ok, Err, Option, None, IsSome, take, drop, length, Vec}
-use Rattle.std.specs.declared.alloc.Global.{Global}
 use Rattle.debugger.specs.declared.session.Refusal.{Refusal}
 use Rattle.debugger.specs.declared.session.Refusal.TheVariants.{BeforeStart, NoSuchPlace, OutOfRange, NoMemory}
 use Rattle.spec_ledger.specs.Cells.{Cells}
@@ -85,7 +84,7 @@ Clears s p (Ok u) t = IsSome (instr_there s.contract.deployed.tree p) × (t ≡ 
 Clears s p (Err r) t = (r ≡ NoSuchPlace) × (instr_there s.contract.deployed.tree p ≡ None) × (t ≡ s)
 
 -- the bytes, exactly where all of them lie in memory
-abbrev pub Reads : Sight → (from count : ℕ) → Result (Vec ℕ Global) Refusal → Type 0
+abbrev pub Reads : {A : Type 0} → Sight → (from count : ℕ) → Result (Vec ℕ A) Refusal → Type 0
 Reads s from count (Ok bytes) = (from + count ≤ length (state_of s.config).memory) × (bytes.items ≡ take count (drop from (state_of s.config).memory))
 Reads s from count (Err OutOfRange) = length (state_of s.config).memory < from + count
 Reads s from count (Err r) = (r ≡ NoMemory) × (from + count ≤ length (state_of s.config).memory)

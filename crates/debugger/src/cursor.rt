@@ -14,18 +14,18 @@ use interp::machine::Machine;
 use interp::start::StartRefusal;
 use interp::turns::Turn;
 use spec_ledger::{NoMemory, Op, Reply};
-use std::alloc::{Allocator, Global};
+use std::alloc::Allocator;
 use storage::Cells;
 
 /// A call between two of its turns.
 #[derive(Drop)]
-pub struct Cursor<'a, A: Allocator> {
+pub struct Cursor<'a, A: Allocator + Copy> {
     /// Its machine.
     pub machine: Machine<'a, A>,
     /// The cells, after the operations that it has asked for.
-    pub cells: Cells,
+    pub cells: Cells<A>,
     /// The cells at the start.
-    pub start: &'a Cells,
+    pub start: &'a Cells<A>,
 }
 
 /// The call before its first turn.
@@ -33,10 +33,10 @@ pub struct Cursor<'a, A: Allocator> {
 /// # Errors
 ///
 /// Why the call does not start.
-pub fn open<'a, A: Allocator>(
-    alloc: Global,
+pub fn open<'a, A: Allocator + Copy>(
+    alloc: A,
     contracts: &'a [Contract<A>],
-    start: &'a Cells,
+    start: &'a Cells<A>,
     call: &'a Call,
 ) -> Result<Cursor<'a, A>, StartRefusal>
     ensures opened { IfOk result (λ cursor. IsOpened (contracts_view contracts.now) call.now start.now.cells cursor) }
@@ -59,8 +59,8 @@ pub fn open<'a, A: Allocator>(
 /// # Errors
 ///
 /// Memory was refused.
-pub fn copy<'a, A: Allocator>(
-    alloc: Global,
+pub fn copy<'a, A: Allocator + Copy>(
+    alloc: A,
     cursor: &Cursor<'a, A>,
 ) -> Result<Cursor<'a, A>, NoMemory>
     ensures { IfOk result (λ copy. IsCopy cursor.now copy) }
@@ -73,7 +73,7 @@ pub fn copy<'a, A: Allocator>(
 }
 
 // Does an operation on the cells.
-fn reply_of(cells: &mut Cells, op: Op) -> Result<Reply, NoMemory>
+fn reply_of<A: Allocator + Copy>(cells: &mut Cells<A>, op: Op) -> Result<Reply, NoMemory>
     ensures reply { IfOk result (λ reply. reply ≡ reply_to op cells.old.cells) }
     ensures is_reply { IfOk result (λ reply. IsReply op reply) }
     ensures cells { OnOk result (cells.new.cells ≡ cells_after op cells.old.cells) }
@@ -88,7 +88,7 @@ fn reply_of(cells: &mut Cells, op: Op) -> Result<Reply, NoMemory>
 /// # Errors
 ///
 /// Memory was refused. The state is lost.
-pub fn make_turn<'a, A: Allocator>(cursor: &mut Cursor<'a, A>) -> Result<bool, NoMemory>
+pub fn make_turn<'a, A: Allocator + Copy>(cursor: &mut Cursor<'a, A>) -> Result<bool, NoMemory>
     requires { IsAt cursor.old }
     ensures at { OnOk result (IsAt cursor.new) }
     ensures same { OnOk result (IsSameRun cursor.old cursor.new) }
@@ -115,7 +115,10 @@ pub fn make_turn<'a, A: Allocator>(cursor: &mut Cursor<'a, A>) -> Result<bool, N
 /// # Errors
 ///
 /// Memory was refused. The state is lost.
-pub fn make_turns<'a, A: Allocator>(cursor: &mut Cursor<'a, A>, count: u64) -> Result<u64, NoMemory>
+pub fn make_turns<'a, A: Allocator + Copy>(
+    cursor: &mut Cursor<'a, A>,
+    count: u64,
+) -> Result<u64, NoMemory>
     requires { IsAt cursor.old }
     ensures at { OnOk result (IsAt cursor.new) }
     ensures same { OnOk result (IsSameRun cursor.old cursor.new) }

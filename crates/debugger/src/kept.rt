@@ -5,7 +5,7 @@ ghost use Rattle.debugger.specs.Keeping.{IsOfRun, AreKept, IsEarlier};
 
 use crate::cursor::{Cursor, copy, make_turn};
 use spec_ledger::NoMemory;
-use std::alloc::{Allocator, Global};
+use std::alloc::Allocator;
 
 /// The most states that are kept beside the first and the present one.
 pub const MOST_KEPT: usize = 64;
@@ -16,9 +16,9 @@ const FIRST_DISTANCE: u64 = 1_024;
 /// States of a run, each after more turns than the one before it: at most 64. The distance between them doubles each time that
 /// there are so many, so after n turns it is at most the greater of 1,024 and n / 16.
 #[derive(Drop)]
-pub struct Kept<'a, A: Allocator> {
+pub struct Kept<'a, A: Allocator + Copy> {
     /// The states.
-    pub cursors: Vec<Cursor<'a, A>>,
+    pub cursors: Vec<Cursor<'a, A>, A>,
     /// The next state is kept after so many turns.
     pub next: u64,
     /// The turns between two states.
@@ -26,7 +26,7 @@ pub struct Kept<'a, A: Allocator> {
 }
 
 /// No states.
-pub fn none_kept<'a, A: Allocator>(alloc: Global) -> Kept<'a, A>
+pub fn none_kept<'a, A: Allocator + Copy>(alloc: A) -> Kept<'a, A>
     ensures { result.cursors.items ≡ [] }
 {
     Kept {
@@ -37,8 +37,8 @@ pub fn none_kept<'a, A: Allocator>(alloc: Global) -> Kept<'a, A>
 }
 
 // Keeps the state, where it stands far enough from the last one.
-fn keep<'a, A: Allocator>(
-    alloc: Global,
+fn keep<'a, A: Allocator + Copy>(
+    alloc: A,
     here: &Cursor<'a, A>,
     cursor: &Cursor<'a, A>,
     kept: &mut Kept<'a, A>,
@@ -58,7 +58,7 @@ fn keep<'a, A: Allocator>(
 }
 
 // Makes room for a state, where there are 64: every other one is dropped.
-fn make_room<'a, A: Allocator>(here: &Cursor<'a, A>, kept: &mut Kept<'a, A>)
+fn make_room<'a, A: Allocator + Copy>(here: &Cursor<'a, A>, kept: &mut Kept<'a, A>)
     requires { AreKept here.now kept.old.cursors.items }
     ensures kept { AreKept here.now kept.new.cursors.items }
     ensures room { vec_len kept.new.cursors < 64 }
@@ -70,7 +70,7 @@ fn make_room<'a, A: Allocator>(here: &Cursor<'a, A>, kept: &mut Kept<'a, A>)
 }
 
 // Drops every other one of 64 states, the first among them.
-fn thin<'a, A: Allocator>(here: &Cursor<'a, A>, cursors: &mut Vec<Cursor<'a, A>>)
+fn thin<'a, A: Allocator + Copy>(here: &Cursor<'a, A>, cursors: &mut Vec<Cursor<'a, A>, A>)
     requires kept { AreKept here.now cursors.old.items }
     requires full { 64 ≤ vec_len cursors.old }
     ensures kept { AreKept here.now cursors.new.items }
@@ -87,8 +87,8 @@ fn thin<'a, A: Allocator>(here: &Cursor<'a, A>, cursors: &mut Vec<Cursor<'a, A>>
 /// # Errors
 ///
 /// Memory was refused. The state is lost.
-pub fn turn_and_keep<'a, A: Allocator>(
-    alloc: Global,
+pub fn turn_and_keep<'a, A: Allocator + Copy>(
+    alloc: A,
     here: &Cursor<'a, A>,
     cursor: &mut Cursor<'a, A>,
     kept: &mut Kept<'a, A>,
@@ -108,7 +108,7 @@ pub fn turn_and_keep<'a, A: Allocator>(
 }
 
 /// The kept state that stands nearest before so many turns, or else the first one.
-pub fn nearest<'b, 'a, A: Allocator>(
+pub fn nearest<'b, 'a, A: Allocator + Copy>(
     origin: &'b Cursor<'a, A>,
     here: &Cursor<'a, A>,
     kept: &'b [Cursor<'a, A>],

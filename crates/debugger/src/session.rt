@@ -14,7 +14,7 @@ use call::Call;
 use interp::readers::BytesRefusal;
 use interp::start::StartRefusal;
 use spec_ledger::{NoMemory, Outcome};
-use std::alloc::{Allocator, Global};
+use std::alloc::Allocator;
 use std::marker::Model;
 use storage::Cells;
 use wtypes::Value;
@@ -64,15 +64,15 @@ impl From<NoMemory> for Refusal {
 /// configuration after them, which the type keeps to be that state. Beside the first state and the present one it holds copies of at
 /// most 64 others, each with the memory, the cells and the trace of its time, so that few turns are made again to go back.
 #[derive(Drop)]
-pub struct Session<'a, A: Allocator> {
-    alloc: Global,
+pub struct Session<'a, A: Allocator + Copy> {
+    alloc: A,
     origin: Cursor<'a, A>,
     here: Cursor<'a, A>,
     kept: Kept<'a, A>,
-    breaks: Vec<(u32, u32)>,
+    breaks: Vec<(u32, u32), A>,
 }
 
-impl<'a, A: Allocator> Model for Session<'a, A> {
+impl<'a, A: Allocator + Copy> Model for Session<'a, A> {
     ghost use Rattle.debugger.specs.Sight.{Sight, coded_sight, sight_of};
     ghost use Rattle.debugger.specs.Keeping.{IsKept};
 
@@ -86,8 +86,8 @@ impl<'a, A: Allocator> Model for Session<'a, A> {
 }
 
 // The state after so many turns, which were made once, from an earlier state on.
-fn state_after<'a, A: Allocator>(
-    alloc: Global,
+fn state_after<'a, A: Allocator + Copy>(
+    alloc: A,
     earlier: &Cursor<'a, A>,
     here: &Cursor<'a, A>,
     turns: u64,
@@ -106,7 +106,7 @@ fn state_after<'a, A: Allocator>(
 }
 
 // Whether a break is set at the place of the instruction to come.
-fn is_at_break<'a, A: Allocator>(cursor: &Cursor<'a, A>, breaks: &[(u32, u32)]) -> bool
+fn is_at_break<'a, A: Allocator + Copy>(cursor: &Cursor<'a, A>, breaks: &[(u32, u32)]) -> bool
     requires { IsAt cursor.now }
     ensures { result ≡ is_set_at breaks.now (place_shown cursor.now.machine) }
 {
@@ -117,15 +117,15 @@ fn is_at_break<'a, A: Allocator>(cursor: &Cursor<'a, A>, breaks: &[(u32, u32)]) 
 }
 
 // Whether there is an instruction of this ordinal in the body of this function.
-fn is_place<'a, A: Allocator>(cursor: &Cursor<'a, A>, func: u32, ordinal: u32) -> bool
+fn is_place<'a, A: Allocator + Copy>(cursor: &Cursor<'a, A>, func: u32, ordinal: u32) -> bool
     ensures { IsTrue result ↔ IsSome (instr_there cursor.now.machine.contract.deployed.tree (func, ordinal)) }
 {
     cursor.machine.module().instr_at(func, ordinal).is_some()
 }
 
 // Makes so many turns, or as many as there are, and answers how many. It keeps states on the way.
-fn advance<'a, A: Allocator>(
-    alloc: Global,
+fn advance<'a, A: Allocator + Copy>(
+    alloc: A,
     here: &Cursor<'a, A>,
     cursor: &mut Cursor<'a, A>,
     kept: &mut Kept<'a, A>,
@@ -148,8 +148,8 @@ fn advance<'a, A: Allocator>(
 }
 
 // Makes turns up to the first state with a break at its place, or up to the end. It keeps states on the way.
-fn go_on<'a, A: Allocator>(
-    alloc: Global,
+fn go_on<'a, A: Allocator + Copy>(
+    alloc: A,
     here: &Cursor<'a, A>,
     cursor: &mut Cursor<'a, A>,
     kept: &mut Kept<'a, A>,
@@ -171,7 +171,7 @@ fn go_on<'a, A: Allocator>(
     Ok(())
 }
 
-impl<'a, A: Allocator> Session<'a, A> {
+impl<'a, A: Allocator + Copy> Session<'a, A> {
     ghost use Rattle.std.specs.Prelude.{◌≡◌, IfOk, IfErr};
     ghost use Rattle.spec_execution.specs.Run.{opening};
     ghost use Rattle.interp.specs.Lent.{contracts_view};
@@ -185,9 +185,9 @@ impl<'a, A: Allocator> Session<'a, A> {
     ///
     /// Why the call does not start.
     pub fn open(
-        alloc: Global,
+        alloc: A,
         contracts: &'a [Contract<A>],
-        cells: &'a Cells,
+        cells: &'a Cells<A>,
         call: &'a Call,
     ) -> Result<Session<'a, A>, StartRefusal>
         ensures opened { IfOk result (λ session. IsOpened (contracts_view contracts.now) call.now cells.now.cells session) }
@@ -341,7 +341,7 @@ impl<'a, A: Allocator> Session<'a, A> {
     /// # Errors
     ///
     /// `OutOfRange` exactly where the bytes do not all lie in memory, else `NoMemory` where memory was refused.
-    pub fn bytes(&self, from: u64, count: u64) -> Result<Vec<u8>, Refusal>
+    pub fn bytes(&self, from: u64, count: u64) -> Result<Vec<u8, A>, Refusal>
         ensures { Reads self.now from count result }
     {
         match self.here.machine.bytes(from, count) {

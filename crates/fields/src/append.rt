@@ -3,10 +3,10 @@
 ghost use Rattle.std.specs.Prelude.{◌≡◌, ◌++◌, OnOk, OnErr};
 ghost use Rattle.std.specs.Int.{w32, w64, to_le_bytes};
 
-use std::alloc::AllocError;
+use std::alloc::{AllocError, Allocator};
 
 /// Appends a number as 4 bytes, the low byte first.
-pub fn append_u32(out: &mut Vec<u8>, number: u32) -> Result<(), AllocError>
+pub fn append_u32<A: Allocator>(out: &mut Vec<u8, A>, number: u32) -> Result<(), AllocError>
     ensures bytes { OnOk result (out.new.items ≡ out.old.items ++ to_le_bytes w32 number) }
     ensures unchanged { OnErr result (out.new.items ≡ out.old.items) }
 {
@@ -15,7 +15,7 @@ pub fn append_u32(out: &mut Vec<u8>, number: u32) -> Result<(), AllocError>
 }
 
 /// Appends a number as 8 bytes, the low byte first.
-pub fn append_u64(out: &mut Vec<u8>, number: u64) -> Result<(), AllocError>
+pub fn append_u64<A: Allocator>(out: &mut Vec<u8, A>, number: u64) -> Result<(), AllocError>
     ensures bytes { OnOk result (out.new.items ≡ out.old.items ++ to_le_bytes w64 number) }
     ensures unchanged { OnErr result (out.new.items ≡ out.old.items) }
 {

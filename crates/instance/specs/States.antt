@@ -6,11 +6,11 @@ use Rattle.spec_execution.specs.Reduction.{most_pages}
 use Rattle.instance.specs.declared.Instance.{Instance}
 
 -- a state with what the instance has; the rest is the state's own
-abbrev pub based : State → Instance → State
+abbrev pub based : {A : Type 0} → State → Instance A → State
 based b i = record b { globals = i.globals.items; memory = i.memory.bytes; table = i.table.items }
 
 -- it is a fresh instance of the module
-pub record IsFresh (i : Instance) (m : Module) : Type 0 where
+pub record IsFresh {A : Type 0} (i : Instance A) (m : Module) : Type 0 where
   pub globals : i.globals.items ≡ (fresh m).globals
   pub memory : i.memory.bytes ≡ (fresh m).memory
   pub table : i.table.items ≡ (fresh m).table

@@ -25,14 +25,14 @@ use wtypes::{Limits, NoMemory, PlainInstr, Value};
 
 /// What a call may change beside its frames (Core Specification, 4.2.6 Module Instances).
 #[derive(Drop)]
-pub struct Instance {
+pub struct Instance<A: Allocator + Copy = Global> {
     /// The globals.
-    pub globals: Vec<Value>,
+    pub globals: Vec<Value, A>,
     /// The memory. Where the module has none, it has no page.
-    pub memory: Linear<Global>,
+    pub memory: Linear<A>,
     /// The number of the function that each element of the table is, or None where it is empty. Where the module has no table, it
     /// has no element.
-    pub table: Vec<Option<u32>>,
+    pub table: Vec<Option<u32>, A>,
 }
 
 /// A fresh instance (Core Specification, 4.5.4 Instantiation): its globals have their first values, and its data
@@ -41,10 +41,10 @@ pub struct Instance {
 /// # Errors
 ///
 /// `NoMemory` where memory was refused.
-pub fn open_instance<A: Allocator>(
-    alloc: Global,
+pub fn open_instance<A: Allocator + Copy>(
+    alloc: A,
     deployed: &Deployed<A>,
-) -> Result<Instance, NoMemory>
+) -> Result<Instance<A>, NoMemory>
     ensures { IfOk result (λ i. IsFresh i (module_view (tree_of deployed.now))) }
 {
     let globals = match open_globals(alloc, &deployed.module().globals) {
@@ -61,10 +61,7 @@ pub fn open_instance<A: Allocator>(
 }
 
 // The memory, with the data segments in place.
-fn open_memory<A: Allocator>(
-    alloc: Global,
-    deployed: &Deployed<A>,
-) -> Result<Linear<Global>, NoMemory>
+fn open_memory<A: Allocator + Copy>(alloc: A, deployed: &Deployed<A>) -> Result<Linear<A>, NoMemory>
     ensures bytes { IfOk result (λ m. m.bytes ≡ (fresh (module_view (tree_of deployed.now))).memory) }
     ensures max { IfOk result (λ m. m.max ≡ most_pages (map limits_view (tree_of deployed.now).memories.items)) }
 {
@@ -93,7 +90,7 @@ fn bits(value: Value) -> u64
 }
 
 // The memory before the data segments are in place.
-fn first_memory(alloc: Global, memories: &[Limits]) -> Result<Linear<Global>, NoMemory>
+fn first_memory<A: Allocator + Copy>(alloc: A, memories: &[Limits]) -> Result<Linear<A>, NoMemory>
     requires { size_of (map limits_view memories.now) ≤ most_pages (map limits_view memories.now) }
     ensures bytes { IfOk result (λ m. m.bytes ≡ replicate (page_size * size_of (map limits_view memories.now)) 0) }
     ensures max { IfOk result (λ m. m.max ≡ most_pages (map limits_view memories.now)) }
@@ -107,10 +104,10 @@ fn first_memory(alloc: Global, memories: &[Limits]) -> Result<Linear<Global>, No
 }
 
 // The first values of the globals.
-fn open_globals<A: Allocator>(
-    alloc: Global,
+fn open_globals<A: Allocator + Copy>(
+    alloc: A,
     declared: &[Declared<A>],
-) -> Result<Vec<Value>, AllocError>
+) -> Result<Vec<Value, A>, AllocError>
     ensures { IfOk result (λ values. values.items ≡ map (λ g. constant g.init) (map global_view declared.now)) }
 {
     let mut values = Vec::new(alloc);

@@ -7,14 +7,14 @@ ghost use Rattle.link.specs.Parts.{tree_of};
 
 use crate::{bits, constant_of};
 use link::deployed::Deployed;
-use std::alloc::{AllocError, Allocator, Global};
+use std::alloc::{AllocError, Allocator};
 use wtypes::{Limits, NoMemory};
 
 /// The table, with the element segments in place.
-pub fn open_table<A: Allocator>(
-    alloc: Global,
+pub fn open_table<A: Allocator + Copy>(
+    alloc: A,
     deployed: &Deployed<A>,
-) -> Result<Vec<Option<u32>>, NoMemory>
+) -> Result<Vec<Option<u32>, A>, NoMemory>
     ensures { IfOk result (λ t. t.items ≡ (fresh (module_view (tree_of deployed.now))).table) }
 {
     deployed.is_linked();
@@ -31,7 +31,10 @@ pub fn open_table<A: Allocator>(
 }
 
 // The table before the element segments are in place.
-fn first_table(alloc: Global, tables: &[Limits]) -> Result<Vec<Option<u32>>, AllocError>
+fn first_table<A: Allocator + Copy>(
+    alloc: A,
+    tables: &[Limits],
+) -> Result<Vec<Option<u32>, A>, AllocError>
     ensures { IfOk result (λ t. t.items ≡ replicate (size_of (map limits_view tables.now)) None) }
 {
     if tables.is_empty() {
@@ -41,7 +44,7 @@ fn first_table(alloc: Global, tables: &[Limits]) -> Result<Vec<Option<u32>>, All
 }
 
 // Puts functions into the elements from this one on.
-fn put_functions(table: &mut Vec<Option<u32>>, at: usize, funcs: &[u32])
+fn put_functions<A: Allocator>(table: &mut Vec<Option<u32>, A>, at: usize, funcs: &[u32])
     requires { at + length funcs.now ≤ length table.old.items }
     ensures { table.new.items ≡ in_place at (map Some funcs.now) table.old.items }
 {

@@ -1,5 +1,5 @@
 -- What the steps of the code do to the parts.
-use Rattle.std.proofs.Common.{true≢false, false, ◌≡◌, ℕ, ◌+◌, ◌≤◌, List, [], ◌∷◌, ◌++◌, length, map, drop, refl, sym, ap, ap₂, ◌∙◌, subst, Vec, Global, Option, Result, Ok, Err, IfOk, None, true, arith, length-append}
+use Rattle.std.proofs.Common.{true≢false, false, ◌≡◌, ℕ, ◌+◌, ◌≤◌, List, [], ◌∷◌, ◌++◌, length, map, drop, refl, sym, ap, ap₂, ◌∙◌, subst, Vec, Option, Result, Ok, Err, IfOk, None, true, arith, length-append}
 use Rattle.std.proofs.lemmas.List.{reverse-append}
 use Rattle.wtypes.specs.declared.Value.{Value}
 use Rattle.wtypes.specs.declared.PlainInstr.{PlainInstr}
@@ -79,9 +79,9 @@ pub led_parts : {A : Type 0} (l : Lent A) (p q : Parts A) (n : ℕ) (op : PlainI
 led_parts {A} l p q n op a o here same untouched there d b safe suits =
     let c : Contract = contract_of l in
     let u : State = based b p.instance in
-    let es : opens_of q.entries.items ≡ opens_of p.entries.items = ap (λ (v : Vec (Entry A) Global). opens_of v.items) same in
+    let es : opens_of q.entries.items ≡ opens_of p.entries.items = ap (λ (v : Vec (Entry A) A). opens_of v.items) same in
     let oo : IsOrdered (mk u (opens_of p.entries.items) p.stack.items p.locals.items (record { ordinal = n; instr = Plain op } ∷ items_of q.code.now)) = subst (λ (x : List Item). IsOrdered (mk u (opens_of p.entries.items) p.stack.items p.locals.items x)) here (o b) in
-    subst (λ (i : Instance). LedView c (view b p) a (mk (based b i) (opens_of q.entries.items) q.stack.items q.locals.items (items_of q.code.now))) (sym untouched)
+    subst (λ (i : Instance A). LedView c (view b p) a (mk (based b i) (opens_of q.entries.items) q.stack.items q.locals.items (items_of q.code.now))) (sym untouched)
     (subst (λ (x : List Open). LedView c (view b p) a (mk u x q.stack.items q.locals.items (items_of q.code.now))) (sym es)
     (subst (λ (x : List Item). LedView c (mk u (opens_of p.entries.items) p.stack.items p.locals.items x) a (mk u (opens_of p.entries.items) q.stack.items q.locals.items (items_of q.code.now))) (sym here)
     (led c u (opens_of p.entries.items) p.stack.items p.locals.items n op (items_of q.code.now) there oo a q.stack.items q.locals.items d)))
@@ -119,10 +119,10 @@ module _ {A : Type 0} (l : Lent A) (p q : Parts A) (rest : List (Instr A)) (r : 
 
 pub counted_rest : {A : Type 0} (p q : Parts A) → q.entries ≡ p.entries → q.depth ≡ p.depth → AreNumbered q.code.now → IsCounted p → IsCounted q
 counted_rest {A} p q e d h k = record {
-  count = d ∙ k.count ∙ ap (λ (es : Vec (Entry A) Global). frames (opens_of es.items) 0) (sym e);
+  count = d ∙ k.count ∙ ap (λ (es : Vec (Entry A) A). frames (opens_of es.items) 0) (sym e);
   few = subst (λ n. n ≤ 256) (sym d) k.few;
   code = h;
-  each = subst (λ (es : Vec (Entry A) Global). EachNumbered es.items) (sym e) k.each;
+  each = subst (λ (es : Vec (Entry A) A). EachNumbered es.items) (sym e) k.each;
 }
 
 -- the instruction to come
@@ -154,7 +154,7 @@ not_on_instance MemoryGrow e f g h i j = absurd (j refl)
 not_on_instance op e f g h i j = refl
 
 -- the state of a fresh instance
-pub based_fresh : (m : Module) (i : Instance) → IsFresh i m → based (fresh m) i ≡ fresh m
+pub based_fresh : {A : Type 0} (m : Module) (i : Instance A) → IsFresh i m → based (fresh m) i ≡ fresh m
 based_fresh m i made =
     ap₂ (λ (gs : List Value) (bs : List ℕ). record (fresh m) { globals = gs; memory = bs; table = i.table.items }) made.globals made.memory
     ∙ ap (λ (es : List (Option ℕ)). record (fresh m) { table = es }) made.table

@@ -1,7 +1,7 @@
 -- A run whose parts stand for the same is the same run.
-use Rattle.std.proofs.Common.{◌≡◌, ℕ, ◌<◌, ◌≤◌, List, [], ◌∷◌, ◌++◌, refl, sym, ap, ap₂, ◌∙◌, subst, Vec, Global, Option, Some, None, length}
+use Rattle.std.proofs.Common.{◌≡◌, ℕ, ◌+◌, ◌<◌, ◌≤◌, List, [], ◌∷◌, ◌++◌, refl, sym, ap, ap₂, ◌∙◌, subst, Vec, Option, Some, None, length, take, slice_index_or}
 use Rattle.std.specs.Prelude.{map, reverse, vec_len, vec_capacity}
-use Rattle.std.proofs.lemmas.List.{reverse-append, map-append}
+use Rattle.std.proofs.lemmas.List.{reverse-append, map-append, take_more}
 use Rattle.wtypes.specs.declared.Value.{Value}
 use Rattle.spec_ledger.specs.declared.Step.{Step}
 use Rattle.module_tree.specs.declared.instr.Instr.{Instr}
@@ -56,7 +56,7 @@ module _ {A : Type 0} (p q : Parts A) (k : IsPartsCopy p q) where
     each = codes_numbered q.entries.items (subst AllNumbered (sym k.entries.code) (numbered_codes p.entries.items c.each));
   }
 
-pub room_for : (x : Status) (trace : Vec Step Global) → vec_len trace < vec_capacity trace → HasRoom x trace
+pub room_for : {A : Type 0} (x : Status) (trace : Vec Step A) → vec_len trace < vec_capacity trace → HasRoom x trace
 room_for status.Running trace h = tt
 room_for (status.Fallen t) trace h = tt
 room_for (status.Asking op) trace h = h
@@ -93,3 +93,13 @@ same_place None None k h = tt
 same_place (Some w) (Some x) k h = record { none_open = k.none_open; room = k.room; numbered = subst AreNumbered (sym k.body) h.numbered }
 same_place None (Some x) k h = absurd k
 same_place (Some w) None k h = absurd k
+
+-- one entry more is copied
+pub copied_more : {X Y : Type 0} (f : X → Y) (copies new entries : List X) (copy entry : X) (i : ℕ) → i < length entries → new ≡ copies ++ copy ∷ [] → entry ≡ slice_index_or entries i entry → f copy ≡ f entry → map f copies ≡ map f (take i entries) → map f new ≡ map f (take (i + 1) entries)
+copied_more f copies new entries copy entry i lt more is same before =
+    ap (map f) more
+    ∙ map-append f copies (copy ∷ [])
+    ∙ ap₂ (λ ys y. ys ++ y ∷ []) before same
+    ∙ sym (map-append f (take i entries) (entry ∷ []))
+    ∙ ap (λ x. map f (take i entries ++ x ∷ [])) is
+    ∙ ap (map f) (sym (take_more entries i entry lt))

@@ -20,5 +20,6 @@ pub mod Joining
 pub mod Entering
 pub mod Selecting
 pub mod Showing
+pub mod Placing
 pub mod Outlook
 pub mod Copying

@@ -11,7 +11,7 @@ use Rattle.interp.specs.Views.{open_of}
 abbrev pub codes_of : {A : Type 0} → List (Entry A) → List (List (Instr A))
 codes_of es = map (λ e. e.from.now) es
 
-pub record IsInstanceCopy (i j : Instance) : Type 0 where
+pub record IsInstanceCopy {A : Type 0} (i j : Instance A) : Type 0 where
   pub globals : j.globals.items ≡ i.globals.items
   pub memory : j.memory ≡ i.memory
   pub table : j.table.items ≡ i.table.items

@@ -1,6 +1,5 @@
 -- What the fields of a machine keep.
 use Rattle.std.specs.Prelude.{◌≡◌, ℕ, ◌+◌, ◌-◌, ◌≤◌, ◌<◌, List, [], ◌∷◌, take, length, Vec, vec_len, vec_capacity}
-use Rattle.std.specs.declared.alloc.Global.{Global}
 use Rattle.wtypes.specs.declared.Value.{Value}
 use Rattle.wtypes.specs.declared.Value.TheVariants as value
 use Rattle.wtypes.specs.declared.HostCall.{HostCall}
@@ -171,6 +170,6 @@ HasAskedFor s f (turn.Host op) t = IsAskedFor s f op t
 HasAskedFor s f _ t = ⊥
 
 -- the place for the step is kept while the host is asked
-abbrev pub HasRoom : Status → Vec Step Global → Type 0
+abbrev pub HasRoom : {A : Type 0} → Status → Vec Step A → Type 0
 HasRoom (status.Asking op) trace = vec_len trace < vec_capacity trace
 HasRoom _ trace = Unit {0}

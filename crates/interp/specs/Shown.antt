@@ -1,5 +1,4 @@
 -- What is shown of a call that runs.
-use Rattle.std.specs.declared.alloc.Global.{Global}
 use Rattle.std.specs.Prelude.{◌≡◌, ℕ, ◌+◌, ◌==◌, ◌&&◌, ◌<◌, ◌≤◌, Bool, true, false, List, [], ◌∷◌, Option, Some, None, Result, Ok, Err, if◌then◌else◌, length, take, drop, Vec}
 use Rattle.wtypes.specs.declared.Value.{Value}
 use Rattle.spec_ledger.specs.declared.Outcome.{Outcome}
@@ -75,7 +74,7 @@ function_in [] = None
 function_in (e ∷ es) = function_of e.scope
 
 -- what is read of memory: exactly where all of these bytes lie in it, these
-abbrev pub IsReadOf : Config → (from count : ℕ) → Result (Vec ℕ Global) BytesRefusal → Type 0
+abbrev pub IsReadOf : {A : Type 0} → Config → (from count : ℕ) → Result (Vec ℕ A) BytesRefusal → Type 0
 IsReadOf x from count (Ok bytes) = (from + count ≤ length (state_of x).memory) × (bytes.items ≡ take count (drop from (state_of x).memory))
 IsReadOf x from count (Err refusal.OutOfRange) = length (state_of x).memory < from + count
 IsReadOf x from count (Err refusal.NoMemory) = from + count ≤ length (state_of x).memory

@@ -70,7 +70,7 @@ pub record IsOperator {A : Type 0} (p : Parts A) (op : PlainInstr) (rest : List 
   pub rest_numbered : AreNumbered rest
 
 -- a label is opened above all values
-pub record HasOpened {A : Type 0} (p : Parts A) (kind : Kind) (ordinal arity : ℕ) (from body : List (Instr A)) (a : After) (q : Parts A) : Type 0 where
+pub record HasOpened {A : Type 0} (p : Parts A) (kind : Kind A) (ordinal arity : ℕ) (from body : List (Instr A)) (a : After) (q : Parts A) : Type 0 where
   pub entries : opens_of q.entries.items ≡ record { scope = scope_of kind; ordinal = ordinal; arity = arity; height = length p.stack.items; from = items_of from } ∷ opens_of p.entries.items
   pub stack : q.stack.items ≡ p.stack.items
   pub locals : q.locals.items ≡ p.locals.items

@@ -27,7 +27,7 @@ item_of i = record { ordinal = ordinal_of i; instr = instr_view i }
 abbrev pub items_of : {A : Type 0} → List (Instr A) → List Item
 items_of is = map item_of is
 
-abbrev pub scope_of : Kind → Scope
+abbrev pub scope_of : {A : Type 0} → Kind A → Scope
 scope_of kind.Block = Block
 scope_of kind.Loop = Loop
 scope_of (kind.Frame f saved) = Frame f saved.items

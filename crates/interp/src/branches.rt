@@ -9,7 +9,7 @@ use std::alloc::Allocator;
 use wtypes::Value;
 
 /// Branches to the label that stands so many labels out.
-pub fn branch<'a, A: Allocator>(parts: &mut Parts<'a, A>, label: u32)
+pub fn branch<'a, A: Allocator + Copy>(parts: &mut Parts<'a, A>, label: u32)
     requires target { IsTarget (opens_of parts.old.entries.items) parts.old.stack.items (drop label (opens_of parts.old.entries.items)) }
     requires counted { IsCounted parts.old }
     ensures jumps { Jumps parts.old (drop label (opens_of parts.old.entries.items)) parts.new }
@@ -21,7 +21,7 @@ pub fn branch<'a, A: Allocator>(parts: &mut Parts<'a, A>, label: u32)
 }
 
 /// Returns from the innermost call.
-pub fn leave_call<'a, A: Allocator>(parts: &mut Parts<'a, A>)
+pub fn leave_call<'a, A: Allocator + Copy>(parts: &mut Parts<'a, A>)
     requires target { IsTarget (opens_of parts.old.entries.items) parts.old.stack.items (in_call (opens_of parts.old.entries.items)) }
     requires counted { IsCounted parts.old }
     ensures jumps { Jumps parts.old (in_call (opens_of parts.old.entries.items)) parts.new }
@@ -33,7 +33,7 @@ pub fn leave_call<'a, A: Allocator>(parts: &mut Parts<'a, A>)
 }
 
 // How many are left where those inside the innermost call are left out.
-pub fn up_to_call<'a, A: Allocator>(entries: &[Entry<'a, A>]) -> usize
+pub fn up_to_call<'a, A: Allocator + Copy>(entries: &[Entry<'a, A>]) -> usize
     ensures within { result ≤ length entries.now }
     ensures is { opens_of (take result entries.now) ≡ in_call (opens_of entries.now) }
 {
@@ -44,14 +44,14 @@ pub fn up_to_call<'a, A: Allocator>(entries: &[Entry<'a, A>]) -> usize
     left
 }
 
-fn is_call<'a, A: Allocator>(entry: &Entry<'a, A>) -> bool
+fn is_call<'a, A: Allocator + Copy>(entry: &Entry<'a, A>) -> bool
     ensures { result ≡ is_frame (scope_of entry.now.kind) }
 {
     matches!(&entry.kind, Kind::Frame(_, _))
 }
 
 // Goes on behind the last of so many, or with it again where it is a loop.
-fn jump<'a, A: Allocator>(parts: &mut Parts<'a, A>, left: usize)
+fn jump<'a, A: Allocator + Copy>(parts: &mut Parts<'a, A>, left: usize)
     requires target { IsTarget (opens_of parts.old.entries.items) parts.old.stack.items (opens_of (take left parts.old.entries.items)) }
     requires counted { IsCounted parts.old }
     ensures jumps { Jumps parts.old (opens_of (take left parts.old.entries.items)) parts.new }
@@ -83,7 +83,7 @@ fn jump<'a, A: Allocator>(parts: &mut Parts<'a, A>, left: usize)
 }
 
 // Keeps the topmost values, and those below a height.
-fn keep(stack: &mut Vec<Value>, height: usize, count: usize)
+fn keep<A: Allocator + Copy>(stack: &mut Vec<Value, A>, height: usize, count: usize)
     requires { height + count ≤ length stack.old.items }
     ensures { stack.new.items ≡ take height stack.old.items ++ drop (length stack.old.items - count) stack.old.items }
 {

@@ -6,7 +6,7 @@ ghost use Rattle.interp.specs.Calls.{CanEnter, Enters};
 
 use crate::parts::{Entry, Kind, Parts};
 use module_tree::module::Module;
-use std::alloc::{AllocError, Allocator, Global};
+use std::alloc::{AllocError, Allocator};
 use std::mem;
 use wtypes::{HostCall, ValType, Value};
 
@@ -25,8 +25,8 @@ pub struct Lent<'a, A: Allocator> {
 const MOST_FRAMES: usize = 256;
 
 /// Starts a function of the module, and tells whether there was room for its frame.
-pub fn enter<'a, A: Allocator>(
-    alloc: Global,
+pub fn enter<'a, A: Allocator + Copy>(
+    alloc: A,
     lent: &Lent<'a, A>,
     func: u32,
     parts: &mut Parts<'a, A>,
@@ -61,11 +61,11 @@ pub fn enter<'a, A: Allocator>(
 }
 
 /// The locals of a call: its arguments, and then zeros.
-pub fn new_locals(
-    alloc: Global,
+pub fn new_locals<A: Allocator + Copy>(
+    alloc: A,
     args: &[Value],
     declared: &[ValType],
-) -> Result<Vec<Value>, AllocError>
+) -> Result<Vec<Value, A>, AllocError>
     ensures { IfOk result (λ locals. locals.items ≡ args.now ++ map zero_of declared.now) }
 {
     let mut locals = args.to_vec(alloc)?;

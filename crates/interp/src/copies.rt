@@ -7,9 +7,9 @@ use crate::parts::{Entry, Kind, Parts};
 use crate::waiting::Waiting;
 use instance::Instance;
 use spec_ledger::NoMemory;
-use std::alloc::{AllocError, Allocator, Global};
+use std::alloc::{AllocError, Allocator};
 
-fn copy_kind(alloc: Global, kind: &Kind) -> Result<Kind, AllocError>
+fn copy_kind<A: Allocator + Copy>(alloc: A, kind: &Kind<A>) -> Result<Kind<A>, AllocError>
     ensures { IfOk result (λ copy. scope_of copy ≡ scope_of kind.now) }
 {
     match kind {
@@ -19,8 +19,8 @@ fn copy_kind(alloc: Global, kind: &Kind) -> Result<Kind, AllocError>
     }
 }
 
-fn copy_entry<'a, A: Allocator>(
-    alloc: Global,
+fn copy_entry<'a, A: Allocator + Copy>(
+    alloc: A,
     entry: &Entry<'a, A>,
 ) -> Result<Entry<'a, A>, AllocError>
     ensures open { IfOk result (λ copy. open_of copy ≡ open_of entry.now) }
@@ -35,10 +35,10 @@ fn copy_entry<'a, A: Allocator>(
     })
 }
 
-fn copy_entries<'a, A: Allocator>(
-    alloc: Global,
+fn copy_entries<'a, A: Allocator + Copy>(
+    alloc: A,
     entries: &[Entry<'a, A>],
-) -> Result<Vec<Entry<'a, A>>, AllocError>
+) -> Result<Vec<Entry<'a, A>, A>, AllocError>
     ensures { IfOk result (λ copies. AreEntryCopies entries.now copies.items) }
 {
     let mut copies = Vec::new(alloc);
@@ -48,7 +48,10 @@ fn copy_entries<'a, A: Allocator>(
     Ok(copies)
 }
 
-fn copy_instance(alloc: Global, instance: &Instance) -> Result<Instance, NoMemory>
+fn copy_instance<A: Allocator + Copy>(
+    alloc: A,
+    instance: &Instance<A>,
+) -> Result<Instance<A>, NoMemory>
     ensures { IfOk result (λ copy. IsInstanceCopy instance.now copy) }
 {
     let memory = instance.memory.copy()?;
@@ -61,8 +64,8 @@ fn copy_instance(alloc: Global, instance: &Instance) -> Result<Instance, NoMemor
     })
 }
 
-fn copy_entry_to_come<'a, A: Allocator>(
-    alloc: Global,
+fn copy_entry_to_come<'a, A: Allocator + Copy>(
+    alloc: A,
     waiting: &Waiting<'a, A>,
 ) -> Result<Waiting<'a, A>, AllocError>
     ensures { IfOk result (λ copy. IsWaitingCopy waiting.now copy) }
@@ -77,8 +80,8 @@ fn copy_entry_to_come<'a, A: Allocator>(
 }
 
 /// The same entry, if one waits, with memory of its own.
-pub fn copy_waiting<'a, A: Allocator>(
-    alloc: Global,
+pub fn copy_waiting<'a, A: Allocator + Copy>(
+    alloc: A,
     waiting: &Option<Waiting<'a, A>>,
 ) -> Result<Option<Waiting<'a, A>>, AllocError>
     ensures { IfOk result (λ copy. IsSameEntry waiting.now copy) }
@@ -90,8 +93,8 @@ pub fn copy_waiting<'a, A: Allocator>(
 }
 
 /// The same parts, with memory of their own.
-pub fn copy_parts<'a, A: Allocator>(
-    alloc: Global,
+pub fn copy_parts<'a, A: Allocator + Copy>(
+    alloc: A,
     parts: &Parts<'a, A>,
 ) -> Result<Parts<'a, A>, NoMemory>
     ensures { IfOk result (λ copy. IsPartsCopy parts.now copy) }

@@ -17,7 +17,7 @@ use wtypes::{FuncType, HostCall, TrapCode, ValType};
 /// # Errors
 ///
 /// The trap: there is no such element, it is empty, or its function has another type.
-pub fn function_of_element<'a, A: Allocator>(
+pub fn function_of_element<'a, A: Allocator + Copy>(
     lent: &Lent<'a, A>,
     table: &[Option<u32>],
     element: u64,
@@ -40,7 +40,7 @@ pub fn function_of_element<'a, A: Allocator>(
 }
 
 // Whether the function of this number has this type.
-fn has_type<'a, A: Allocator>(lent: &Lent<'a, A>, func: u32, form: &FuncType<A>) -> bool
+fn has_type<'a, A: Allocator + Copy>(lent: &Lent<'a, A>, func: u32, form: &FuncType<A>) -> bool
     requires { IsSome (function_at (contract_of lent.now).deployed func) }
     ensures { option_map (λ g. same_function_type (func_type_view form.now) (function_type g)) (function_at (contract_of lent.now).deployed func) ≡ Some result }
 {
@@ -52,7 +52,7 @@ fn has_type<'a, A: Allocator>(lent: &Lent<'a, A>, func: u32, form: &FuncType<A>)
     is_of(form, &own.params, &own.results)
 }
 
-fn is_type_of_host<A: Allocator>(form: &FuncType<A>, host: HostCall) -> bool
+fn is_type_of_host<A: Allocator + Copy>(form: &FuncType<A>, host: HostCall) -> bool
     ensures { result ≡ same_function_type (func_type_view form.now) (host_type host) }
 {
     match host {
@@ -65,7 +65,7 @@ fn is_type_of_host<A: Allocator>(form: &FuncType<A>, host: HostCall) -> bool
     }
 }
 
-fn is_of<A: Allocator>(form: &FuncType<A>, params: &[ValType], results: &[ValType]) -> bool
+fn is_of<A: Allocator + Copy>(form: &FuncType<A>, params: &[ValType], results: &[ValType]) -> bool
     ensures { result ≡ (reduction.same_types form.now.params.items params.now && reduction.same_types form.now.results.items results.now) }
 {
     same_types(&form.params, params) && same_types(&form.results, results)

@@ -9,7 +9,7 @@ use crate::start::open_call;
 use call::Call;
 use link::deployed::Deployed;
 use spec_ledger::{Outcome, Step};
-use std::alloc::{Allocator, Global};
+use std::alloc::Allocator;
 use std::marker::Model;
 
 /// A lent call over lent contracts, with the operations that it asked for, their replies, its outcome and the fuel
@@ -18,7 +18,7 @@ use std::marker::Model;
 pub struct Finished<'a, A: Allocator> {
     contracts: &'a [Deployed<A>],
     call: &'a Call,
-    trace: Vec<Step>,
+    trace: Vec<Step, A>,
     outcome: Outcome,
     used: u64,
 }
@@ -36,12 +36,12 @@ impl<'a, A: Allocator> Model for Finished<'a, A> {
     ghost invariant = { λ f. IsPlayed (record { contracts = contracts_view f.contracts.now; call = f.call.now; trace = f.trace.items; outcome = f.outcome; used = f.used }) };
 }
 
-impl<'a, A: Allocator> Finished<'a, A> {
+impl<'a, A: Allocator + Copy> Finished<'a, A> {
     // The finished call of these parts, which are a run.
     pub(crate) fn of(
         contracts: &'a [Deployed<A>],
         call: &'a Call,
-        trace: Vec<Step>,
+        trace: Vec<Step, A>,
         outcome: Outcome,
         used: u64,
     ) -> Finished<'a, A>
@@ -60,7 +60,7 @@ impl<'a, A: Allocator> Finished<'a, A> {
     /// The empty run of a call that does not start, with the number of the cause as its outcome. None where the call
     /// opens. Takes no memory.
     pub fn rejected(
-        alloc: Global,
+        alloc: A,
         contracts: &'a [Deployed<A>],
         call: &'a Call,
     ) -> Option<Finished<'a, A>>

@@ -20,18 +20,18 @@ use instance::open_instance;
 use link::deployed::Deployed;
 use soundness::deployed_calls_are_safe;
 use spec_ledger::{NoMemory, Op, Outcome, Place, Reply, Step};
-use std::alloc::{Allocator, Global};
+use std::alloc::Allocator;
 use wtypes::{HostCall, TrapCode, Value};
 
 // The fields of a machine.
 #[derive(Drop)]
-pub(crate) struct Run<'a, A: Allocator> {
-    pub(crate) alloc: Global,
+pub(crate) struct Run<'a, A: Allocator + Copy> {
+    pub(crate) alloc: A,
     pub(crate) contracts: &'a [Deployed<A>],
     pub(crate) lent: Lent<'a, A>,
     pub(crate) call: &'a Call,
     pub(crate) func: u32,
-    pub(crate) trace: Vec<Step>,
+    pub(crate) trace: Vec<Step, A>,
     pub(crate) used: u64,
     pub(crate) parts: Parts<'a, A>,
     pub(crate) waiting: Option<Waiting<'a, A>>,
@@ -41,7 +41,7 @@ pub(crate) struct Run<'a, A: Allocator> {
 
 // Makes a turn, where the run has not ended.
 #[inline(always)]
-fn next_turn<'a, A: Allocator>(run: &mut Run<'a, A>) -> Turn
+fn next_turn<'a, A: Allocator + Copy>(run: &mut Run<'a, A>) -> Turn
     requires kept { IsKept run.old }
     requires free { IsFree run.old.status }
     ensures kept { IsKept run.new }
@@ -61,7 +61,7 @@ fn next_turn<'a, A: Allocator>(run: &mut Run<'a, A>) -> Turn
 
 // The run goes on: it makes a turn, or it is found at its end.
 #[inline(always)]
-fn make_turn<'a, A: Allocator>(run: &mut Run<'a, A>) -> Turn
+fn make_turn<'a, A: Allocator + Copy>(run: &mut Run<'a, A>) -> Turn
     requires kept { IsKept run.old }
     requires running { run.old.status ≡ Status.Running }
     ensures kept { IsKept run.new }
@@ -98,7 +98,7 @@ fn make_turn<'a, A: Allocator>(run: &mut Run<'a, A>) -> Turn
 }
 
 // Memory was refused: what is open is let go.
-fn give_up<'a, A: Allocator>(run: &mut Run<'a, A>) -> Turn
+fn give_up<'a, A: Allocator + Copy>(run: &mut Run<'a, A>) -> Turn
     requires beginning { IsBegun run.old }
     ensures kept { IsKept run.new }
     ensures no_memory { run.new.status ≡ Status.NoMemory }
@@ -112,7 +112,7 @@ fn give_up<'a, A: Allocator>(run: &mut Run<'a, A>) -> Turn
 }
 
 // The run has ended, with what is left.
-fn give_result<'a, A: Allocator>(run: &mut Run<'a, A>) -> Turn
+fn give_result<'a, A: Allocator + Copy>(run: &mut Run<'a, A>) -> Turn
     requires kept { IsKept run.old }
     requires running { run.old.status ≡ Status.Running }
     requires at_end { run.old.parts.code.now ≡ [] }
@@ -127,7 +127,7 @@ fn give_result<'a, A: Allocator>(run: &mut Run<'a, A>) -> Turn
 ghost use Rattle.interp.specs.Run.{IsToCall};
 
 // A function of the module is called.
-fn start_function<'a, A: Allocator>(run: &mut Run<'a, A>, func: u32) -> Turn
+fn start_function<'a, A: Allocator + Copy>(run: &mut Run<'a, A>, func: u32) -> Turn
     requires call { IsToCall run.old func }
     requires defined { length run.old.lent.hosts.now ≤ func }
     ensures kept { IsKept run.new }
@@ -148,7 +148,7 @@ fn start_function<'a, A: Allocator>(run: &mut Run<'a, A>, func: u32) -> Turn
 }
 
 // The run begins: the start function is called, or else the entry, where the module has none.
-fn start_run<'a, A: Allocator>(run: &mut Run<'a, A>) -> Turn
+fn start_run<'a, A: Allocator + Copy>(run: &mut Run<'a, A>) -> Turn
     requires first { IsFirst run.old }
     ensures kept { IsKept run.new }
     ensures begun { HasBegun (seen run.old) result (seen run.new) }
@@ -163,7 +163,7 @@ fn start_run<'a, A: Allocator>(run: &mut Run<'a, A>) -> Turn
 }
 
 // An import is called: the run waits for the reply to the operation.
-fn ask<'a, A: Allocator>(run: &mut Run<'a, A>, func: u32) -> Turn
+fn ask<'a, A: Allocator + Copy>(run: &mut Run<'a, A>, func: u32) -> Turn
     requires call { IsToCall run.old func }
     requires hosted { func < length run.old.lent.hosts.now }
     ensures kept { IsKept run.new }
@@ -181,7 +181,7 @@ fn ask<'a, A: Allocator>(run: &mut Run<'a, A>, func: u32) -> Turn
 }
 
 // The operation that an import asks for, by the values on top.
-fn operation(contract: u32, host: HostCall, stack: &Vec<Value>) -> Op
+fn operation<A: Allocator + Copy>(contract: u32, host: HostCall, stack: &Vec<Value, A>) -> Op
     requires { arity_of host ≤ vec_len stack.now }
     ensures { result ≡ op_of contract host (drop (vec_len stack.now - arity_of host) stack.now.items) }
 {
@@ -206,7 +206,7 @@ fn place(contract: u32, key: Value) -> Place
 }
 
 // Goes on with the reply to the operation that the host was asked for.
-fn take_answer<'a, A: Allocator>(run: &mut Run<'a, A>, reply: Reply)
+fn take_answer<'a, A: Allocator + Copy>(run: &mut Run<'a, A>, reply: Reply)
     requires kept { IsKept run.old }
     requires awaited { IsAwaited run.old.status reply }
     ensures kept { IsKept run.new }
@@ -221,7 +221,7 @@ fn take_answer<'a, A: Allocator>(run: &mut Run<'a, A>, reply: Reply)
 }
 
 // The value of a reply in the place of the arguments.
-fn take_reply(stack: &mut Vec<Value>, op: Op, reply: Reply)
+fn take_reply<A: Allocator + Copy>(stack: &mut Vec<Value, A>, op: Op, reply: Reply)
     requires { params_of op ≤ vec_len stack.old }
     ensures { stack.new.items ≡ take (vec_len stack.old - params_of op) stack.old.items ++ value_of_reply reply }
 {
@@ -233,7 +233,7 @@ fn take_reply(stack: &mut Vec<Value>, op: Op, reply: Reply)
     }
 }
 
-fn replace_at(stack: &mut Vec<Value>, at: usize, value: Value)
+fn replace_at<A: Allocator + Copy>(stack: &mut Vec<Value, A>, at: usize, value: Value)
     requires { at < vec_len stack.old }
     ensures { stack.new.items ≡ take at stack.old.items ++ value ∷ [] }
 {
@@ -257,7 +257,7 @@ fn params(op: Op) -> usize
 }
 
 // Puts a step where there is room.
-fn record_step(trace: &mut Vec<Step>, step: Step)
+fn record_step<A: Allocator + Copy>(trace: &mut Vec<Step, A>, step: Step)
     requires { vec_len trace.old < vec_capacity trace.old }
     ensures { trace.new.items ≡ trace.old.items ++ step ∷ [] }
 {
@@ -268,7 +268,7 @@ fn record_step(trace: &mut Vec<Step>, step: Step)
 }
 
 // What a run that has ended gives.
-fn finished<'a, A: Allocator>(run: Run<'a, A>, outcome: Outcome) -> Finished<'a, A>
+fn finished<'a, A: Allocator + Copy>(run: Run<'a, A>, outcome: Outcome) -> Finished<'a, A>
     requires kept { IsKept run }
     requires ended { run.status ≡ Status.Ended outcome }
     ensures { IsFinishOf (progress (seen run.entry)) result }
@@ -296,11 +296,11 @@ use std::marker::Model;
 
 /// A call that runs over lent contracts, a turn at a time.
 #[derive(Drop)]
-pub struct Machine<'a, A: Allocator> {
+pub struct Machine<'a, A: Allocator + Copy> {
     pub(crate) run: Run<'a, A>,
 }
 
-impl<'a, A: Allocator> Model for Machine<'a, A> {
+impl<'a, A: Allocator + Copy> Model for Machine<'a, A> {
     ghost use Rattle.interp.specs.Progress.{Progress, coded_progress};
 
     ghost Value = { Progress };
@@ -315,7 +315,7 @@ impl<'a, A: Allocator> Model for Machine<'a, A> {
     ghost invariant = { λ m. IsKept m.run };
 }
 
-impl<'a, A: Allocator> Machine<'a, A> {
+impl<'a, A: Allocator + Copy> Machine<'a, A> {
     /// Makes a turn: one charged reduction and the free ones that follow, or its trap. Where the run has ended it makes
     /// none and answers Done. After want of memory it always answers NoMemory.
     #[inline(always)]
@@ -359,7 +359,7 @@ ghost use Rattle.interp.specs.Lent.{contract_view, contracts_view};
 ghost use Rattle.interp.specs.Progress.{IsStartOf};
 ghost use Rattle.std.specs.Prelude.{IfOk};
 
-impl<'a, A: Allocator> Machine<'a, A> {
+impl<'a, A: Allocator + Copy> Machine<'a, A> {
     ghost use Rattle.std.specs.Prelude.{◌≡◌, ◌≤◌, length, IfOk, IfErr};
     ghost use Rattle.link.specs.Parts.{hosts_of};
     ghost use Rattle.spec_execution.specs.Run.{opening, Opens};
@@ -374,7 +374,7 @@ impl<'a, A: Allocator> Machine<'a, A> {
     /// Why the call does not start. Of several causes it is the first of: the contract, the export, the function, the
     /// number of arguments, their types, memory.
     pub fn start(
-        alloc: Global,
+        alloc: A,
         contracts: &'a [Deployed<A>],
         call: &'a Call,
     ) -> Result<Machine<'a, A>, StartRefusal>
@@ -395,7 +395,7 @@ impl<'a, A: Allocator> Machine<'a, A> {
 
     // The machine of a call that opens with this function of this contract, before its first turn.
     fn begin(
-        alloc: Global,
+        alloc: A,
         contracts: &'a [Deployed<A>],
         call: &'a Call,
         deployed: &'a Deployed<A>,

@@ -10,15 +10,15 @@ ghost use Rattle.interp.specs.Memories.{DidLoad, DidStore, DidGrow, HasPlace};
 use crate::plain::After;
 use crate::values::{bits, pop_top, put_back};
 use memory::{Linear, StoreRefusal};
-use std::alloc::{AllocError, Global};
+use std::alloc::{AllocError, Allocator};
 use wtypes::{LoadOp, NoMemory, StoreOp, Value};
 
 /// Loads a value.
-pub fn execute_load(
+pub fn execute_load<A: Allocator + Copy>(
     operator: LoadOp,
     offset: u32,
-    stack: &mut Vec<Value>,
-    memory: &Linear<Global>,
+    stack: &mut Vec<Value, A>,
+    memory: &Linear<A>,
 ) -> After
     requires { HasOne val_type.I32 stack.old.items }
     ensures { DidLoad operator offset memory.now.bytes stack.old.items result stack.new.items }
@@ -34,11 +34,11 @@ pub fn execute_load(
 }
 
 /// Stores a value.
-pub fn execute_store(
+pub fn execute_store<A: Allocator + Copy>(
     operator: StoreOp,
     offset: u32,
-    stack: &mut Vec<Value>,
-    memory: &mut Linear<Global>,
+    stack: &mut Vec<Value, A>,
+    memory: &mut Linear<A>,
 ) -> Result<After, AllocError>
     requires { HasPlace operator stack.old.items }
     ensures did { IfOk result (λ a. DidStore operator offset memory.old memory.new stack.old.items a stack.new.items) }
@@ -54,7 +54,10 @@ pub fn execute_store(
 }
 
 /// Grows memory.
-pub fn execute_grow(stack: &mut Vec<Value>, memory: &mut Linear<Global>) -> Result<(), AllocError>
+pub fn execute_grow<A: Allocator + Copy>(
+    stack: &mut Vec<Value, A>,
+    memory: &mut Linear<A>,
+) -> Result<(), AllocError>
     requires { HasOne val_type.I32 stack.old.items }
     ensures did { IfOk result (λ _. DidGrow memory.old memory.new stack.old.items stack.new.items) }
     ensures max { memory.new.max ≡ memory.old.max }
@@ -75,7 +78,7 @@ pub fn execute_grow(stack: &mut Vec<Value>, memory: &mut Linear<Global>) -> Resu
 }
 
 /// The size of memory in pages, as a value.
-pub fn memory_size(memory: &Linear<Global>) -> Value
+pub fn memory_size<A: Allocator + Copy>(memory: &Linear<A>) -> Value
     ensures { result ≡ value_of val_type.I32 (pages memory.now.bytes) }
 {
     Value::I32(memory.size().cast_signed())

@@ -8,7 +8,7 @@ ghost use Rattle.interp.specs.Plain.{Did, DidAny};
 
 use crate::values::{bits, pop_top, put_back, top};
 use numeric::{binary, compare, convert, test, unary};
-use std::alloc::AllocError;
+use std::alloc::{AllocError, Allocator};
 use wtypes::{BinOp, CvtOp, PlainInstr, RelOp, TestOp, TrapCode, UnOp, Value};
 
 /// What an instruction leads to.
@@ -23,10 +23,10 @@ pub enum After {
 }
 
 /// Executes an instruction on the values and the locals of the innermost frame.
-pub fn execute_plain(
+pub fn execute_plain<A: Allocator + Copy>(
     op: &PlainInstr,
-    stack: &mut Vec<Value>,
-    locals: &mut Vec<Value>,
+    stack: &mut Vec<Value, A>,
+    locals: &mut Vec<Value, A>,
 ) -> Result<After, AllocError>
     requires { IsReadyFor op.now stack.old.items locals.old.items }
     ensures { IfOk result (λ a. Did op.now stack.old.items locals.old.items a stack.new.items locals.new.items) }
@@ -62,7 +62,7 @@ pub fn execute_plain(
     Ok(After::Ran)
 }
 
-fn select(stack: &mut Vec<Value>)
+fn select<A: Allocator + Copy>(stack: &mut Vec<Value, A>)
     requires { HasChoice stack.old.items }
     ensures { DidAny Select stack.old.items after.Ran stack.new.items }
 {
@@ -79,7 +79,7 @@ fn chosen(choice: Value, first: Value, second: Value) -> Value
     if bits(choice) == 0 { second } else { first }
 }
 
-fn execute_unary(operator: UnOp, stack: &mut Vec<Value>)
+fn execute_unary<A: Allocator + Copy>(operator: UnOp, stack: &mut Vec<Value, A>)
     requires { HasOne (unary_type operator) stack.old.items }
     ensures { DidAny (Unary operator) stack.old.items after.Ran stack.new.items }
 {
@@ -87,7 +87,7 @@ fn execute_unary(operator: UnOp, stack: &mut Vec<Value>)
     put_back(stack, unary(operator, operand));
 }
 
-fn execute_binary(operator: BinOp, stack: &mut Vec<Value>) -> After
+fn execute_binary<A: Allocator + Copy>(operator: BinOp, stack: &mut Vec<Value, A>) -> After
     requires { HasTwo (binary_type operator) stack.old.items }
     ensures { DidAny (Binary operator) stack.old.items result stack.new.items }
 {
@@ -102,7 +102,7 @@ fn execute_binary(operator: BinOp, stack: &mut Vec<Value>) -> After
     }
 }
 
-fn execute_test(operator: TestOp, stack: &mut Vec<Value>)
+fn execute_test<A: Allocator + Copy>(operator: TestOp, stack: &mut Vec<Value, A>)
     requires { HasOne (test_type operator) stack.old.items }
     ensures { DidAny (Test operator) stack.old.items after.Ran stack.new.items }
 {
@@ -110,7 +110,7 @@ fn execute_test(operator: TestOp, stack: &mut Vec<Value>)
     put_back(stack, test(operator, operand));
 }
 
-fn execute_compare(operator: RelOp, stack: &mut Vec<Value>)
+fn execute_compare<A: Allocator + Copy>(operator: RelOp, stack: &mut Vec<Value, A>)
     requires { HasTwo (compare_type operator) stack.old.items }
     ensures { DidAny (Compare operator) stack.old.items after.Ran stack.new.items }
 {
@@ -119,7 +119,7 @@ fn execute_compare(operator: RelOp, stack: &mut Vec<Value>)
     put_back(stack, compare(operator, first, second));
 }
 
-fn execute_convert(operator: CvtOp, stack: &mut Vec<Value>)
+fn execute_convert<A: Allocator + Copy>(operator: CvtOp, stack: &mut Vec<Value, A>)
     requires { HasOne (convert_from operator) stack.old.items }
     ensures { DidAny (Convert operator) stack.old.items after.Ran stack.new.items }
 {

@@ -18,7 +18,7 @@ use crate::turns::Status;
 use module_tree::instr::Instr;
 use module_tree::module::Module;
 use spec_ledger::{NoMemory, Outcome, Step};
-use std::alloc::{Allocator, Global};
+use std::alloc::Allocator;
 use wtypes::Value;
 
 /// Why bytes are not read.
@@ -31,7 +31,9 @@ pub enum BytesRefusal {
 }
 
 // The innermost call that is open.
-fn innermost_call<'b, 'a, A: Allocator>(entries: &'b [Entry<'a, A>]) -> Option<&'b Entry<'a, A>>
+fn innermost_call<'b, 'a, A: Allocator + Copy>(
+    entries: &'b [Entry<'a, A>],
+) -> Option<&'b Entry<'a, A>>
     ensures { option_map (λ e. open_of e.now) result ≡ innermost (in_call (opens_of entries.now)) }
 {
     let left = up_to_call(entries);
@@ -42,7 +44,7 @@ fn innermost_call<'b, 'a, A: Allocator>(entries: &'b [Entry<'a, A>]) -> Option<&
 }
 
 // The ordinal of an instruction.
-fn ordinal<A: Allocator>(instr: &Instr<A>) -> u32
+fn ordinal<A: Allocator + Copy>(instr: &Instr<A>) -> u32
     ensures { result ≡ ordinal_of instr.now }
 {
     match instr {
@@ -55,7 +57,7 @@ fn ordinal<A: Allocator>(instr: &Instr<A>) -> u32
 }
 
 // How the run has ended, if it has.
-fn ending_of_run<'a, A: Allocator>(run: &Run<'a, A>) -> Option<Outcome>
+fn ending_of_run<'a, A: Allocator + Copy>(run: &Run<'a, A>) -> Option<Outcome>
     requires { IsKept run.now }
     ensures { IsOpen run.now.status → result ≡ ending (progress (seen run.now)) }
 {
@@ -77,7 +79,7 @@ fn ending_of_run<'a, A: Allocator>(run: &Run<'a, A>) -> Option<Outcome>
 }
 
 // Whether the fuel is out and an instruction is to come.
-fn has_run_out<'a, A: Allocator>(run: &Run<'a, A>) -> bool
+fn has_run_out<'a, A: Allocator + Copy>(run: &Run<'a, A>) -> bool
     requires { IsKept run.now }
     ensures { IsOpen run.now.status → result ≡ is_out (ending (progress (seen run.now))) }
 {
@@ -96,7 +98,7 @@ fn above(stack: &[Value], height: usize) -> &[Value]
 }
 
 // How many values stand below the innermost call.
-fn height_of_call<'a, A: Allocator>(entries: &[Entry<'a, A>]) -> usize
+fn height_of_call<'a, A: Allocator + Copy>(entries: &[Entry<'a, A>]) -> usize
     ensures { result ≡ height (in_call (opens_of entries.now)) }
 {
     match innermost_call(entries) {
@@ -106,7 +108,7 @@ fn height_of_call<'a, A: Allocator>(entries: &[Entry<'a, A>]) -> usize
 }
 
 // The values of the innermost call, bottom first.
-fn stack_of_call<'b, 'a, A: Allocator>(run: &'b Run<'a, A>) -> &'b [Value]
+fn stack_of_call<'b, 'a, A: Allocator + Copy>(run: &'b Run<'a, A>) -> &'b [Value]
     requires { IsKept run.now }
     ensures { IsOpen run.now.status → result.now ≡ stack_shown (progress (seen run.now)) }
 {
@@ -120,7 +122,7 @@ fn stack_of_call<'b, 'a, A: Allocator>(run: &'b Run<'a, A>) -> &'b [Value]
 }
 
 // The locals of the innermost call.
-fn locals_of_call<'b, 'a, A: Allocator>(run: &'b Run<'a, A>) -> &'b [Value]
+fn locals_of_call<'b, 'a, A: Allocator + Copy>(run: &'b Run<'a, A>) -> &'b [Value]
     requires { IsKept run.now }
     ensures { IsOpen run.now.status → result.now ≡ locals_shown (progress (seen run.now)) }
 {
@@ -131,7 +133,7 @@ fn locals_of_call<'b, 'a, A: Allocator>(run: &'b Run<'a, A>) -> &'b [Value]
 }
 
 // The function and the ordinal of the first instruction of the code that is left.
-fn place_in_code<'a, A: Allocator>(parts: &Parts<'a, A>) -> Option<(u32, u32)>
+fn place_in_code<'a, A: Allocator + Copy>(parts: &Parts<'a, A>) -> Option<(u32, u32)>
     ensures { result ≡ place_in (function_in (in_call (opens_of parts.now.entries.items))) (listed (items_of parts.now.code.now) End) }
 {
     let (Some(instr), Some(entry)) = (parts.code.first(), innermost_call(&parts.entries)) else {
@@ -144,7 +146,7 @@ fn place_in_code<'a, A: Allocator>(parts: &Parts<'a, A>) -> Option<(u32, u32)>
 }
 
 // The function and the ordinal of the instruction to come.
-fn place_of_run<'a, A: Allocator>(run: &Run<'a, A>) -> Option<(u32, u32)>
+fn place_of_run<'a, A: Allocator + Copy>(run: &Run<'a, A>) -> Option<(u32, u32)>
     requires { IsKept run.now }
     ensures { IsOpen run.now.status → result ≡ place_shown (progress (seen run.now)) }
 {
@@ -158,18 +160,18 @@ fn place_of_run<'a, A: Allocator>(run: &Run<'a, A>) -> Option<(u32, u32)>
 }
 
 // The globals.
-fn globals_of_run<'b, 'a, A: Allocator>(run: &'b Run<'a, A>) -> &'b [Value]
+fn globals_of_run<'b, 'a, A: Allocator + Copy>(run: &'b Run<'a, A>) -> &'b [Value]
     ensures { result.now ≡ (state_of (progress (seen run.now)).config).globals }
 {
     &run.parts.instance.globals
 }
 
 // So many bytes of memory from an address on.
-fn bytes_of_run<'a, A: Allocator>(
+fn bytes_of_run<'a, A: Allocator + Copy>(
     run: &Run<'a, A>,
     from: u64,
     count: u64,
-) -> Result<Vec<u8>, BytesRefusal>
+) -> Result<Vec<u8, A>, BytesRefusal>
     ensures { IsReadOf (progress (seen run.now)).config from count result }
 {
     let memory = &run.parts.instance.memory;
@@ -184,7 +186,7 @@ fn bytes_of_run<'a, A: Allocator>(
 }
 
 // The same steps, with room for one more.
-fn copy_trace(alloc: Global, trace: &[Step]) -> Result<Vec<Step>, NoMemory>
+fn copy_trace<A: Allocator + Copy>(alloc: A, trace: &[Step]) -> Result<Vec<Step, A>, NoMemory>
     ensures same { IfOk result (λ copy. copy.items ≡ trace.now) }
     ensures room { IfOk result (λ copy. vec_len copy < vec_capacity copy) }
 {
@@ -194,7 +196,7 @@ fn copy_trace(alloc: Global, trace: &[Step]) -> Result<Vec<Step>, NoMemory>
 }
 
 // The same run, with memory of its own.
-fn copy_run<'a, A: Allocator>(run: &Run<'a, A>) -> Result<Run<'a, A>, NoMemory>
+fn copy_run<'a, A: Allocator + Copy>(run: &Run<'a, A>) -> Result<Run<'a, A>, NoMemory>
     requires { IsKept run.now }
     ensures kept { IfOk result (λ copy. IsKept copy) }
     ensures same { IfOk result (λ copy. seen copy ≡ seen run.now) }
@@ -218,7 +220,7 @@ fn copy_run<'a, A: Allocator>(run: &Run<'a, A>) -> Result<Run<'a, A>, NoMemory>
     })
 }
 
-impl<'a, A: Allocator> Machine<'a, A> {
+impl<'a, A: Allocator + Copy> Machine<'a, A> {
     ghost use Rattle.std.specs.Prelude.{◌≡◌, IfOk};
     ghost use Rattle.module_tree.specs.Modules.{module_view};
     ghost use Rattle.spec_execution.specs.Turns.{state_of};
@@ -292,7 +294,7 @@ impl<'a, A: Allocator> Machine<'a, A> {
     /// # Errors
     ///
     /// `OutOfRange` exactly where the bytes do not all lie in memory, else `NoMemory` where memory was refused.
-    pub fn bytes(&self, from: u64, count: u64) -> Result<Vec<u8>, BytesRefusal>
+    pub fn bytes(&self, from: u64, count: u64) -> Result<Vec<u8, A>, BytesRefusal>
         ensures { IsReadOf self.now.config from count result }
     {
         bytes_of_run(&self.run, from, count)

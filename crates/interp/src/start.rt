@@ -43,14 +43,14 @@ pub(crate) fn refusal_of(refusal: Refusal) -> StartRefusal
 
 /// The contract of a call, and the number of the function that the call starts with.
 #[derive(Drop)]
-pub(crate) struct Opened<'a, A: Allocator> {
+pub(crate) struct Opened<'a, A: Allocator + Copy> {
     pub(crate) deployed: &'a Deployed<A>,
     pub(crate) func: u32,
 }
 
 // What a call opens with. Of several causes of a refusal it answers the first of: the contract, the export, the
 // function, the number of arguments, their types.
-pub(crate) fn open_call<'a, A: Allocator>(
+pub(crate) fn open_call<'a, A: Allocator + Copy>(
     contracts: &'a [Deployed<A>],
     call: &Call,
 ) -> Result<Opened<'a, A>, Refusal>

@@ -23,7 +23,7 @@ use wtypes::{PlainInstr, ValType, Value};
 
 /// Makes the charged reduction of the instruction to come, and the free ones of what it becomes.
 #[inline(always)]
-pub fn execute<'a, A: Allocator>(
+pub fn execute<'a, A: Allocator + Copy>(
     lent: &Lent<'a, A>,
     parts: &mut Parts<'a, A>,
 ) -> Result<After, AllocError>
@@ -59,7 +59,7 @@ pub fn execute<'a, A: Allocator>(
 
 // The same for an instruction that holds no other one, with those behind it.
 #[inline(always)]
-fn execute_operator<'a, A: Allocator>(
+fn execute_operator<'a, A: Allocator + Copy>(
     lent: &Lent<'a, A>,
     parts: &mut Parts<'a, A>,
     op: &PlainInstr,
@@ -105,7 +105,7 @@ fn execute_operator<'a, A: Allocator>(
 }
 
 // The same for an instruction that reads or writes the instance.
-fn execute_on_instance<'a, A: Allocator>(
+fn execute_on_instance<'a, A: Allocator + Copy>(
     lent: &Lent<'a, A>,
     parts: &mut Parts<'a, A>,
     op: &PlainInstr,
@@ -157,7 +157,7 @@ fn execute_on_instance<'a, A: Allocator>(
 // Calls the function that an element of the table is, where it has the type of this number; the element's number is on top.
 // It stays out of line, for the speed of the other instructions.
 #[inline(never)]
-fn call_element<'a, A: Allocator>(
+fn call_element<'a, A: Allocator + Copy>(
     lent: &Lent<'a, A>,
     parts: &mut Parts<'a, A>,
     type_index: u32,
@@ -199,9 +199,9 @@ fn arity(block: &Option<ValType>) -> usize
 }
 
 // Opens a block or a loop above all values.
-fn open<'a, A: Allocator>(
+fn open<'a, A: Allocator + Copy>(
     parts: &mut Parts<'a, A>,
-    kind: Kind,
+    kind: Kind<A>,
     ordinal: u32,
     arity: usize,
     from: &'a [Instr<A>],
@@ -228,7 +228,7 @@ fn open<'a, A: Allocator>(
 }
 
 /// Leaves blocks, loops and calls as long as they are at their end.
-pub fn settle<'a, A: Allocator>(parts: &mut Parts<'a, A>)
+pub fn settle<'a, A: Allocator + Copy>(parts: &mut Parts<'a, A>)
     requires ordered { IsOrderedParts parts.old }
     requires counted { IsCounted parts.old }
     ensures settles { AllSettle parts.old parts.new }
@@ -242,7 +242,7 @@ pub fn settle<'a, A: Allocator>(parts: &mut Parts<'a, A>)
 }
 
 // Leaves the innermost block, loop or call, at the end of its code.
-fn leave<'a, A: Allocator>(parts: &mut Parts<'a, A>)
+fn leave<'a, A: Allocator + Copy>(parts: &mut Parts<'a, A>)
     requires ordered { IsOrderedParts parts.old }
     requires counted { IsCounted parts.old }
     requires at_end { parts.old.code.now ≡ [] }
@@ -275,14 +275,14 @@ fn leave<'a, A: Allocator>(parts: &mut Parts<'a, A>)
 }
 
 // The instructions behind the first.
-fn behind<'a, A: Allocator>(code: &'a [Instr<A>]) -> &'a [Instr<A>]
+fn behind<'a, A: Allocator + Copy>(code: &'a [Instr<A>]) -> &'a [Instr<A>]
     ensures { IsBehind code.now result.now }
 {
     if code.is_empty() { code } else { &code[1..] }
 }
 
 // The first instruction, and those behind it.
-fn first<'a, A: Allocator>(code: &'a [Instr<A>]) -> (&'a Instr<A>, &'a [Instr<A>])
+fn first<'a, A: Allocator + Copy>(code: &'a [Instr<A>]) -> (&'a Instr<A>, &'a [Instr<A>])
     requires { 0 < length code.now }
     ensures { code.now ≡ result.0.now ∷ result.1.now }
 {

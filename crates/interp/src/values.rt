@@ -2,6 +2,7 @@
 ghost use Rattle.std.specs.Prelude.{◌≡◌, ◌<◌, ◌++◌, ◌∷◌, [], ◌-◌, length, take, vec_len, vec_capacity};
 ghost use Rattle.spec_numeric.specs.Operators.{bits_of};
 
+use std::alloc::Allocator;
 use wtypes::Value;
 
 /// The number that a value's bits spell.
@@ -15,7 +16,7 @@ pub fn bits(value: Value) -> u64
 }
 
 /// The topmost value.
-pub fn top(stack: &Vec<Value>) -> Value
+pub fn top<A: Allocator + Copy>(stack: &Vec<Value, A>) -> Value
     requires { 0 < vec_len stack.now }
     ensures { stack.now.items ≡ take (length stack.now.items - 1) stack.now.items ++ result ∷ [] }
 {
@@ -23,7 +24,7 @@ pub fn top(stack: &Vec<Value>) -> Value
 }
 
 /// Takes the topmost value.
-pub fn pop_top(stack: &mut Vec<Value>) -> Value
+pub fn pop_top<A: Allocator + Copy>(stack: &mut Vec<Value, A>) -> Value
     requires { 0 < vec_len stack.old }
     ensures items { stack.old.items ≡ stack.new.items ++ result ∷ [] }
     ensures capacity { vec_capacity stack.new ≡ vec_capacity stack.old }
@@ -35,7 +36,7 @@ pub fn pop_top(stack: &mut Vec<Value>) -> Value
 }
 
 /// Puts a value where there is room.
-pub fn put_back(stack: &mut Vec<Value>, value: Value)
+pub fn put_back<A: Allocator + Copy>(stack: &mut Vec<Value, A>, value: Value)
     requires { vec_len stack.old < vec_capacity stack.old }
     ensures { stack.new.items ≡ stack.old.items ++ value ∷ [] }
 {

@@ -9,7 +9,7 @@ use crate::calls::{Lent, new_locals};
 use crate::parts::{Entry, Kind, Parts};
 use crate::steps::settle;
 use module_tree::instr::Instr;
-use std::alloc::{AllocError, Allocator, Global};
+use std::alloc::{AllocError, Allocator};
 use std::mem;
 use wtypes::Value;
 
@@ -21,16 +21,16 @@ pub struct Waiting<'a, A: Allocator> {
     /// The number of its results.
     pub arity: usize,
     /// Its locals: the arguments, and then zeros.
-    pub locals: Vec<Value>,
+    pub locals: Vec<Value, A>,
     /// Its body.
     pub body: &'a [Instr<A>],
     /// Room for its frame.
-    pub entries: Vec<Entry<'a, A>>,
+    pub entries: Vec<Entry<'a, A>, A>,
 }
 
 /// The function with these arguments. Whatever it needs of memory to be entered is taken here.
-pub fn prepare<'a, A: Allocator>(
-    alloc: Global,
+pub fn prepare<'a, A: Allocator + Copy>(
+    alloc: A,
     lent: &Lent<'a, A>,
     func: u32,
     args: &[Value],
@@ -57,7 +57,10 @@ pub fn prepare<'a, A: Allocator>(
 /// Leaves blocks, loops and calls as long as they are at their end, and enters the function that waits once nothing
 /// is open. Takes no memory.
 #[inline(always)]
-pub fn settle_all<'a, A: Allocator>(parts: &mut Parts<'a, A>, waiting: &mut Option<Waiting<'a, A>>)
+pub fn settle_all<'a, A: Allocator + Copy>(
+    parts: &mut Parts<'a, A>,
+    waiting: &mut Option<Waiting<'a, A>>,
+)
     requires ordered { IsOrderedParts parts.old }
     requires counted { IsCounted parts.old }
     requires place { HasEach waiting.old }
@@ -80,7 +83,7 @@ pub fn settle_all<'a, A: Allocator>(parts: &mut Parts<'a, A>, waiting: &mut Opti
 ghost use Rattle.interp.specs.Waiting.{HasBeenEntered};
 
 // Enters the function that has waited, where nothing is open.
-fn enter_waiting<'a, A: Allocator>(parts: &mut Parts<'a, A>, waiting: Waiting<'a, A>)
+fn enter_waiting<'a, A: Allocator + Copy>(parts: &mut Parts<'a, A>, waiting: Waiting<'a, A>)
     requires counted { IsCounted parts.old }
     requires at_end { parts.old.code.now ≡ [] }
     requires none_open { opens_of parts.old.entries.items ≡ [] }

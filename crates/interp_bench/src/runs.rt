@@ -19,7 +19,7 @@ pub fn contract(alloc: Global, bytes: &[u8]) -> Option<Deployed<Global>> {
 }
 
 /// Makes the turns of a run up to its end. `None` where the host was asked for an operation, or where memory was refused.
-pub fn run_to_end<'a, A: Allocator>(mut machine: Machine<'a, A>) -> Option<Finished<'a, A>>
+pub fn run_to_end<'a, A: Allocator + Copy>(mut machine: Machine<'a, A>) -> Option<Finished<'a, A>>
     requires { IsFree machine.status }
     ensures contracts { IfSome result (λ f. f.contracts ≡ machine.entry.contracts) }
     ensures call { IfSome result (λ f. f.call ≡ machine.entry.call) }

@@ -16,7 +16,7 @@ mod laws;
 
 pub use laws::neighbours_decide;
 use spec_ledger::{Entry, Lock, Mode};
-use std::alloc::Global;
+use std::alloc::{Allocator, Global};
 use std::cmp::Ordering;
 use std::collections::BTreeMap;
 use std::marker::Model;
@@ -33,11 +33,11 @@ pub struct Held {
 
 /// The locks that a call touched, each once with its mode. Contracts see a finite map from locks to modes.
 #[derive(Drop)]
-pub struct Touched {
-    held: Vec<Held>,
+pub struct Touched<A: Allocator = Global> {
+    held: Vec<Held, A>,
 }
 
-impl Model for Touched {
+impl<A: Allocator> Model for Touched<A> {
     ghost use Rattle.std.specs.Prelude.{T};
     ghost use Rattle.std.specs.FinMap.{from_sorted, is_sorted};
     ghost use Rattle.spec_ledger.specs.Cells.{lock_cmp};
@@ -54,9 +54,9 @@ impl Model for Touched {
     ghost invariant = { λ t. T (is_sorted lock_cmp (pairs t.held.items)) };
 }
 
-impl Touched {
+impl<A: Allocator> Touched<A> {
     /// The map of these locks to their modes. There is none if the locks do not strictly rise.
-    pub fn from_sorted(held: Vec<Held>) -> Option<Touched>
+    pub fn from_sorted(held: Vec<Held, A>) -> Option<Self>
         ensures there { IsSome result ↔ IsTrue (finite.is_sorted lock_cmp (pairs held.items)) }
         ensures entries { IfSome result (λ touched. finite.entries touched ≡ pairs held.items) }
     {
@@ -77,11 +77,11 @@ impl Touched {
 
 /// A call's locks with their modes and turns, each lock once, in lock order. Contracts see the list of entries.
 #[derive(Drop)]
-pub struct Profile {
-    entries: Vec<Entry>,
+pub struct Profile<A: Allocator = Global> {
+    entries: Vec<Entry, A>,
 }
 
-impl Model for Profile {
+impl<A: Allocator> Model for Profile<A> {
     ghost use Rattle.std.specs.Prelude.{List};
     ghost use Rattle.std.specs.Coded.{coded_list};
     ghost use Rattle.spec_ledger.specs.declared.Entry.{Entry as TheEntry};
@@ -97,9 +97,9 @@ impl Model for Profile {
     ghost invariant = { λ p. IsProfile p.entries.items };
 }
 
-impl Profile {
+impl<A: Allocator> Profile<A> {
     /// The profile of these entries. There is none if their locks do not strictly rise.
-    pub fn from_sorted(entries: Vec<Entry>) -> Option<Profile>
+    pub fn from_sorted(entries: Vec<Entry, A>) -> Option<Self>
         ensures there { IsSome result ↔ IsProfile entries.items }
         ensures is { IfSome result (λ profile. profile ≡ entries.items) }
     {
@@ -190,7 +190,7 @@ fn go_together(a: Mode, b: Mode) -> bool
     matches!((a, b), (Mode::Read, Mode::Read) | (Mode::Add, Mode::Add))
 }
 
-fn group_at(groups: &BTreeMap<Lock, Group>, lock: Lock) -> Option<Group>
+fn group_at<A: Allocator>(groups: &BTreeMap<Lock, Group, A>, lock: Lock) -> Option<Group>
     ensures { result ≡ get lock_cmp groups.now lock }
 {
     match groups.get(&lock) {
@@ -217,11 +217,11 @@ fn next_turn(last: Option<Group>, mode: Mode) -> u32
 }
 
 /// The entries of a call that comes after these groups.
-fn entries_after(
-    alloc: Global,
-    groups: &BTreeMap<Lock, Group>,
+fn entries_after<A: Allocator + Copy>(
+    alloc: A,
+    groups: &BTreeMap<Lock, Group, A>,
     held: &[Held],
-) -> Result<Vec<Entry>, NoMemory>
+) -> Result<Vec<Entry, A>, NoMemory>
     requires { (lock : Lock) (mode : Mode) → turn_next (get lock_cmp groups.now lock) mode < 2 ^ 32 }
     ensures { IfOk result (λ es. es.items ≡ map (entry_of (get lock_cmp groups.now)) held.now) }
 {
@@ -237,7 +237,10 @@ fn entries_after(
     Ok(entries)
 }
 
-fn write_group(groups: &mut BTreeMap<Lock, Group>, entry: Entry) -> Result<(), NoMemory>
+fn write_group<A: Allocator + Copy>(
+    groups: &mut BTreeMap<Lock, Group, A>,
+    entry: Entry,
+) -> Result<(), NoMemory>
     ensures { OnOk result ((q : Lock) → get lock_cmp groups.new q ≡ (if eq_by_cmp lock_cmp entry.lock q then Some (record { mode = entry.mode; turn = entry.turn }) else get lock_cmp groups.old q)) }
 {
     let group = Group {
@@ -251,7 +254,10 @@ fn write_group(groups: &mut BTreeMap<Lock, Group>, entry: Entry) -> Result<(), N
 }
 
 /// Writes the groups that a call's entries are in.
-fn write_groups(groups: &mut BTreeMap<Lock, Group>, entries: &[Entry]) -> Result<(), NoMemory>
+fn write_groups<A: Allocator + Copy>(
+    groups: &mut BTreeMap<Lock, Group, A>,
+    entries: &[Entry],
+) -> Result<(), NoMemory>
     ensures { OnOk result ((q : Lock) → get lock_cmp groups.new q ≡ latest q entries.now (get lock_cmp groups.old q)) }
 {
     for entry in entries {
@@ -261,11 +267,11 @@ fn write_groups(groups: &mut BTreeMap<Lock, Group>, entries: &[Entry]) -> Result
 }
 
 /// The profile of the next call of an order, and the groups after it.
-fn profile_after(
-    alloc: Global,
-    groups: &mut BTreeMap<Lock, Group>,
-    touched: &Touched,
-) -> Result<Profile, NoMemory>
+fn profile_after<A: Allocator + Copy>(
+    alloc: A,
+    groups: &mut BTreeMap<Lock, Group, A>,
+    touched: &Touched<A>,
+) -> Result<Profile<A>, NoMemory>
     requires { (lock : Lock) (mode : Mode) → turn_next (get lock_cmp groups.old lock) mode < 2 ^ 32 }
     ensures ok { IfOk result (λ p. p ≡ written (get lock_cmp groups.old) touched.now) }
     ensures groups { OnOk result ((q : Lock) → get lock_cmp groups.new q ≡ group_of (get lock_cmp groups.old q) (finite.get touched.now q)) }
@@ -278,7 +284,10 @@ fn profile_after(
 /// The profiles of a published order, of which each map is what the call at its position touched. The turn of a lock counts the
 /// groups before the call's own, from 0: holders that follow one another and all have Read, or all have Add, are one group, and
 /// each Excl is a group alone. It takes n log n steps for n locks in all.
-pub fn turns(alloc: Global, touched: &[Touched]) -> Result<Vec<Profile>, NoMemory>
+pub fn turns<A: Allocator + Copy>(
+    alloc: A,
+    touched: &[Touched<A>],
+) -> Result<Vec<Profile<A>, A>, NoMemory>
     requires { length touched.now < 2 ^ 16 }
     ensures { IfOk result (λ profiles. AreTurns touched.now profiles.items) }
 {

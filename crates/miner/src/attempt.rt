@@ -19,17 +19,17 @@ use link::deployed::Deployed as Contract;
 use pace::{Pace, Step};
 use shared_book::SharedBook;
 use spec_ledger::{NoMemory, Op, Reply};
-use std::alloc::{Allocator, Global};
+use std::alloc::Allocator;
 use std::sync::Wait;
 
 /// What the workers share.
 #[derive(Drop)]
 pub(crate) struct Job<'s, 'a, A: Allocator, P: Pace> {
-    pub(crate) alloc: Global,
+    pub(crate) alloc: A,
     pub(crate) contracts: &'a [Contract<A>],
     pub(crate) calls: &'a [Call],
-    pub(crate) book: &'s SharedBook,
-    pub(crate) intake: &'s Intake<Global>,
+    pub(crate) book: &'s SharedBook<A>,
+    pub(crate) intake: &'s Intake<A>,
     pub(crate) pace: &'s P,
     /// How often a call is tried.
     pub(crate) tries: u32,
@@ -62,7 +62,7 @@ fn stop_at(refusal: OpRefusal) -> Stop {
 }
 
 /// Asks the book for an operation, and tells the pace before it, and after a refusal.
-fn ask<A: Allocator, R: Wait, P: Pace>(
+fn ask<A: Allocator + Copy, R: Wait, P: Pace>(
     rt: &R,
     job: &Job<'_, '_, A, P>,
     ticket: &Ticket,
@@ -83,7 +83,7 @@ fn ask<A: Allocator, R: Wait, P: Pace>(
 }
 
 /// Makes a turn, with the operation that it asks for. Answers whether the run goes on.
-fn make_turn<'a, A: Allocator, R: Wait, P: Pace>(
+fn make_turn<'a, A: Allocator + Copy, R: Wait, P: Pace>(
     rt: &R,
     job: &Job<'_, 'a, A, P>,
     ticket: &Ticket,
@@ -113,7 +113,7 @@ fn make_turn<'a, A: Allocator, R: Wait, P: Pace>(
 }
 
 /// Makes the turns of a call that starts.
-fn run<'a, A: Allocator, R: Wait, P: Pace>(
+fn run<'a, A: Allocator + Copy, R: Wait, P: Pace>(
     rt: &R,
     job: &Job<'_, 'a, A, P>,
     ticket: &Ticket,
@@ -134,8 +134,8 @@ fn run<'a, A: Allocator, R: Wait, P: Pace>(
 }
 
 /// The empty run of a call that does not start.
-fn rejected<'a, A: Allocator>(
-    alloc: Global,
+fn rejected<'a, A: Allocator + Copy>(
+    alloc: A,
     contracts: &'a [Contract<A>],
     call: &'a Call,
 ) -> Finished<'a, A>
@@ -149,7 +149,7 @@ fn rejected<'a, A: Allocator>(
 }
 
 /// Runs a live attempt to its end.
-fn play<'a, A: Allocator, R: Wait, P: Pace>(
+fn play<'a, A: Allocator + Copy, R: Wait, P: Pace>(
     rt: &R,
     job: &Job<'_, 'a, A, P>,
     ticket: &Ticket,
@@ -168,7 +168,7 @@ fn play<'a, A: Allocator, R: Wait, P: Pace>(
 }
 
 /// Commits a live attempt by its run, and undoes it where the book refuses.
-fn commit<'a, A: Allocator, R: Wait, P: Pace>(
+fn commit<'a, A: Allocator + Copy, R: Wait, P: Pace>(
     rt: &R,
     job: &Job<'_, 'a, A, P>,
     ticket: Ticket,
@@ -203,7 +203,7 @@ fn commit<'a, A: Allocator, R: Wait, P: Pace>(
 }
 
 /// One attempt at a call: its run, where it was committed.
-fn attempt<'a, A: Allocator, R: Wait, P: Pace>(
+fn attempt<'a, A: Allocator + Copy, R: Wait, P: Pace>(
     rt: &R,
     job: &Job<'_, 'a, A, P>,
     call: u32,
@@ -228,7 +228,7 @@ fn attempt<'a, A: Allocator, R: Wait, P: Pace>(
 }
 
 /// Tries a call until it is committed, at most as often as the job says. None where each try was refused.
-pub(crate) fn try_call<'a, A: Allocator, R: Wait, P: Pace>(
+pub(crate) fn try_call<'a, A: Allocator + Copy, R: Wait, P: Pace>(
     rt: &R,
     job: &Job<'_, 'a, A, P>,
     call: u32,

@@ -27,7 +27,7 @@ use lock_profile::Touched;
 use pace::Pace;
 use shared_book::SharedBook;
 use spec_ledger::{NoMemory, Receipt};
-use std::alloc::Global;
+use std::alloc::{Allocator, Global};
 use std::sync::Wait;
 use std::thread;
 use std::thread::Threads;
@@ -35,19 +35,19 @@ use storage::Cells;
 
 /// What was mined.
 #[derive(Drop)]
-pub struct MinedCore {
+pub struct MinedCore<A: Allocator = Global> {
     /// The numbers of the calls, by position.
-    pub order: Vec<u32>,
+    pub order: Vec<u32, A>,
     /// The receipt at each position.
-    pub receipts: Vec<Receipt>,
+    pub receipts: Vec<Receipt, A>,
     /// The locks that the call at each position asked for, each with the join of its modes.
-    pub touched: Vec<Touched>,
+    pub touched: Vec<Touched<A>, A>,
     /// The cells after the last call, in which nothing is unsettled.
-    pub cells: Cells,
+    pub cells: Cells<A>,
     /// The fuel that the calls used together.
     pub fuel: u64,
     /// The numbers of the calls outside the order, rising.
-    pub left: Vec<u32>,
+    pub left: Vec<u32, A>,
     /// How many calls of the order the workers committed. The others ran alone, after the workers.
     pub by_workers: u32,
 }
@@ -63,17 +63,17 @@ pub struct MinedCore {
 /// # Errors
 ///
 /// Memory was refused to the caller or to a worker.
-pub fn mine_core<'a, R: Threads + Wait + Sync, P: Pace>(
+pub fn mine_core<'a, R: Threads + Wait + Sync, A: Allocator + Copy + Send + Sync, P: Pace>(
     rt: &R,
-    alloc: Global,
-    contracts: &'a [Contract<Global>],
-    cells: &Cells,
+    alloc: A,
+    contracts: &'a [Contract<A>],
+    cells: &Cells<A>,
     calls: &'a [Call],
     block_fuel: u64,
     workers: u32,
     tries: u32,
     pace: &P,
-) -> Result<MinedCore, NoMemory>
+) -> Result<MinedCore<A>, NoMemory>
     requires calls { length calls.now ≤ 65535 }
     requires workers { (1 ≤ workers) × (workers ≤ 64) }
     requires tries { (1 ≤ tries) × (tries ≤ 16) }
@@ -101,15 +101,15 @@ pub fn mine_core<'a, R: Threads + Wait + Sync, P: Pace>(
         tries,
     };
     let worked = run_workers(rt, &job, seats)?;
-    publish(&job, cells, block_fuel, worked)
+    publish(alloc, contracts, calls, cells, block_fuel, worked)
 }
 
 /// What the workers hand back, one for each seat.
-fn run_workers<'a, R: Threads + Wait + Sync, P: Pace>(
+fn run_workers<'a, R: Threads + Wait + Sync, A: Allocator + Copy + Send + Sync, P: Pace>(
     rt: &R,
-    job: &Job<'_, 'a, Global, P>,
-    seats: Vec<Seat>,
-) -> Result<Vec<Result<Worked<'a, Global>, NoMemory>>, NoMemory>
+    job: &Job<'_, 'a, A, P>,
+    seats: Vec<Seat, A>,
+) -> Result<Vec<Result<Worked<'a, A>, NoMemory>, A>, NoMemory>
     requires calls { job.now.intake.now.limits.calls ≡ length job.now.calls.now }
     requires seats { All (IsSeatOf job.now.intake.now) seats.items }
     ensures { IfOk result (λ parts. All (λ part. IfOk part (AreRuns (contracts_view job.now.contracts.now) job.now.calls.now)) parts.items) }
@@ -117,7 +117,7 @@ fn run_workers<'a, R: Threads + Wait + Sync, P: Pace>(
     let parts = thread::map_vec(
         rt,
         seats,
-        &|seat: Seat| -> Result<Worked<Global>, NoMemory>
+        &|seat: Seat| -> Result<Worked<A>, NoMemory>
             requires { (job.now.intake.now.limits.calls ≡ length job.now.calls.now) × IsSeatOf job.now.intake.now seat }
             ensures { IfOk result (AreRuns (contracts_view job.entry.now.contracts.now) job.entry.now.calls.now) }
         { work(rt, job, seat) },

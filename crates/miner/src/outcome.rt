@@ -1,5 +1,5 @@
 // What the workers handed back is published.
-ghost use Rattle.std.specs.Prelude.{◌≡◌, ◌+◌, ◌<◌, ◌≤◌, ◌^◌, IfOk, OnOk, All, length};
+ghost use Rattle.std.specs.Prelude.{◌≡◌, ◌+◌, ◌<◌, ◌≤◌, ◌^◌, false, IfOk, OnOk, All, length};
 ghost use Rattle.std.specs.FinMap as finite;
 ghost use Rattle.spec_ledger.specs.Order.{IsAdmissible};
 ghost use Rattle.spec_execution.specs.Serial.{Serial};
@@ -9,24 +9,25 @@ ghost use Rattle.publish.specs.Publication.{AreLeft, IsSameJob, HasGoneOn, limit
 ghost use Rattle.miner.specs.Handed.{AreRuns, AreAllRuns, IsCommitted};
 
 use crate::MinedCore;
-use crate::attempt::{Committed, Job};
+use crate::attempt::Committed;
 use crate::worker::Worked;
-use pace::Pace;
+use call::Call;
+use link::deployed::Deployed as Contract;
 use publish::Publishing;
 use spec_ledger::NoMemory;
 use std::alloc::Allocator;
 use storage::Cells;
 
 /// Puts what a worker handed back behind what others did.
-#[tactic(auto, using(crate::proofs::Runs::more_runs))]
-fn add<'a, A: Allocator, P: Pace>(
-    _job: &Job<'_, 'a, A, P>,
+fn add<'a, A: Allocator + Copy>(
+    _contracts: &'a [Contract<A>],
+    _calls: &'a [Call],
     all: &mut Worked<'a, A>,
     part: Worked<'a, A>,
 ) -> Result<(), NoMemory>
-    requires all { AreRuns (contracts_view _job.now.contracts.now) _job.now.calls.now all.old }
-    requires part { AreRuns (contracts_view _job.now.contracts.now) _job.now.calls.now part }
-    ensures { OnOk result (AreRuns (contracts_view _job.now.contracts.now) _job.now.calls.now all.new) }
+    requires all { AreRuns (contracts_view _contracts.now) _calls.now all.old }
+    requires part { AreRuns (contracts_view _contracts.now) _calls.now part }
+    ensures { OnOk result (AreRuns (contracts_view _contracts.now) _calls.now all.new) }
 {
     let Worked {
         mut committed,
@@ -37,26 +38,55 @@ fn add<'a, A: Allocator, P: Pace>(
     Ok(())
 }
 
-/// Puts together what the workers handed back. An Err of one is that of all.
-fn gather<'a, A: Allocator, P: Pace>(
-    job: &Job<'_, 'a, A, P>,
-    mut parts: Vec<Result<Worked<'a, A>, NoMemory>>,
+/// Puts what a thread handed back behind what others did, and answers whether memory was refused, to its worker, here or
+/// before.
+fn take_part<'a, A: Allocator + Copy>(
+    contracts: &'a [Contract<A>],
+    calls: &'a [Call],
+    all: &mut Worked<'a, A>,
+    lacked: bool,
+    part: Result<Worked<'a, A>, NoMemory>,
+) -> bool
+    requires all { lacked ≡ false → AreRuns (contracts_view contracts.now) calls.now all.old }
+    requires part { IfOk part (AreRuns (contracts_view contracts.now) calls.now) }
+    ensures { result ≡ false → AreRuns (contracts_view contracts.now) calls.now all.new }
+{
+    match part {
+        Ok(worked) if !lacked => match add(contracts, calls, all, worked) {
+            Ok(()) => false,
+            Err(_) => true,
+        },
+        Ok(_) | Err(_) => true,
+    }
+}
+
+/// Puts together what the workers handed back of these calls over these contracts. Want of memory of one is that of all.
+fn gather<'a, A: Allocator + Copy>(
+    alloc: A,
+    contracts: &'a [Contract<A>],
+    calls: &'a [Call],
+    mut parts: Vec<Result<Worked<'a, A>, NoMemory>, A>,
 ) -> Result<Worked<'a, A>, NoMemory>
-    requires { All (λ part. IfOk part (AreRuns (contracts_view job.now.contracts.now) job.now.calls.now)) parts.items }
-    ensures { IfOk result (AreRuns (contracts_view job.now.contracts.now) job.now.calls.now) }
+    requires { All (λ part. IfOk part (AreRuns (contracts_view contracts.now) calls.now)) parts.items }
+    ensures { IfOk result (AreRuns (contracts_view contracts.now) calls.now) }
 {
     let mut all = Worked {
-        committed: Vec::new(job.alloc),
-        set_aside: Vec::new(job.alloc),
+        committed: Vec::new(alloc),
+        set_aside: Vec::new(alloc),
     };
+    let mut lacked = false;
     while let Some(part) = parts.pop() {
-        add(job, &mut all, part?)?;
+        lacked = take_part(contracts, calls, &mut all, lacked, part);
+    }
+    parts.destroy_empty();
+    if lacked {
+        return Err(NoMemory);
     }
     Ok(all)
 }
 
 /// Publishes a run where it fits what is published, and answers how many calls that adds.
-fn take_one<'a, A: Allocator>(
+fn take_one<'a, A: Allocator + Copy>(
     publishing: &mut Publishing<'a, A>,
     run: &Committed<'a, A>,
 ) -> Result<u32, NoMemory>
@@ -70,7 +100,7 @@ fn take_one<'a, A: Allocator>(
 
 /// Publishes the runs that fit what is published, and counts them.
 #[tactic(auto, using(crate::proofs::Jobs::job_itself, crate::proofs::Jobs::job_after))]
-fn take_runs<'a, A: Allocator>(
+fn take_runs<'a, A: Allocator + Copy>(
     publishing: &mut Publishing<'a, A>,
     committed: &[Committed<'a, A>],
 ) -> Result<u32, NoMemory>
@@ -88,7 +118,7 @@ fn take_runs<'a, A: Allocator>(
 
 /// Runs calls alone and publishes them, where there is room.
 #[tactic(auto, using(crate::proofs::Jobs::job_itself, crate::proofs::Jobs::job_after, crate::proofs::Jobs::grown))]
-fn take_alone<'a, A: Allocator>(
+fn take_alone<'a, A: Allocator + Copy>(
     publishing: &mut Publishing<'a, A>,
     calls: &[u32],
 ) -> Result<(), NoMemory>
@@ -103,30 +133,32 @@ fn take_alone<'a, A: Allocator>(
 
 /// Publishes the runs of the workers in the order of their positions, and then the other calls that have room: those that were
 /// set aside first, in rising number.
-pub(crate) fn publish<'a, A: Allocator, P: Pace>(
-    job: &Job<'_, 'a, A, P>,
-    cells: &Cells,
+pub(crate) fn publish<'a, A: Allocator + Copy>(
+    alloc: A,
+    contracts: &'a [Contract<A>],
+    calls: &'a [Call],
+    cells: &Cells<A>,
     block_fuel: u64,
-    parts: Vec<Result<Worked<'a, A>, NoMemory>>,
-) -> Result<MinedCore, NoMemory>
-    requires calls { length job.now.calls.now < 2 ^ 32 }
-    requires runs { All (λ part. IfOk part (AreRuns (contracts_view job.now.contracts.now) job.now.calls.now)) parts.items }
-    ensures serial { IfOk result (λ core. Serial (contracts_view job.now.contracts.now) job.now.calls.now core.order.items cells.now.cells (positions core.receipts.items core.touched.items) core.cells.cells) }
-    ensures admissible { IfOk result (λ core. IsAdmissible (limits job.now.calls.now) core.order.items block_fuel) }
+    parts: Vec<Result<Worked<'a, A>, NoMemory>, A>,
+) -> Result<MinedCore<A>, NoMemory>
+    requires calls { length calls.now < 2 ^ 32 }
+    requires runs { All (λ part. IfOk part (AreRuns (contracts_view contracts.now) calls.now)) parts.items }
+    ensures serial { IfOk result (λ core. Serial (contracts_view contracts.now) calls.now core.order.items cells.now.cells (positions core.receipts.items core.touched.items) core.cells.cells) }
+    ensures admissible { IfOk result (λ core. IsAdmissible (limits calls.now) core.order.items block_fuel) }
     ensures receipts { IfOk result (λ core. length core.receipts.items ≡ length core.order.items) }
     ensures touched { IfOk result (λ core. length core.touched.items ≡ length core.order.items) }
     ensures settled { IfOk result (λ core. core.cells.unsettled ≡ finite.empty) }
     ensures fuel { IfOk result (λ core. core.fuel ≡ fuel_used (positions core.receipts.items core.touched.items)) }
-    ensures left { IfOk result (λ core. AreLeft core.order.items (length job.now.calls.now) core.left.items) }
+    ensures left { IfOk result (λ core. AreLeft core.order.items (length calls.now) core.left.items) }
     ensures by_workers { IfOk result (λ core. core.by_workers ≤ length core.order.items) }
 {
     let Worked {
         mut committed,
         mut set_aside,
-    } = gather(job, parts)?;
+    } = gather(alloc, contracts, calls, parts)?;
     committed.sort_unstable_by_key(|run| run.position);
     set_aside.sort_unstable();
-    let mut publishing = Publishing::open(job.alloc, job.contracts, job.calls, cells, block_fuel)?;
+    let mut publishing = Publishing::open(alloc, contracts, calls, cells, block_fuel)?;
     let by_workers = take_runs(&mut publishing, &committed)?;
     take_alone(&mut publishing, &set_aside)?;
     publishing.fill()?;

@@ -14,7 +14,7 @@ use miner::{MinedCore, mine_core};
 use pace::Pace;
 use serial::Core;
 use serial_block::seal;
-use std::alloc::Global;
+use std::alloc::{Allocator, Global};
 use std::sync::Wait;
 use std::thread::Threads;
 use world::World;
@@ -22,13 +22,13 @@ use wtypes::NoMemory;
 
 /// What was mined.
 #[derive(Drop)]
-pub struct Mined {
+pub struct Mined<A: Allocator = Global> {
     /// The block of the published order.
-    pub block: Block,
+    pub block: Block<A>,
     /// The world after the block: the same contracts with the cells that the calls left.
-    pub world: World,
+    pub world: World<A>,
     /// The numbers of the calls outside the order, rising.
-    pub left: Vec<u32>,
+    pub left: Vec<u32, A>,
     /// How many calls of the order the workers committed. The others ran alone, after the workers.
     pub by_workers: u32,
 }
@@ -53,6 +53,31 @@ pub fn mine<R: Threads + Wait + Sync, P: Pace>(
     tries: u32,
     pace: &P,
 ) -> Result<Mined, NoMemory>
+    requires calls { length calls.now ≤ 65535 }
+    requires workers { (1 ≤ workers) × (workers ≤ 64) }
+    requires tries { (1 ≤ tries) × (tries ≤ 16) }
+    ensures headline { IfOk result (λ mined. Headline (world_view world.now) calls.now block_fuel mined.block (world_view mined.world)) }
+    ensures left { IfOk result (λ mined. IsLeft calls.now (order_of mined.block) mined.left.items) }
+    ensures by_workers { IfOk result (λ mined. mined.by_workers ≤ length mined.block.positions) }
+{
+    mine_in(rt, alloc, world, calls, block_fuel, workers, tries, pace)
+}
+
+/// As [`mine`], with all memory from this allocator. Want of memory of one worker is that of the whole call.
+///
+/// # Errors
+///
+/// Memory was refused to the caller or to a worker, or a call touched 2^32 locks or more.
+pub fn mine_in<R: Threads + Wait + Sync, A: Allocator + Copy + Send + Sync, P: Pace>(
+    rt: &R,
+    alloc: A,
+    world: &World<A>,
+    calls: &[Call],
+    block_fuel: u64,
+    workers: u32,
+    tries: u32,
+    pace: &P,
+) -> Result<Mined<A>, NoMemory>
     requires calls { length calls.now ≤ 65535 }
     requires workers { (1 ≤ workers) × (workers ≤ 64) }
     requires tries { (1 ≤ tries) × (tries ≤ 16) }

@@ -28,17 +28,17 @@ use storage::Cells;
 /// An order that is being published. The type keeps that what is published so far is a serial execution from the opening
 /// cells, of distinct calls whose limits are together within the fuel.
 #[derive(Drop)]
-pub struct Publishing<'a, A: Allocator> {
-    alloc: Global,
+pub struct Publishing<'a, A: Allocator + Copy> {
+    alloc: A,
     contracts: &'a [Contract<A>],
     calls: &'a [Call],
-    opening: &'a Cells,
+    opening: &'a Cells<A>,
     fuel: u64,
-    so_far: SoFar,
-    cells: Cells,
+    so_far: SoFar<A>,
+    cells: Cells<A>,
 }
 
-impl<'a, A: Allocator> Model for Publishing<'a, A> {
+impl<'a, A: Allocator + Copy> Model for Publishing<'a, A> {
     ghost use Rattle.interp.specs.Lent.{contracts_view};
     ghost use Rattle.serial.specs.Positions.{positions};
     ghost use Rattle.publish.specs.Publication.{Publication, coded_publication, IsKept};
@@ -54,32 +54,32 @@ impl<'a, A: Allocator> Model for Publishing<'a, A> {
 
 /// What was published.
 #[derive(Drop)]
-pub struct Published {
+pub struct Published<A: Allocator = Global> {
     /// The numbers of the calls, by position.
-    pub order: Vec<u32>,
+    pub order: Vec<u32, A>,
     /// The receipt at each position.
-    pub receipts: Vec<Receipt>,
+    pub receipts: Vec<Receipt, A>,
     /// The locks that the call at each position asked for, each with the join of its modes.
-    pub touched: Vec<Touched>,
+    pub touched: Vec<Touched<A>, A>,
     /// The cells after the last call, in which nothing is unsettled.
-    pub cells: Cells,
+    pub cells: Cells<A>,
     /// The fuel that the calls used together.
     pub fuel: u64,
     /// The numbers of the calls outside the order, rising.
-    pub left: Vec<u32>,
+    pub left: Vec<u32, A>,
 }
 
-impl<'a, A: Allocator> Publishing<'a, A> {
+impl<'a, A: Allocator + Copy> Publishing<'a, A> {
     /// Nothing is published yet. The limits of the calls of the order are to be within this fuel.
     ///
     /// # Errors
     ///
     /// Memory was refused.
     pub fn open(
-        alloc: Global,
+        alloc: A,
         contracts: &'a [Contract<A>],
         calls: &'a [Call],
-        cells: &'a Cells,
+        cells: &'a Cells<A>,
         fuel: u64,
     ) -> Result<Publishing<'a, A>, NoMemory>
         requires { length calls.now < 2 ^ 32 }
@@ -194,7 +194,7 @@ impl<'a, A: Allocator> Publishing<'a, A> {
     /// # Errors
     ///
     /// Memory was refused.
-    pub fn finish(mut self) -> Result<Published, NoMemory>
+    pub fn finish(mut self) -> Result<Published<A>, NoMemory>
         ensures serial { IfOk result (λ published. Serial self.entry.contracts self.entry.calls published.order.items self.entry.opening (positions published.receipts.items published.touched.items) published.cells.cells) }
         ensures admissible { IfOk result (λ published. IsAdmissible (limits self.entry.calls) published.order.items self.entry.fuel) }
         ensures swept { IfOk result (λ published. Sweep (limits self.entry.calls) self.entry.fuel self.entry.order (length self.entry.calls) published.order.items) }
@@ -214,7 +214,7 @@ impl<'a, A: Allocator> Publishing<'a, A> {
     /// # Errors
     ///
     /// Memory was refused.
-    pub fn close(self) -> Result<Published, NoMemory>
+    pub fn close(self) -> Result<Published<A>, NoMemory>
         ensures order { IfOk result (λ published. published.order.items ≡ self.entry.order) }
         ensures ran { IfOk result (λ published. positions published.receipts.items published.touched.items ≡ self.entry.ran) }
         ensures receipts { IfOk result (λ published. length published.receipts.items ≡ length self.entry.order) }

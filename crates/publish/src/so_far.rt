@@ -5,23 +5,23 @@ ghost use Rattle.publish.specs.Publication.{is_marked, AreUnmarked};
 use lock_profile::Touched;
 use serial::Executed;
 use spec_ledger::{NoMemory, Receipt};
-use std::alloc::Global;
+use std::alloc::Allocator;
 
 /// The published calls with what they came to, marks of them by number, the fuel that is left of the block's when the
 /// limits of the published calls are taken from it, and the fuel that they used.
 #[derive(Drop)]
-pub(crate) struct SoFar {
-    pub(crate) order: Vec<u32>,
-    pub(crate) receipts: Vec<Receipt>,
-    pub(crate) touched: Vec<Touched>,
-    pub(crate) marks: Vec<bool>,
+pub(crate) struct SoFar<A: Allocator> {
+    pub(crate) order: Vec<u32, A>,
+    pub(crate) receipts: Vec<Receipt, A>,
+    pub(crate) touched: Vec<Touched<A>, A>,
+    pub(crate) marks: Vec<bool, A>,
     pub(crate) remaining: u64,
     pub(crate) used: u64,
 }
 
-impl SoFar {
+impl<A: Allocator + Copy> SoFar<A> {
     /// Nothing of so many calls.
-    pub(crate) fn open(alloc: Global, calls: usize, fuel: u64) -> Result<SoFar, NoMemory>
+    pub(crate) fn open(alloc: A, calls: usize, fuel: u64) -> Result<SoFar<A>, NoMemory>
         ensures order { IfOk result (λ s. s.order.items ≡ []) }
         ensures receipts { IfOk result (λ s. s.receipts.items ≡ []) }
         ensures touched { IfOk result (λ s. s.touched.items ≡ []) }
@@ -67,7 +67,7 @@ impl SoFar {
     }
 
     /// Notes a call of this limit, with what it came to.
-    pub(crate) fn push(&mut self, call: u32, limit: u64, executed: Executed)
+    pub(crate) fn push(&mut self, call: u32, limit: u64, executed: Executed<A>)
         requires order_room { vec_len self.old.order < vec_capacity self.old.order }
         requires receipts_room { vec_len self.old.receipts < vec_capacity self.old.receipts }
         requires touched_room { vec_len self.old.touched < vec_capacity self.old.touched }
@@ -91,7 +91,10 @@ impl SoFar {
 }
 
 /// The numbers that are not marked, rising.
-pub(crate) fn unmarked(alloc: Global, marks: &[bool]) -> Result<Vec<u32>, NoMemory>
+pub(crate) fn unmarked<A: Allocator + Copy>(
+    alloc: A,
+    marks: &[bool],
+) -> Result<Vec<u32, A>, NoMemory>
     requires { length marks.now < 2 ^ 32 }
     ensures { IfOk result (λ left. AreUnmarked marks.now (length marks.now) left.items) }
 {

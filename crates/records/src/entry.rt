@@ -10,7 +10,7 @@ ghost use Rattle.records.specs.Profiles.{kind_of, kind_at, mode_of, mode_at, is_
 
 use fields::{Fault, append_u32, append_u64, read_byte, read_u32, read_u64};
 use spec_ledger::{Entry, Kind, Lock, Mode};
-use std::alloc::AllocError;
+use std::alloc::{AllocError, Allocator};
 use std::cmp::Ordering;
 
 fn kind_named(code: u8) -> Option<Kind>
@@ -123,7 +123,7 @@ fn mode_byte(mode: Mode) -> u8
 }
 
 /// Appends an entry. Where memory is refused, what was there still stands in front.
-pub fn append_entry(out: &mut Vec<u8>, entry: Entry) -> Result<(), AllocError>
+pub fn append_entry<A: Allocator>(out: &mut Vec<u8, A>, entry: Entry) -> Result<(), AllocError>
     ensures bytes { OnOk result (out.new.items ≡ out.old.items ++ entry_bytes entry) }
     ensures front { take (length out.old.items) out.new.items ≡ out.old.items }
 {

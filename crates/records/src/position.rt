@@ -12,18 +12,18 @@ use crate::receipt::{append_receipt, has_bytes, read_receipt};
 use fields::{Fault, append_u32, read_u32};
 use lock_profile::Profile;
 use spec_ledger::Receipt;
-use std::alloc::{AllocError, Global};
+use std::alloc::{AllocError, Allocator, Global};
 use std::marker::Model;
 
 /// What a block says of one call. Its type keeps that it has a spelling: the codes of receipts, and less than 2^32 entries.
 #[derive(Drop)]
-pub struct Position {
+pub struct Position<A: Allocator = Global> {
     call: u32,
     receipt: Receipt,
-    profile: Profile,
+    profile: Profile<A>,
 }
 
-impl Model for Position {
+impl<A: Allocator> Model for Position<A> {
     ghost use Rattle.spec_block.specs.Worlds.{Position as ThePosition};
     ghost use Rattle.spec_block.specs.Bytes.{IsPosition};
 
@@ -34,10 +34,10 @@ impl Model for Position {
     ghost invariant = { λ p. IsPosition (record { call = p.call; receipt = p.receipt; profile = p.profile }) };
 }
 
-impl Position {
+impl<A: Allocator> Position<A> {
     /// The position of a call with this number. There is none where the receipt's rejection has none of the codes 1, 2, 3, 4 and 6, or
     /// where the profile has 2^32 entries or more.
-    pub fn new(call: u32, receipt: Receipt, profile: Profile) -> Option<Position>
+    pub fn new(call: u32, receipt: Receipt, profile: Profile<A>) -> Option<Self>
         ensures there { IsSome result ↔ (IsOutcome receipt.outcome × (length profile < 2 ^ 32)) }
         ensures is { IfSome result (λ p. p ≡ record { call = call; receipt = receipt; profile = profile }) }
     {
@@ -69,7 +69,7 @@ impl Position {
     }
 
     /// Its locks, with their modes and turns.
-    pub fn profile(&self) -> &Profile
+    pub fn profile(&self) -> &Profile<A>
         ensures { result.now ≡ self.now.profile }
     {
         &self.profile
@@ -84,7 +84,7 @@ impl Position {
 }
 
 #[tactic(auto, unfolding(crate::specs::Positions::position_at))]
-fn position_of(alloc: Global, bytes: &[u8]) -> Result<(Position, &[u8]), Fault>
+fn position_of<A: Allocator>(alloc: A, bytes: &[u8]) -> Result<(Position<A>, &[u8]), Fault>
     ensures { Gives (λ x. (x.0, x.1.now)) result (position_at bytes.now) }
 {
     let (call, rest) = read_u32(bytes)?;
@@ -98,7 +98,7 @@ fn position_of(alloc: Global, bytes: &[u8]) -> Result<(Position, &[u8]), Fault>
 
 /// Reads a position, and gives the bytes after it. It is refused exactly where no position stands in front, memory aside, and the first
 /// fault is answered.
-pub fn read_position(alloc: Global, bytes: &[u8]) -> Result<(Position, &[u8]), Fault>
+pub fn read_position<A: Allocator>(alloc: A, bytes: &[u8]) -> Result<(Position<A>, &[u8]), Fault>
     ensures spelled { IfOk result (λ x. IsPosition x.0 × (bytes.now ≡ position_bytes x.0 ++ x.1.now)) }
     ensures only { (position : ThePosition) (rest : List ℕ) → IsPosition position → bytes.now ≡ position_bytes position ++ rest → IsRead (λ x. (x.0, x.1.now)) result position rest }
     ensures first { Gives (λ x. (x.0, x.1.now)) result (position_at bytes.now) }
@@ -107,7 +107,10 @@ pub fn read_position(alloc: Global, bytes: &[u8]) -> Result<(Position, &[u8]), F
 }
 
 /// Appends a position. Where memory is refused, what was there still stands in front.
-pub fn append_position(out: &mut Vec<u8>, position: &Position) -> Result<(), AllocError>
+pub fn append_position<A: Allocator>(
+    out: &mut Vec<u8, A>,
+    position: &Position<A>,
+) -> Result<(), AllocError>
     ensures bytes { OnOk result (out.new.items ≡ out.old.items ++ position_bytes position.now) }
     ensures front { take (length out.old.items) out.new.items ≡ out.old.items }
 {

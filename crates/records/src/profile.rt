@@ -12,9 +12,13 @@ use crate::entry::{append_entry, read_entry};
 use fields::{Fault, append_u32, read_u32};
 use lock_profile::Profile;
 use spec_ledger::Entry;
-use std::alloc::{AllocError, Global};
+use std::alloc::{AllocError, Allocator};
 
-fn entries_of(alloc: Global, count: u32, bytes: &[u8]) -> Result<(Vec<Entry>, &[u8]), Fault>
+fn entries_of<A: Allocator>(
+    alloc: A,
+    count: u32,
+    bytes: &[u8],
+) -> Result<(Vec<Entry, A>, &[u8]), Fault>
     ensures { Gives (λ x. (x.0.items, x.1.now)) result (items_at entry_at count None bytes.now) }
 {
     let mut entries = Vec::new(alloc);
@@ -30,7 +34,7 @@ fn entries_of(alloc: Global, count: u32, bytes: &[u8]) -> Result<(Vec<Entry>, &[
 }
 
 #[tactic(auto, unfolding(crate::specs::Profiles::profile_at))]
-fn list_of(alloc: Global, bytes: &[u8]) -> Result<(Vec<Entry>, &[u8]), Fault>
+fn list_of<A: Allocator>(alloc: A, bytes: &[u8]) -> Result<(Vec<Entry, A>, &[u8]), Fault>
     ensures { Gives (λ x. (x.0.items, x.1.now)) result (profile_at bytes.now) }
 {
     let (count, rest) = read_u32(bytes)?;
@@ -41,7 +45,7 @@ fn list_of(alloc: Global, bytes: &[u8]) -> Result<(Vec<Entry>, &[u8]), Fault>
 }
 
 /// The same, with what is known of the entries that were read.
-fn rising_list_of(alloc: Global, bytes: &[u8]) -> Result<(Vec<Entry>, &[u8]), Fault>
+fn rising_list_of<A: Allocator>(alloc: A, bytes: &[u8]) -> Result<(Vec<Entry, A>, &[u8]), Fault>
     ensures spelled { IfOk result (λ x. IsBlockProfile x.0.items × (bytes.now ≡ profile_bytes x.0.items ++ x.1.now)) }
     ensures rising { IfOk result (λ x. IsProfile x.0.items) }
     ensures only { (profile : List Entry) (rest : List ℕ) → IsBlockProfile profile → bytes.now ≡ profile_bytes profile ++ rest → IsRead (λ x. (x.0.items, x.1.now)) result profile rest }
@@ -53,7 +57,7 @@ fn rising_list_of(alloc: Global, bytes: &[u8]) -> Result<(Vec<Entry>, &[u8]), Fa
 
 /// Reads a lock profile, and gives the bytes after it. It is refused exactly where no profile stands in front, memory aside, and the first
 /// fault is answered: a count whose entries exceed what is left is at fault itself.
-pub fn read_profile(alloc: Global, bytes: &[u8]) -> Result<(Profile, &[u8]), Fault>
+pub fn read_profile<A: Allocator>(alloc: A, bytes: &[u8]) -> Result<(Profile<A>, &[u8]), Fault>
     ensures spelled { IfOk result (λ x. IsBlockProfile x.0 × (bytes.now ≡ profile_bytes x.0 ++ x.1.now)) }
     ensures only { (profile : List Entry) (rest : List ℕ) → IsBlockProfile profile → bytes.now ≡ profile_bytes profile ++ rest → IsRead (λ x. (x.0, x.1.now)) result profile rest }
     ensures first { Gives (λ x. (x.0, x.1.now)) result (profile_at bytes.now) }
@@ -84,7 +88,10 @@ pub(crate) fn note_entries(entries: &[Entry])
 }
 
 /// Appends a lock profile. Where memory is refused, what was there still stands in front.
-pub fn append_profile(out: &mut Vec<u8>, profile: &Profile) -> Result<(), AllocError>
+pub fn append_profile<A: Allocator>(
+    out: &mut Vec<u8, A>,
+    profile: &Profile<A>,
+) -> Result<(), AllocError>
     requires { length profile.now < 2 ^ 32 }
     ensures bytes { OnOk result (out.new.items ≡ out.old.items ++ profile_bytes profile.now) }
     ensures front { take (length out.old.items) out.new.items ≡ out.old.items }

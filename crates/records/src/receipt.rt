@@ -9,7 +9,7 @@ ghost use Rattle.records.specs.Values.{values_at, trap_of, trap_at, is_rejection
 use crate::value::{append_value, read_value};
 use fields::{Fault, append_u64, read_byte, read_u64};
 use spec_ledger::{Outcome, Receipt};
-use std::alloc::AllocError;
+use std::alloc::{AllocError, Allocator};
 use wtypes::{TrapCode, Value};
 
 #[tactic(auto, unfolding(crate::specs::Values::values_at, crate::specs::Values::values_by))]
@@ -119,7 +119,7 @@ fn code_of(trap: TrapCode) -> u8
     trap as u8
 }
 
-fn append_outcome(out: &mut Vec<u8>, outcome: Outcome) -> Result<(), AllocError>
+fn append_outcome<A: Allocator>(out: &mut Vec<u8, A>, outcome: Outcome) -> Result<(), AllocError>
     ensures bytes { OnOk result (out.new.items ≡ out.old.items ++ outcome_bytes outcome) }
     ensures front { take (length out.old.items) out.new.items ≡ out.old.items }
 {
@@ -136,7 +136,10 @@ fn append_outcome(out: &mut Vec<u8>, outcome: Outcome) -> Result<(), AllocError>
 }
 
 /// Appends a receipt. Where memory is refused, what was there still stands in front.
-pub fn append_receipt(out: &mut Vec<u8>, receipt: Receipt) -> Result<(), AllocError>
+pub fn append_receipt<A: Allocator>(
+    out: &mut Vec<u8, A>,
+    receipt: Receipt,
+) -> Result<(), AllocError>
     ensures bytes { OnOk result (out.new.items ≡ out.old.items ++ receipt_bytes receipt) }
     ensures front { take (length out.old.items) out.new.items ≡ out.old.items }
 {

@@ -7,7 +7,7 @@ ghost use Rattle.fields.specs.Reading.{Gives, IsRead};
 ghost use Rattle.records.specs.Values.{value_at};
 
 use fields::{Fault, append_u32, append_u64, read_byte, read_u32, read_u64};
-use std::alloc::AllocError;
+use std::alloc::{AllocError, Allocator};
 use wtypes::Value;
 
 #[tactic(auto, unfolding(crate::specs::Values::value_at))]
@@ -36,7 +36,7 @@ pub fn read_value(bytes: &[u8]) -> Result<(Value, &[u8]), Fault>
 }
 
 /// Appends a value. Where memory is refused, what was there still stands in front.
-pub fn append_value(out: &mut Vec<u8>, value: Value) -> Result<(), AllocError>
+pub fn append_value<A: Allocator>(out: &mut Vec<u8, A>, value: Value) -> Result<(), AllocError>
     ensures bytes { OnOk result (out.new.items ≡ out.old.items ++ value_bytes value) }
     ensures front { take (length out.old.items) out.new.items ≡ out.old.items }
 {

@@ -8,7 +8,7 @@ ghost use Rattle.schedule.specs.Board.{count_of, firsts, has_ended, predecessors
 
 use crate::Graph;
 use crate::index::Positions;
-use std::alloc::Global;
+use std::alloc::{Allocator, Global};
 use std::marker::Model;
 use wtypes::NoMemory;
 
@@ -27,15 +27,15 @@ pub enum EndRefusal {
 
 /// Which positions of an order have ended. Contracts see the successors of each position, and whether it has ended.
 #[derive(Drop)]
-pub struct Board {
-    alloc: Global,
-    edges: Vec<Positions>,
-    waiting: Vec<u32>,
-    ended: Vec<bool>,
-    ready: Vec<u32>,
+pub struct Board<A: Allocator = Global> {
+    alloc: A,
+    edges: Vec<Positions<A>, A>,
+    waiting: Vec<u32, A>,
+    ended: Vec<bool, A>,
+    ready: Vec<u32, A>,
 }
 
-impl Model for Board {
+impl<A: Allocator> Model for Board<A> {
     ghost use Rattle.schedule.specs.Board.{Progress, IsBoard};
 
     ghost Value = { Progress };
@@ -46,7 +46,10 @@ impl Model for Board {
 }
 
 /// The same edges once more.
-fn copy_of(alloc: Global, edges: &[Positions]) -> Result<Vec<Positions>, NoMemory>
+fn copy_of<A: Allocator + Copy>(
+    alloc: A,
+    edges: &[Positions<A>],
+) -> Result<Vec<Positions<A>, A>, NoMemory>
     ensures { IfOk result (λ copy. copy.items ≡ edges.now) }
 {
     let mut copy = Vec::new(alloc);
@@ -57,7 +60,7 @@ fn copy_of(alloc: Global, edges: &[Positions]) -> Result<Vec<Positions>, NoMemor
 }
 
 /// Adds one to the count of each of these.
-fn raise(waiting: &mut Vec<u32>, successors: &[u32])
+fn raise<A: Allocator>(waiting: &mut Vec<u32, A>, successors: &[u32])
     requires within { (j : ℕ) → Contains successors.now j → j < length waiting.old.items }
     requires room { (j : ℕ) → j < length waiting.old.items → slice_index waiting.old.items j + count_of j successors.now < 2 ^ 32 }
     ensures same { length waiting.new.items ≡ length waiting.old.items }
@@ -69,7 +72,10 @@ fn raise(waiting: &mut Vec<u32>, successors: &[u32])
 }
 
 /// How many predecessors each position has.
-fn predecessors_of(alloc: Global, edges: &[Positions]) -> Result<Vec<u32>, NoMemory>
+fn predecessors_of<A: Allocator + Copy>(
+    alloc: A,
+    edges: &[Positions<A>],
+) -> Result<Vec<u32, A>, NoMemory>
     requires { IsForward edges.now }
     ensures each { IfOk result (λ counts. length counts.items ≡ length edges.now) }
     ensures counts { IfOk result (λ counts. (j : ℕ) → j < length edges.now → slice_index counts.items j ≡ predecessors edges.now j) }
@@ -82,7 +88,7 @@ fn predecessors_of(alloc: Global, edges: &[Positions]) -> Result<Vec<u32>, NoMem
 }
 
 /// The positions with the count 0.
-fn firsts_of(alloc: Global, counts: &[u32]) -> Result<Vec<u32>, NoMemory>
+fn firsts_of<A: Allocator + Copy>(alloc: A, counts: &[u32]) -> Result<Vec<u32, A>, NoMemory>
     requires { length counts.now < 2 ^ 16 }
     ensures { IfOk result (λ ready. ready.items ≡ firsts (slice_index counts.now) (length counts.now)) }
 {
@@ -96,7 +102,11 @@ fn firsts_of(alloc: Global, counts: &[u32]) -> Result<Vec<u32>, NoMemory>
 }
 
 /// Those of these that wait for one predecessor alone.
-fn freed(alloc: Global, waiting: &[u32], successors: &[u32]) -> Result<Vec<u32>, NoMemory>
+fn freed<A: Allocator + Copy>(
+    alloc: A,
+    waiting: &[u32],
+    successors: &[u32],
+) -> Result<Vec<u32, A>, NoMemory>
     requires { (j : ℕ) → Contains successors.now j → j < length waiting.now }
     ensures { IfOk result (λ free. free.items ≡ filter (λ j. slice_index waiting.now j == 1) successors.now) }
 {
@@ -110,7 +120,7 @@ fn freed(alloc: Global, waiting: &[u32], successors: &[u32]) -> Result<Vec<u32>,
 }
 
 /// Takes one from the count of each of these.
-fn lower(waiting: &mut Vec<u32>, successors: &[u32])
+fn lower<A: Allocator>(waiting: &mut Vec<u32, A>, successors: &[u32])
     requires within { (j : ℕ) → Contains successors.now j → j < length waiting.old.items }
     requires enough { (j : ℕ) → j < length waiting.old.items → count_of j successors.now ≤ slice_index waiting.old.items j }
     ensures same { length waiting.new.items ≡ length waiting.old.items }
@@ -121,9 +131,9 @@ fn lower(waiting: &mut Vec<u32>, successors: &[u32])
     }
 }
 
-impl Board {
+impl<A: Allocator + Copy> Board<A> {
     /// The board of a graph, of which no position has ended. It keeps a copy of the edges.
-    pub fn open(alloc: Global, graph: &Graph) -> Result<Board, NoMemory>
+    pub fn open(alloc: A, graph: &Graph<A>) -> Result<Self, NoMemory>
         ensures edges { IfOk result (λ board. board.edges ≡ graph.now.edges) }
         ensures ended { IfOk result (λ board. board.ended ≡ replicate (length graph.now.edges) false) }
     {
@@ -149,7 +159,7 @@ impl Board {
     }
 
     /// Ends a position, and gives those of which it was the last predecessor that had not ended: these may start now.
-    pub fn end(&mut self, position: u32) -> Result<Vec<u32>, EndRefusal>
+    pub fn end(&mut self, position: u32) -> Result<Vec<u32, A>, EndRefusal>
         ensures ok { OnOk result (self.new ≡ record self.old { ended = slice_set self.old.ended position true }) }
         ensures rising { IfOk result (λ free. IsStrictlyIncreasing free.items) }
         ensures free { IfOk result (λ free. (j : ℕ) → Contains free.items j ↔ (Contains (successors self.old.edges position) j × IsFree self.new j)) }

@@ -13,7 +13,7 @@ ghost use Rattle.schedule.specs.Graph.{AreEdges};
 
 use lock_profile::Profile;
 use spec_ledger::{Entry, Lock};
-use std::alloc::Global;
+use std::alloc::{Allocator, Global};
 use std::collections::BTreeMap;
 use std::marker::Model;
 use wtypes::NoMemory;
@@ -27,11 +27,11 @@ pub(crate) struct LockTurn {
 
 /// Positions of a published order.
 #[derive(Drop)]
-pub struct Positions {
-    list: Vec<u32>,
+pub struct Positions<A: Allocator = Global> {
+    list: Vec<u32, A>,
 }
 
-impl Model for Positions {
+impl<A: Allocator> Model for Positions<A> {
     ghost use Rattle.std.specs.Prelude.{List, ℕ};
     ghost use Rattle.std.specs.Coded.{coded_list, coded_ℕ};
 
@@ -42,7 +42,7 @@ impl Model for Positions {
     ghost view = { λ p. p.list.items };
 }
 
-impl Positions {
+impl<A: Allocator> Positions<A> {
     /// The positions.
     pub fn as_slice(&self) -> &[u32]
         ensures { result.now ≡ self.now }
@@ -51,7 +51,7 @@ impl Positions {
     }
 
     /// The same positions once more.
-    pub(crate) fn copy(&self, alloc: Global) -> Result<Positions, NoMemory>
+    pub(crate) fn copy(&self, alloc: A) -> Result<Self, NoMemory>
         ensures { IfOk result (λ copy. copy ≡ self.now) }
     {
         let list = Vec::from_slice(alloc, &self.list)?;
@@ -60,9 +60,9 @@ impl Positions {
 }
 
 /// Notes that a position holds a lock at a turn.
-fn add(
-    alloc: Global,
-    index: &mut BTreeMap<LockTurn, Positions>,
+fn add<A: Allocator + Copy>(
+    alloc: A,
+    index: &mut BTreeMap<LockTurn, Positions<A>, A>,
     at: LockTurn,
     position: u32,
 ) -> Result<(), NoMemory>
@@ -80,9 +80,9 @@ fn add(
 }
 
 /// Notes that a position has these entries.
-fn add_profile(
-    alloc: Global,
-    index: &mut BTreeMap<LockTurn, Positions>,
+fn add_profile<A: Allocator + Copy>(
+    alloc: A,
+    index: &mut BTreeMap<LockTurn, Positions<A>, A>,
     entries: &[Entry],
     position: u32,
 ) -> Result<(), NoMemory>
@@ -99,10 +99,10 @@ fn add_profile(
 }
 
 /// The holders of each lock at each turn.
-pub(crate) fn holders_of(
-    alloc: Global,
-    profiles: &[Profile],
-) -> Result<BTreeMap<LockTurn, Positions>, NoMemory>
+pub(crate) fn holders_of<A: Allocator + Copy>(
+    alloc: A,
+    profiles: &[Profile<A>],
+) -> Result<BTreeMap<LockTurn, Positions<A>, A>, NoMemory>
     requires { length profiles.now < 2 ^ 16 }
     ensures { IfOk result (λ index. IsIndex profiles.now (get turn_cmp index)) }
 {
@@ -115,7 +115,10 @@ pub(crate) fn holders_of(
 }
 
 /// The holders of a lock at a turn.
-pub(crate) fn holders_at(index: &BTreeMap<LockTurn, Positions>, at: LockTurn) -> &[u32]
+pub(crate) fn holders_at<A: Allocator>(
+    index: &BTreeMap<LockTurn, Positions<A>, A>,
+    at: LockTurn,
+) -> &[u32]
     ensures { result.now ≡ members (get turn_cmp index.now at) }
 {
     match index.get(&at) {
@@ -125,11 +128,11 @@ pub(crate) fn holders_at(index: &BTreeMap<LockTurn, Positions>, at: LockTurn) ->
 }
 
 /// The positions that have the next turn at one of these entries' locks, in any order.
-fn next_of(
-    alloc: Global,
-    index: &BTreeMap<LockTurn, Positions>,
+fn next_of<A: Allocator + Copy>(
+    alloc: A,
+    index: &BTreeMap<LockTurn, Positions<A>, A>,
     entries: &[Entry],
-) -> Result<Vec<u32>, NoMemory>
+) -> Result<Vec<u32, A>, NoMemory>
     requires { (e : Entry) → Contains entries.now e → e.turn < 2 ^ 16 }
     ensures { IfOk result (λ list. (p : ℕ) → Contains list.items p ↔ IsNext (get turn_cmp index.now) entries.now p) }
 {
@@ -145,7 +148,7 @@ fn next_of(
 }
 
 /// The same positions, each once and strictly rising.
-fn rising(mut list: Vec<u32>) -> Positions
+fn rising<A: Allocator>(mut list: Vec<u32, A>) -> Positions<A>
     ensures rises { IsStrictlyIncreasing result }
     ensures same { (p : ℕ) → Contains result p ↔ Contains list.items p }
 {
@@ -155,11 +158,11 @@ fn rising(mut list: Vec<u32>) -> Positions
 }
 
 /// The successors of each position.
-pub(crate) fn edges_of(
-    alloc: Global,
-    index: &BTreeMap<LockTurn, Positions>,
-    profiles: &[Profile],
-) -> Result<Vec<Positions>, NoMemory>
+pub(crate) fn edges_of<A: Allocator + Copy>(
+    alloc: A,
+    index: &BTreeMap<LockTurn, Positions<A>, A>,
+    profiles: &[Profile<A>],
+) -> Result<Vec<Positions<A>, A>, NoMemory>
     requires few { length profiles.now < 2 ^ 16 }
     requires turns { HaveTurns profiles.now }
     requires index { IsIndex profiles.now (get turn_cmp index.now) }

@@ -18,7 +18,7 @@ pub use index::Positions;
 use index::{edges_of, holders_of};
 pub use laws::turns_agree;
 use lock_profile::Profile;
-use std::alloc::Global;
+use std::alloc::{Allocator, Global};
 use std::marker::Model;
 use waves::waves_of;
 use wtypes::NoMemory;
@@ -26,12 +26,12 @@ use wtypes::NoMemory;
 /// The graph of a published order (section 4: the fork-join program of a validator). Its nodes are the positions; an edge goes to
 /// each position that shares a lock with it and has the next turn there. Contracts see the successors and the waves of all positions.
 #[derive(Drop)]
-pub struct Graph {
-    edges: Vec<Positions>,
-    waves: Vec<u32>,
+pub struct Graph<A: Allocator = Global> {
+    edges: Vec<Positions<A>, A>,
+    waves: Vec<u32, A>,
 }
 
-impl Model for Graph {
+impl<A: Allocator> Model for Graph<A> {
     ghost use Rattle.schedule.specs.Graph.{Waits, IsForward};
 
     ghost Value = { Waits };
@@ -41,11 +41,11 @@ impl Model for Graph {
     ghost invariant = { λ g. IsForward g.edges.items };
 }
 
-impl Graph {
+impl<A: Allocator + Copy> Graph<A> {
     /// The graph of these profiles, by position. A lock with many holders in each of two turns that follow one another has an edge
     /// for each pair of them, so the number of edges is up to the square of the number of positions; where there is no room for
     /// them, there is no graph.
-    pub fn of(alloc: Global, profiles: &[Profile]) -> Result<Graph, NoMemory>
+    pub fn of(alloc: A, profiles: &[Profile<A>]) -> Result<Self, NoMemory>
         requires few { length profiles.now < 2 ^ 16 }
         requires turns { HaveTurns profiles.now }
         ensures each { IfOk result (λ graph. length graph.edges ≡ length profiles.now) }
@@ -64,7 +64,7 @@ impl Graph {
     }
 
     /// For each position those that wait for it, strictly rising.
-    pub fn edges(&self) -> &[Positions]
+    pub fn edges(&self) -> &[Positions<A>]
         ensures { result.now ≡ self.now.edges }
     {
         &self.edges

@@ -10,7 +10,7 @@ ghost use Rattle.schedule.specs.Waves.{IsRaised, IsTop, AreWaves};
 use crate::index::{LockTurn, Positions, holders_at};
 use lock_profile::Profile;
 use spec_ledger::Entry;
-use std::alloc::Global;
+use std::alloc::Allocator;
 use std::collections::BTreeMap;
 use wtypes::NoMemory;
 
@@ -31,7 +31,11 @@ fn wave_above(waves: &[u32], positions: &[u32], first: u32) -> u32
 }
 
 /// The wave of a position with these entries, where these are the waves of the positions before it.
-fn wave_of(index: &BTreeMap<LockTurn, Positions>, entries: &[Entry], waves: &[u32]) -> u32
+fn wave_of<A: Allocator>(
+    index: &BTreeMap<LockTurn, Positions<A>, A>,
+    entries: &[Entry],
+    waves: &[u32],
+) -> u32
     requires within { (k : ℕ) → IsBefore (get turn_cmp index.now) entries.now k → k < length waves.now }
     requires small { (k : ℕ) → slice_index waves.now k < 2 ^ 16 }
     ensures { IsTop waves.now (IsBefore (get turn_cmp index.now) entries.now) result }
@@ -50,11 +54,11 @@ fn wave_of(index: &BTreeMap<LockTurn, Positions>, entries: &[Entry], waves: &[u3
 }
 
 /// The wave of each position.
-pub(crate) fn waves_of(
-    alloc: Global,
-    index: &BTreeMap<LockTurn, Positions>,
-    profiles: &[Profile],
-) -> Result<Vec<u32>, NoMemory>
+pub(crate) fn waves_of<A: Allocator + Copy>(
+    alloc: A,
+    index: &BTreeMap<LockTurn, Positions<A>, A>,
+    profiles: &[Profile<A>],
+) -> Result<Vec<u32, A>, NoMemory>
     requires few { length profiles.now < 2 ^ 16 }
     requires turns { HaveTurns profiles.now }
     requires index { IsIndex profiles.now (get turn_cmp index.now) }

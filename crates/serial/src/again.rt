@@ -5,6 +5,7 @@ ghost use Rattle.serial.specs.Playing.{AreDone, AreSomeDone};
 
 use crate::playing::act;
 use spec_ledger::{Inverse, NoMemory, Reply, Step};
+use std::alloc::Allocator;
 use storage::Cells;
 
 fn is_same(a: Reply, b: Reply) -> bool
@@ -15,9 +16,9 @@ fn is_same(a: Reply, b: Reply) -> bool
 
 /// Does the operations of a trace, and keeps their inverses, until a reply is not that of the trace. Answers whether each
 /// one is.
-pub(crate) fn act_again(
-    cells: &mut Cells,
-    inverses: &mut Vec<Inverse>,
+pub(crate) fn act_again<A: Allocator + Copy>(
+    cells: &mut Cells<A>,
+    inverses: &mut Vec<Inverse, A>,
     trace: &[Step],
 ) -> Result<bool, NoMemory>
     requires { inverses.old.items ≡ [] }

@@ -4,10 +4,11 @@ ghost use Rattle.spec_ledger.specs.Book.{back_all, has_returned};
 ghost use Rattle.boost.specs.Counted.{closed_all, AreUnsettled};
 
 use spec_ledger::{Inverse, Outcome};
+use std::alloc::Allocator;
 use storage::Cells;
 
 /// Takes inverses back, last first.
-fn take_all_back(cells: &mut Cells, mut inverses: Vec<Inverse>)
+fn take_all_back<A: Allocator + Copy>(cells: &mut Cells<A>, mut inverses: Vec<Inverse, A>)
     requires { AreUnsettled inverses.items cells.old.unsettled }
     ensures cells { cells.new.cells ≡ back_all inverses.items cells.old.cells }
     ensures unsettled { cells.new.unsettled ≡ closed_all inverses.items cells.old.unsettled }
@@ -18,7 +19,7 @@ fn take_all_back(cells: &mut Cells, mut inverses: Vec<Inverse>)
 }
 
 /// Lets changes stand.
-fn settle_all(cells: &mut Cells, mut inverses: Vec<Inverse>)
+fn settle_all<A: Allocator + Copy>(cells: &mut Cells<A>, mut inverses: Vec<Inverse, A>)
     requires { AreUnsettled inverses.items cells.old.unsettled }
     ensures cells { cells.new.cells ≡ cells.old.cells }
     ensures unsettled { cells.new.unsettled ≡ closed_all inverses.items cells.old.unsettled }
@@ -29,7 +30,11 @@ fn settle_all(cells: &mut Cells, mut inverses: Vec<Inverse>)
 }
 
 /// Ends the changes of a call: they stand if it returned, and else are taken back.
-pub(crate) fn end_all(cells: &mut Cells, inverses: Vec<Inverse>, stand: bool)
+pub(crate) fn end_all<A: Allocator + Copy>(
+    cells: &mut Cells<A>,
+    inverses: Vec<Inverse, A>,
+    stand: bool,
+)
     requires { AreUnsettled inverses.items cells.old.unsettled }
     ensures cells { cells.new.cells ≡ (if stand then cells.old.cells else back_all inverses.items cells.old.cells) }
     ensures unsettled { cells.new.unsettled ≡ closed_all inverses.items cells.old.unsettled }

@@ -34,32 +34,32 @@ use storage::Cells;
 
 /// What calls came to that ran one after another.
 #[derive(Drop)]
-pub struct Core {
+pub struct Core<A: Allocator = Global> {
     /// The receipt at each position.
-    pub receipts: Vec<Receipt>,
+    pub receipts: Vec<Receipt, A>,
     /// The locks that the call at each position asked for, each with the join of its modes.
-    pub touched: Vec<Touched>,
+    pub touched: Vec<Touched<A>, A>,
     /// The cells after the last call, in which nothing is unsettled.
-    pub cells: Cells,
+    pub cells: Cells<A>,
 }
 
 /// What one call came to.
 #[derive(Drop)]
-pub struct Executed {
+pub struct Executed<A: Allocator = Global> {
     /// How it ended and the fuel that it used.
     pub receipt: Receipt,
     /// The locks that it asked for, each with the join of its modes.
-    pub touched: Touched,
+    pub touched: Touched<A>,
 }
 
 /// Ends a run whose operations were done on the cells: they stand if it returned, and else are taken back. After want of
 /// memory they are taken back.
-fn conclude<A: Allocator>(
-    alloc: Global,
+fn conclude<A: Allocator + Copy>(
+    alloc: A,
     finished: &Finished<'_, A>,
-    cells: &mut Cells,
-    inverses: Vec<Inverse>,
-) -> Result<Executed, NoMemory>
+    cells: &mut Cells<A>,
+    inverses: Vec<Inverse, A>,
+) -> Result<Executed<A>, NoMemory>
     requires { AreUnsettled inverses.items cells.old.unsettled }
     ensures executed { IfOk result (λ e. (start : Store) → AreDone start finished.now.trace cells.old inverses.items → start.unsettled ≡ finite.empty → AreCells start.cells → Executes finished.now.contracts finished.now.call start.cells cells.new.cells e.receipt.outcome e.receipt.used e.touched) }
     ensures err { OnErr result (cells.new.cells ≡ back_all inverses.items cells.old.cells) }
@@ -82,12 +82,12 @@ fn conclude<A: Allocator>(
 /// # Errors
 ///
 /// Memory was refused. The cells are as they were.
-pub fn execute<A: Allocator>(
-    alloc: Global,
+pub fn execute<A: Allocator + Copy>(
+    alloc: A,
     contracts: &[Contract<A>],
     call: &Call,
-    cells: &mut Cells,
-) -> Result<Executed, NoMemory>
+    cells: &mut Cells<A>,
+) -> Result<Executed<A>, NoMemory>
     requires { cells.old.unsettled ≡ finite.empty }
     ensures executed { IfOk result (λ e. Executes (contracts_view contracts.now) call.now cells.old.cells cells.new.cells e.receipt.outcome e.receipt.used e.touched) }
     ensures settled { cells.new.unsettled ≡ finite.empty }
@@ -103,11 +103,11 @@ pub fn execute<A: Allocator>(
 /// # Errors
 ///
 /// Memory was refused.
-pub fn run_alone<'a, A: Allocator>(
-    alloc: Global,
+pub fn run_alone<'a, A: Allocator + Copy>(
+    alloc: A,
     contracts: &'a [Contract<A>],
     call: &'a Call,
-    cells: &mut Cells,
+    cells: &mut Cells<A>,
 ) -> Result<Finished<'a, A>, NoMemory>
     requires { cells.old.unsettled ≡ finite.empty }
     ensures contracts { IfOk result (λ finished. finished.contracts ≡ contracts_view contracts.now) }
@@ -127,11 +127,11 @@ pub fn run_alone<'a, A: Allocator>(
 /// # Errors
 ///
 /// Memory was refused. The cells are as they were.
-pub fn replay<A: Allocator>(
-    alloc: Global,
+pub fn replay<A: Allocator + Copy>(
+    alloc: A,
     finished: &Finished<'_, A>,
-    cells: &mut Cells,
-) -> Result<Option<Executed>, NoMemory>
+    cells: &mut Cells<A>,
+) -> Result<Option<Executed<A>>, NoMemory>
     requires { cells.old.unsettled ≡ finite.empty }
     ensures executed { IfOk result (λ o. IfSome o (λ e. Executes finished.now.contracts finished.now.call cells.old.cells cells.new.cells e.receipt.outcome e.receipt.used e.touched)) }
     ensures replies { IfOk result (λ o. IsSome o ↔ GetsReplies finished.now.trace cells.old.cells) }
@@ -161,13 +161,13 @@ pub fn replay<A: Allocator>(
 /// # Errors
 ///
 /// Memory was refused.
-pub fn serial_core<A: Allocator>(
-    alloc: Global,
+pub fn serial_core<A: Allocator + Copy>(
+    alloc: A,
     contracts: &[Contract<A>],
-    cells: &Cells,
+    cells: &Cells<A>,
     calls: &[Call],
     order: &[u32],
-) -> Result<Core, NoMemory>
+) -> Result<Core<A>, NoMemory>
     requires { All (λ number. number < length calls.now) order.now }
     ensures serial { IfOk result (λ core. Serial (contracts_view contracts.now) calls.now order.now cells.now.cells (positions core.receipts.items core.touched.items) core.cells.cells) }
     ensures receipts { IfOk result (λ core. length core.receipts.items ≡ length order.now) }

@@ -6,7 +6,7 @@ ghost use Rattle.serial.specs.Asking.{modes_in, asked};
 use abstract_locks::join_to;
 use lock_profile::{Held, Touched};
 use spec_ledger::{Lock, Mode, NoMemory, Op, Step};
-use std::alloc::Global;
+use std::alloc::Allocator;
 use std::collections::BTreeMap;
 use storage::lock;
 
@@ -22,7 +22,7 @@ fn mode(op: Op) -> Mode
 }
 
 /// Joins the mode that an operation asks for to what is held of its lock.
-fn ask(held: &mut BTreeMap<Lock, Mode>, op: Op) -> Result<(), NoMemory>
+fn ask<A: Allocator + Copy>(held: &mut BTreeMap<Lock, Mode, A>, op: Op) -> Result<(), NoMemory>
     ensures { OnOk result (modes_in held.new.entries ≡ asked (modes_in held.old.entries) op) }
 {
     let wanted = lock(op);
@@ -34,7 +34,10 @@ fn ask(held: &mut BTreeMap<Lock, Mode>, op: Op) -> Result<(), NoMemory>
 }
 
 /// The locks of a map, with their modes.
-fn listed(alloc: Global, modes: BTreeMap<Lock, Mode>) -> Result<Touched, NoMemory>
+fn listed<A: Allocator + Copy>(
+    alloc: A,
+    modes: BTreeMap<Lock, Mode, A>,
+) -> Result<Touched<A>, NoMemory>
     ensures { IfOk result (λ touched. touched ≡ modes_in modes.entries) }
 {
     let mut held = Vec::new(alloc);
@@ -48,7 +51,10 @@ fn listed(alloc: Global, modes: BTreeMap<Lock, Mode>) -> Result<Touched, NoMemor
 }
 
 /// Each lock that a trace asks for, with the join of its modes.
-pub(crate) fn touched_by(alloc: Global, trace: &[Step]) -> Result<Touched, NoMemory>
+pub(crate) fn touched_by<A: Allocator + Copy>(
+    alloc: A,
+    trace: &[Step],
+) -> Result<Touched<A>, NoMemory>
     ensures { IfOk result (λ locks. locks ≡ touched trace.now) }
 {
     let mut held = BTreeMap::new(alloc);

@@ -17,11 +17,15 @@ use interp::start::StartRefusal;
 use interp::turns::Turn;
 use link::deployed::Deployed as Contract;
 use spec_ledger::{Inverse, NoMemory, Op, Reply};
-use std::alloc::{Allocator, Global};
+use std::alloc::Allocator;
 use storage::Cells;
 
 /// Does an operation, and keeps its inverse. Where memory is refused all is as it was.
-pub(crate) fn act(cells: &mut Cells, inverses: &mut Vec<Inverse>, op: Op) -> Result<Reply, NoMemory>
+pub(crate) fn act<A: Allocator + Copy>(
+    cells: &mut Cells<A>,
+    inverses: &mut Vec<Inverse, A>,
+    op: Op,
+) -> Result<Reply, NoMemory>
     ensures reply { IfOk result (λ reply. reply ≡ reply_to op cells.old.cells) }
     ensures is_reply { IfOk result (λ reply. IsReply op reply) }
     ensures cells { OnOk result (cells.new.cells ≡ cells_after op cells.old.cells) }
@@ -38,10 +42,10 @@ pub(crate) fn act(cells: &mut Cells, inverses: &mut Vec<Inverse>, op: Op) -> Res
 }
 
 /// Makes a turn, with the operation that it asks for. Answers whether the run goes on.
-fn make_turn<'a, A: Allocator>(
+fn make_turn<'a, A: Allocator + Copy>(
     machine: &mut Machine<'a, A>,
-    cells: &mut Cells,
-    inverses: &mut Vec<Inverse>,
+    cells: &mut Cells<A>,
+    inverses: &mut Vec<Inverse, A>,
 ) -> Result<bool, NoMemory>
     requires { IsFree machine.old.status }
     ensures same { OnOk result (IsSameCall machine.old machine.new) }
@@ -64,10 +68,10 @@ fn make_turn<'a, A: Allocator>(
 }
 
 /// Makes the turns of a run.
-fn make_turns<'a, A: Allocator>(
+fn make_turns<'a, A: Allocator + Copy>(
     machine: &mut Machine<'a, A>,
-    cells: &mut Cells,
-    inverses: &mut Vec<Inverse>,
+    cells: &mut Cells<A>,
+    inverses: &mut Vec<Inverse, A>,
 ) -> Result<(), NoMemory>
     requires free { IsFree machine.old.status }
     requires first { machine.old.trace ≡ [] }
@@ -82,11 +86,11 @@ fn make_turns<'a, A: Allocator>(
 }
 
 /// The run of a call that starts, with the inverses of its operations, first to last.
-fn run<'a, A: Allocator>(
-    alloc: Global,
+fn run<'a, A: Allocator + Copy>(
+    alloc: A,
     mut machine: Machine<'a, A>,
-    cells: &mut Cells,
-) -> Result<(Finished<'a, A>, Vec<Inverse>), NoMemory>
+    cells: &mut Cells<A>,
+) -> Result<(Finished<'a, A>, Vec<Inverse, A>), NoMemory>
     requires free { IsFree machine.status }
     requires first { machine.trace ≡ [] }
     requires settled { cells.old.unsettled ≡ finite.empty }
@@ -106,8 +110,8 @@ fn run<'a, A: Allocator>(
 }
 
 /// The empty run of a call that does not start.
-fn rejected<'a, A: Allocator>(
-    alloc: Global,
+fn rejected<'a, A: Allocator + Copy>(
+    alloc: A,
     contracts: &'a [Contract<A>],
     call: &'a Call,
 ) -> Finished<'a, A>
@@ -122,12 +126,12 @@ fn rejected<'a, A: Allocator>(
 
 /// Runs a call over the cells, and answers its run with the inverses of its operations, first to last. After want of
 /// memory the cells are as they were.
-pub(crate) fn play<'a, A: Allocator>(
-    alloc: Global,
+pub(crate) fn play<'a, A: Allocator + Copy>(
+    alloc: A,
     contracts: &'a [Contract<A>],
     call: &'a Call,
-    cells: &mut Cells,
-) -> Result<(Finished<'a, A>, Vec<Inverse>), NoMemory>
+    cells: &mut Cells<A>,
+) -> Result<(Finished<'a, A>, Vec<Inverse, A>), NoMemory>
     requires { cells.old.unsettled ≡ finite.empty }
     ensures ok { IfOk result (λ r. IsPlayedOver (contracts_view contracts.now) call.now cells.old r.0 cells.new r.1.items) }
     ensures err { OnErr result (cells.new ≡ cells.old) }

@@ -4,7 +4,7 @@ ghost use Rattle.std.specs.Prelude.{◌≡◌, IfOk, map};
 ghost use Rattle.world.specs.Views.{contract_view};
 
 use link::deployed::Deployed;
-use std::alloc::Global;
+use std::alloc::Allocator;
 use wtypes::NoMemory;
 
 /// The same contracts once more.
@@ -12,10 +12,10 @@ use wtypes::NoMemory;
 /// # Errors
 ///
 /// Memory was refused.
-pub fn copied(
-    alloc: Global,
-    contracts: &[Deployed<Global>],
-) -> Result<Vec<Deployed<Global>>, NoMemory>
+pub fn copied<A: Allocator + Copy>(
+    alloc: A,
+    contracts: &[Deployed<A>],
+) -> Result<Vec<Deployed<A>, A>, NoMemory>
     ensures { IfOk result (λ copies. map contract_view copies.items ≡ map contract_view contracts.now) }
 {
     let mut copies = Vec::new(alloc);

@@ -20,7 +20,7 @@ use call::Call;
 pub use contracts::copied;
 pub use positions::positions_of;
 use serial::{Core, serial_core};
-use std::alloc::Global;
+use std::alloc::Allocator;
 use world::{World, digest_world};
 use wtypes::NoMemory;
 
@@ -31,13 +31,13 @@ use wtypes::NoMemory;
 /// # Errors
 ///
 /// Memory was refused, or a call touched 2^32 locks or more.
-pub fn seal(
-    alloc: Global,
-    world: &World,
+pub fn seal<A: Allocator + Copy>(
+    alloc: A,
+    world: &World<A>,
     calls: &[Call],
     order: &[u32],
-    core: Core,
-) -> Result<(Block, World), NoMemory>
+    core: Core<A>,
+) -> Result<(Block<A>, World<A>), NoMemory>
     requires calls { length calls.now ≤ 65535 }
     requires order { length order.now ≤ Block.MOST_POSITIONS }
     requires receipts { length core.receipts.items ≡ length order.now }
@@ -64,12 +64,12 @@ pub fn seal(
 /// # Errors
 ///
 /// Memory was refused, or a call touched 2^32 locks or more.
-pub fn run(
-    alloc: Global,
-    world: &World,
+pub fn run<A: Allocator + Copy>(
+    alloc: A,
+    world: &World<A>,
     calls: &[Call],
     order: &[u32],
-) -> Result<(Block, World), NoMemory>
+) -> Result<(Block<A>, World<A>), NoMemory>
     requires calls { length calls.now ≤ 65535 }
     requires order { length order.now ≤ Block.MOST_POSITIONS }
     requires known { All (λ number. number < length calls.now) order.now }

@@ -8,7 +8,7 @@ ghost use Rattle.serial_block.specs.Ordered.{used_by};
 use block::Position;
 use lock_profile::{Touched, turns};
 use spec_ledger::Receipt;
-use std::alloc::Global;
+use std::alloc::Allocator;
 use wtypes::NoMemory;
 
 /// The positions of a block whose calls, in this order, came to these receipts and touched these locks: each has the call's
@@ -18,12 +18,12 @@ use wtypes::NoMemory;
 ///
 /// Memory was refused, or a position has no spelling: its call touched 2^32 locks or more, or its receipt has a code of
 /// rejection that no call gets.
-pub fn positions_of(
-    alloc: Global,
+pub fn positions_of<A: Allocator + Copy>(
+    alloc: A,
     order: &[u32],
     receipts: &[Receipt],
-    touched: &[Touched],
-) -> Result<Vec<Position>, NoMemory>
+    touched: &[Touched<A>],
+) -> Result<Vec<Position<A>, A>, NoMemory>
     requires few { length order.now < 2 ^ 16 }
     requires receipts { length receipts.now ≡ length order.now }
     requires touched { length touched.now ≡ length order.now }

@@ -8,7 +8,7 @@ ghost use Rattle.shared_book.specs.Taking.{Happened, HoldsOfTheBook, IsLawful};
 
 use boost::book::{BeginRefusal, Book, Closed, CommitRefusal, OpRefusal, Run, Ticket};
 use spec_ledger::{Op, Reply};
-use std::alloc::Global;
+use std::alloc::{Allocator, Global};
 use std::sync::{Mutex, Wait};
 use storage::{Cells, NoMemory};
 
@@ -16,20 +16,20 @@ use storage::{Cells, NoMemory};
 ///
 /// Whenever the lock is taken, the book has all that its type keeps, whatever other threads did. No more is known of it: no fact passes from one taking of the lock to the next. So a clause speaks of the book as the call found it, and none says which book that was.
 #[derive(Drop)]
-pub struct SharedBook {
-    book: Mutex<Book>,
+pub struct SharedBook<A: Allocator = Global> {
+    book: Mutex<Book<A>>,
 }
 
 /// What is known of the book that was found under the lock.
-fn look(book: &Book)
+fn look<A: Allocator + Copy>(book: &Book<A>)
     ensures { IsLawful book.now }
 {
     book.hold();
 }
 
-impl SharedBook {
+impl<A: Allocator + Copy> SharedBook<A> {
     /// A book of this many calls, with no entry and no attempt, over a copy of the opening cells.
-    pub fn open(alloc: Global, cells: Cells, calls: u32) -> Result<SharedBook, NoMemory> {
+    pub fn open(alloc: A, cells: Cells<A>, calls: u32) -> Result<Self, NoMemory> {
         let book = Book::open(alloc, cells, calls)?;
         Ok(SharedBook {
             book: Mutex::new(book),
@@ -87,7 +87,7 @@ impl SharedBook {
     }
 
     /// The opening cells, the entries, and the cells after every live call is undone. The entries are a serial run from the opening cells: each reply is the one that its operation gives at that point, no call has two entries, and the cells are those that the entries leave.
-    pub fn close(self) -> Closed
+    pub fn close(self) -> Closed<A>
         ensures replies { IsDefined result.opening.cells result.entries.items }
         ensures distinct { AreDistinct result.entries.items }
         ensures modes { AllByRecursion (λ e. e.modes ≡ touched e.trace) result.entries.items }

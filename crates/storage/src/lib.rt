@@ -17,7 +17,7 @@ ghost use Rattle.std.specs.Iterator.{YieldsFirst, item_count};
 mod tests;
 
 pub use spec_ledger::{Inverse, Kind, Lock, NoMemory, Op, Place, Reply, Step};
-use std::alloc::Global;
+use std::alloc::{Allocator, Global};
 use std::collections::BTreeMap;
 use std::collections::btree_map::Iter;
 use std::marker::Model;
@@ -118,7 +118,7 @@ fn note_types(lock: Lock, cell: Option<u64>)
 }
 
 /// A lock's slot, an empty one where there is none.
-fn slot_at(slots: &BTreeMap<Lock, Slot>, lock: Lock) -> Slot
+fn slot_at<A: Allocator>(slots: &BTreeMap<Lock, Slot, A>, lock: Lock) -> Slot
     ensures cell { result.cell ≡ finite.get (cells_in slots.now.entries) lock }
     ensures count { counter result.unsettled ≡ finite.get (counts_in slots.now.entries) lock }
     ensures present { 0 < result.unsettled → IsSome (get lock_cmp slots.now lock) }
@@ -133,7 +133,7 @@ fn slot_at(slots: &BTreeMap<Lock, Slot>, lock: Lock) -> Slot
 }
 
 /// Drops a slot.
-fn drop_slot(slots: &mut BTreeMap<Lock, Slot>, lock: Lock)
+fn drop_slot<A: Allocator>(slots: &mut BTreeMap<Lock, Slot, A>, lock: Lock)
     ensures cells { cells_in slots.new.entries ≡ set_at (cells_in slots.old.entries) lock None }
     ensures counts { counts_in slots.new.entries ≡ set_at (counts_in slots.old.entries) lock None }
 {
@@ -141,7 +141,7 @@ fn drop_slot(slots: &mut BTreeMap<Lock, Slot>, lock: Lock)
 }
 
 /// Writes a slot that is there, which takes no memory.
-fn write_slot(slots: &mut BTreeMap<Lock, Slot>, lock: Lock, slot: Slot)
+fn write_slot<A: Allocator + Copy>(slots: &mut BTreeMap<Lock, Slot, A>, lock: Lock, slot: Slot)
     requires { IsSome (get lock_cmp slots.old lock) }
     ensures cells { cells_in slots.new.entries ≡ set_at (cells_in slots.old.entries) lock slot.cell }
     ensures counts { counts_in slots.new.entries ≡ set_at (counts_in slots.old.entries) lock (counter slot.unsettled) }
@@ -153,7 +153,7 @@ fn write_slot(slots: &mut BTreeMap<Lock, Slot>, lock: Lock, slot: Slot)
 }
 
 /// Writes a slot that is there, or drops it where it is empty.
-fn close_slot(slots: &mut BTreeMap<Lock, Slot>, lock: Lock, slot: Slot)
+fn close_slot<A: Allocator + Copy>(slots: &mut BTreeMap<Lock, Slot, A>, lock: Lock, slot: Slot)
     requires { IsSome (get lock_cmp slots.old lock) }
     ensures cells { cells_in slots.new.entries ≡ set_at (cells_in slots.old.entries) lock slot.cell }
     ensures counts { counts_in slots.new.entries ≡ set_at (counts_in slots.old.entries) lock (counter slot.unsettled) }
@@ -167,7 +167,11 @@ fn close_slot(slots: &mut BTreeMap<Lock, Slot>, lock: Lock, slot: Slot)
 }
 
 /// Writes a slot.
-fn put_slot(slots: &mut BTreeMap<Lock, Slot>, lock: Lock, slot: Slot) -> Result<(), NoMemory>
+fn put_slot<A: Allocator + Copy>(
+    slots: &mut BTreeMap<Lock, Slot, A>,
+    lock: Lock,
+    slot: Slot,
+) -> Result<(), NoMemory>
     ensures cells { OnOk result (cells_in slots.new.entries ≡ set_at (cells_in slots.old.entries) lock slot.cell) }
     ensures counts { OnOk result (counts_in slots.new.entries ≡ set_at (counts_in slots.old.entries) lock (counter slot.unsettled)) }
     ensures types { OnOk result (AreOfTheirTypes (cells_in slots.old.entries) → AreOfTheirTypes (cells_in slots.new.entries)) }
@@ -215,11 +219,11 @@ impl<'a> Iterator for Entries<'a> {
 
 /// Cells, with their unsettled changes.
 #[derive(Drop)]
-pub struct Cells {
-    slots: BTreeMap<Lock, Slot>,
+pub struct Cells<A: Allocator = Global> {
+    slots: BTreeMap<Lock, Slot, A>,
 }
 
-impl Model for Cells {
+impl<A: Allocator> Model for Cells<A> {
     ghost use Rattle.storage.specs.Counts.{Store, store_code};
 
     ghost Value = { Store };
@@ -234,9 +238,9 @@ impl Model for Cells {
     ghost invariant = { λ a. AreKept (cells_in a.slots.entries) };
 }
 
-impl Cells {
+impl<A: Allocator + Copy> Cells<A> {
     /// No cells.
-    pub fn new(alloc: Global) -> Self
+    pub fn new(alloc: A) -> Self
         ensures cells { result.cells ≡ finite.empty }
         ensures unsettled { result.unsettled ≡ finite.empty }
     {
@@ -271,7 +275,7 @@ impl Cells {
     }
 
     /// The same cells, in which nothing is unsettled.
-    pub fn copy(&self, alloc: Global) -> Result<Cells, NoMemory>
+    pub fn copy(&self, alloc: A) -> Result<Self, NoMemory>
         ensures cells { IfOk result (λ copy. copy.cells ≡ self.now.cells) }
         ensures unsettled { IfOk result (λ copy. copy.unsettled ≡ finite.empty) }
     {
@@ -369,7 +373,7 @@ impl Cells {
 }
 
 /// One change less of a lock.
-fn settle_slot(slots: &mut BTreeMap<Lock, Slot>, lock: Lock)
+fn settle_slot<A: Allocator + Copy>(slots: &mut BTreeMap<Lock, Slot, A>, lock: Lock)
     requires { 0 < count_at (counts_in slots.old.entries) lock }
     ensures cells { cells_in slots.new.entries ≡ cells_in slots.old.entries }
     ensures counts { counts_in slots.new.entries ≡ update (counts_in slots.old.entries) lock (λ n. counter (number n - 1)) }

@@ -1,23 +1,36 @@
--- What workers share and hand back may cross threads.
+-- What workers share and hand back may cross threads, over an allocator that may, and whose blocks any thread may give back.
 use mir.Syntax.{Lifetime}
 use base.Fml.{Lft}
 use denote.RattleType.{RattleType}
 use denote.Ref.{NamedLft, ShrRef}
 use denote.Slice.{ShrSlice}
 use denote.Struct.Field.{row_field}
-use denote.Param.Send.{IsSend, IsSync, shr_sync, shr_slice_send, sendable}
+use denote.Param.Send.{Frees, IsSend, IsSync, shr_sync, shr_slice_send, sendable}
 use denote.Param.SendFields.{declared_sync, as_row_sync}
-use Rattle.std.specs.contracts.alloc.Global as heap_row
-use Rattle.std.specs.contracts.impls.GlobalAllocator.TheImpl.{ghosts}
+use Rattle.std.specs.declared.alloc.Allocator.{Ghosts}
+use Rattle.std.specs.contracts.string.String as text
+use Rattle.std.specs.contracts.vec.Vec as vec
+use Rattle.wtypes.specs.contracts.FuncType as func_type_row
+use Rattle.wtypes.specs.contracts.HostCall as host_row
+use Rattle.module_tree.specs.contracts.instr.Instr as instr_row
+use Rattle.module_tree.specs.contracts.module.DataSegment as data_row
+use Rattle.module_tree.specs.contracts.module.Element as element_row
+use Rattle.module_tree.specs.contracts.module.Export as export_row
+use Rattle.module_tree.specs.contracts.module.Func as func_row
+use Rattle.module_tree.specs.contracts.module.Global as global_row
+use Rattle.module_tree.specs.contracts.module.Import as import_row
+use Rattle.module_tree.specs.contracts.module.Module as tree_row
 use Rattle.link.specs.contracts.deployed.Deployed as contract_row
 use Rattle.interp.specs.contracts.finished.Finished as finished_row
 use Rattle.lock_profile.specs.contracts.Profile as profile_row
 use Rattle.storage.specs.contracts.Cells as cells_row
 use Rattle.validator.specs.contracts.job.Made as made_row
+use Rattle.validator.specs.contracts.job.Part as part_row
 use Rattle.validator.specs.contracts.job.Job as job_row
 use Rattle.std.proofs.Crossing as std
+use Rattle.std.proofs.CrossingOver as over
 use Rattle.std.proofs.MapsCrossing as maps
-use Rattle.std.proofs.alloc.Global.TheSendSync as heap
+use Rattle.std.proofs.MapsCrossingOver as maps_over
 use Rattle.std.proofs.option.Option.TheSendSync as option
 use Rattle.std.proofs.result.Result.TheSendSync as result
 use Rattle.wtypes.proofs.FuncType.TheSendSync as func_type
@@ -56,8 +69,6 @@ pub ruleset crosses = (
   plain.the_field_sync,
   val_type.the_field_sync,
   host.the_field_sync,
-  heap.the_field_sync,
-  heap.the_field_send,
   option.the_field_sync,
   result.the_field_send,
   no_memory.the_field_send,
@@ -75,39 +86,82 @@ pub ruleset crosses = (
   no_memory.the_send,
 )
 
-contract_sync : IsSync (contract_row.the_row heap_row.the_row ghosts)
-contract_sync = search crosses depth 60 fits 100000
+module _ (B : RattleType) (g : Ghosts B.Denot) (send : IsSend B) (sync : IsSync B) (frees : Frees g g.dealloc_token) where
+  vec_send : (T : RattleType) → IsSend T → IsSend (vec.the_row T B g)
+  vec_send T s = search (sendable, over.crosses) depth 20
 
-contracts_send : (ℓ : Lifetime) (κ : Lft) → IsSend (ShrSlice ℓ κ (contract_row.the_row heap_row.the_row ghosts))
-contracts_send ℓ κ = shr_slice_send ℓ κ _ contract_sync
+  vec_sync : (T : RattleType) → IsSync T → IsSync (vec.the_row T B g)
+  vec_sync T y = search (sendable, over.crosses) depth 20
 
-finished_send : (a : NamedLft) → IsSend (finished_row.the_row a heap_row.the_row ghosts)
-finished_send a = search (crosses, contracts_send) depth 60 fits 100000
+  text_sync : IsSync (text.the_row B g)
+  text_sync = search (sendable, vec_sync) depth 20
 
-pub made_send : (a : NamedLft) → IsSend (made_row.the_row a heap_row.the_row ghosts)
-made_send a = search (crosses, finished_send) depth 60 fits 100000
+  func_type_sync : IsSync (func_type_row.the_row B g)
+  func_type_sync = search crosses depth 60 fits 100000
 
-profile_sync : IsSync profile_row.the_row
-profile_sync = search crosses depth 60 fits 100000
+  import_sync : IsSync (import_row.the_row B g)
+  import_sync = search crosses depth 60 fits 100000
 
-pub cells_sync : IsSync cells_row.the_row
-cells_sync = search crosses depth 60 fits 100000
+  export_sync : IsSync (export_row.the_row B g)
+  export_sync = search crosses depth 60 fits 100000
 
--- the workers may share the job, where they may share the pace
-pub job_sync : (a b : NamedLft) (P : RattleType) → IsSync P → IsSync (job_row.the_row a b heap_row.the_row P ghosts)
-job_sync a b P pace = declared_sync (job_row.the_type a b heap_row.the_row P ghosts) (
-  search crosses depth 60 fits 100000,
-  (
-    search (crosses, contract_sync) depth 60 fits 100000,
+  instr_sync : IsSync (instr_row.the_row B g)
+  instr_sync = search (crosses, vec_sync) depth 60 fits 100000
+
+  func_sync : IsSync (func_row.the_row B g)
+  func_sync = search (crosses, vec_sync, instr_sync) depth 60 fits 100000
+
+  global_sync : IsSync (global_row.the_row B g)
+  global_sync = search (crosses, vec_sync, instr_sync) depth 60 fits 100000
+
+  element_sync : IsSync (element_row.the_row B g)
+  element_sync = search (crosses, vec_sync, instr_sync) depth 60 fits 100000
+
+  data_sync : IsSync (data_row.the_row B g)
+  data_sync = search (crosses, vec_sync, instr_sync) depth 60 fits 100000
+
+  tree_sync : IsSync (tree_row.the_row B g)
+  tree_sync = search (sendable, vec_sync, func_type_sync, import_sync, export_sync, func_sync, global_sync, element_sync, data_sync, limits.the_field_sync, option.the_field_sync) depth 60 fits 100000
+
+  hosts_sync : IsSync (vec.the_row host_row.the_row B g)
+  hosts_sync = search (crosses, vec_sync) depth 60 fits 100000
+
+  contract_sync : IsSync (contract_row.the_row B g)
+  contract_sync = declared_sync (contract_row.the_type B g) (search (crosses, tree_sync) depth 60, (search (crosses, hosts_sync) depth 60, tt))
+
+  contracts_send : (ℓ : Lifetime) (κ : Lft) → IsSend (ShrSlice ℓ κ (contract_row.the_row B g))
+  contracts_send ℓ κ = shr_slice_send ℓ κ _ contract_sync
+
+  finished_send : (a : NamedLft) → IsSend (finished_row.the_row a B g)
+  finished_send a = search (crosses, vec_send, contracts_send) depth 60 fits 100000
+
+  made_send : (a : NamedLft) → IsSend (made_row.the_row a B g)
+  made_send a = search (crosses, finished_send) depth 60 fits 100000
+
+  pub part_send : (a : NamedLft) → IsSend (part_row.the_row a B g)
+  part_send a = search (crosses, vec_send, contracts_send, made_send) depth 60 fits 100000
+
+  profile_sync : IsSync (profile_row.the_row B g)
+  profile_sync = search (crosses, vec_sync) depth 60 fits 100000
+
+  pub cells_sync : IsSync (cells_row.the_row B g)
+  cells_sync = search (crosses, maps_over.crosses) depth 60 fits 100000
+
+  -- the workers may share the job, where they may share the pace
+  pub job_sync : (a b : NamedLft) (P : RattleType) → IsSync P → IsSync (job_row.the_row a b B P g)
+  job_sync a b P pace = declared_sync (job_row.the_type a b B P g) (
+    as_row_sync (row_field B) sync,
     (
-      search crosses depth 60 fits 100000,
+      search (crosses, contract_sync) depth 60 fits 100000,
       (
         search crosses depth 60 fits 100000,
         (
-          search (crosses, profile_sync) depth 60 fits 100000,
-          (as_row_sync (row_field (ShrRef a.mir a.lft P)) (shr_sync a.mir a.lft P pace), tt),
+          search crosses depth 60 fits 100000,
+          (
+            search (crosses, profile_sync) depth 60 fits 100000,
+            (as_row_sync (row_field (ShrRef a.mir a.lft P)) (shr_sync a.mir a.lft P pace), tt),
+          ),
         ),
       ),
     ),
-  ),
-)
+  )

@@ -1,5 +1,5 @@
 -- The last two reasons, and acceptance.
-use Rattle.std.proofs.Common.{◌≡◌, ◌⊎◌, inl, inr, ℕ, ◌<◌, ◌≤◌, List, refl, sym, ap, subst, ⊎_elim, arith, ◌≢◌}
+use Rattle.std.proofs.Common.{◌≡◌, ◌⊎◌, ℕ, ◌<◌, ◌≤◌, List, subst, ⊎_elim, arith, ◌≢◌}
 use Rattle.sha2.specs.Sha256.{sha256}
 use Rattle.spec_ledger.specs.declared.Receipt.{Receipt}
 use Rattle.spec_ledger.specs.Cells.{Cells}
@@ -10,7 +10,7 @@ use Rattle.spec_block.specs.Worlds.{Call, World, Block, Position, order_of}
 use Rattle.spec_block.specs.Bytes.{world_bytes}
 use Rattle.spec_block.specs.Blocks.{fuel_of, world_after}
 use Rattle.spec_block.specs.Serial.{Serial}
-use Rattle.spec_block.specs.Verdicts.{Verdict, Malformed, WrongWorld, WrongCalls, BadOrder, OverBudget, RoomLeft, BadTurns, Deviates, WrongEnd, Accept, place, IsLeast, IsOther, RunOf, HoldsOf}
+use Rattle.spec_block.specs.Verdicts.{Malformed, WrongWorld, WrongCalls, BadOrder, OverBudget, RoomLeft, BadTurns, Deviates, WrongEnd, Accept, IsLeast, IsOther, RunOf, HoldsOf}
 use Rattle.block_judge.specs.Judging.{IsFirstFrom, NoneFrom}
 
 module _ (one : (world : World) (calls : List Call) (order : List ℕ) (cells : Cells) (rs ss : List Ran) (l m : Cells) → Serial world calls order cells rs l → Serial world calls order cells ss m → (rs ≡ ss) × (l ≡ m))

@@ -1,5 +1,5 @@
 -- Runs that are handed back.
-use Rattle.std.proofs.Common.{◌≡◌, ℕ, List, [], ◌∷◌, ◌++◌, Option, Some, IfSome, set, slice_get, IfOk, sym, ap, subst, ◌∙◌}
+use Rattle.std.proofs.Common.{◌≡◌, ℕ, List, [], ◌∷◌, ◌++◌, Option, Some, None, IfSome, set, slice_get, IfOk, sym, ap, subst, ◌∙◌}
 use Rattle.std.proofs.lemmas.List.Elements.{All-push, All-set}
 use Rattle.std.specs.declared.result.Result.{Result}
 use Rattle.std.specs.declared.result.Result.TheVariants.{Ok, Err}
@@ -17,6 +17,9 @@ is_run (Err e) contracts lent calls number call l c same at = tt
 
 pub one_more_made : {A : Type 0} (contracts : List Deployed) (calls : List ContractCall) (xs zs : List (Made A)) (x : Made A) → zs ≡ xs ++ x ∷ [] → AreMade contracts calls xs → IsMade contracts calls x → AreMade contracts calls zs
 one_more_made contracts calls xs zs x is all one = subst (AreMade contracts calls) (sym is) (All-push (IsMade contracts calls) xs x all one)
+
+pub none_yet : {A : Type 0} (contracts : List Deployed) (calls : List ContractCall) (xs zs : List (Option (Made A))) → zs ≡ xs ++ None ∷ [] → AreFound contracts calls xs → AreFound contracts calls zs
+none_yet contracts calls xs zs is all = subst (AreFound contracts calls) (sym is) (All-push (λ o. IfSome o (IsMade contracts calls)) xs None all tt)
 
 pub one_noted : {A : Type 0} (contracts : List Deployed) (calls : List ContractCall) (xs : List (Option (Made A))) (i : ℕ) (x : Made A) → AreFound contracts calls xs → IsMade contracts calls x → AreFound contracts calls (set xs i (Some x))
 one_noted contracts calls xs i x all one = All-set (λ o. IfSome o (IsMade contracts calls)) xs i (Some x) one all

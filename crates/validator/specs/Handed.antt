@@ -1,9 +1,10 @@
 -- What workers hand back.
-use Rattle.std.specs.Prelude.{◌≡◌, ℕ, List, Option, Result, Some, IfSome, IfOk, Vec, slice_get, All}
+use Rattle.std.specs.Prelude.{◌≡◌, ℕ, List, Option, Result, Some, IfSome, IfOk, slice_get, All}
 use Rattle.spec_execution.specs.Configuration.{Deployed}
 use Rattle.spec_execution.specs.Run.{ContractCall}
 use Rattle.interp.specs.Played.{Played}
 use Rattle.validator.specs.declared.job.Made.{Made}
+use Rattle.validator.specs.declared.job.Part.{Part}
 
 -- a run of the call of this number over these contracts
 pub record IsRunOf (contracts : List Deployed) (calls : List ContractCall) (number : ℕ) (f : Played) : Type 0 where
@@ -21,5 +22,5 @@ abbrev pub AreFound : {A : Type 0} → List Deployed → List ContractCall → L
 AreFound contracts calls os = All (λ o. IfSome o (IsMade contracts calls)) os
 
 -- what the workers of a wave hand back
-abbrev pub ArePartsMade : {A E : Type 0} → List Deployed → List ContractCall → List (Result (Vec (Made A) A) E) → Type 0
-ArePartsMade contracts calls parts = All (λ part. IfOk part (λ made. AreMade contracts calls made.items)) parts
+abbrev pub ArePartsMade : {A E : Type 0} → List Deployed → List ContractCall → List (Result (Part A) E) → Type 0
+ArePartsMade contracts calls parts = All (λ part. IfOk part (λ p. AreMade contracts calls p.made.items)) parts

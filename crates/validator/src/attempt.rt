@@ -19,7 +19,7 @@ use link::deployed::Deployed as Contract;
 use lock_profile::Profile;
 use pace::{Pace, Step};
 use spec_ledger::{NoMemory, Op, Reply};
-use std::alloc::{Allocator, Global};
+use std::alloc::Allocator;
 use storage::Cells;
 
 /// Why a run is not made.
@@ -33,14 +33,19 @@ enum Stop {
 
 /// The number of a call, what it may ask for, and who is told.
 #[derive(Drop)]
-struct Place<'s, P: Pace> {
+struct Place<'s, A: Allocator, P: Pace> {
     number: u32,
-    profile: &'s Profile,
+    profile: &'s Profile<A>,
     pace: &'s P,
 }
 
 /// Does an operation that is within the profile, and tells the pace before it.
-fn ask<P: Pace>(place: &Place<'_, P>, cells: &mut Cells, n: u64, op: Op) -> Result<Reply, Stop>
+fn ask<A: Allocator + Copy, P: Pace>(
+    place: &Place<'_, A, P>,
+    cells: &mut Cells<A>,
+    n: u64,
+    op: Op,
+) -> Result<Reply, Stop>
     ensures { IfOk result (λ reply. IsReply op reply) }
 {
     place.pace.at(Step::Op {
@@ -57,9 +62,9 @@ fn ask<P: Pace>(place: &Place<'_, P>, cells: &mut Cells, n: u64, op: Op) -> Resu
 }
 
 /// Makes a turn, with the operation that it asks for. Answers whether the run goes on.
-fn make_turn<'a, A: Allocator, P: Pace>(
-    place: &Place<'_, P>,
-    cells: &mut Cells,
+fn make_turn<'a, A: Allocator + Copy, P: Pace>(
+    place: &Place<'_, A, P>,
+    cells: &mut Cells<A>,
     machine: &mut Machine<'a, A>,
     asked: &mut u64,
 ) -> Result<bool, Stop>
@@ -85,9 +90,9 @@ fn make_turn<'a, A: Allocator, P: Pace>(
 }
 
 /// Makes the turns of a call that starts.
-fn run<'a, A: Allocator, P: Pace>(
-    place: &Place<'_, P>,
-    cells: &mut Cells,
+fn run<'a, A: Allocator + Copy, P: Pace>(
+    place: &Place<'_, A, P>,
+    cells: &mut Cells<A>,
     mut machine: Machine<'a, A>,
 ) -> Result<Finished<'a, A>, Stop>
     requires free { IsFree machine.status }
@@ -104,8 +109,8 @@ fn run<'a, A: Allocator, P: Pace>(
 }
 
 /// The empty run of a call that does not start.
-fn rejected<'a, A: Allocator>(
-    alloc: Global,
+fn rejected<'a, A: Allocator + Copy>(
+    alloc: A,
     contracts: &'a [Contract<A>],
     call: &'a Call,
 ) -> Finished<'a, A>
@@ -119,10 +124,10 @@ fn rejected<'a, A: Allocator>(
 }
 
 /// Runs the call of a number to its end.
-fn play<'a, A: Allocator, P: Pace>(
+fn play<'a, A: Allocator + Copy, P: Pace>(
     job: &Job<'_, 'a, A, P>,
-    place: &Place<'_, P>,
-    cells: &mut Cells,
+    place: &Place<'_, A, P>,
+    cells: &mut Cells<A>,
     number: u32,
 ) -> Result<Finished<'a, A>, Stop>
     requires { number < length job.now.calls.now }
@@ -139,9 +144,9 @@ fn play<'a, A: Allocator, P: Pace>(
 
 /// Runs the call of a position over its own copy of these cells, as far as its profile has them. None where the call asks for what is not in its
 /// profile.
-pub(crate) fn attempt<'a, A: Allocator, P: Pace>(
+pub(crate) fn attempt<'a, A: Allocator + Copy, P: Pace>(
     job: &Job<'_, 'a, A, P>,
-    cells: &Cells,
+    cells: &Cells<A>,
     position: u32,
 ) -> Result<Option<Made<'a, A>>, NoMemory>
     requires { All (λ number. number < length job.now.calls.now) job.now.order.now }

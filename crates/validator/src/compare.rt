@@ -10,6 +10,7 @@ ghost use Rattle.spec_block.specs.Verdicts.{Agrees, IsLeast, IsOther};
 use block::Position;
 use lock_profile::{Held, Touched};
 use spec_ledger::{Entry, Receipt};
+use std::alloc::Allocator;
 
 fn is_receipt(a: Receipt, b: Receipt) -> bool
     ensures { IsTrue result ↔ (a ≡ b) }
@@ -43,7 +44,7 @@ fn are_held(entries: &[Entry], held: &[Held]) -> bool
 }
 
 /// Whether a position has this receipt, and these locks and modes.
-fn agrees(position: &Position, receipt: Receipt, touched: &Touched) -> bool
+fn agrees<A: Allocator>(position: &Position<A>, receipt: Receipt, touched: &Touched<A>) -> bool
     ensures { IsTrue result ↔ Agrees position.now (record { receipt = receipt; touched = touched.now }) }
 {
     if !is_receipt(position.receipt(), receipt) {
@@ -53,10 +54,10 @@ fn agrees(position: &Position, receipt: Receipt, touched: &Touched) -> bool
 }
 
 /// The least position that does not agree with these receipts and locks.
-pub(crate) fn first_deviating(
-    positions: &[Position],
+pub(crate) fn first_deviating<A: Allocator>(
+    positions: &[Position<A>],
     receipts: &[Receipt],
-    touched: &[Touched],
+    touched: &[Touched<A>],
 ) -> Option<u32>
     requires few { length positions.now < 2 ^ 32 }
     requires receipts { length receipts.now ≡ length positions.now }

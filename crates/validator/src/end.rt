@@ -16,7 +16,7 @@ use block_judge::Reason;
 use serial::Core;
 use serial_block::copied;
 use spec_ledger::NoMemory;
-use std::alloc::Global;
+use std::alloc::Allocator;
 use storage::Cells;
 use world::{World, digest_world};
 
@@ -27,19 +27,23 @@ fn is_digest(a: &[u8; 32], b: &[u8; 32]) -> bool
 }
 
 /// The same contracts over other cells.
-fn world_after(alloc: Global, world: &World, cells: Cells) -> Result<World, NoMemory>
+fn world_after<A: Allocator + Copy>(
+    alloc: A,
+    world: &World<A>,
+    cells: Cells<A>,
+) -> Result<World<A>, NoMemory>
     ensures { IfOk result (λ next. world_view next ≡ after (world_view world.now) cells.cells) }
 {
     Ok(World::new(copied(alloc, world.contracts())?, cells))
 }
 
 /// The verdict on a block whose order came to `core`, which none of the first seven reasons speaks against.
-pub(crate) fn conclude(
-    alloc: Global,
-    world: &World,
-    block: &Block,
-    core: Core,
-) -> Result<Verdict, NoMemory>
+pub(crate) fn conclude<A: Allocator + Copy>(
+    alloc: A,
+    world: &World<A>,
+    block: &Block<A>,
+    core: Core<A>,
+) -> Result<Verdict<A>, NoMemory>
     requires few { length block.now.positions ≤ 65535 }
     requires receipts { length core.receipts.items ≡ length block.now.positions }
     requires touched { length core.touched.items ≡ length block.now.positions }

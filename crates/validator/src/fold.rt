@@ -18,27 +18,27 @@ use storage::Cells;
 
 /// What the calls came to.
 #[derive(Drop)]
-pub(crate) struct Folded {
-    pub(crate) core: Core,
+pub(crate) struct Folded<A: Allocator> {
+    pub(crate) core: Core<A>,
     /// How many of them were run, since no run that was made of them had the replies of the cells.
     pub(crate) again: u32,
 }
 
 /// What one call came to.
 #[derive(Drop)]
-struct Done {
-    executed: Executed,
+struct Done<A: Allocator> {
+    executed: Executed<A>,
     /// Whether it was run.
     again: bool,
 }
 
 /// Executes the call of a number by the run that was made of it, where there is one whose replies are those of the cells.
-fn execute_by<'a, A: Allocator, P: Pace>(
+fn execute_by<'a, A: Allocator + Copy, P: Pace>(
     job: &Job<'_, 'a, A, P>,
     number: u32,
     run: &Option<Made<'a, A>>,
-    cells: &mut Cells,
-) -> Result<Option<Executed>, NoMemory>
+    cells: &mut Cells<A>,
+) -> Result<Option<Executed<A>>, NoMemory>
     requires run { IfSome run.now (IsMade (contracts_view job.now.contracts.now) job.now.calls.now) }
     requires settled { cells.old.unsettled ≡ finite.empty }
     ensures executed { IfOk result (λ o. IfSome o (λ e. (call : ContractCall) → slice_get job.now.calls.now number ≡ Some call → Executes (contracts_view job.now.contracts.now) call cells.old.cells cells.new.cells e.receipt.outcome e.receipt.used e.touched)) }
@@ -56,12 +56,12 @@ fn execute_by<'a, A: Allocator, P: Pace>(
 }
 
 /// Executes the call of a number by a run that was made of it, and else runs it.
-fn execute_one<'a, A: Allocator, P: Pace>(
+fn execute_one<'a, A: Allocator + Copy, P: Pace>(
     job: &Job<'_, 'a, A, P>,
     number: u32,
     run: &Option<Made<'a, A>>,
-    cells: &mut Cells,
-) -> Result<Done, NoMemory>
+    cells: &mut Cells<A>,
+) -> Result<Done<A>, NoMemory>
     requires known { number < length job.now.calls.now }
     requires run { IfSome run.now (IsMade (contracts_view job.now.contracts.now) job.now.calls.now) }
     requires settled { cells.old.unsettled ≡ finite.empty }
@@ -83,11 +83,11 @@ fn execute_one<'a, A: Allocator, P: Pace>(
 }
 
 /// Executes the calls of the order one after another, the first over a copy of the cells, by the runs that were made at their positions.
-pub(crate) fn fold<'a, A: Allocator, P: Pace>(
+pub(crate) fn fold<'a, A: Allocator + Copy, P: Pace>(
     job: &Job<'_, 'a, A, P>,
-    cells: &Cells,
+    cells: &Cells<A>,
     runs: &[Option<Made<'a, A>>],
-) -> Result<Folded, NoMemory>
+) -> Result<Folded<A>, NoMemory>
     requires few { length job.now.order.now ≤ 65535 }
     requires known { All (λ number. number < length job.now.calls.now) job.now.order.now }
     requires size { length runs.now ≡ length job.now.order.now }

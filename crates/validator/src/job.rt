@@ -5,16 +5,16 @@ use interp::finished::Finished;
 use link::deployed::Deployed as Contract;
 use lock_profile::Profile;
 use pace::Pace;
-use std::alloc::{Allocator, Global};
+use std::alloc::Allocator;
 
 /// What the workers share: the calls that a block orders, and what it publishes of them by position.
 #[derive(Drop)]
 pub(crate) struct Job<'s, 'a, A: Allocator, P: Pace> {
-    pub(crate) alloc: Global,
+    pub(crate) alloc: A,
     pub(crate) contracts: &'a [Contract<A>],
     pub(crate) calls: &'a [Call],
     pub(crate) order: &'s [u32],
-    pub(crate) profiles: &'s [Profile],
+    pub(crate) profiles: &'s [Profile<A>],
     pub(crate) pace: &'s P,
 }
 
@@ -26,4 +26,12 @@ pub(crate) struct Made<'a, A: Allocator> {
     /// The number of the call.
     pub(crate) call: u32,
     pub(crate) finished: Finished<'a, A>,
+}
+
+/// The runs that a worker made in a wave, and the contracts that they ran over. (Without the contracts at their side, it is not known of a list of
+/// these that the allocator lives as long as they do, which dropping it asks.)
+#[derive(Drop)]
+pub(crate) struct Part<'a, A: Allocator> {
+    pub(crate) contracts: &'a [Contract<A>],
+    pub(crate) made: Vec<Made<'a, A>, A>,
 }

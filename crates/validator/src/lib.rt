@@ -19,6 +19,7 @@ ghost use Rattle.spec_block.specs.Schedule.{HaveTurns};
 ghost use Rattle.spec_block.specs.Verdicts.{HoldsOf, IsVerdictOf};
 ghost use Rattle.block_judge.specs.Judging.{IsFirstFrom};
 ghost use Rattle.world.specs.Views.{world_view};
+ghost use denote.Param.Send.{Frees};
 ghost use Rattle.validator.specs.Judged.{told_by};
 
 use crate::end::conclude;
@@ -30,7 +31,7 @@ pub use block_judge::Reason;
 use block_judge::{Fit, Unfit, judge};
 use call::Call;
 use pace::Pace;
-use std::alloc::Global;
+use std::alloc::{Allocator, Global};
 use std::sync::Wait;
 use std::thread::Threads;
 use world::World;
@@ -38,22 +39,22 @@ use wtypes::NoMemory;
 
 /// What was found of a block whose calls were run.
 #[derive(Drop)]
-pub(crate) struct Validated {
-    pub(crate) verdict: Verdict,
+pub(crate) struct Validated<A: Allocator = Global> {
+    pub(crate) verdict: Verdict<A>,
     /// How many positions the caller ran, since no worker's run of them had the replies of the serial execution.
     pub(crate) again: u32,
 }
 
 /// Runs the calls of a block that passes so far, and compares what they come to with what it says.
-fn run<R: Threads + Sync, P: Pace>(
+fn run<R: Threads + Sync, A: Allocator + Copy + Send + Sync, P: Pace>(
     rt: &R,
-    alloc: Global,
-    world: &World,
+    alloc: A,
+    world: &World<A>,
     calls: &[Call],
-    fit: &Fit,
+    fit: &Fit<A>,
     workers: u32,
     pace: &P,
-) -> Result<Validated, NoMemory>
+) -> Result<Validated<A>, NoMemory>
     requires few { length fit.now.order.items ≤ 65535 }
     requires profiles { length fit.now.profiles.items ≤ 65535 }
     requires positions { length fit.now.block.positions ≡ length fit.now.order.items }
@@ -61,6 +62,7 @@ fn run<R: Threads + Sync, P: Pace>(
     requires known { All (λ number. number < length calls.now) fit.now.order.items }
     requires turns { HaveTurns fit.now.profiles.items }
     requires workers { 1 ≤ workers }
+    requires frees { Frees A.Allocator A.dealloc_token }
     ensures verdict { IfOk result (λ v. (fuel : ℕ) → IsFirstFrom (HoldsOf (world_view world.now) calls.now fuel fit.now.block) 8 (told_by v.verdict)) }
     ensures again { IfOk result (λ v. v.again ≤ length fit.now.order.items) }
 {
@@ -82,18 +84,19 @@ fn run<R: Threads + Sync, P: Pace>(
 }
 
 /// The verdict on the bytes of a block.
-pub(crate) fn find_verdict<R: Threads + Sync, P: Pace>(
+pub(crate) fn find_verdict<R: Threads + Sync, A: Allocator + Copy + Send + Sync, P: Pace>(
     rt: &R,
-    alloc: Global,
-    world: &World,
+    alloc: A,
+    world: &World<A>,
     calls: &[Call],
     block_fuel: u64,
     bytes: &[u8],
     workers: u32,
     pace: &P,
-) -> Result<Validated, NoMemory>
+) -> Result<Validated<A>, NoMemory>
     requires calls { length calls.now ≤ 65535 }
     requires workers { 1 ≤ workers }
+    requires frees { Frees A.Allocator A.dealloc_token }
     ensures verdict { IfOk result (λ v. IsVerdictOf (world_view world.now) calls.now block_fuel bytes.now (told_by v.verdict)) }
 {
     block_judge::first_is_verdict();
@@ -117,6 +120,32 @@ pub(crate) fn find_verdict<R: Threads + Sync, P: Pace>(
 ///
 /// # Errors
 ///
+/// The allocator refused memory to the caller or to a worker.
+pub fn validate_in<R: Threads + Wait + Sync, A: Allocator + Copy + Send + Sync, P: Pace>(
+    rt: &R,
+    alloc: A,
+    world: &World<A>,
+    calls: &[Call],
+    block_fuel: u64,
+    bytes: &[u8],
+    workers: u32,
+    pace: &P,
+) -> Result<Verdict<A>, NoMemory>
+    requires calls { length calls.now ≤ 65535 }
+    requires workers { (1 ≤ workers) × (workers ≤ 64) }
+    requires frees { Frees A.Allocator A.dealloc_token }
+    ensures verdict { IfOk result (λ verdict. IsVerdictOf (world_view world.now) calls.now block_fuel bytes.now (told_by verdict)) }
+{
+    let Validated { verdict, again: _ } = find_verdict(
+        rt, alloc, world, calls, block_fuel, bytes, workers, pace,
+    )?;
+    Ok(verdict)
+}
+
+/// The same over the heap.
+///
+/// # Errors
+///
 /// Memory was refused to the caller or to a worker.
 pub fn validate<R: Threads + Wait + Sync, P: Pace>(
     rt: &R,
@@ -132,8 +161,5 @@ pub fn validate<R: Threads + Wait + Sync, P: Pace>(
     requires workers { (1 ≤ workers) × (workers ≤ 64) }
     ensures verdict { IfOk result (λ verdict. IsVerdictOf (world_view world.now) calls.now block_fuel bytes.now (told_by verdict)) }
 {
-    let Validated { verdict, again: _ } = find_verdict(
-        rt, alloc, world, calls, block_fuel, bytes, workers, pace,
-    )?;
-    Ok(verdict)
+    validate_in(rt, alloc, world, calls, block_fuel, bytes, workers, pace)
 }

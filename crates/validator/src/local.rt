@@ -7,11 +7,15 @@ ghost use Rattle.spec_execution.specs.Run.{IsReply};
 use abstract_locks::join_to;
 use lock_profile::Profile;
 use spec_ledger::{Mode, NoMemory, Op, Reply};
-use std::alloc::Global;
+use std::alloc::Allocator;
 use storage::{Cells, lock};
 
 /// The cells of a profile's locks.
-pub(crate) fn cells_of(alloc: Global, cells: &Cells, profile: &Profile) -> Result<Cells, NoMemory> {
+pub(crate) fn cells_of<A: Allocator + Copy>(
+    alloc: A,
+    cells: &Cells<A>,
+    profile: &Profile<A>,
+) -> Result<Cells<A>, NoMemory> {
     cells.hold();
     let mut local = Cells::new(alloc);
     for entry in profile.entries() {
@@ -34,7 +38,7 @@ fn mode(op: Op) -> Mode
 }
 
 /// Whether an operation is within a profile: the profile has its lock, in a mode that the operation's joins to itself.
-pub(crate) fn allows(profile: &Profile, op: Op) -> bool {
+pub(crate) fn allows<A: Allocator>(profile: &Profile<A>, op: Op) -> bool {
     let wanted = lock(op);
     let entries = profile.entries();
     match entries.binary_search_by(|entry| entry.lock.cmp(&wanted)) {
@@ -44,7 +48,7 @@ pub(crate) fn allows(profile: &Profile, op: Op) -> bool {
 }
 
 /// Does an operation.
-pub(crate) fn act(cells: &mut Cells, op: Op) -> Result<Reply, NoMemory>
+pub(crate) fn act<A: Allocator + Copy>(cells: &mut Cells<A>, op: Op) -> Result<Reply, NoMemory>
     ensures { IfOk result (λ reply. IsReply op reply) }
 {
     let (reply, _inverse) = cells.apply(op)?;

@@ -23,5 +23,5 @@ abbrev pub is_cell_of : Kind → Lock × ℕ → Bool
 is_cell_of kind cell = is_of kind cell.0.kind
 
 -- a world without where it lies in memory, and without what of its cells is unsettled
-abbrev pub world_view : World → TheWorld
+abbrev pub world_view : {A : Type 0} → World A → TheWorld
 world_view w = record { contracts = map contract_view w.contracts.items; cells = w.cells.cells }

@@ -15,7 +15,7 @@ use codec::{Sink, put_all};
 use fields::{append_u32, append_u64};
 use link::deployed::Deployed;
 use sha2::{Digest, Sha256};
-use std::alloc::{AllocError, Global};
+use std::alloc::{AllocError, Allocator};
 use storage::{Cells, Kind, Lock};
 use wtypes::NoMemory;
 
@@ -26,10 +26,10 @@ const MAGIC: u32 = 0x4457_4257;
 const VERSION: u32 = 1;
 
 /// Appends a length and the shortest spelling of a contract.
-fn append_contract(
-    alloc: Global,
-    out: &mut Vec<u8>,
-    contract: &Deployed<Global>,
+fn append_contract<A: Allocator>(
+    alloc: A,
+    out: &mut Vec<u8, A>,
+    contract: &Deployed<A>,
 ) -> Result<(), NoMemory>
     ensures { OnOk result (out.new.items ≡ out.old.items ++ contract_bytes (contract_view contract.now)) }
 {
@@ -40,10 +40,10 @@ fn append_contract(
     Ok(())
 }
 
-fn append_contracts(
-    alloc: Global,
-    out: &mut Vec<u8>,
-    contracts: &[Deployed<Global>],
+fn append_contracts<A: Allocator + Copy>(
+    alloc: A,
+    out: &mut Vec<u8, A>,
+    contracts: &[Deployed<A>],
 ) -> Result<(), NoMemory>
     requires { length contracts.now ≤ World.MOST_CONTRACTS }
     ensures { OnOk result (out.new.items ≡ out.old.items ++ counted contract_bytes (map contract_view contracts.now)) }
@@ -65,7 +65,11 @@ fn is_kind(a: Kind, b: Kind) -> bool
 }
 
 /// The cells of a kind, in the order of locks.
-fn cells_of(alloc: Global, cells: &Cells, kind: Kind) -> Result<Vec<(Lock, u64)>, AllocError>
+fn cells_of<A: Allocator + Copy>(
+    alloc: A,
+    cells: &Cells<A>,
+    kind: Kind,
+) -> Result<Vec<(Lock, u64), A>, AllocError>
     ensures { IfOk result (λ these. these.items ≡ filter (is_cell_of kind) (finite.entries cells.now.cells)) }
 {
     let mut these = Vec::new(alloc);
@@ -78,7 +82,7 @@ fn cells_of(alloc: Global, cells: &Cells, kind: Kind) -> Result<Vec<(Lock, u64)>
 }
 
 /// Appends a cell.
-fn append_cell(out: &mut Vec<u8>, cell: &(Lock, u64)) -> Result<(), AllocError>
+fn append_cell<A: Allocator>(out: &mut Vec<u8, A>, cell: &(Lock, u64)) -> Result<(), AllocError>
     ensures { OnOk result (out.new.items ≡ out.old.items ++ cell_bytes cell.now) }
 {
     append_u32(out, cell.0.contract)?;
@@ -88,7 +92,7 @@ fn append_cell(out: &mut Vec<u8>, cell: &(Lock, u64)) -> Result<(), AllocError>
 }
 
 /// Appends a count and the cells.
-fn append_cells(out: &mut Vec<u8>, cells: &[(Lock, u64)]) -> Result<(), AllocError>
+fn append_cells<A: Allocator>(out: &mut Vec<u8, A>, cells: &[(Lock, u64)]) -> Result<(), AllocError>
     ensures { OnOk result (out.new.items ≡ out.old.items ++ (to_le_bytes w64 (length cells.now) ++ flat_map cell_bytes cells.now)) }
 {
     append_u64(out, cells.len() as u64)?;
@@ -99,10 +103,10 @@ fn append_cells(out: &mut Vec<u8>, cells: &[(Lock, u64)]) -> Result<(), AllocErr
 }
 
 /// Appends the cells of a kind.
-fn append_kind(
-    alloc: Global,
-    out: &mut Vec<u8>,
-    cells: &Cells,
+fn append_kind<A: Allocator + Copy>(
+    alloc: A,
+    out: &mut Vec<u8, A>,
+    cells: &Cells<A>,
     kind: Kind,
 ) -> Result<(), AllocError>
     ensures { OnOk result (out.new.items ≡ out.old.items ++ cells_bytes (is_of kind) cells.now.cells) }
@@ -112,7 +116,11 @@ fn append_kind(
     Ok(())
 }
 
-fn append_world(alloc: Global, out: &mut Vec<u8>, world: &World) -> Result<(), NoMemory>
+fn append_world<A: Allocator + Copy>(
+    alloc: A,
+    out: &mut Vec<u8, A>,
+    world: &World<A>,
+) -> Result<(), NoMemory>
     ensures { OnOk result (out.new.items ≡ out.old.items ++ world_bytes (world_view world.now)) }
 {
     append_u32(out, MAGIC)?;
@@ -124,7 +132,7 @@ fn append_world(alloc: Global, out: &mut Vec<u8>, world: &World) -> Result<(), N
 }
 
 /// A world's bytes.
-pub fn encode_world(alloc: Global, world: &World) -> Result<Vec<u8>, NoMemory>
+pub fn encode_world<A: Allocator + Copy>(alloc: A, world: &World<A>) -> Result<Vec<u8, A>, NoMemory>
     ensures { IfOk result (λ bytes. bytes.items ≡ world_bytes (world_view world.now)) }
 {
     let mut bytes = Vec::new(alloc);
@@ -133,7 +141,11 @@ pub fn encode_world(alloc: Global, world: &World) -> Result<Vec<u8>, NoMemory>
 }
 
 /// Writes a world's bytes.
-pub fn write_world<S: Sink>(alloc: Global, world: &World, sink: &mut S) -> Result<(), WriteRefusal>
+pub fn write_world<A: Allocator + Copy, S: Sink>(
+    alloc: A,
+    world: &World<A>,
+    sink: &mut S,
+) -> Result<(), WriteRefusal>
     ensures put { OnOk result (IsTrue S.tells → S.told sink.new ≡ S.told sink.old ++ world_bytes (world_view world.now)) }
     ensures calm { OnOk result (S.failures sink.new ≡ S.failures sink.old) }
     ensures unchanged { IsErrOf result WriteRefusal.NoMemory → sink.new ≡ sink.old }
@@ -151,7 +163,7 @@ pub fn write_world<S: Sink>(alloc: Global, world: &World, sink: &mut S) -> Resul
 }
 
 /// SHA-256 of a world's bytes.
-pub fn digest_world(alloc: Global, world: &World) -> Result<[u8; 32], NoMemory>
+pub fn digest_world<A: Allocator + Copy>(alloc: A, world: &World<A>) -> Result<[u8; 32], NoMemory>
     ensures { IfOk result (λ digest. digest ≡ sha256 (world_bytes (world_view world.now))) }
 {
     let mut bytes = Vec::new(alloc);

@@ -9,13 +9,13 @@ use Rattle.lock_profile.proofs.Orders.{turn-le, written_is, groups_step}
 use Rattle.lock_profile.proofs.turns.Goals as goal
 
 pub profile_after-requires : goal.profile_after-requires
-profile_after-requires c = λ lock mode.
+profile_after-requires g c = λ lock mode.
     let a = turn-le (take c.loop-one.one-index c.args.touched.now) (get lock_cmp c.loop-one.groups) c.loop-one.invariant.2 lock mode in
     let b : length (take c.loop-one.one-index c.args.touched.now) ≡ c.loop-one.one-index = length-take-le c.loop-one.one-index c.args.touched.now (omega (arith, c.loop-one-test.true)) in
     omega (arith, a, b, c.requires, c.loop-one-test.true)
 
 pub loop-one-preserved : goal.loop-one-preserved
-loop-one-preserved c =
+loop-one-preserved g c =
     let item = get_or_read c.args.touched.now c.loop-one.one-index c.one-item.result c.loop-one-test.true c.one-item.is finite.empty in
     let len : length c.loop-one.profiles.items ≡ c.loop-one.one-index = c.loop-one.invariant.0 in (
       ap length c.in_ok-push.ensures.items ∙ length_push c.loop-one.profiles.items c.in_ok-profile.profile ∙ ap (λ n. n + 1) len,

@@ -8,13 +8,13 @@ use Rattle.serial_block.proofs.Limits.{used_within}
 use Rattle.serial_block.proofs.run.Goals as goal
 
 pub seal-requires-clause-fuel : goal.seal-requires-clause-fuel
-seal-requires-clause-fuel c =
+seal-requires-clause-fuel g c =
     let core = c.in_ok-core.core in
     let within = used_within _ _ _ _ core.receipts.items core.touched.items _ (c.in_ok-core.ensures.receipts ∙ sym c.in_ok-core.ensures.touched) c.in_ok-core.ensures.serial in
     omega (arith, within, c.requires.limits)
 
 pub returns : goal.returns
-returns c =
+returns g c =
     let calls = c.args.calls.now in
     let order = c.args.order.now in
     let ran = ran_of c.in_ok-core.core.receipts.items c.in_ok-core.core.touched.items in

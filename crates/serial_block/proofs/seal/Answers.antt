@@ -11,14 +11,14 @@ use Rattle.serial_block.proofs.Orders.{as_many}
 use Rattle.serial_block.proofs.seal.Goals as goal
 
 pub unreachable-requires : goal.unreachable-requires
-unreachable-requires c =
+unreachable-requires g c =
     let ran = ran_of c.deref.result.now c.deref-2.result.now in
     let many = as_many (all_touched ran) 0 c.args.order.now ran in
     let no : false ≡ true = c.in-None.ensures.there.1 (omega (arith, c.in_ok-positions.positions.ok.0, ap length c.in_ok-positions.ensures, many, c.requires.order)) in
     cc
 
 pub returns-clause-block : goal.returns-clause-block
-returns-clause-block c =
+returns-clause-block g c =
     let receipts = c.args.core.receipts.items in
     let touched = c.args.core.touched.items in
     let next : world_view c.new-next.result ≡ world_after (world_view c.args.world.now) c.args.core.cells.cells =

@@ -6,11 +6,11 @@ use Rattle.abstract_locks.proofs.Rows.{take_less, take_granted, take_asked}
 use Rattle.abstract_locks.proofs.Table.may_take.Goals as goal
 
 pub count_others-others-requires : goal.count_others-others-requires
-count_others-others-requires c =
+count_others-others-requires g c =
     take_less c.self.inside.locks c.self.inside.holders.items c.args.call (subst (λ ms. c.args.call < length ms) (sym c.self.view_is) c.requires) c.self.invariant.0 c.args.lock c.args.mode c.join_to-joined.result c.index.result.now c.index.ensures c.mode-held.result c.mode-held.ensures c.at-shared.result c.at-shared.ensures c.join_to-joined.ensures
 
 pub returns : goal.returns
-returns c = (
+returns g c = (
   λ t.
       subst (λ ms. AllShare (get_or ms c.args.call empty) c.args.lock c.args.mode (take c.args.call ms ++ drop (c.args.call + 1) ms)) c.self.view_is
       (take_granted c.self.inside.locks c.self.inside.holders.items c.args.call (subst (λ ms. c.args.call < length ms) (sym c.self.view_is) c.requires) c.self.invariant.0 c.args.lock c.args.mode c.join_to-joined.result c.index.result.now c.index.ensures c.mode-held.result c.mode-held.ensures c.at-shared.result c.at-shared.ensures c.join_to-joined.ensures

@@ -4,4 +4,4 @@ use Rattle.std.specs.FinMap.{empty}
 use Rattle.abstract_locks.proofs.Table.open.Given as goal
 
 abbrev pub invariant-loop-call : goal.invariant-loop-call
-invariant-loop-call l = l.holders.items ≡ replicate l._call empty
+invariant-loop-call g l = l.holders.items ≡ replicate l._call empty

@@ -5,7 +5,7 @@ use Rattle.abstract_locks.specs.Held.{AreShared}
 use Rattle.abstract_locks.proofs.sharing.let_all_go.Given as goal
 
 abbrev pub invariant-loop-lock : goal.invariant-loop-lock
-invariant-loop-lock l = (before later : List Modes) → AreShared l.initial.locks (before ++ l.initial.held ∷ later) → AreShared l.locks (before ++ l.held ∷ later)
+invariant-loop-lock g l = (before later : List Modes) → AreShared l.initial.locks (before ++ l.initial.held ∷ later) → AreShared l.locks (before ++ l.held ∷ later)
 
 abbrev pub decreases-loop-lock : goal.decreases-loop-lock
-decreases-loop-lock l = len l.held
+decreases-loop-lock g l = len l.held

@@ -5,4 +5,4 @@ use Rattle.spec_block.specs.Bytes.{value_bytes}
 use Rattle.block.proofs.calls.append_values.Given as goal
 
 abbrev pub invariant-loop-value : goal.invariant-loop-value
-invariant-loop-value l = l.out.items ≡ l.fn.out.items ++ (to_le_bytes w32 (length l.values) ++ flat_map value_bytes (take l.value-index l.values))
+invariant-loop-value g l = l.out.items ≡ l.fn.out.items ++ (to_le_bytes w32 (length l.values) ++ flat_map value_bytes (take l.value-index l.values))

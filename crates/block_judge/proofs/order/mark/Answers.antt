@@ -5,7 +5,7 @@ use Rattle.block_judge.proofs.Numbers.{marks_more, none_more, none_bad}
 use Rattle.block_judge.proofs.order.mark.Goals as goal
 
 pub loop-position-preserved : goal.loop-position-preserved
-loop-position-preserved c =
+loop-position-preserved g c =
     let marks = c.loop-position.marks.items in
     let order = c.args.order.now in
     let i = c.loop-position.position in
@@ -19,4 +19,4 @@ loop-position-preserved c =
     }
 
 pub returns-clause-good : goal.returns-clause-good
-returns-clause-good c = none_bad c.args.calls.now c.args.order.now c.loop-position.position c.loop-position-test.false c.loop-position.invariant.none
+returns-clause-good g c = none_bad c.args.calls.now c.args.order.now c.loop-position.position c.loop-position-test.false c.loop-position.invariant.none

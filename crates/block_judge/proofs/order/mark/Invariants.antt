@@ -4,7 +4,7 @@ use Rattle.block_judge.specs.Marks.{AreMarked}
 use Rattle.block_judge.proofs.order.mark.Given as goal
 
 abbrev pub invariant-loop-position : goal.invariant-loop-position
-invariant-loop-position l = record {
+invariant-loop-position g l = record {
   marked : AreMarked (take l.position l.order) l.marks.items;
   size : length l.marks.items ≡ length l.calls;
   none : (m : ℕ) → m < l.position → ¬ (IsBadNumber l.calls l.order m);

@@ -3,4 +3,4 @@ use Rattle.spec_block.specs.Worlds.{Position}
 use Rattle.block_judge.proofs.order.numbers_of.Given as goal
 
 abbrev pub invariant-loop-position : goal.invariant-loop-position
-invariant-loop-position l = l.numbers.items ≡ map (λ (p : Position). p.call) (take l.position-index l.position-items)
+invariant-loop-position g l = l.numbers.items ≡ map (λ (p : Position). p.call) (take l.position-index l.position-items)

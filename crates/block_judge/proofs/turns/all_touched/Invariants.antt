@@ -5,4 +5,4 @@ use Rattle.block_judge.specs.Turned.{lists_of}
 use Rattle.block_judge.proofs.turns.all_touched.Given as goal
 
 abbrev pub invariant-loop-position : goal.invariant-loop-position
-invariant-loop-position l = map entries l.all.items ≡ map held_in (lists_of (take l.position-index l.positions))
+invariant-loop-position g l = map entries l.all.items ≡ map held_in (lists_of (take l.position-index l.positions))

@@ -8,7 +8,7 @@ use Rattle.block_judge.proofs.Profiles.{least_unlike}
 use Rattle.block_judge.proofs.turns.first_other.Goals as goal
 
 pub returns-then-not-are_entries-clause-other : goal.returns-then-not-are_entries-clause-other
-returns-then-not-are_entries-clause-other c =
+returns-then-not-are_entries-clause-other g c =
     let positions = c.args.positions.now in
     let profiles = c.args.profiles.now in
     let at = c.loop-at.at in
@@ -24,7 +24,7 @@ returns-then-not-are_entries-clause-other c =
     c.loop-at.invariant
 
 pub returns-clause-same : goal.returns-clause-same
-returns-clause-same c =
+returns-clause-same g c =
     let size = c.requires.size in
     let lists = length-map c.args.positions.now (λ (p : Position). p.profile) in
     same_lists c.args.profiles.now (lists_of c.args.positions.now) c.loop-at.at (size ∙ sym lists) (omega (arith, c.loop-at-test.false, size)) c.loop-at.invariant

@@ -11,7 +11,7 @@ use Rattle.block_judge.proofs.Stages.{turns_differ, turns_pass}
 use Rattle.block_judge.proofs.turns.judge_turns.Goals as goal
 
 pub returns-in-Some-clause-rejected : goal.returns-in-Some-clause-rejected
-returns-in-Some-clause-rejected c = λ world calls fuel none.
+returns-in-Some-clause-rejected g c = λ world calls fuel none.
     let block = c.args.block.now in
     let ps = profiles_of block in
     let touched = c.in_ok-touched.touched.items in
@@ -26,7 +26,7 @@ module _ (block : TheBlock) where
   same_profiles xs zs ys a b same = sym b ∙ (same ∙ ap lists_of a)
 
 pub returns-clause-turns : goal.returns-clause-turns
-returns-clause-turns c =
+returns-clause-turns g c =
     let block = c.args.block.now in
     let ps = profiles_of block in
     let touched = c.in_ok-touched.touched.items in
@@ -36,7 +36,7 @@ returns-clause-turns c =
     all_turned ps touched held qs are (same_profiles block c.positions-2.result.now c.deref-2.result.now qs c.positions-2.ensures c.deref-2.ensures.value c.in_default.ensures.same)
 
 pub returns-clause-passed : goal.returns-clause-passed
-returns-clause-passed c = λ world calls fuel none.
+returns-clause-passed g c = λ world calls fuel none.
     let block = c.args.block.now in
     let ps = profiles_of block in
     let touched = c.in_ok-touched.touched.items in

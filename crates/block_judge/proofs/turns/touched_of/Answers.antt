@@ -10,7 +10,7 @@ use Rattle.block_judge.proofs.Profiles.{modes_rise, from_test}
 use Rattle.block_judge.proofs.turns.touched_of.Goals as goal
 
 pub unreachable-requires : goal.unreachable-requires
-unreachable-requires c =
+unreachable-requires g c =
     let entries = c.entries-entry-items.result.now in
     let all : take c.loop-entry.entry-index entries ≡ c.args.profile.now = take_all c.loop-entry.entry-index entries c.loop-entry-test.false ∙ c.entries-entry-items.ensures in
     let held : pairs c.loop-entry.held.items ≡ held_in c.args.profile.now = c.loop-entry.invariant ∙ ap held_in all in

@@ -4,4 +4,4 @@ use Rattle.spec_block.specs.Worlds.{held_in}
 use Rattle.block_judge.proofs.turns.touched_of.Given as goal
 
 abbrev pub invariant-loop-entry : goal.invariant-loop-entry
-invariant-loop-entry l = pairs l.held.items ≡ held_in (take l.entry-index l.entry-items)
+invariant-loop-entry g l = pairs l.held.items ≡ held_in (take l.entry-index l.entry-items)

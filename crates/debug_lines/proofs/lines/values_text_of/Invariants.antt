@@ -3,4 +3,4 @@ use Rattle.debug_lines.specs.Lines.{values_text}
 use Rattle.debug_lines.proofs.lines.values_text_of.Given as goal
 
 abbrev pub invariant-loop-value : goal.invariant-loop-value
-invariant-loop-value l = string_bytes l.text ++ values_text (drop l.value-index l.values) ≡ values_text l.values
+invariant-loop-value g l = string_bytes l.text ++ values_text (drop l.value-index l.values) ≡ values_text l.values

@@ -5,12 +5,12 @@ use Rattle.instance.proofs.Elements.{put_function}
 use Rattle.instance.proofs.tables.put_functions.Goals as goal
 
 pub loop-i-preserved : goal.loop-i-preserved
-loop-i-preserved c =
+loop-i-preserved g c =
     let funcs = c.args.funcs.now in
     ap (λ t. slice_set t (c.args.at + c.loop-i.i) (Some (slice_index_or funcs c.loop-i.i 0))) c.loop-i.invariant
     ∙ put_function c.args.table.now.items funcs c.args.at c.loop-i.i c.requires c.loop-i-test.true
 
 pub returns : goal.returns
-returns c =
+returns g c =
     let whole : c.loop-i.i ≡ length c.args.funcs.now = omega arith in
     c.loop-i.invariant ∙ ap (λ fs. in_place c.args.at (map Some fs) c.args.table.now.items) (ap (λ n. take n c.args.funcs.now) whole ∙ take-length c.args.funcs.now)

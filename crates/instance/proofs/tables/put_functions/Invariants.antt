@@ -3,4 +3,4 @@ use Rattle.spec_execution.specs.Configuration.{in_place}
 use Rattle.instance.proofs.tables.put_functions.Given as goal
 
 abbrev pub invariant-loop-i : goal.invariant-loop-i
-invariant-loop-i l = l.table.items ≡ in_place l.at (map Some (take l.i l.funcs)) l.initial.table.items
+invariant-loop-i g l = l.table.items ≡ in_place l.at (map Some (take l.i l.funcs)) l.initial.table.items

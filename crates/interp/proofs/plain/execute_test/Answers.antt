@@ -6,9 +6,9 @@ use Rattle.interp.proofs.Doing.{last_one, did_test}
 use Rattle.interp.proofs.plain.execute_test.Goals as goal
 
 pub test-requires : goal.test-requires
-test-requires c = ap type_of (last_one _ _ _ _ (sym c.pop_top-operand.ensures.items ∙ c.requires.before)) ∙ c.requires.first
+test-requires g c = ap type_of (last_one _ _ _ _ (sym c.pop_top-operand.ensures.items ∙ c.requires.before)) ∙ c.requires.first
 
 pub returns : goal.returns
-returns c locals =
+returns g c locals =
     at_once (did_test c.args.operator c.pop_top-operand.new.stack.items c.pop_top-operand.result (ap type_of (last_one _ _ _ _ (sym c.pop_top-operand.ensures.items ∙ c.requires.before)) ∙ c.requires.first) _ _ locals
     c.pop_top-operand.ensures.items (c.put_back.ensures ∙ ap (λ v. c.pop_top-operand.new.stack.items ++ v ∷ []) c.test.ensures))

@@ -28,7 +28,7 @@ returns-in-Block-clause-counted g c =
     let p = c.args.parts.now in
     let e = c.in-Some.field-0 in
     let q : Parts g.row.A.Denot = record { code = c.in-Some.field-0.from; entries = c.pop.new.self; depth = p.depth; stack = p.stack; locals = p.locals; instance = p.instance } in
-    let same = left_depth p q e c.in-Some.ensures.items c.requires.counted ∙ ap (λ (k : Kind). deeper (scope_of k) (frames (opens_of c.pop.new.self.items) 0)) c.in-Block.is in
+    let same = left_depth p q e c.in-Some.ensures.items c.requires.counted ∙ ap (λ (k : Kind _). deeper (scope_of k) (frames (opens_of c.pop.new.self.items) 0)) c.in-Block.is in
     left_counted p q e c.in-Some.ensures.items c.requires.counted (left_from p q.entries.items e c.in-Some.ensures.items c.requires.counted) (omega (arith, same)) (omega arith)
 
 pub returns-in-Loop-clause-counted : goal.returns-in-Loop-clause-counted
@@ -36,7 +36,7 @@ returns-in-Loop-clause-counted g c =
     let p = c.args.parts.now in
     let e = c.in-Some.field-0 in
     let q : Parts g.row.A.Denot = record { code = c.behind-parts.result; entries = c.pop.new.self; depth = p.depth; stack = p.stack; locals = p.locals; instance = p.instance } in
-    let same = left_depth p q e c.in-Some.ensures.items c.requires.counted ∙ ap (λ (k : Kind). deeper (scope_of k) (frames (opens_of c.pop.new.self.items) 0)) c.in-Loop.is in
+    let same = left_depth p q e c.in-Some.ensures.items c.requires.counted ∙ ap (λ (k : Kind _). deeper (scope_of k) (frames (opens_of c.pop.new.self.items) 0)) c.in-Loop.is in
     left_counted p q e c.in-Some.ensures.items c.requires.counted (numbered_behind e.from.now _ c.behind-parts.ensures (left_from p q.entries.items e c.in-Some.ensures.items c.requires.counted)) (omega (arith, same)) (omega arith)
 
 pub returns-in-Frame-clause-counted : goal.returns-in-Frame-clause-counted
@@ -44,5 +44,5 @@ returns-in-Frame-clause-counted g c =
     let p = c.args.parts.now in
     let e = c.in-Some.field-0 in
     let q : Parts g.row.A.Denot = record { code = c.in-Some.field-0.from; entries = c.pop.new.self; depth = p.depth - 1; stack = p.stack; locals = c.in-Frame.saved; instance = p.instance } in
-    let same = left_depth p q e c.in-Some.ensures.items c.requires.counted ∙ ap (λ (k : Kind). deeper (scope_of k) (frames (opens_of c.pop.new.self.items) 0)) c.in-Frame.is in
+    let same = left_depth p q e c.in-Some.ensures.items c.requires.counted ∙ ap (λ (k : Kind _). deeper (scope_of k) (frames (opens_of c.pop.new.self.items) 0)) c.in-Frame.is in
     left_counted p q e c.in-Some.ensures.items c.requires.counted (left_from p q.entries.items e c.in-Some.ensures.items c.requires.counted) (omega (arith, same)) (omega arith)

@@ -1,4 +1,4 @@
-use Rattle.std.proofs.Common.{rules, arith, ◌<◌, length, refl, sym, subst}
+use Rattle.std.proofs.Common.{rules, arith, ◌<◌, length, refl, sym, ap, subst}
 use Rattle.std.proofs.lemmas.Option.{slice_get_read}
 use Rattle.interp.specs.Lent.{contracts_view}
 use Rattle.serial.specs.Positions.{positions}
@@ -13,6 +13,14 @@ bounds-calls-call g c =
     let b : Beside = record { order = s.so_far.order.items; receipts = s.so_far.receipts.items; touched = s.so_far.touched.items; marks = s.so_far.marks.items; remaining = s.so_far.remaining; used = s.so_far.used; counts = s.cells.unsettled } in
     let follows : MayFollow (with_parts p p.cells b) c.args.call = subst (λ q. MayFollow q c.args.call) (sym c.self.view_is) (c.may_follow.ensures.0 (search rules)) in
     follows.known
+
+pub push-requires-clause-known : goal.push-requires-clause-known
+push-requires-clause-known g c =
+    let s = c.self.inside in
+    let p : Publication = record { contracts = contracts_view s.contracts.now; calls = s.calls.now; opening = s.opening.now.cells; fuel = s.fuel; order = s.so_far.order.items; ran = positions s.so_far.receipts.items s.so_far.touched.items; cells = s.cells.cells } in
+    let b : Beside = record { order = s.so_far.order.items; receipts = s.so_far.receipts.items; touched = s.so_far.touched.items; marks = s.so_far.marks.items; remaining = s.so_far.remaining; used = s.so_far.used; counts = s.cells.unsettled } in
+    let follows : MayFollow (with_parts p p.cells b) c.args.call = subst (λ q. MayFollow q c.args.call) (sym c.self.view_is) (c.may_follow.ensures.0 (search rules)) in
+    let known = follows.known in let size = c.self.invariant.size in let same = ap length c.reserve.ensures.marks in omega arith
 
 pub push-requires-clause-fits : goal.push-requires-clause-fits
 push-requires-clause-fits g c =

@@ -8,7 +8,7 @@ use Rattle.records.specs.Profiles.{profile_bytes}
 use Rattle.records.proofs.position.append_position.Goals as goal
 
 pub returns-clause-bytes : goal.returns-clause-bytes
-returns-clause-bytes c =
+returns-clause-bytes g c =
     let p = c.args.position.now in
     let out = c.args.out.now.items in
     let one = c.append_u32.new.out.items in

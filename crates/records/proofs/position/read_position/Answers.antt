@@ -6,7 +6,7 @@ use Rattle.records.proofs.Positions.{position_exact}
 use Rattle.records.proofs.position.read_position.Goals as goal
 
 pub returns-clause-spelled : goal.returns-clause-spelled
-returns-clause-spelled c = is_spelled position_at position_bytes IsPosition position_exact (λ x. (x.0, x.1.now)) c.position_of.result c.args.bytes.now (λ i. omega (arith, c.type_inv.bytes i)) c.position_of.ensures
+returns-clause-spelled g c = is_spelled position_at position_bytes IsPosition position_exact (λ x. (x.0, x.1.now)) c.position_of.result c.args.bytes.now (λ i. omega (arith, c.type_inv.bytes i)) c.position_of.ensures
 
 pub returns-clause-only : goal.returns-clause-only
-returns-clause-only c = is_read position_at position_bytes IsPosition position_exact (λ x. (x.0, x.1.now)) c.position_of.result c.args.bytes.now c.position_of.ensures
+returns-clause-only g c = is_read position_at position_bytes IsPosition position_exact (λ x. (x.0, x.1.now)) c.position_of.result c.args.bytes.now c.position_of.ensures

@@ -3,4 +3,4 @@ use Rattle.schedule.specs.Board.{predecessors}
 use Rattle.schedule.proofs.board.predecessors_of.Given as goal
 
 abbrev pub invariant-loop-positions : goal.invariant-loop-positions
-invariant-loop-positions l = (length l.counts.items ≡ length l.edges) × ((j : ℕ) → j < length l.edges → get_or l.counts.items j 0 ≡ predecessors (take l.positions-index l.edges) j)
+invariant-loop-positions g l = (length l.counts.items ≡ length l.edges) × ((j : ℕ) → j < length l.edges → get_or l.counts.items j 0 ≡ predecessors (take l.positions-index l.edges) j)

@@ -5,12 +5,12 @@ use Rattle.schedule.proofs.Counts.{room_left}
 use Rattle.schedule.proofs.board.raise.Goals as goal
 
 pub index_mut-requires : goal.index_mut-requires
-index_mut-requires c =
+index_mut-requires g c =
     let h = c.requires.within _ (Contains-get_or c.args.successors.now c.loop-j.j-index 0 c.loop-j-test.true) in
     omega (arith, h, c.loop-j.invariant.0, c.loop-j.waiting.ok.0)
 
 pub overflow_add-index_mut : goal.overflow_add-index_mut
-overflow_add-index_mut c =
+overflow_add-index_mut g c =
     let h = c.requires.within _ (Contains-get_or c.args.successors.now c.loop-j.j-index 0 c.loop-j-test.true) in
     let one = room_left c.args.successors.now c.loop-j.j-index _ _ c.loop-j-test.true (c.loop-j.invariant.1 _ h) (c.requires.room _ h) in
     let there : get_or c.args.successors.now c.loop-j.j-index 0 < length c.loop-j.waiting.items = omega (arith, h, c.loop-j.invariant.0) in

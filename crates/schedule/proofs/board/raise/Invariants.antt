@@ -3,4 +3,4 @@ use Rattle.schedule.specs.Board.{count_of}
 use Rattle.schedule.proofs.board.raise.Given as goal
 
 abbrev pub invariant-loop-j : goal.invariant-loop-j
-invariant-loop-j l = (length l.waiting.items ≡ length l.initial.waiting.items) × ((k : ℕ) → k < length l.initial.waiting.items → get_or l.waiting.items k 0 ≡ get_or l.initial.waiting.items k 0 + count_of k (take l.j-index l.successors))
+invariant-loop-j g l = (length l.waiting.items ≡ length l.initial.waiting.items) × ((k : ℕ) → k < length l.initial.waiting.items → get_or l.waiting.items k 0 ≡ get_or l.initial.waiting.items k 0 + count_of k (take l.j-index l.successors))

@@ -10,7 +10,7 @@ use Rattle.schedule.proofs.Places.{derived_is, put}
 use Rattle.schedule.proofs.index.add.Goals as goal
 
 pub returns-in-Some : goal.returns-in-Some
-returns-in-Some c =
+returns-in-Some g c =
     let P : (LockTurn → LockTurn → Ordering) → Type 0 = λ R. (q : LockTurn)
     → members (get R (c.get_mut.follows.lender c.push.new.self.items) q) ≡ cond (eq_by_cmp R c.args.at q) (members (get R c.args.index.now c.args.at) ++ c.args.position ∷ []) (members (get R c.args.index.now q)) in
     let there = subst (λ o. IsSome o) c.in-Some.ensures.value refl in
@@ -19,7 +19,7 @@ returns-in-Some c =
     (c.in_ok-push.ensures.items ∙ ap (λ xs. xs ++ c.args.position ∷ []) (c.holders.view_is ∙ ap members c.in-Some.ensures.value)))
 
 pub returns-in-Ok : goal.returns-in-Ok
-returns-in-Ok c =
+returns-in-Ok g c =
     let P : (LockTurn → LockTurn → Ordering) → Type 0 = λ R. (q : LockTurn)
     → members (get R c.insert.new.self q) ≡ cond (eq_by_cmp R c.args.at q) (members (get R c.args.index.now c.args.at) ++ c.args.position ∷ []) (members (get R c.args.index.now q)) in
     subst P derived_is (λ q.

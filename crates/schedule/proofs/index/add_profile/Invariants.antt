@@ -6,5 +6,5 @@ use Rattle.schedule.specs.Index.{turn_cmp, members, IsAt}
 use Rattle.schedule.proofs.index.add_profile.Given as goal
 
 abbrev pub invariant-loop-entry : goal.invariant-loop-entry
-invariant-loop-entry l = (q : LockTurn) (p : ℕ)
+invariant-loop-entry g l = (q : LockTurn) (p : ℕ)
     → Contains (members (get turn_cmp l.index q)) p ↔ (Contains (members (get turn_cmp l.initial.index q)) p ⊎ ((p ≡ l.position) × IsAt q (take l.entry-index l.entries)))

@@ -7,7 +7,7 @@ use Rattle.schedule.proofs.Holders.{profile_there, profile_of, holders_more}
 use Rattle.schedule.proofs.index.holders_of.Goals as goal
 
 pub loop-position-preserved : goal.loop-position-preserved
-loop-position-preserved c =
+loop-position-preserved g c =
     let there = profile_there c.args.profiles.now c.loop-position.position _ c.entries.result.now c.loop-position-test.true c.index-profiles-position.is c.entries.ensures in
     let profile = profile_of _ c.entries.result.now c.hold.ensures c.entries.ensures in
     λ q p.
@@ -15,7 +15,7 @@ loop-position-preserved c =
     (c.loop-position.invariant q p) (c.in_ok-add_profile.ensures q p)
 
 pub returns : goal.returns
-returns c = λ q p.
+returns g c = λ q p.
     let all : c.loop-position.position ≡ length c.args.profiles.now = omega (arith, c.loop-position-test.false, c.loop-position.auto.position-end) in
     let both = subst (λ n. Contains (members (get turn_cmp c.loop-position.index q)) p ↔ ((p < n) × IsHolder c.args.profiles.now q p)) all (c.loop-position.invariant q p) in
     (λ k. (both.0 k).1, λ h. both.1 (slice_get_within c.args.profiles.now p h.1.profile h.1.there, h))

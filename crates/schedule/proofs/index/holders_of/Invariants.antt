@@ -6,4 +6,4 @@ use Rattle.schedule.specs.Index.{turn_cmp, members, IsHolder}
 use Rattle.schedule.proofs.index.holders_of.Given as goal
 
 abbrev pub invariant-loop-position : goal.invariant-loop-position
-invariant-loop-position l = (q : LockTurn) (p : ℕ) → Contains (members (get turn_cmp l.index q)) p ↔ ((p < l.position) × IsHolder l.profiles q p)
+invariant-loop-position g l = (q : LockTurn) (p : ℕ) → Contains (members (get turn_cmp l.index q)) p ↔ ((p < l.position) × IsHolder l.profiles q p)

@@ -5,7 +5,7 @@ use Rattle.std.proofs.lemmas.Map.Keys.{IsStrictlyIncreasing-dedup}
 use Rattle.schedule.proofs.index.rising.Goals as goal
 
 pub returns : goal.returns
-returns c =
+returns g c =
     let is = dedup_is _ _ _ c.dedup.ensures.filtered in
     let moved = c.sort_unstable.ensures.permutation in
     record {

@@ -10,12 +10,12 @@ use Rattle.schedule.proofs.waves.wave_of.Goals as goal
 use Rattle.schedule.proofs.waves.wave_of.Goals.{then-entry-gt0, else-entry-gt0}
 
 pub wave_above-wave-requires-clause-within : goal.wave_above-wave-requires-clause-within
-wave_above-wave-requires-clause-within c = λ k among.
+wave_above-wave-requires-clause-within g c = λ k among.
     c.requires.within k
     (_, _, Contains-get_or c.args.entries.now c.loop-entry.entry-index _ c.loop-entry-test.true, refl, omega (arith, c.if-entry-gt0.true), subst (λ ps. Contains ps k) c.holders_at.ensures among)
 
 pub loop-entry-preserved : goal.loop-entry-preserved
-loop-entry-preserved c =
+loop-entry-preserved g c =
     let Top = IsTop c.args.waves.now (IsBefore (get turn_cmp c.args.index.now) (take (c.loop-entry.entry-index + 1) c.args.entries.now)) in
     elim c.if-entry-gt0.branch [
       | then-entry-gt0 w ↦ subst Top (sym w.wave-is)
@@ -26,4 +26,4 @@ loop-entry-preserved c =
     ]
 
 pub returns : goal.returns
-returns c = subst (λ xs. IsTop c.args.waves.now (IsBefore (get turn_cmp c.args.index.now) xs) c.loop-entry.wave) (take_all c.loop-entry.entry-index c.args.entries.now (omega (arith, c.loop-entry-test.false))) c.loop-entry.invariant
+returns g c = subst (λ xs. IsTop c.args.waves.now (IsBefore (get turn_cmp c.args.index.now) xs) c.loop-entry.wave) (take_all c.loop-entry.entry-index c.args.entries.now (omega (arith, c.loop-entry-test.false))) c.loop-entry.invariant

@@ -5,10 +5,10 @@ use Rattle.boost.proofs.Counted.{back_all_popped, closed_all_popped, unsettled_p
 use Rattle.serial.proofs.changes.take_all_back.Goals as goal
 
 pub take_back-requires : goal.take_back-requires
-take_back-requires c = (unsettled_popped c.loop-inverse.inverses.items c.pop.new.self.items c.in-Some.inverse c.in-Some.ensures.items c.loop-inverse.cells.unsettled c.loop-inverse.invariant.unsettled).0
+take_back-requires g c = (unsettled_popped c.loop-inverse.inverses.items c.pop.new.self.items c.in-Some.inverse c.in-Some.ensures.items c.loop-inverse.cells.unsettled c.loop-inverse.invariant.unsettled).0
 
 pub loop-inverse-preserved : goal.loop-inverse-preserved
-loop-inverse-preserved c = record {
+loop-inverse-preserved g c = record {
   cells = ap (back_all c.pop.new.self.items) c.take_back.ensures.cells
       ∙ back_all_popped c.loop-inverse.inverses.items c.pop.new.self.items c.in-Some.inverse c.in-Some.ensures.items c.loop-inverse.cells.cells ∙ c.loop-inverse.invariant.cells;
   counts = ap (closed_all c.pop.new.self.items) c.take_back.ensures.unsettled

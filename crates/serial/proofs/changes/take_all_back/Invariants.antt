@@ -4,11 +4,11 @@ use Rattle.boost.specs.Counted.{closed_all, AreUnsettled}
 use Rattle.serial.proofs.changes.take_all_back.Given as goal
 
 abbrev pub invariant-loop-inverse : goal.invariant-loop-inverse
-invariant-loop-inverse l = record {
+invariant-loop-inverse g l = record {
   cells : back_all l.inverses.items l.cells.cells ≡ back_all l.fn.inverses.items l.fn.cells.cells;
   counts : closed_all l.inverses.items l.cells.unsettled ≡ closed_all l.fn.inverses.items l.fn.cells.unsettled;
   unsettled : AreUnsettled l.inverses.items l.cells.unsettled;
 }
 
 abbrev pub decreases-loop-inverse : goal.decreases-loop-inverse
-decreases-loop-inverse l = vec_len l.inverses
+decreases-loop-inverse g l = vec_len l.inverses

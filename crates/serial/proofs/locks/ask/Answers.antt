@@ -6,7 +6,7 @@ use Rattle.serial.specs.Asking.{modes_in}
 use Rattle.serial.proofs.locks.ask.Goals as goal
 
 pub returns : goal.returns
-returns c =
+returns g c =
     let held = found c.args.held.now c.lock-wanted.result c.copied.result (c.copied.ensures ∙ c.get.ensures.value) in
     let joined = c.join_to-joined.ensures ∙ (λ k. join_held (c.mode.ensures k) (held k)) in
     written c.args.held.now c.insert.new.self c.lock-wanted.result (Some c.join_to-joined.result) c.in-Ok.ensures.updates.0

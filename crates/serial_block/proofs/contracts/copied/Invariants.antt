@@ -3,4 +3,4 @@ use Rattle.world.specs.Views.{contract_view}
 use Rattle.serial_block.proofs.contracts.copied.Given as goal
 
 abbrev pub invariant-loop-contract : goal.invariant-loop-contract
-invariant-loop-contract l = map contract_view l.copies.items ≡ take l.contract-index (map contract_view l.contracts)
+invariant-loop-contract g l = map contract_view l.copies.items ≡ take l.contract-index (map contract_view l.contracts)

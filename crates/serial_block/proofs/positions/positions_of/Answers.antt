@@ -11,7 +11,7 @@ use Rattle.serial_block.proofs.Orders.{all_touched_is, left_from, one_made}
 use Rattle.serial_block.proofs.positions.positions_of.Goals as goal
 
 pub loop-profile-init : goal.loop-profile-init
-loop-profile-init c =
+loop-profile-init g c =
     let all = c.args.touched.now in
     let order = c.args.order.now in
     let receipts = c.args.receipts.now in (
@@ -22,7 +22,7 @@ loop-profile-init c =
     )
 
 pub loop-profile-preserved : goal.loop-profile-preserved
-loop-profile-preserved c =
+loop-profile-preserved g c =
     let all = c.args.touched.now in
     let order = c.args.order.now in
     let receipts = c.args.receipts.now in

@@ -5,7 +5,7 @@ use Rattle.serial_block.proofs.Orders.{left_from}
 use Rattle.serial_block.proofs.positions.positions_of.Given as goal
 
 abbrev pub invariant-loop-profile : goal.invariant-loop-profile
-invariant-loop-profile l =
-    ((goal.iterator-loop-profile).can_next l.profile-iterator × (goal.iterator-loop-profile).is_finite l.profile-iterator)
+invariant-loop-profile g l =
+    ((goal.iterator-loop-profile g).can_next l.profile-iterator × (goal.iterator-loop-profile g).is_finite l.profile-iterator)
     × (length l.made.items ≡ length l.yielded)
     × (l.made.items ++ left_from l.touched l.order l.receipts l.touched (length l.made.items) ≡ positions l.order (ran_of l.receipts l.touched))

@@ -4,11 +4,11 @@ use Rattle.storage.proofs.Listed.{copied_next, copied_condition, copied_all, spl
 use Rattle.storage.proofs.Cells.copy.Goals as goal
 
 pub insert-requires : goal.insert-requires
-insert-requires c = copied_condition c.args.self.now.cells c.loop-lock.yielded c.in-Some.lock c.in-Some.value c.next.new.self
+insert-requires g c = copied_condition c.args.self.now.cells c.loop-lock.yielded c.in-Some.lock c.in-Some.value c.next.new.self
     (ap (λ t. c.loop-lock.yielded ++ t) (sym c.in-Some.ensures.steps) ∙ c.loop-lock.invariant.2 ∙ c.into_iter-lock-iterator.ensures.into_iter_gives ∙ c.entries-lock-items.ensures.cells) c.hold.ensures.cells
 
 pub loop-lock-preserved : goal.loop-lock-preserved
-loop-lock-preserved c = (
+loop-lock-preserved g c = (
   tt,
   tt,
   split_next c.loop-lock.yielded (c.in-Some.lock, c.in-Some.value) c.next.new.self _ _ c.in-Some.ensures.steps c.loop-lock.invariant.2,
@@ -20,6 +20,6 @@ loop-lock-preserved c = (
 )
 
 pub returns-clause-cells : goal.returns-clause-cells
-returns-clause-cells c = c.loop-lock.invariant.3
+returns-clause-cells g c = c.loop-lock.invariant.3
     ∙ copied_all c.args.self.now.cells c.loop-lock.yielded
     (ap (λ t. c.loop-lock.yielded ++ t) (sym c.in-None.ensures.steps.0) ∙ c.loop-lock.invariant.2 ∙ c.into_iter-lock-iterator.ensures.into_iter_gives ∙ c.entries-lock-items.ensures.cells)

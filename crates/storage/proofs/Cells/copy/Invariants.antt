@@ -3,9 +3,9 @@ use Rattle.std.specs.FinMap.{from_entries, empty}
 use Rattle.storage.proofs.Cells.copy.Given as goal
 
 abbrev pub invariant-loop-lock : goal.invariant-loop-lock
-invariant-loop-lock l =
-    (goal.iterator-loop-lock).can_next l.lock-iterator ×
-    (goal.iterator-loop-lock).is_finite l.lock-iterator ×
+invariant-loop-lock g l =
+    (goal.iterator-loop-lock g).can_next l.lock-iterator ×
+    (goal.iterator-loop-lock g).is_finite l.lock-iterator ×
     (l.yielded ++ l.lock-iterator ≡ l.initial.lock-iterator) ×
     (l.copy.cells ≡ from_entries l.yielded) ×
     (l.copy.unsettled ≡ empty)

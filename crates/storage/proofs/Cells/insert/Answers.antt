@@ -4,7 +4,7 @@ use Rattle.storage.proofs.Slots.{same_cells, AreCells-inserted}
 use Rattle.storage.proofs.Cells.insert.Goals as goal
 
 pub returns-clause-unsettled : goal.returns-clause-unsettled
-returns-clause-unsettled c = same_cells (counts_in c.self.inside.slots.entries) (counts_in c.put_slot.new.slots.entries) c.args.lock _ c.in_ok-put_slot.ensures.counts c.slot_at.ensures.count ∙ ap (λ s. s.unsettled) c.self.view_is
+returns-clause-unsettled g c = same_cells (counts_in c.self.inside.slots.entries) (counts_in c.put_slot.new.slots.entries) c.args.lock _ c.in_ok-put_slot.ensures.counts c.slot_at.ensures.count ∙ ap (λ s. s.unsettled) c.self.view_is
 
 pub invariant_of-self-2 : goal.invariant_of-self-2
-invariant_of-self-2 c = record { are = AreCells-inserted (cells_in c.self.inside.slots.entries) (cells_in c.put_slot.new.slots.entries) c.args.lock c.args.value c.in_ok-put_slot.ensures.cells c.requires c.ranges.value.fits c.self.invariant.are; types = c.in_ok-put_slot.ensures.types c.self.invariant.types }
+invariant_of-self-2 g c = record { are = AreCells-inserted (cells_in c.self.inside.slots.entries) (cells_in c.put_slot.new.slots.entries) c.args.lock c.args.value c.in_ok-put_slot.ensures.cells c.requires c.ranges.value.fits c.self.invariant.are; types = c.in_ok-put_slot.ensures.types c.self.invariant.types }

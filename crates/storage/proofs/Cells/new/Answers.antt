@@ -2,4 +2,4 @@ use Rattle.storage.proofs.Slots.{AreCells-none, types-none}
 use Rattle.storage.proofs.Cells.new.Goals as goal
 
 pub invariant_of-result : goal.invariant_of-result
-invariant_of-result c = record { are = AreCells-none c.new.result.entries c.new.ensures.empty; types = types-none c.new.result.entries c.new.ensures.empty }
+invariant_of-result g c = record { are = AreCells-none c.new.result.entries c.new.ensures.empty; types = types-none c.new.result.entries c.new.ensures.empty }

@@ -3,7 +3,7 @@ use Rattle.storage.proofs.Slots.{AreCells-subtracted, AreCells-restored}
 use Rattle.storage.proofs.Cells.take_back.Goals as goal
 
 pub invariant_of-self : goal.invariant_of-self
-invariant_of-self c =
+invariant_of-self g c =
     record {
       types = c.close_slot.ensures.types c.self.invariant.types;
       are = AreCells-subtracted (cells_in c.self.inside.slots.entries) (cells_in c.close_slot.new.slots.entries) c.in-Subtract.place c.in-Subtract.value c.counter_lock-lock.result c.less_cell.result c.slot_at-slot.result.cell
@@ -11,7 +11,7 @@ invariant_of-self c =
     }
 
 pub invariant_of-self-in-Restore : goal.invariant_of-self-in-Restore
-invariant_of-self-in-Restore c =
+invariant_of-self-in-Restore g c =
     record {
       types = c.close_slot-in-Restore.ensures.types c.self.invariant.types;
       are = AreCells-restored (cells_in c.self.inside.slots.entries) (cells_in c.close_slot-in-Restore.new.slots.entries) c.in-Restore.place c.map_lock-lock.result c.in-Restore.cell

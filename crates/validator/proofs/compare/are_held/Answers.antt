@@ -1,4 +1,4 @@
-use Rattle.std.proofs.Common.{◌≡◌, true, false, arith, refl}
+use Rattle.std.proofs.Common.{arith, refl}
 use Rattle.validator.proofs.Agreeing.{same_held, held_at}
 use Rattle.validator.proofs.compare.are_held.Goals as goal
 

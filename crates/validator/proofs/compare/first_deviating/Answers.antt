@@ -1,11 +1,11 @@
-use Rattle.std.proofs.Common.{◌<◌, length, refl, arith}
+use Rattle.std.proofs.Common.{length, refl, arith}
 use Rattle.std.proofs.lemmas.Option.{slice_get_read, slice_get-get_or}
 use Rattle.validator.proofs.Agreeing.{least_other, none_more, none_other}
 use Rattle.serial.specs.Positions.{positions as ran_of}
 use Rattle.validator.proofs.compare.first_deviating.Goals as goal
 
 pub returns-then-not-agrees-clause-other : goal.returns-then-not-agrees-clause-other
-returns-then-not-agrees-clause-other c =
+returns-then-not-agrees-clause-other g c =
     let positions = c.args.positions.now in
     let receipts = c.args.receipts.now in
     let touched = c.args.touched.now in
@@ -19,7 +19,7 @@ returns-then-not-agrees-clause-other c =
     (λ agrees. absurd (let yes = c.agrees.ensures.1 agrees in let no = c.if-not-agrees.true in cc (yes, no)))
 
 pub loop-at-preserved : goal.loop-at-preserved
-loop-at-preserved c =
+loop-at-preserved g c =
     let positions = c.args.positions.now in
     let receipts = c.args.receipts.now in
     let touched = c.args.touched.now in
@@ -33,4 +33,4 @@ loop-at-preserved c =
     (c.agrees.ensures.0 c.if-not-agrees.false)
 
 pub returns-clause-same : goal.returns-clause-same
-returns-clause-same c = none_other c.args.positions.now (ran_of c.args.receipts.now c.args.touched.now) c.loop-at.at c.loop-at-test.false c.loop-at.invariant
+returns-clause-same g c = none_other c.args.positions.now (ran_of c.args.receipts.now c.args.touched.now) c.loop-at.at c.loop-at-test.false c.loop-at.invariant

@@ -4,4 +4,4 @@ use Rattle.spec_block.specs.Verdicts.{IsOther}
 use Rattle.validator.proofs.compare.first_deviating.Given as goal
 
 abbrev pub invariant-loop-at : goal.invariant-loop-at
-invariant-loop-at l = (m : ℕ) → m < l.at → ¬ (IsOther l.positions (ran_of l.receipts l.touched) m)
+invariant-loop-at g l = (m : ℕ) → m < l.at → ¬ (IsOther l.positions (ran_of l.receipts l.touched) m)

@@ -1,4 +1,4 @@
-use Rattle.std.proofs.Common.{◌≡◌, ◌≢◌, inl, inr, ℕ, List, true, false, ap, sym, ◌∙◌}
+use Rattle.std.proofs.Common.{◌≡◌, inl, inr, ℕ, List, ap, sym, ◌∙◌}
 use Rattle.sha2.specs.Sha256.{sha256}
 use Rattle.serial.specs.Positions.{positions as ran_of}
 use Rattle.serial_block.specs.Ordered.{used_by}
@@ -13,14 +13,14 @@ use Rattle.validator.proofs.Ends.{deviates, wrong_end, accepted, shown}
 use Rattle.validator.proofs.end.conclude.Goals as goal
 
 pub returns-in-Some : goal.returns-in-Some
-returns-in-Some c = λ calls fuel run.
+returns-in-Some g c = λ calls fuel run.
     let core = c.args.core in
     let block = c.args.block.now in
     deviates c.one_serial_run.ensures.one (world_view c.args.world.now) block (ran_of core.receipts.items core.touched.items) core.cells.cells calls fuel run c.in-Some.position
     (shown (λ (ps : List Position) (ran : List Ran). IsLeast (IsOther ps ran) c.in-Some.position) c.positions.result.now block.positions c.deref.result.now core.receipts.items c.deref-2.result.now core.touched.items c.positions.ensures c.deref.ensures.value c.deref-2.ensures.value c.in-Some.ensures.other)
 
 pub returns-then-not-is_total : goal.returns-then-not-is_total
-returns-then-not-is_total c = λ calls fuel run.
+returns-then-not-is_total g c = λ calls fuel run.
     let core = c.args.core in
     let block = c.args.block.now in
     let rs = core.receipts.items in
@@ -31,7 +31,7 @@ returns-then-not-is_total c = λ calls fuel run.
     (inl (λ same. let yes = c.is_total.ensures.1 (c.fuel.ensures ∙ (same ∙ sym used)) in let no = c.if-not-is_total.true in cc (yes, no)))
 
 pub returns-then-not-is_digest : goal.returns-then-not-is_digest
-returns-then-not-is_digest c = λ calls fuel run.
+returns-then-not-is_digest g c = λ calls fuel run.
     let core = c.args.core in
     let block = c.args.block.now in
     let rs = core.receipts.items in
@@ -43,7 +43,7 @@ returns-then-not-is_digest c = λ calls fuel run.
     (inr (λ same. let yes = c.is_digest.ensures.1 (c.after.ensures ∙ (same ∙ sym digest)) in let no = c.if-not-is_digest.true in cc (yes, no)))
 
 pub returns : goal.returns
-returns c = λ calls fuel run.
+returns g c = λ calls fuel run.
     let core = c.args.core in
     let block = c.args.block.now in
     let rs = core.receipts.items in

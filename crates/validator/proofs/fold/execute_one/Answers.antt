@@ -1,4 +1,4 @@
-use Rattle.std.proofs.Common.{◌≡◌, IfNone, Some, get_or, sym, subst, ◌∙◌}
+use Rattle.std.proofs.Common.{◌≡◌, IfNone, get_or, sym, subst, ◌∙◌}
 use Rattle.std.proofs.lemmas.Option.{slice_get-get_or, same_Some}
 use Rattle.storage.specs.Counts.{Store}
 use Rattle.spec_execution.specs.Exec.{Executes}

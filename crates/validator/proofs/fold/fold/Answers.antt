@@ -1,5 +1,5 @@
 use mir.Val.{bool_byte}
-use Rattle.std.proofs.Common.{◌<◌, ◌≤◌, Bool, true, false, [], refl, length, get_or, arith}
+use Rattle.std.proofs.Common.{◌<◌, ◌≤◌, Bool, true, false, [], length, get_or, arith}
 use Rattle.std.proofs.lemmas.List.Elements.{All-get_or}
 use Rattle.std.proofs.lemmas.Option.{slice_get-get_or}
 use Rattle.spec_execution.specs.Run.{ContractCall}
@@ -13,6 +13,12 @@ no_call = record { contract = 0; entry = []; args = []; fuel = 0 }
 byte-le : (b : Bool) → bool_byte b ≤ 1
 byte-le true = omega arith
 byte-le false = omega arith
+
+pub overflow_add-again : goal.overflow_add-again
+overflow_add-again g c =
+    let one = byte-le c.in_ok-done.done.again in
+    let kept = c.loop-position.invariant.again in
+    record { fits = omega (arith, one, kept, c.from-again.ensures, c.requires.few, c.loop-position-test.true) }
 
 pub loop-position-preserved : goal.loop-position-preserved
 loop-position-preserved g c =

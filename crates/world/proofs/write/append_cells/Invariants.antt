@@ -5,4 +5,4 @@ use Rattle.spec_block.specs.Bytes.{cell_bytes}
 use Rattle.world.proofs.write.append_cells.Given as goal
 
 abbrev pub invariant-loop-cell : goal.invariant-loop-cell
-invariant-loop-cell l = l.out.items ≡ l.fn.out.items ++ (to_le_bytes w64 (length l.cells) ++ flat_map cell_bytes (take l.cell-index l.cells))
+invariant-loop-cell g l = l.out.items ≡ l.fn.out.items ++ (to_le_bytes w64 (length l.cells) ++ flat_map cell_bytes (take l.cell-index l.cells))

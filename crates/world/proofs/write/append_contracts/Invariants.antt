@@ -6,4 +6,4 @@ use Rattle.world.specs.Views.{contract_view}
 use Rattle.world.proofs.write.append_contracts.Given as goal
 
 abbrev pub invariant-loop-contract : goal.invariant-loop-contract
-invariant-loop-contract l = l.out.items ≡ l.fn.out.items ++ (to_le_bytes w32 (length l.contracts) ++ flat_map (λ c. contract_bytes (contract_view c)) (take l.contract-index l.contracts))
+invariant-loop-contract g l = l.out.items ≡ l.fn.out.items ++ (to_le_bytes w32 (length l.contracts) ++ flat_map (λ c. contract_bytes (contract_view c)) (take l.contract-index l.contracts))

@@ -8,7 +8,7 @@ use Rattle.world.proofs.Contracts.{then}
 use Rattle.world.proofs.write.append_world.Goals as goal
 
 pub returns : goal.returns
-returns c =
+returns g c =
     let w = world_view c.args.world.now in
     let out = c.args.out.now.items in
     let one = c.append_u32.new.out.items in

@@ -4,4 +4,4 @@ use Rattle.abstract_locks.proofs.Maps.{written}
 use Rattle.abstract_locks.proofs.holder.Holder.hold.Goals as goal
 
 pub returns-clause-ok : goal.returns-clause-ok
-returns-clause-ok c = written c.self.inside.held c.insert.new.self c.args.lock (Some c.args.mode) c.in-Ok.ensures.updates.0 ∙ ap (λ m. insert m c.args.lock c.args.mode) c.self.view_is
+returns-clause-ok g c = written c.self.inside.held c.insert.new.self c.args.lock (Some c.args.mode) c.in-Ok.ensures.updates.0 ∙ ap (λ m. insert m c.args.lock c.args.mode) c.self.view_is

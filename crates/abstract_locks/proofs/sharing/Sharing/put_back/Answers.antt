@@ -5,10 +5,10 @@ use Rattle.abstract_locks.proofs.Maps.{found, written}
 use Rattle.abstract_locks.proofs.sharing.Sharing.put_back.Goals as goal
 
 pub unreachable-requires : goal.unreachable-requires
-unreachable-requires c = let no : ◌≡◌ false true = subst (λ o. IsSome o) (sym (found c.self.inside.map c.args.lock None (sym c.in-Err.ensures.absent) ∙ ap (λ m. get m c.args.lock) c.self.view_is)) c.requires in cc
+unreachable-requires g c = let no : ◌≡◌ false true = subst (λ o. IsSome o) (sym (found c.self.inside.map c.args.lock None (sym c.in-Err.ensures.absent) ∙ ap (λ m. get m c.args.lock) c.self.view_is)) c.requires in cc
 
 pub returns-in-None : goal.returns-in-None
-returns-in-None c = written c.self.inside.map c.remove.new.self c.args.lock None c.remove.ensures.updates.0 ∙ (λ i. set_at (c.self.view_is i) c.args.lock (sym c.in-None.is i))
+returns-in-None g c = written c.self.inside.map c.remove.new.self c.args.lock None c.remove.ensures.updates.0 ∙ (λ i. set_at (c.self.view_is i) c.args.lock (sym c.in-None.is i))
 
 pub returns-in-Ok : goal.returns-in-Ok
-returns-in-Ok c = written c.self.inside.map c.insert.new.self c.args.lock (Some c.in-Some.shared) c.in-Ok.ensures.updates.0 ∙ (λ i. set_at (c.self.view_is i) c.args.lock (sym c.in-Some.is i))
+returns-in-Ok g c = written c.self.inside.map c.insert.new.self c.args.lock (Some c.in-Some.shared) c.in-Ok.ensures.updates.0 ∙ (λ i. set_at (c.self.view_is i) c.args.lock (sym c.in-Some.is i))

@@ -6,12 +6,12 @@ use Rattle.boost.proofs.Events.{found_not_stale, no_conflict, are_standing, call
 use Rattle.boost.proofs.book.Book.op.Goals as goal
 
 pub may_take-requires : goal.may_take-requires
-may_take-requires c =
+may_take-requires g c =
     let b : Content = record { opening = c.self.inside.opening.cells; now = c.self.inside.cells.cells; entries = c.self.inside.entries.items; attempts = c.self.inside.attempts.items; begun = c.self.inside.begun.items } in
     call_row b c.self.inside.cells.unsettled c.self.inside.locks c.self.inside.standings.items c.self.invariant c.args.ticket.now.call c.args.ticket.now.number c.in-Some.i c.deref.result.now c.deref.ensures.value c.in-Some.ensures.found
 
 pub returns-in_default-clause-conflict : goal.returns-in_default-clause-conflict
-returns-in_default-clause-conflict c =
+returns-in_default-clause-conflict g c =
     let b : Content = record { opening = c.self.inside.opening.cells; now = c.self.inside.cells.cells; entries = c.self.inside.entries.items; attempts = c.self.inside.attempts.items; begun = c.self.inside.begun.items } in
     let stale : IsStale b c.args.ticket.now.call c.args.ticket.now.number =
     subst (AllByRecursion (λ a. ¬ ((a.call ≡ c.args.ticket.now.call) × (a.number ≡ c.args.ticket.now.number)))) c.deref.ensures.value c.in_default.ensures.none in (
@@ -22,7 +22,7 @@ returns-in_default-clause-conflict c =
     )
 
 pub returns-then-not-may_take-clause-conflict : goal.returns-then-not-may_take-clause-conflict
-returns-then-not-may_take-clause-conflict c =
+returns-then-not-may_take-clause-conflict g c =
     let b : Content = record { opening = c.self.inside.opening.cells; now = c.self.inside.cells.cells; entries = c.self.inside.entries.items; attempts = c.self.inside.attempts.items; begun = c.self.inside.begun.items } in (
       λ _.
           subst (λ x. IsConflict x c.args.ticket.now.call c.args.ticket.now.number c.args.op) c.self.view_is
@@ -33,7 +33,7 @@ returns-then-not-may_take-clause-conflict c =
     )
 
 pub returns-in_default-act-clause-conflict : goal.returns-in_default-act-clause-conflict
-returns-in_default-act-clause-conflict c =
+returns-in_default-act-clause-conflict g c =
     let b : Content = record { opening = c.self.inside.opening.cells; now = c.self.inside.cells.cells; entries = c.self.inside.entries.items; attempts = c.self.inside.attempts.items; begun = c.self.inside.begun.items } in (
       λ e. cc,
       λ h. absurd
@@ -44,7 +44,7 @@ returns-in_default-act-clause-conflict c =
     )
 
 pub returns-clause-conflict : goal.returns-clause-conflict
-returns-clause-conflict c =
+returns-clause-conflict g c =
     let b : Content = record { opening = c.self.inside.opening.cells; now = c.self.inside.cells.cells; entries = c.self.inside.entries.items; attempts = c.self.inside.attempts.items; begun = c.self.inside.begun.items } in (
       λ e. cc,
       λ h. absurd
@@ -55,18 +55,18 @@ returns-clause-conflict c =
     )
 
 pub act-requires-clause-call : goal.act-requires-clause-call
-act-requires-clause-call c =
+act-requires-clause-call g c =
     let b : Content = record { opening = c.self.inside.opening.cells; now = c.self.inside.cells.cells; entries = c.self.inside.entries.items; attempts = c.self.inside.attempts.items; begun = c.self.inside.begun.items } in
     row_of b c.self.inside.cells.unsettled c.self.inside.locks c.self.inside.standings.items c.self.invariant c.args.ticket.now.call c.args.ticket.now.number c.in-Some.i c.deref.result.now c.deref.ensures.value c.in-Some.ensures.found
     c.index_mut.result.now c.index_mut.ensures.value
 
 pub act-requires-clause-counts : goal.act-requires-clause-counts
-act-requires-clause-counts c =
+act-requires-clause-counts g c =
     let b : Content = record { opening = c.self.inside.opening.cells; now = c.self.inside.cells.cells; entries = c.self.inside.entries.items; attempts = c.self.inside.attempts.items; begun = c.self.inside.begun.items } in
     AreCounts-here b c.self.inside.cells.unsettled c.self.inside.locks c.self.inside.standings.items c.self.invariant c.args.ticket.now.call c.args.ticket.now.number c.in-Some.i c.deref.result.now c.deref.ensures.value c.in-Some.ensures.found
 
 pub invariant_of-self-2 : goal.invariant_of-self-2
-invariant_of-self-2 c =
+invariant_of-self-2 g c =
     let b : Content = record { opening = c.self.inside.opening.cells; now = c.self.inside.cells.cells; entries = c.self.inside.entries.items; attempts = c.self.inside.attempts.items; begun = c.self.inside.begun.items } in
     IsBook-op b c.self.inside.cells.unsettled c.self.inside.locks c.self.inside.standings.items c.self.invariant c.args.ticket.now.call c.args.ticket.now.number c.in-Some.i c.deref.result.now c.deref.ensures.value c.in-Some.ensures.found c.args.op
     ((granted_here b c.self.inside.cells.unsettled c.self.inside.locks c.self.inside.standings.items c.self.invariant c.args.ticket.now.call c.args.ticket.now.number c.in-Some.i c.deref.result.now c.deref.ensures.value c.in-Some.ensures.found
@@ -78,7 +78,7 @@ invariant_of-self-2 c =
     c.index_mut.result.now c.index_mut.ensures.value c.act.new.locks c.in-Ok.ensures.locks
 
 pub returns-clause-ok : goal.returns-clause-ok
-returns-clause-ok c =
+returns-clause-ok g c =
     let b : Content = record { opening = c.self.inside.opening.cells; now = c.self.inside.cells.cells; entries = c.self.inside.entries.items; attempts = c.self.inside.attempts.items; begun = c.self.inside.begun.items } in
     subst (λ x. OpDone x (record { opening = c.self.inside.opening.cells; now = c.act.new.cells.cells; entries = c.self.inside.entries.items; attempts = set c.self.inside.attempts.items c.in-Some.i c.act.new.self; begun = c.self.inside.begun.items }) c.args.ticket.now.call c.args.ticket.now.number c.args.op c.in-Ok.reply) c.self.view_is
     (OpDone-op b c.self.inside.cells.unsettled c.self.inside.locks c.self.inside.standings.items c.self.invariant c.args.ticket.now.call c.args.ticket.now.number c.in-Some.i c.deref.result.now c.deref.ensures.value c.in-Some.ensures.found c.args.op
@@ -90,6 +90,6 @@ returns-clause-ok c =
     c.act.new.cells.cells c.in-Ok.ensures.cells c.in-Ok.reply c.in-Ok.ensures.reply)
 
 pub find-requires : goal.find-requires
-find-requires c =
+find-requires g c =
     let b : Content = record { opening = c.self.inside.opening.cells; now = c.self.inside.cells.cells; entries = c.self.inside.entries.items; attempts = c.self.inside.attempts.items; begun = c.self.inside.begun.items } in
     are_standing b c.self.inside.cells.unsettled c.self.inside.locks c.self.inside.standings.items c.self.invariant c.deref.result.now c.deref-2.result.now c.deref.ensures.value c.deref-2.ensures.value

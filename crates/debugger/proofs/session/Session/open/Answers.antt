@@ -1,5 +1,18 @@
+use Rattle.std.proofs.Common.{ap, ◌∙◌}
 use Rattle.debugger.proofs.Keeping.{kept_first}
 use Rattle.debugger.proofs.session.Session.open.Goals as goal
+
+pub returns-in-Ok-clause-opened : goal.returns-in-Ok-clause-opened
+returns-in-Ok-clause-opened g c =
+    let same = c.in-Ok.ensures in
+    let opened = c.in_ok-origin.ensures.opened in
+    record {
+      contracts_are = ap (λ p. p.contracts) same.machine ∙ opened.contracts_are;
+      call_is = ap (λ p. p.call) same.machine ∙ opened.call_is;
+      cells_are = ap (λ s. s.cells) same.start ∙ opened.cells;
+      turns = ap (λ p. p.used) same.machine ∙ opened.none;
+      breaks = c.new.ensures.items;
+    }
 
 pub invariant_of-result : goal.invariant_of-result
 invariant_of-result g c =

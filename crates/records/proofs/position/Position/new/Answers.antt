@@ -6,7 +6,7 @@ use Rattle.records.proofs.Neighbours.{rising_from}
 use Rattle.records.proofs.position.Position.new.Goals as goal
 
 pub invariant_of-result : goal.invariant_of-result
-invariant_of-result c = record {
+invariant_of-result g c = record {
   call = omega arith;
   receipt = record { used = c.has_bytes.ensures.used; outcome = c.has_bytes.ensures.outcome.0 (search rules) };
   count = search rules;

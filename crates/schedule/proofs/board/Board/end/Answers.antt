@@ -7,7 +7,7 @@ use Rattle.schedule.proofs.Boards.{among_these, in_range, is_waiting, never_wait
 use Rattle.schedule.proofs.board.Board.end.Goals as goal
 
 pub returns-then-at-len-clause-not_ready : goal.returns-then-at-len-clause-not_ready
-returns-then-at-len-clause-not_ready c =
+returns-then-at-len-clause-not_ready g c =
     let s = c.self.inside in (
       λ e. absurd (cc e),
       λ w. absurd (
@@ -16,7 +16,7 @@ returns-then-at-len-clause-not_ready c =
     )
 
 pub returns-then-index-ne0-clause-not_ready : goal.returns-then-index-ne0-clause-not_ready
-returns-then-index-ne0-clause-not_ready c =
+returns-then-index-ne0-clause-not_ready g c =
     let s = c.self.inside in
     let lt : c.args.position < length s.edges.items = omega (arith, c.if-at-len.false, c.len.ensures) in
     let size = c.self.invariant.as_many_counts in
@@ -25,7 +25,7 @@ returns-then-index-ne0-clause-not_ready c =
     (λ _. subst (λ v. IsWaiting v c.args.position) c.self.view_is waits, λ _. refl)
 
 pub returns-then-index-clause-not_ready : goal.returns-then-index-clause-not_ready
-returns-then-index-clause-not_ready c =
+returns-then-index-clause-not_ready g c =
     let s = c.self.inside in
     let lt : c.args.position < length s.edges.items = omega (arith, c.if-at-len.false, c.len.ensures) in (
       λ e. absurd (cc e),
@@ -33,7 +33,7 @@ returns-then-index-clause-not_ready c =
     )
 
 pub freed-requires : goal.freed-requires
-freed-requires c = λ j k.
+freed-requires g c = λ j k.
     let s = c.self.inside in
     let lt : c.args.position < length s.edges.items = omega (arith, c.if-at-len.false, c.len.ensures) in
     let is : c.as_slice.result.now ≡ successors s.edges.items c.args.position = c.as_slice.ensures ∙ get_or_read s.edges.items c.args.position _ lt c.index-3.ensures [] in
@@ -42,7 +42,7 @@ freed-requires c = λ j k.
     omega (arith, within, same)
 
 pub returns-in_default-clause-not_ready : goal.returns-in_default-clause-not_ready
-returns-in_default-clause-not_ready c =
+returns-in_default-clause-not_ready g c =
     let s = c.self.inside in
     let lt : c.args.position < length s.edges.items = omega (arith, c.if-at-len.false, c.len.ensures) in (
       λ e. absurd (cc e),
@@ -50,14 +50,14 @@ returns-in_default-clause-not_ready c =
     )
 
 pub lower-requires-clause-within : goal.lower-requires-clause-within
-lower-requires-clause-within c = λ j k.
+lower-requires-clause-within g c = λ j k.
     let s = c.self.inside in
     let lt : c.args.position < length s.edges.items = omega (arith, c.if-at-len.false, c.len.ensures) in
     let is : c.as_slice-2.result.now ≡ successors s.edges.items c.args.position = c.as_slice-2.ensures ∙ get_or_read s.edges.items c.args.position _ lt c.index-4.ensures [] in
     in_range s.edges.items s.waiting.items s.ended.items s.ready.items c.self.invariant c.args.position j (among_these c.as_slice-2.result.now _ j is k)
 
 pub lower-requires-clause-enough : goal.lower-requires-clause-enough
-lower-requires-clause-enough c = λ j k.
+lower-requires-clause-enough g c = λ j k.
     let s = c.self.inside in
     let lt : c.args.position < length s.edges.items = omega (arith, c.if-at-len.false, c.len.ensures) in
     let ends = c.self.invariant.as_many_ends in
@@ -66,7 +66,7 @@ lower-requires-clause-enough c = λ j k.
     subst (λ xs. count_of j xs ≤ get_or s.waiting.items j 0) (sym is) (enough_there s.edges.items s.waiting.items s.ended.items s.ready.items c.self.invariant c.args.position lt new j k)
 
 pub invariant_of-self : goal.invariant_of-self
-invariant_of-self c =
+invariant_of-self g c =
     let s = c.self.inside in
     let lt : c.args.position < length s.edges.items = omega (arith, c.if-at-len.false, c.len.ensures) in
     let size = c.self.invariant.as_many_counts in
@@ -78,7 +78,7 @@ invariant_of-self c =
     (λ j k. let low = c.lower.ensures.lowered j k in subst (λ xs. get_or c.lower.new.waiting.items j 0 + count_of j xs ≡ get_or s.waiting.items j 0) is low)
 
 pub returns-clause-rising : goal.returns-clause-rising
-returns-clause-rising c =
+returns-clause-rising g c =
     let s = c.self.inside in
     let lt : c.args.position < length s.edges.items = omega (arith, c.if-at-len.false, c.len.ensures) in
     let ends = c.self.invariant.as_many_ends in
@@ -88,7 +88,7 @@ returns-clause-rising c =
     freed_rises s.edges.items s.waiting.items s.ended.items s.ready.items c.self.invariant c.args.position lt new c.in-Ok.free.items free
 
 pub returns-clause-free : goal.returns-clause-free
-returns-clause-free c =
+returns-clause-free g c =
     let s = c.self.inside in
     let lt : c.args.position < length s.edges.items = omega (arith, c.if-at-len.false, c.len.ensures) in
     let ends = c.self.invariant.as_many_ends in
@@ -100,7 +100,7 @@ returns-clause-free c =
     subst AreFreed (ap (λ p. p.edges) c.self.view_is) exact
 
 pub returns-clause-not_ready : goal.returns-clause-not_ready
-returns-clause-not_ready c =
+returns-clause-not_ready g c =
     let s = c.self.inside in
     let lt : c.args.position < length s.edges.items = omega (arith, c.if-at-len.false, c.len.ensures) in (
       λ e. absurd (cc e),

@@ -9,7 +9,7 @@ use Rattle.serial.specs.Positions.{positions as ran_of}
 use Rattle.world.specs.Views.{world_view}
 use Rattle.serial_block.proofs.Limits.{used_within}
 use Rattle.mining.proofs.Orders.{few, left_is, order_again}
-use Rattle.mining.proofs.mine.Goals as goal
+use Rattle.mining.proofs.mine_in.Goals as goal
 
 pub seal-requires-clause-order : goal.seal-requires-clause-order
 seal-requires-clause-order g c =

@@ -1,0 +1,5 @@
+use Rattle.std.proofs.Common.{refl}
+use Rattle.debugger.proofs.cursor.copy.Goals as goal
+
+pub returns : goal.returns
+returns g c = record { machine = c.in_ok-copy.ensures; cells = c.in_ok-copy-2.ensures.cells; start = refl }
