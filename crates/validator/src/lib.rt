@@ -19,7 +19,6 @@ ghost use Rattle.spec_block.specs.Schedule.{HaveTurns};
 ghost use Rattle.spec_block.specs.Verdicts.{HoldsOf, IsVerdictOf};
 ghost use Rattle.block_judge.specs.Judging.{IsFirstFrom};
 ghost use Rattle.world.specs.Views.{world_view};
-ghost use denote.Param.Send.{Frees};
 ghost use Rattle.validator.specs.Judged.{told_by};
 
 use crate::end::conclude;
@@ -62,7 +61,6 @@ fn run<R: Threads + Sync, A: Allocator + Copy + Send + Sync, P: Pace>(
     requires known { All (λ number. number < length calls.now) fit.now.order.items }
     requires turns { HaveTurns fit.now.profiles.items }
     requires workers { 1 ≤ workers }
-    requires frees { Frees A.Allocator A.dealloc_token }
     ensures verdict { IfOk result (λ v. (fuel : ℕ) → IsFirstFrom (HoldsOf (world_view world.now) calls.now fuel fit.now.block) 8 (told_by v.verdict)) }
     ensures again { IfOk result (λ v. v.again ≤ length fit.now.order.items) }
 {
@@ -96,7 +94,6 @@ pub(crate) fn find_verdict<R: Threads + Sync, A: Allocator + Copy + Send + Sync,
 ) -> Result<Validated<A>, NoMemory>
     requires calls { length calls.now ≤ 65535 }
     requires workers { 1 ≤ workers }
-    requires frees { Frees A.Allocator A.dealloc_token }
     ensures verdict { IfOk result (λ v. IsVerdictOf (world_view world.now) calls.now block_fuel bytes.now (told_by v.verdict)) }
 {
     block_judge::first_is_verdict();
@@ -133,7 +130,6 @@ pub fn validate_in<R: Threads + Wait + Sync, A: Allocator + Copy + Send + Sync, 
 ) -> Result<Verdict<A>, NoMemory>
     requires calls { length calls.now ≤ 65535 }
     requires workers { (1 ≤ workers) × (workers ≤ 64) }
-    requires frees { Frees A.Allocator A.dealloc_token }
     ensures verdict { IfOk result (λ verdict. IsVerdictOf (world_view world.now) calls.now block_fuel bytes.now (told_by verdict)) }
 {
     let Validated { verdict, again: _ } = find_verdict(

@@ -4,7 +4,6 @@ ghost use Rattle.std.specs.Prelude.{◌≡◌, ◌≤◌, ◌<◌, All, IfOk, On
 ghost use Rattle.std.specs.FinMap as finite;
 ghost use Rattle.spec_block.specs.Schedule.{HaveTurns};
 ghost use Rattle.interp.specs.Lent.{contracts_view};
-ghost use denote.Param.Send.{Frees};
 ghost use Rattle.validator.specs.Handed.{AreFound, AreMade, ArePartsMade, IsMade};
 
 use crate::attempt::attempt;
@@ -70,7 +69,6 @@ fn run_wave<'a, R: Threads + Sync, A: Allocator + Copy + Send + Sync, P: Pace>(
 ) -> Result<Parts<'a, A>, NoMemory>
     requires known { All (λ number. number < length job.now.calls.now) job.now.order.now }
     requires workers { 1 ≤ workers }
-    requires frees { Frees A.Allocator A.dealloc_token }
     ensures { IfOk result (λ parts. ArePartsMade (contracts_view job.now.contracts.now) job.now.calls.now parts.items) }
 {
     let share = wave.len().div_ceil(workers).max(1);
@@ -171,7 +169,6 @@ pub(crate) fn run_waves<'a, R: Threads + Sync, A: Allocator + Copy + Send + Sync
     requires known { All (λ number. number < length job.now.calls.now) job.now.order.now }
     requires turns { HaveTurns job.now.profiles.now }
     requires workers { 1 ≤ workers }
-    requires frees { Frees A.Allocator A.dealloc_token }
     ensures runs { IfOk result (λ runs. AreFound (contracts_view job.now.contracts.now) job.now.calls.now runs.items) }
     ensures size { IfOk result (λ runs. length runs.items ≡ length job.now.order.now) }
 {
