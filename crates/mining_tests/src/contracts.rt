@@ -2,7 +2,7 @@
 
 use link::deploy::deploy;
 use link::deployed::Deployed;
-use std::alloc::Global;
+use std::alloc::{Allocator, Global};
 use std::test::Fail;
 
 /// The contract in its shortest spelling.
@@ -31,7 +31,7 @@ pub(crate) const FIRST_MODULE: [u8; 82] = [
     0x01, 0x0B,
 ];
 
-fn deployed(alloc: Global, bytes: &[u8]) -> Result<Deployed<Global>, Fail> {
+fn deployed<A: Allocator + Copy>(alloc: A, bytes: &[u8]) -> Result<Deployed<A>, Fail> {
     let module = loader::load(alloc, bytes).or(Err("not loaded"))?;
     let Ok(valid) = typing::check::check(&alloc, module) else {
         return Err(Fail::from("not typed"));
@@ -43,7 +43,7 @@ fn deployed(alloc: Global, bytes: &[u8]) -> Result<Deployed<Global>, Fail> {
 }
 
 /// The contract of six functions.
-pub(crate) fn contract(alloc: Global) -> Result<Deployed<Global>, Fail> {
+pub(crate) fn contract<A: Allocator + Copy>(alloc: A) -> Result<Deployed<A>, Fail> {
     deployed(alloc, &CONTRACT)
 }
 

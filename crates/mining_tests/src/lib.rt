@@ -6,4 +6,6 @@ mod contracts;
 #[cfg(test)]
 mod mined_blocks;
 #[cfg(test)]
+mod rationed;
+#[cfg(test)]
 mod workers;

@@ -16,8 +16,8 @@ use storage::Cells;
 use world::World;
 use wtypes::{TrapCode, Value};
 
-/// How often a held thread looks.
-const LOOKS: u32 = 1_000_000;
+/// How often a held thread looks, where what it waits for comes.
+pub(crate) const LOOKS: u32 = 1_000_000;
 
 /// The world of the contract and these cells.
 fn world(alloc: Global, cells: Cells) -> Result<World, Fail> {
@@ -25,13 +25,19 @@ fn world(alloc: Global, cells: Cells) -> Result<World, Fail> {
 }
 
 /// A call of the contract with two numbers.
-fn call_of(alloc: Global, entry: &str, key: i64, number: i64, fuel: u64) -> Result<Call, Fail> {
+pub(crate) fn call_of(
+    alloc: Global,
+    entry: &str,
+    key: i64,
+    number: i64,
+    fuel: u64,
+) -> Result<Call, Fail> {
     let args = [Value::I64(key), Value::I64(number)].to_vec(alloc)?;
     let call = Call::new(0, entry.to_string(alloc)?, args, fuel);
     Ok(call.ok_or("within the limits")?)
 }
 
-fn cell(kind: Kind, key: u64) -> Lock {
+pub(crate) fn cell(kind: Kind, key: u64) -> Lock {
     Lock {
         contract: 0,
         kind,
@@ -39,7 +45,7 @@ fn cell(kind: Kind, key: u64) -> Lock {
     }
 }
 
-fn receipt(outcome: Outcome, used: u64) -> Receipt {
+pub(crate) fn receipt(outcome: Outcome, used: u64) -> Receipt {
     Receipt { outcome, used }
 }
 
@@ -52,9 +58,9 @@ fn has(mined: &Mined, wanted: &[(u32, Receipt)]) -> bool {
         })
 }
 
-/// Waits until so many were told, and says whether they were.
-fn hold(told: &AtomicU64, count: u64) -> bool {
-    for _ in 0..LOOKS {
+/// Waits until so many were told, but looks at most so often, and says whether they were.
+fn hold(told: &AtomicU64, count: u64, looks: u32) -> bool {
+    for _ in 0..looks {
         if told.load(Ordering::SeqCst) >= count {
             return true;
         }
@@ -65,7 +71,7 @@ fn hold(told: &AtomicU64, count: u64) -> bool {
 
 /// How two calls are made to meet.
 #[derive(Clone, Copy)]
-enum Meeting {
+pub(crate) enum Meeting {
     /// Each is held at its commit until both have acted.
     BothActed,
     /// Call 0 is held at its second operation until call 1 has acted, call 1 at its commit until call 0 was refused, and the
@@ -79,8 +85,9 @@ enum Meeting {
 
 /// Holds threads so that two calls meet.
 #[derive(Drop)]
-struct Meet {
+pub(crate) struct Meet {
     meeting: Meeting,
+    looks: u32,
     acted: AtomicU64,
     refused: AtomicU64,
     committed: AtomicU64,
@@ -88,14 +95,26 @@ struct Meet {
 }
 
 impl Meet {
-    fn new(meeting: Meeting) -> Meet {
+    /// Holds threads for this meeting. A held thread looks at most so often, and then goes on.
+    pub(crate) fn new(meeting: Meeting, looks: u32) -> Meet {
         Meet {
             meeting,
+            looks,
             acted: AtomicU64::new(0),
             refused: AtomicU64::new(0),
             committed: AtomicU64::new(0),
             failed: AtomicBool::new(false),
         }
+    }
+
+    /// Whether each held thread got what it waited for.
+    pub(crate) fn was_met(&self) -> bool {
+        !self.failed.load(Ordering::SeqCst)
+    }
+
+    /// Waits until so many were told, and says whether they were.
+    fn hold(&self, told: &AtomicU64, count: u64) -> bool {
+        hold(told, count, self.looks)
     }
 
     /// Counts what the others wait for.
@@ -116,14 +135,17 @@ impl Meet {
     /// Waits where the meeting asks for it, and says whether what it waited for came.
     fn wait(&self, step: Step) -> bool {
         match (self.meeting, step) {
-            (Meeting::BothActed, Step::Commit { .. }) => hold(&self.acted, 2),
-            (Meeting::RefusedOnce, Step::Op { call: 0, n: 1 }) => hold(&self.acted, 1),
-            (Meeting::RefusedOnce, Step::Commit { call: 1 }) => hold(&self.refused, 1),
-            (Meeting::RefusedOnce, Step::Attempt { call: 0, nth: 1 }) => hold(&self.committed, 1),
-            (Meeting::BothRefused, Step::Op { n: 1, .. }) => hold(&self.acted, 2),
-            (Meeting::BothRefused, Step::Refused { .. }) => hold(&self.refused, 2),
-            (Meeting::OvertakenAdder, Step::Op { call: 1, .. }) => hold(&self.acted, 1),
-            (Meeting::OvertakenAdder, Step::Commit { call: 0 }) => hold(&self.committed, 1),
+            (Meeting::BothActed, Step::Commit { .. }) => self.hold(&self.acted, 2),
+            (Meeting::RefusedOnce, Step::Op { call: 0, n: 1 }) => self.hold(&self.acted, 1),
+            (Meeting::RefusedOnce, Step::Commit { call: 1 }) => self.hold(&self.refused, 1),
+            (Meeting::RefusedOnce, Step::Attempt { call: 0, nth: 1 }) => self.hold(
+                &self.committed,
+                1,
+            ),
+            (Meeting::BothRefused, Step::Op { n: 1, .. }) => self.hold(&self.acted, 2),
+            (Meeting::BothRefused, Step::Refused { .. }) => self.hold(&self.refused, 2),
+            (Meeting::OvertakenAdder, Step::Op { call: 1, .. }) => self.hold(&self.acted, 1),
+            (Meeting::OvertakenAdder, Step::Commit { call: 0 }) => self.hold(&self.committed, 1),
             _ => true,
         }
     }
@@ -149,9 +171,9 @@ fn mine_two<R: Threads + Wait + Sync>(
 ) -> Result<Mined, Fail>
     requires { (1 ≤ tries) × (tries ≤ 16) }
 {
-    let pace = Meet::new(meeting);
+    let pace = Meet::new(meeting, LOOKS);
     let mined = mine(rt, alloc, world, calls, 1_000, 2, tries, &pace).or(Err("refused"))?;
-    if pace.failed.load(Ordering::SeqCst) {
+    if !pace.was_met() {
         return Err(Fail::from("the calls did not meet"));
     }
     Ok(mined)

@@ -2,7 +2,7 @@
 
 ghost use Rattle.std.specs.Prelude.{◌≡◌, ◌≤◌, IfOk, length};
 
-use crate::{Verdict, find_verdict, validate};
+use crate::{Verdict, find_verdict, validate, validate_in};
 use block::{Block, write_block};
 use block_judge::Reason;
 use call::Call;
@@ -10,9 +10,10 @@ use codec::{Failures, MemorySink};
 use link::deploy::deploy;
 use link::deployed::Deployed;
 use pace::{NoPace, Pace, Step};
+use ration::Ration;
 use serial_block::run;
 use spec_ledger::{Kind, Lock};
-use std::alloc::Global;
+use std::alloc::{Allocator, Global};
 use std::sync::Wait;
 use std::sync::atomic::{AtomicBool, AtomicU64, Ordering};
 use std::test::Fail;
@@ -42,7 +43,7 @@ const CONTRACT: [u8; 201] = [
     0x20, 0x01, 0x20, 0x00, 0x10, 0x02, 0x10, 0x03, 0x0b,
 ];
 
-fn contract(alloc: Global) -> Result<Deployed<Global>, Fail> {
+fn contract<A: Allocator + Copy>(alloc: A) -> Result<Deployed<A>, Fail> {
     let module = loader::load(alloc, &CONTRACT).or(Err("not loaded"))?;
     let Ok(valid) = typing::check::check(&alloc, module) else {
         return Err(Fail::from("not typed"));
@@ -54,8 +55,10 @@ fn contract(alloc: Global) -> Result<Deployed<Global>, Fail> {
 }
 
 /// The world of the contract and these cells.
-fn world(alloc: Global, cells: Cells) -> Result<World, Fail> {
-    Ok(World::new(vec![in alloc; contract(alloc)?]?, cells))
+fn world<A: Allocator + Copy>(alloc: A, cells: Cells<A>) -> Result<World<A>, Fail> {
+    let mut contracts = Vec::new(alloc);
+    contracts.push(contract(alloc)?)?;
+    Ok(World::new(contracts, cells))
 }
 
 /// A call of the contract, with 100 of fuel.
@@ -352,5 +355,61 @@ fn a_chain_of_waves(rt: HostRuntime) -> Result<(), Fail> {
     let (calls, block) = made(alloc, &world, first, second, false)?;
     let next = after(&rt, alloc, &world, &calls, block.bytes(), &NoPace)?;
     assert_eq!(rt; next.cells().get(cell(Kind::Map, 3)), Some(10));
+    Ok(())
+}
+
+/// More blocks of memory than these tests take.
+const AMPLE: u64 = 1_000_000;
+
+/// More blocks of memory than a block of two calls takes.
+const MANY: u64 = 200;
+
+/// How many blocks of memory the world of the contract takes.
+fn blocks_of_world(heap: Global) -> Result<u64, Fail> {
+    let ration = Ration::new(heap, AMPLE);
+    let _world = world(&ration, Cells::new(&ration))?;
+    Ok(AMPLE.saturating_sub(ration.left()))
+}
+
+/// Whether two workers accept a block that writes 9, with so many blocks of memory beside those of the world. Otherwise memory is refused.
+fn accept_within<R: Threads + Wait + Sync>(
+    rt: &R,
+    heap: Global,
+    blocks: u64,
+    calls: &[Call],
+    bytes: &[u8],
+) -> Result<bool, Fail>
+    requires { length calls.now ≤ 65535 }
+{
+    let ration = Ration::new(heap, blocks_of_world(heap)?.saturating_add(blocks));
+    let before = world(&ration, Cells::new(&ration))?;
+    match validate_in(rt, &ration, &before, calls, 1_000, bytes, 2, &NoPace) {
+        Ok(Verdict::Accept(next)) => match next.cells().get(cell(Kind::Map, 1)) {
+            Some(9) => Ok(true),
+            _ => Err(Fail::from("another world")),
+        },
+        Ok(Verdict::Reject(_reason)) => Err(Fail::from("rejected")),
+        Err(_) => Ok(false),
+    }
+}
+
+#[test]
+fn a_want_of_memory_is_no_verdict(rt: HostRuntime) -> Result<(), Fail> {
+    let alloc = rt.alloc();
+    let before = world(alloc, Cells::new(alloc))?;
+    let reader = calling(alloc, "peek", &[Value::I64(1)])?;
+    let writer = call_of(alloc, "set", 1, 9)?;
+    let (calls, block) = made(alloc, &before, reader, writer, false)?;
+    let bytes = block.bytes();
+    assert!(rt; !accept_within(&rt, alloc, 0, &calls, bytes)?);
+    let mut refused: u32 = 0;
+    for blocks in 0..MANY {
+        if !accept_within(&rt, alloc, blocks, &calls, bytes)? {
+            refused = refused.saturating_add(1);
+        }
+    }
+    assert!(rt; refused > 1, "{refused} rations are too small");
+    assert!(rt; refused < MANY as u32, "{refused} rations are too small");
+    assert!(rt; accept_within(&rt, alloc, AMPLE, &calls, bytes)?);
     Ok(())
 }
