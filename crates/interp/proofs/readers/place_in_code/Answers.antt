@@ -1,4 +1,4 @@
-use Rattle.std.proofs.Common.{◌≡◌, ℕ, Option, Some, None, sym, ap, ◌∙◌, option_map}
+use Rattle.std.proofs.Common.{◌≡◌, ℕ, Some, sym, ap, ◌∙◌, option_map}
 use Rattle.interp.specs.declared.parts.Kind.{Kind}
 use Rattle.interp.specs.Branches.{in_call}
 use Rattle.interp.specs.Views.{opens_of, scope_of, ordinal_of, open_of}
