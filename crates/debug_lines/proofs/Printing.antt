@@ -1,12 +1,12 @@
 -- Commands that are given one after another.
-use Rattle.std.proofs.Common.{◌≡◌, ℕ, ◌+◌, ◌<◌, ◌≤◌, Bool, true, List, [], ◌∷◌, ◌++◌, length, take, get_or, refl, sym, ap, ◌∙◌, subst, string_bytes}
-use Rattle.std.proofs.lemmas.List.{take_more, take_all}
+use Rattle.std.proofs.Common.{◌≡◌, ℕ, ◌+◌, ◌<◌, Bool, true, List, [], ◌∷◌, ◌++◌, length, take, get_or, sym, ap, ◌∙◌, subst, string_bytes}
+use Rattle.std.proofs.lemmas.List.{take_more}
 use Rattle.debugger.specs.Sight.{Sight, IsSight}
 use Rattle.debugger.specs.declared.session.Refusal.{Refusal}
 use Rattle.debug_words.specs.declared.command.Command.{Command}
 use Rattle.debug_lines.specs.declared.printed.Printed.{Printed}
 use Rattle.debug_lines.specs.Lines.{refusal_line}
-use Rattle.debug_lines.specs.Prints.{Does, Refuses, IsPrinted, nothing, done, refused, AddsCommand}
+use Rattle.debug_lines.specs.Prints.{Does, Refuses, IsPrinted, done, refused, AddsCommand}
 
 pub adds_line : {A : Type 0} (c : Command) (s t : Sight) (old new : Printed A) (line : List ℕ) → Does c s t line → IsSight t → new.refused ≡ old.refused → string_bytes new.text ≡ string_bytes old.text ++ line → AddsCommand c s t old new
 adds_line c s t old new line does sight same pushed = λ first given h.

@@ -1,5 +1,5 @@
 -- What commands print of a call that runs alone over cells.
-use Rattle.std.specs.Prelude.{◌≡◌, ℕ, ◌+◌, ◌<◌, ◌≤◌, ◌⊎◌, Bool, true, false, List, [], ◌∷◌, ◌++◌, Option, Some, None, IsSome, codes, take, drop, length, string_bytes}
+use Rattle.std.specs.Prelude.{◌≡◌, ℕ, ◌+◌, ◌<◌, ◌≤◌, ◌⊎◌, Bool, true, false, List, [], ◌∷◌, ◌++◌, None, IsSome, codes, take, drop, length, string_bytes}
 use Rattle.spec_ledger.specs.Cells.{Cells}
 use Rattle.spec_execution.specs.Configuration.{Deployed}
 use Rattle.spec_execution.specs.Run.{ContractCall, opening, Refused}

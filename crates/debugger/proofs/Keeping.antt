@@ -1,5 +1,5 @@
 -- What a session keeps.
-use Rattle.std.proofs.Common.{◌≡◌, ◌≢◌, ℕ, suc, ◌+◌, ◌-◌, ◌<◌, ◌≤◌, Bool, true, false, true≢false, List, [], refl, sym, ap, ap₂, ◌∙◌, subst, arith, Option, Some, None, inl, inr, slice_index_or}
+use Rattle.std.proofs.Common.{◌≡◌, ◌≢◌, ℕ, ◌+◌, ◌-◌, ◌<◌, ◌≤◌, true, false, true≢false, List, [], refl, sym, ap, ap₂, ◌∙◌, subst, arith, Option, Some, None, inl, inr, slice_index_or}
 use Rattle.std.specs.Prelude.{◌⊎◌, ◌==◌, IsSome}
 use Rattle.std.proofs.lemmas.Bool.Decides.{eqb_tells}
 use Rattle.spec_ledger.specs.declared.Outcome.{Outcome}
@@ -9,7 +9,7 @@ use Rattle.storage.specs.Counts.{Store}
 use Rattle.spec_execution.specs.Configuration.{Deployed, Contract, Config}
 use Rattle.spec_execution.specs.Run.{ContractCall}
 use Rattle.spec_execution.specs.Turns.{Turned, opened, turned, IsState, shown, place_of}
-use Rattle.interp.specs.Progress.{Progress, IsSameCall}
+use Rattle.interp.specs.Progress.{Progress}
 use Rattle.interp.specs.Shown.{ending, ending_of, place_shown}
 use Rattle.debugger.specs.declared.cursor.Cursor.{Cursor}
 use Rattle.debugger.specs.Breaks.{is_set_at}

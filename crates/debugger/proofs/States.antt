@@ -1,19 +1,16 @@
 -- The states of a call alone over cells: there is one after each number of turns, and a turn follows each but the last.
-use Rattle.std.proofs.Common.{◌≡◌, ◌≢◌, inl, inr, ℕ, zero, suc, ◌+◌, ◌<◌, ◌≤◌, Bool, true, false, true≢false, List, [], ◌∷◌, ◌++◌, refl, sym, ap, ap₂, ◌∙◌, subst, arith, Option, Some, None, append_assoc}
-use Rattle.std.specs.Prelude.{◌==◌, ◌&&◌, ◌⊎◌, if◌then◌else◌}
+use Rattle.std.proofs.Common.{◌≡◌, ◌≢◌, inl, inr, ℕ, ◌<◌, true, false, List, [], ◌∷◌, ◌++◌, refl, sym, ap, ap₂, ◌∙◌, subst, arith, Some, None, append_assoc}
+use Rattle.std.specs.Prelude.{◌==◌, ◌⊎◌}
 use Rattle.std.proofs.lemmas.Bool.{ne_eqb, eq-eqb}
 use Rattle.std.proofs.lemmas.Bool.Decides.{eqb_tells}
 use Rattle.interp.proofs.Outlook.{charged_out}
-use Rattle.spec_ledger.specs.declared.Op.{Op}
 use Rattle.spec_ledger.specs.declared.Step.{Step}
 use Rattle.spec_ledger.specs.declared.Outcome.{Outcome}
-use Rattle.spec_ledger.specs.declared.Outcome.TheVariants.{Returned, Trapped, OutOfFuel}
 use Rattle.spec_ledger.specs.Cells.{Cells, reply_to, cells_after}
 use Rattle.spec_ledger.specs.Book.{after, GetsReplies}
-use Rattle.spec_execution.specs.Configuration.{Deployed, Contract, Config, Running, Trap}
-use Rattle.spec_execution.specs.Reduction.{Next, Goes, Traps, Asks, Branches, Returns, Ended, Stuck}
-use Rattle.spec_execution.specs.Run.{ContractCall, opening, Opens, first, next, Reduces, goes, traps, IsCharged, Ends, returns, trapped, exhausted, result_of}
-use Rattle.spec_execution.specs.Turns.{Turned, opened, turned, IsTurn, IsState, is_to_come}
+use Rattle.spec_execution.specs.Configuration.{Deployed, Contract, Config}
+use Rattle.spec_execution.specs.Run.{ContractCall, opening, Opens, first, next, Reduces, goes, traps, Ends, returns, trapped, exhausted}
+use Rattle.spec_execution.specs.Turns.{Turned, opened, turned, IsState}
 use Rattle.spec_execution.specs.Walk.{over}
 use Rattle.spec_execution.specs.Unique.{IsAnsweredBy}
 use Rattle.spec_execution.proofs.States.{turns_unique}

@@ -1,5 +1,5 @@
 -- What each turn keeps.
-use Rattle.std.proofs.Common.{◌≡◌, ℕ, ◌+◌, ◌<◌, ◌≤◌, List, [], ◌∷◌, ◌++◌, refl, sym, ap, ap₂, ◌∙◌, subst, arith, Option, suc, Some, None}
+use Rattle.std.proofs.Common.{◌≡◌, ℕ, ◌+◌, ◌<◌, List, [], ◌∷◌, ◌++◌, sym, ap, ap₂, ◌∙◌, subst, arith, suc, Some}
 use Rattle.spec_ledger.specs.declared.Op.{Op}
 use Rattle.spec_ledger.specs.declared.Reply.{Reply}
 use Rattle.spec_ledger.specs.declared.Step.{Step}
@@ -9,8 +9,8 @@ use Rattle.spec_ledger.specs.Book.{after, GetsReplies}
 use Rattle.interp.proofs.Finding.{append-nil}
 use Rattle.spec_ledger.proofs.Traces.{after-append, GetsReplies-push}
 use Rattle.spec_execution.specs.Configuration.{Deployed, Contract, Config, Running}
-use Rattle.spec_execution.specs.Run.{ContractCall, Opening, opening, Opens, first, Reduces, IsReply, Ends}
-use Rattle.spec_execution.specs.Turns.{Frees, IsAtRest, IsTurn, IsAnswered, asked, Turned, opened, turned, IsState}
+use Rattle.spec_execution.specs.Run.{ContractCall, Opening, opening, Opens, first, IsReply}
+use Rattle.spec_execution.specs.Turns.{Frees, IsAtRest, IsTurn, IsAnswered, asked, Turned, opened, turned}
 use Rattle.interp.specs.declared.turns.Status.{Status}
 use Rattle.interp.specs.declared.turns.Status.TheVariants as status
 use Rattle.interp.specs.Progress.{Progress, GoesOn, IsProgress, IsProgressAt, IsOnRun, IsSameCall, IsStartOf, HasStepped, HasAsked, HasAnswered, AnsweredAt, HasReplied, IsDone, IsFree}

@@ -1,5 +1,5 @@
 -- Breaks: places, each the number of a function and an ordinal.
-use Rattle.std.specs.Prelude.{ℕ, ◌==◌, ◌&&◌, ◌||◌, Bool, true, false, not, List, [], ◌∷◌, ◌++◌, Option, Some, None, option_and_then, if◌then◌else◌}
+use Rattle.std.specs.Prelude.{ℕ, ◌==◌, ◌&&◌, ◌||◌, Bool, false, not, List, [], ◌∷◌, ◌++◌, Option, Some, None, option_and_then, if◌then◌else◌}
 use Rattle.std.specs.List.{filter}
 use Rattle.spec_syntax.specs.Syntax.{Instr, Module}
 use Rattle.spec_syntax.specs.Shape.{instr_at}

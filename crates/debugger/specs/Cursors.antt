@@ -1,8 +1,7 @@
 -- What a call that is run turn by turn keeps.
-use Rattle.std.specs.Prelude.{◌≡◌, ℕ, List}
+use Rattle.std.specs.Prelude.{◌≡◌, List}
 use Rattle.spec_ledger.specs.Cells.{Cells}
 use Rattle.spec_ledger.specs.Book.{after, GetsReplies}
-use Rattle.storage.specs.Counts.{Store}
 use Rattle.spec_execution.specs.Configuration.{Deployed}
 use Rattle.spec_execution.specs.Run.{ContractCall, opening, Opens, first}
 use Rattle.spec_execution.specs.Turns.{Turned}

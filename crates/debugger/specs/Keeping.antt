@@ -1,6 +1,5 @@
 -- What a session keeps.
 use Rattle.std.specs.Prelude.{◌≡◌, ℕ, ◌<◌, ◌≤◌, false, List, [], length, All}
-use Rattle.interp.specs.Progress.{Progress}
 use Rattle.debugger.specs.declared.cursor.Cursor.{Cursor}
 use Rattle.debugger.specs.Sight.{Sight, IsSight, sight_of, place_at}
 use Rattle.debugger.specs.Breaks.{is_set_at}

@@ -1,5 +1,5 @@
 -- What is published, as the headline says it.
-use Rattle.std.proofs.Common.{◌≡◌, ◌+◌, ◌<◌, ◌≤◌, ⊎_elim, ℕ, false, List, [], ◌∷◌, length, take, map, Some, slice_get, Contains, refl, ap, ◌∙◌, arith}
+use Rattle.std.proofs.Common.{◌≡◌, ◌+◌, ◌≤◌, ⊎_elim, ℕ, false, List, [], ◌∷◌, length, take, map, Some, slice_get, Contains, refl, ap, ◌∙◌, arith}
 use Prim.Native.Nat.{suc}
 use lib.Dec.{eqb}
 use Rattle.std.specs.List.{IsDistinct, AllByRecursion}

@@ -1,4 +1,4 @@
-use Rattle.std.proofs.Common.{◌≡◌, ◌∙◌, List, ℕ, ap, sym, subst, arith, length}
+use Rattle.std.proofs.Common.{◌∙◌, List, ℕ, ap, sym, subst, arith, length}
 use Rattle.std.proofs.lemmas.List.{length-map}
 use Rattle.spec_ledger.specs.Cells.{Cells}
 use Rattle.spec_execution.specs.Serial.{Serial}

@@ -1,4 +1,4 @@
-use Rattle.std.proofs.Common.{◌≡◌, ◌+◌, length}
+use Rattle.std.proofs.Common.{◌≡◌, ◌+◌}
 use Rattle.std.specs.Prelude.{All, vec_len}
 use Rattle.debugger.specs.Keeping.{IsOfRun}
 use Rattle.debugger.proofs.kept.thin.Given as goal

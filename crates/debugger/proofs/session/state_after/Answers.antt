@@ -1,6 +1,5 @@
-use Rattle.std.proofs.Common.{◌≡◌, ℕ, ◌+◌, ◌-◌, ◌≤◌, ◌∙◌, ap, arith, inl, inr}
-use Rattle.std.specs.Prelude.{◌⊎◌, IsSome}
-use Rattle.interp.specs.Shown.{ending}
+use Rattle.std.proofs.Common.{◌≡◌, ℕ, ◌+◌, ◌-◌, ap, arith, inl, inr}
+use Rattle.std.specs.Prelude.{◌⊎◌}
 use Rattle.debugger.proofs.Keeping.{copy_of_run, run_on, reaches}
 use Rattle.debugger.proofs.session.state_after.Goals as goal
 
