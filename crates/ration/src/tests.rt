@@ -1,5 +1,4 @@
 ghost use Rattle.std.specs.Prelude.{◌≡◌, IfOk, vec_len};
-ghost use denote.Param.Send.{Frees};
 
 use crate::Ration;
 use std::alloc::{AllocError, Allocator};
@@ -48,8 +47,6 @@ fn lists<R: Threads + Sync, H: Allocator + Copy + Send + Sync, A: Allocator + Co
     alloc: A,
     n: usize,
 ) -> Result<Vec<Result<Vec<u64, A>, AllocError>, H>, AllocError>
-    requires heap { Frees H.Allocator H.dealloc_token }
-    requires alloc { Frees A.Allocator A.dealloc_token }
     ensures { IfOk result (λ lists. vec_len lists ≡ n) }
 {
     thread::map_indices(rt, heap, n, &|i| one(alloc, i))
