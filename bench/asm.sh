@@ -4,7 +4,7 @@
 # least of seven runs in turn. A time that doubles as the text does is one that grows linearly. Run it anywhere in the repository:
 #
 #   bench/asm.sh
-source "$(dirname "${BASH_SOURCE[0]}")/common.sh" asm_bench wat2wasm
+source "$(dirname "${BASH_SOURCE[0]}")/common.sh" bench_modules wat2wasm
 build
 
 for size in 450000 900000; do
@@ -25,7 +25,7 @@ parts.append(")\n")
 open(sys.argv[2], "w").write("".join(parts))
 TEXT
   for _ in 1 2 3 4 5 6 7; do
-    "$program" "$work/module.wat" >>"$work/lines$size"
+    "$program" assemble "$work/module.wat" >>"$work/lines$size"
     start=$(date +%s%N)
     wat2wasm "$work/module.wat" -o "$work/module.wasm"
     end=$(date +%s%N)

@@ -6,7 +6,7 @@
 #   bench/book.sh [KEYS..]
 #
 # With words it measures each of these numbers of keys instead.
-source "$(dirname "${BASH_SOURCE[0]}")/common.sh" book_bench
+source "$(dirname "${BASH_SOURCE[0]}")/common.sh" bench_blocks
 
 if (($# == 0)); then
   set -- 1000 100000
@@ -19,5 +19,5 @@ done
 
 build
 for keys in "$@"; do
-  "$program" "$keys"
+  "$program" operate "$keys"
 done

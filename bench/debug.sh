@@ -3,7 +3,7 @@
 # and below them the load of the machine. It fails where going back takes a tenth of the run or more. Run it anywhere in the repository:
 #
 #   bench/debug.sh
-source "$(dirname "${BASH_SOURCE[0]}")/common.sh" debug_bench wat2wasm
+source "$(dirname "${BASH_SOURCE[0]}")/common.sh" bench_machine wat2wasm
 
 if (($# > 0)); then
   usage
@@ -13,7 +13,7 @@ build
 countdown 1000000 >"$work/countdown.wat"
 wat2wasm "$work/countdown.wat" -o "$work/countdown.wasm"
 
-line=$("$program" "$work/countdown.wasm" run 1000000)
+line=$("$program" debug "$work/countdown.wasm" run 1000000)
 read -r turns _ forward _ _ back _ <<<"$line"
 printf '%s turns %d us, back %d us\n' "$turns" $((forward / 1000)) $((back / 1000))
 uptime | sed 's/.*load/load/'

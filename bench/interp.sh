@@ -8,7 +8,7 @@
 #   bench/interp.sh [ROUNDS]
 #
 # ROUNDS is 5 if left out.
-source "$(dirname "${BASH_SOURCE[0]}")/common.sh" interp_bench wat2wasm wasm-interp
+source "$(dirname "${BASH_SOURCE[0]}")/common.sh" bench_machine wat2wasm wasm-interp
 rounds=${1:-5}
 
 if ! [[ $rounds =~ ^[1-9][0-9]{0,2}$ ]]; then
@@ -76,7 +76,7 @@ for name in countdown fill fibonacci; do
   machine=0
   interp=
   for ((round = 0; round < rounds; round++)); do
-    line=$("$program" "$work/$name.wasm" run 1000000000)
+    line=$("$program" run "$work/$name.wasm" run 1000000000)
     read -r rate _ _ used outcome <<<"$line"
     if [[ $outcome != Returned* ]]; then
       echo "bench/interp.sh: $name: $line" >&2

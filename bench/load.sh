@@ -4,7 +4,7 @@
 # as the size doubles is a time that grows linearly. Run it anywhere in the repository:
 #
 #   bench/load.sh
-source "$(dirname "${BASH_SOURCE[0]}")/common.sh" load_bench wasm-validate
+source "$(dirname "${BASH_SOURCE[0]}")/common.sh" bench_modules wasm-validate
 build
 
 for size in 262144 524288 1048000; do
@@ -35,7 +35,7 @@ module += section(10, number(count) + entry * count)
 open(sys.argv[2], "wb").write(module)
 MODULE
   bytes=$(stat -c %s "$work/module.wasm")
-  line=$("$program" "$work/module.wasm")
+  line=$("$program" load "$work/module.wasm")
   start=$(date +%s%N)
   for _ in 1 2 3 4 5; do wasm-validate "$work/module.wasm"; done
   end=$(date +%s%N)

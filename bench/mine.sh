@@ -4,7 +4,7 @@
 # the machine. Each number is the best of three runs, over 20,000 short or 2,000 long calls. Run it anywhere in the repository:
 #
 #   bench/mine.sh
-source "$(dirname "${BASH_SOURCE[0]}")/common.sh" mine_bench
+source "$(dirname "${BASH_SOURCE[0]}")/common.sh" bench_blocks
 
 if (($# > 0)); then
   usage
@@ -16,7 +16,7 @@ for length in short long; do
   for shared in 0 15 100; do
     row=$(printf '%-6s %6s' "$length" "$shared")
     for workers in 0 1 2 4; do
-      row+=$(printf ' %10s' "$(best "$workers" "$shared" "$length")")
+      row+=$(printf ' %10s' "$(best mine "$workers" "$shared" "$length")")
     done
     echo "$row"
   done

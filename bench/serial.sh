@@ -5,7 +5,7 @@
 # anywhere in the repository:
 #
 #   bench/serial.sh
-source "$(dirname "${BASH_SOURCE[0]}")/common.sh" serial_bench
+source "$(dirname "${BASH_SOURCE[0]}")/common.sh" bench_blocks
 
 if (($# > 0)); then
   usage
@@ -14,7 +14,7 @@ fi
 # The fastest of three runs of so many calls.
 fastest() {
   for _ in 1 2 3; do
-    "$program" "$1"
+    "$program" serial "$1"
   done | sort -n -k 4 | head -n 1
 }
 

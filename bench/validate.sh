@@ -4,7 +4,7 @@
 # digests of the block too. Run it anywhere in the repository:
 #
 #   bench/validate.sh
-source "$(dirname "${BASH_SOURCE[0]}")/common.sh" validate_bench
+source "$(dirname "${BASH_SOURCE[0]}")/common.sh" bench_blocks
 
 if (($# > 0)); then
   usage
@@ -12,11 +12,11 @@ fi
 
 build
 printf '%-10s %10s %10s %10s\n' workers 1 2 4
-printf '%-10s %10s\n' serial "$(best serial 1)"
+printf '%-10s %10s\n' serial "$(best block serial 1)"
 for task in mine validate; do
   row=$(printf "%-10s" "$task")
   for workers in 1 2 4; do
-    row+=$(printf ' %10s' "$(best "$task" "$workers")")
+    row+=$(printf ' %10s' "$(best block "$task" "$workers")")
   done
   echo "$row"
 done

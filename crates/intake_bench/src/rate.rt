@@ -1,7 +1,0 @@
-//! Draws a second.
-use std::time::Duration;
-
-/// How many of `draws` fall on one second, rounded down. A time of 0 counts as one nanosecond.
-pub fn a_second(draws: u32, time: Duration) -> u128 {
-    u128::from(draws) * 1_000_000_000 / time.as_nanos().max(1)
-}
