@@ -7,8 +7,6 @@ ghost use Rattle.spec_numeric.specs.Operators.{type_of, unary_type, binary_type,
 
 mod bits_32;
 mod bits_64;
-#[cfg(test)]
-mod tests;
 
 use wtypes::{BinOp, CvtOp, RelOp, TestOp, TrapCode, UnOp, Value};
 

@@ -1,3 +1,5 @@
+//! Linear memory in a heap of fixed size, where growth is refused.
+
 use linked_list_allocator::LocalHeap;
 use memory::{Linear, NoMemory, StoreRefusal};
 use std::process::Abort;

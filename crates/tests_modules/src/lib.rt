@@ -5,9 +5,11 @@
 #[cfg(test)]
 mod bodies;
 #[cfg(test)]
-mod contract;
-#[cfg(test)]
 mod entries;
+#[cfg(test)]
+mod first_faults;
+#[cfg(test)]
+mod first_parts;
 #[cfg(test)]
 mod heaps;
 #[cfg(test)]

@@ -1,11 +1,11 @@
 // Trees and working memory in heaps of fixed size.
-use crate::contract::{CONTRACT, linked, typed};
 use crate::verdict::Verdict::{Deployed, NoMemory};
 use crate::verdict::verdict_in;
 use link::deploy::deploy;
 use link::refusal::LinkRefusal;
 use linked_list_allocator::LocalHeap;
 use loader::load;
+use samples::{EXAMPLE, deployed, typed};
 use std::alloc::{AllocError, Global};
 use std::test::Fail;
 use wtypes::HostCall;
@@ -15,7 +15,7 @@ fn copies(rt: HostRuntime) -> Result<(), Fail> {
     let a = rt.alloc();
     let first = LocalHeap::new(a, 1_048_576)?;
     let second = LocalHeap::new(a, 1_048_576)?;
-    let copy = typed(a, &CONTRACT)?.copy_in(&first)?;
+    let copy = typed(a, &EXAMPLE)?.copy_in(&first)?;
     let deployed = deploy(&&first, copy).ok().ok_or("not linked")?;
     let again = deployed.copy_in(&second)?;
     drop(deployed);
@@ -35,7 +35,7 @@ fn copies(rt: HostRuntime) -> Result<(), Fail> {
 #[test]
 fn copies_in_small_heaps(rt: HostRuntime) -> Result<(), Fail> {
     let a = rt.alloc();
-    let deployed = linked(a, &CONTRACT)?;
+    let deployed = deployed(a, &EXAMPLE)?;
     let mut refused = 0u32;
     let mut copied = 0u32;
     for size in 4..512usize {
@@ -70,7 +70,7 @@ fn filled(a: Global, heap: &LocalHeap) -> Result<Vec<Vec<u8, &LocalHeap>>, Alloc
 fn host_calls_without_room(rt: HostRuntime) -> Result<(), Fail> {
     let a = rt.alloc();
     let heap = LocalHeap::new(a, 8_192)?;
-    let copy = typed(a, &CONTRACT)?.copy_in(&heap)?;
+    let copy = typed(a, &EXAMPLE)?.copy_in(&heap)?;
     let blocks = filled(a, &heap)?;
     let (valid, refusal) = deploy(&&heap, copy).err().ok_or("deployed")?;
     assert_eq!(rt; refusal, LinkRefusal::NoMemory);
@@ -86,7 +86,7 @@ fn working_memory_in_small_heaps(rt: HostRuntime) -> Result<(), Fail> {
     let mut passed = 0u32;
     for size in 4..256usize {
         let heap = LocalHeap::new(a, 16 * size)?;
-        let verdict = verdict_in(a, &&heap, load(a, &CONTRACT)?);
+        let verdict = verdict_in(a, &&heap, load(a, &EXAMPLE)?);
         assert_eq!(rt; heap.used(), 0);
         if verdict == NoMemory {
             refused = refused.saturating_add(1);

@@ -4,34 +4,21 @@ ghost use Rattle.interp.specs.Progress.{IsFree};
 ghost use Rattle.spec_execution.specs.Run.{IsReply};
 
 use crate::programs::{
-    ASKING_FIRST, COUNTDOWN, ELEMENTS, EMPTY_START, ENDLESS_START, EXPORTS, FALLING, FIRST, GROWTH,
-    HOST, IMPORTED_ELEMENTS, ROWS, STARTED,
+    ASKING_FIRST, COUNTDOWN, ELEMENTS, EMPTY_START, ENDLESS_START, EXPORTS, FALLING, GROWTH, HOST,
+    IMPORTED_ELEMENTS, ROWS, STARTED,
 };
 use call::Call;
 use interp::finished::Finished;
 use interp::machine::Machine;
 use interp::start::StartRefusal;
 use interp::turns::Turn;
-use link::deploy::deploy;
 use link::deployed::Deployed;
-use loader::load;
+use samples::{FIRST_MODULE, call, deployed};
 use spec_ledger::{Op, Outcome, Place, Reply, Step};
 use std::alloc::Global;
 use std::process::Abort;
 use std::test::Fail;
-use typing::check::check;
 use wtypes::{TrapCode, Value};
-
-fn contract(alloc: Global, bytes: &[u8]) -> Result<Deployed<Global>, Fail> {
-    let tree = load(alloc, bytes).ok().ok_or("a module")?;
-    let valid = check(&alloc, tree).ok().ok_or("a valid module")?;
-    Ok(deploy(&alloc, valid).ok().ok_or("a module that is linked")?)
-}
-
-fn call(alloc: Global, number: u32, name: &str, args: &[Value], fuel: u64) -> Result<Call, Fail> {
-    let call = Call::new(number, name.to_string(alloc)?, args.to_vec(alloc)?, fuel);
-    Ok(call.ok_or("within the limits")?)
-}
 
 // What the host replies, whatever the key.
 fn reply_to(op: Op) -> Reply
@@ -96,7 +83,7 @@ fn assert_values(
     bytes: &[u8],
     rows: &[(&str, Value)],
 ) -> Result<(), Fail> {
-    let contracts = [contract(alloc, bytes)?];
+    let contracts = [deployed(alloc, bytes)?];
     for (name, value) in rows {
         let (outcome, _) = ending(alloc, &contracts, name, 10_000)?;
         assert_eq!(rt; outcome, Outcome::Returned(Some(*value)), "of {name}");
@@ -180,10 +167,10 @@ fn calls_of_elements(rt: HostRuntime) -> Result<(), Fail> {
 #[test]
 fn traps(rt: HostRuntime) -> Result<(), Fail> {
     let alloc = rt.alloc();
-    let exports = [contract(alloc, &EXPORTS)?];
-    let rows = [contract(alloc, &ROWS)?];
-    let elements = [contract(alloc, &ELEMENTS)?];
-    let imported = [contract(alloc, &IMPORTED_ELEMENTS)?];
+    let exports = [deployed(alloc, &EXPORTS)?];
+    let rows = [deployed(alloc, &ROWS)?];
+    let elements = [deployed(alloc, &ELEMENTS)?];
+    let imported = [deployed(alloc, &IMPORTED_ELEMENTS)?];
     for (contracts, name, code, used) in [
         (&exports, "out", TrapCode::MemoryOutOfBounds, 2),
         (&exports, "trap", TrapCode::Unreachable, 1),
@@ -218,9 +205,9 @@ fn traps(rt: HostRuntime) -> Result<(), Fail> {
 #[test]
 fn fuel(rt: HostRuntime) -> Result<(), Fail> {
     let alloc = rt.alloc();
-    let exports = [contract(alloc, &EXPORTS)?];
-    let rows = [contract(alloc, &ROWS)?];
-    let elements = [contract(alloc, &ELEMENTS)?];
+    let exports = [deployed(alloc, &EXPORTS)?];
+    let rows = [deployed(alloc, &ROWS)?];
+    let elements = [deployed(alloc, &ELEMENTS)?];
     let deep = Outcome::Trapped(TrapCode::CallDepth);
     let doubled = Outcome::Returned(Some(Value::I32(42)));
     for (contracts, name, fuel, outcome, used) in [
@@ -251,7 +238,7 @@ fn fuel(rt: HostRuntime) -> Result<(), Fail> {
 #[test]
 fn countdown(rt: HostRuntime) -> Result<(), Fail> {
     let alloc = rt.alloc();
-    let contracts = [contract(alloc, &COUNTDOWN)?];
+    let contracts = [deployed(alloc, &COUNTDOWN)?];
     for (fuel, outcome, used) in [
         (16, Outcome::Returned(None), 16),
         (15, Outcome::OutOfFuel, 15),
@@ -287,7 +274,7 @@ const TOTALLED: Step = Step {
 #[test]
 fn turns(rt: HostRuntime) -> Result<(), Fail> {
     let alloc = rt.alloc();
-    let contracts = [contract(alloc, &FIRST)?];
+    let contracts = [deployed(alloc, &FIRST_MODULE)?];
     let call = call(alloc, 0, "run", &[Value::I64(7)], 7)?;
     let machine = Machine::start(alloc, &contracts, &call)
         .ok()
@@ -316,7 +303,7 @@ fn turns(rt: HostRuntime) -> Result<(), Fail> {
 #[test]
 fn fuel_between_operations(rt: HostRuntime) -> Result<(), Fail> {
     let alloc = rt.alloc();
-    let contracts = [contract(alloc, &FIRST)?];
+    let contracts = [deployed(alloc, &FIRST_MODULE)?];
     let total = Outcome::Returned(Some(Value::I64(12)));
     for (fuel, outcome, trace) in [
         (4, Outcome::OutOfFuel, [].as_slice()),
@@ -335,7 +322,7 @@ fn fuel_between_operations(rt: HostRuntime) -> Result<(), Fail> {
 #[test]
 fn imports_in_the_table(rt: HostRuntime) -> Result<(), Fail> {
     let alloc = rt.alloc();
-    let contracts = [contract(alloc, &IMPORTED_ELEMENTS)?];
+    let contracts = [deployed(alloc, &IMPORTED_ELEMENTS)?];
     let total = Outcome::Returned(Some(Value::I64(12)));
     for (fuel, outcome, trace) in [
         (3, Outcome::OutOfFuel, [].as_slice()),
@@ -361,7 +348,7 @@ fn place(key: i64) -> Place {
 #[test]
 fn host_calls(rt: HostRuntime) -> Result<(), Fail> {
     let alloc = rt.alloc();
-    let contracts = [contract(alloc, &FIRST)?, contract(alloc, &HOST)?];
+    let contracts = [deployed(alloc, &FIRST_MODULE)?, deployed(alloc, &HOST)?];
     let call = call(alloc, 1, "all", &[], 100)?;
     let finished = run(alloc, &contracts, &call)?;
     let value = Outcome::Returned(Some(Value::I64(16)));
@@ -385,7 +372,7 @@ fn host_calls(rt: HostRuntime) -> Result<(), Fail> {
 #[test]
 fn refusals(rt: HostRuntime) -> Result<(), Fail> {
     let alloc = rt.alloc();
-    let contracts = [contract(alloc, &ROWS)?, contract(alloc, &COUNTDOWN)?];
+    let contracts = [deployed(alloc, &ROWS)?, deployed(alloc, &COUNTDOWN)?];
     for (number, name, args, refusal) in [
         (2, "down", [].as_slice(), StartRefusal::NoContract),
         (1, "up", [].as_slice(), StartRefusal::NoExport),
@@ -409,7 +396,7 @@ fn refusals(rt: HostRuntime) -> Result<(), Fail> {
 fn the_start_function_runs_first(rt: HostRuntime) -> Result<(), Fail> {
     let rows = [("read", Value::I64(42)), ("byte", Value::I32(9))];
     assert_values(&rt, rt.alloc(), &STARTED, &rows)?;
-    let contracts = [contract(rt.alloc(), &STARTED)?];
+    let contracts = [deployed(rt.alloc(), &STARTED)?];
     let call = call(rt.alloc(), 0, "less", &[Value::I64(30), Value::I64(4)], 100)?;
     let finished = run(rt.alloc(), &contracts, &call)?;
     let value = Outcome::Returned(Some(Value::I64(7)));
@@ -421,10 +408,10 @@ fn the_start_function_runs_first(rt: HostRuntime) -> Result<(), Fail> {
 #[test]
 fn the_start_function_uses_the_fuel_of_the_call(rt: HostRuntime) -> Result<(), Fail> {
     let alloc = rt.alloc();
-    let started = [contract(alloc, &STARTED)?];
-    let falling = [contract(alloc, &FALLING)?];
-    let endless = [contract(alloc, &ENDLESS_START)?];
-    let empty = [contract(alloc, &EMPTY_START)?];
+    let started = [deployed(alloc, &STARTED)?];
+    let falling = [deployed(alloc, &FALLING)?];
+    let endless = [deployed(alloc, &ENDLESS_START)?];
+    let empty = [deployed(alloc, &EMPTY_START)?];
     let read = Outcome::Returned(Some(Value::I64(42)));
     let deep = Outcome::Trapped(TrapCode::CallDepth);
     let fell = Outcome::Trapped(TrapCode::Unreachable);
@@ -456,7 +443,7 @@ fn the_start_function_uses_the_fuel_of_the_call(rt: HostRuntime) -> Result<(), F
 #[test]
 fn the_start_function_asks_the_host_before_the_entry(rt: HostRuntime) -> Result<(), Fail> {
     let alloc = rt.alloc();
-    let contracts = [contract(alloc, &ASKING_FIRST)?];
+    let contracts = [deployed(alloc, &ASKING_FIRST)?];
     let call = call(alloc, 0, "peek", &[Value::I64(7)], 5)?;
     let machine = Machine::start(alloc, &contracts, &call)
         .ok()

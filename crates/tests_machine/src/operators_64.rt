@@ -1,47 +1,47 @@
-//! The operators of 32 bits beside another implementation: the answers were computed by V8's WebAssembly engine
+//! The operators of 64 bits beside another implementation: the answers were computed by V8's WebAssembly engine
 //! (Node.js 20.20), from a module with a function for each operator. A table has a row for each first operand.
 ghost use Rattle.std.specs.Prelude.{◌≡◌};
 ghost use Rattle.spec_numeric.specs.Operators.{binary_type, compare_type, unary_type};
 
-use crate::{binary, compare, test, unary};
+use numeric::{binary, compare, test, unary};
 use std::process::Abort;
 use wtypes::TrapCode::{DivideByZero, IntegerOverflow};
-use wtypes::ValType::I32;
+use wtypes::ValType::I64;
 use wtypes::{BinOp, RelOp, TestOp, TrapCode, UnOp, ValType, Value};
 
-const MIN: i32 = i32::MIN;
+const MIN: i64 = i64::MIN;
 
-const MAX: i32 = i32::MAX;
+const MAX: i64 = i64::MAX;
 
-const OPERANDS: [i32; 5] = [0, 1, -1, MIN, MAX];
+const OPERANDS: [i64; 5] = [0, 1, -1, MIN, MAX];
 
-const SHIFTED: [i32; 6] = [0, 1, -1, MIN, MAX, 0x1234_5678];
+const SHIFTED: [i64; 6] = [0, 1, -1, MIN, MAX, 0x1234_5678_9abc_def0];
 
-const COUNTS: [i32; 5] = [0, 1, 31, 32, 33];
+const COUNTS: [i64; 5] = [0, 1, 63, 64, 65];
 
-fn total(rt: &impl Abort, op: BinOp, answers: &[[i32; 5]; 5])
-    requires { binary_type op ≡ ValType.I32 }
+fn total(rt: &impl Abort, op: BinOp, answers: &[[i64; 5]; 5])
+    requires { binary_type op ≡ ValType.I64 }
 {
     for (first, row) in OPERANDS.iter().zip(answers) {
         for (second, answer) in OPERANDS.iter().zip(row) {
-            let found = binary(op, Value::I32(*first), Value::I32(*second));
+            let found = binary(op, Value::I64(*first), Value::I64(*second));
             assert_eq!(rt;
                 found,
-                Ok(Value::I32(*answer)),
+                Ok(Value::I64(*answer)),
                 "{op:?} of {first} and {second}"
             );
         }
     }
 }
 
-fn division(rt: &impl Abort, op: BinOp, answers: &[[Result<i32, TrapCode>; 5]; 5])
-    requires { binary_type op ≡ ValType.I32 }
+fn division(rt: &impl Abort, op: BinOp, answers: &[[Result<i64, TrapCode>; 5]; 5])
+    requires { binary_type op ≡ ValType.I64 }
 {
     for (first, row) in OPERANDS.iter().zip(answers) {
         for (second, answer) in OPERANDS.iter().zip(row) {
-            let found = binary(op, Value::I32(*first), Value::I32(*second));
+            let found = binary(op, Value::I64(*first), Value::I64(*second));
             let wanted = match answer {
-                Ok(number) => Ok(Value::I32(*number)),
+                Ok(number) => Ok(Value::I64(*number)),
                 Err(code) => Err(*code),
             };
             assert_eq!(rt; found, wanted, "{op:?} of {first} and {second}");
@@ -49,15 +49,15 @@ fn division(rt: &impl Abort, op: BinOp, answers: &[[Result<i32, TrapCode>; 5]; 5
     }
 }
 
-fn shift(rt: &impl Abort, op: BinOp, answers: &[[i32; 5]; 6])
-    requires { binary_type op ≡ ValType.I32 }
+fn shift(rt: &impl Abort, op: BinOp, answers: &[[i64; 5]; 6])
+    requires { binary_type op ≡ ValType.I64 }
 {
     for (first, row) in SHIFTED.iter().zip(answers) {
         for (count, answer) in COUNTS.iter().zip(row) {
-            let found = binary(op, Value::I32(*first), Value::I32(*count));
+            let found = binary(op, Value::I64(*first), Value::I64(*count));
             assert_eq!(rt;
                 found,
-                Ok(Value::I32(*answer)),
+                Ok(Value::I64(*answer)),
                 "{op:?} of {first} by {count}"
             );
         }
@@ -65,11 +65,11 @@ fn shift(rt: &impl Abort, op: BinOp, answers: &[[i32; 5]; 6])
 }
 
 fn comparison(rt: &impl Abort, op: RelOp, answers: &[[i32; 5]; 5])
-    requires { compare_type op ≡ ValType.I32 }
+    requires { compare_type op ≡ ValType.I64 }
 {
     for (first, row) in OPERANDS.iter().zip(answers) {
         for (second, answer) in OPERANDS.iter().zip(row) {
-            let found = compare(op, Value::I32(*first), Value::I32(*second));
+            let found = compare(op, Value::I64(*first), Value::I64(*second));
             assert_eq!(rt;
                 found,
                 Value::I32(*answer),
@@ -79,12 +79,12 @@ fn comparison(rt: &impl Abort, op: RelOp, answers: &[[i32; 5]; 5])
     }
 }
 
-fn count(rt: &impl Abort, op: UnOp, answers: &[i32; 6])
-    requires { unary_type op ≡ ValType.I32 }
+fn count(rt: &impl Abort, op: UnOp, answers: &[i64; 6])
+    requires { unary_type op ≡ ValType.I64 }
 {
     for (operand, answer) in SHIFTED.iter().zip(answers) {
-        let found = unary(op, Value::I32(*operand));
-        assert_eq!(rt; found, Value::I32(*answer), "{op:?} of {operand}");
+        let found = unary(op, Value::I64(*operand));
+        assert_eq!(rt; found, Value::I64(*answer), "{op:?} of {operand}");
     }
 }
 
@@ -92,40 +92,46 @@ fn count(rt: &impl Abort, op: UnOp, answers: &[i32; 6])
 fn sums_products_and_bits(rt: HostRuntime) {
     total(
         &rt,
-        BinOp::Add(I32),
+        BinOp::Add(I64),
         &[
             [0, 1, -1, MIN, MAX],
-            [1, 2, 0, -2_147_483_647, MIN],
-            [-1, 0, -2, MAX, 2_147_483_646],
-            [MIN, -2_147_483_647, MAX, 0, -1],
-            [MAX, MIN, 2_147_483_646, -1, -2],
+            [1, 2, 0, -9_223_372_036_854_775_807, MIN],
+            [-1, 0, -2, MAX, 9_223_372_036_854_775_806],
+            [MIN, -9_223_372_036_854_775_807, MAX, 0, -1],
+            [MAX, MIN, 9_223_372_036_854_775_806, -1, -2],
         ],
     );
     total(
         &rt,
-        BinOp::Sub(I32),
+        BinOp::Sub(I64),
         &[
-            [0, -1, 1, MIN, -2_147_483_647],
-            [1, 0, 2, -2_147_483_647, -2_147_483_646],
+            [0, -1, 1, MIN, -9_223_372_036_854_775_807],
+            [
+                1,
+                0,
+                2,
+                -9_223_372_036_854_775_807,
+                -9_223_372_036_854_775_806,
+            ],
             [-1, -2, 0, MAX, MIN],
-            [MIN, MAX, -2_147_483_647, 0, 1],
-            [MAX, 2_147_483_646, MIN, -1, 0],
+            [MIN, MAX, -9_223_372_036_854_775_807, 0, 1],
+            [MAX, 9_223_372_036_854_775_806, MIN, -1, 0],
         ],
     );
     total(
         &rt,
-        BinOp::Mul(I32),
+        BinOp::Mul(I64),
         &[
             [0, 0, 0, 0, 0],
             [0, 1, -1, MIN, MAX],
-            [0, -1, 1, MIN, -2_147_483_647],
+            [0, -1, 1, MIN, -9_223_372_036_854_775_807],
             [0, MIN, MIN, 0, MIN],
-            [0, MAX, -2_147_483_647, MIN, 1],
+            [0, MAX, -9_223_372_036_854_775_807, MIN, 1],
         ],
     );
     total(
         &rt,
-        BinOp::And(I32),
+        BinOp::And(I64),
         &[
             [0, 0, 0, 0, 0],
             [0, 1, 1, 0, 1],
@@ -136,24 +142,30 @@ fn sums_products_and_bits(rt: HostRuntime) {
     );
     total(
         &rt,
-        BinOp::Or(I32),
+        BinOp::Or(I64),
         &[
             [0, 1, -1, MIN, MAX],
-            [1, 1, -1, -2_147_483_647, MAX],
+            [1, 1, -1, -9_223_372_036_854_775_807, MAX],
             [-1, -1, -1, -1, -1],
-            [MIN, -2_147_483_647, -1, MIN, -1],
+            [MIN, -9_223_372_036_854_775_807, -1, MIN, -1],
             [MAX, MAX, -1, -1, MAX],
         ],
     );
     total(
         &rt,
-        BinOp::Xor(I32),
+        BinOp::Xor(I64),
         &[
             [0, 1, -1, MIN, MAX],
-            [1, 0, -2, -2_147_483_647, 2_147_483_646],
+            [
+                1,
+                0,
+                -2,
+                -9_223_372_036_854_775_807,
+                9_223_372_036_854_775_806,
+            ],
             [-1, -2, 0, MAX, MIN],
-            [MIN, -2_147_483_647, MAX, 0, -1],
-            [MAX, 2_147_483_646, MIN, -1, 0],
+            [MIN, -9_223_372_036_854_775_807, MAX, 0, -1],
+            [MAX, 9_223_372_036_854_775_806, MIN, -1, 0],
         ],
     );
 }
@@ -162,7 +174,7 @@ fn sums_products_and_bits(rt: HostRuntime) {
 fn divisions(rt: HostRuntime) {
     division(
         &rt,
-        BinOp::DivS(I32),
+        BinOp::DivS(I64),
         &[
             [Err(DivideByZero), Ok(0), Ok(0), Ok(0), Ok(0)],
             [Err(DivideByZero), Ok(1), Ok(-1), Ok(0), Ok(0)],
@@ -174,12 +186,18 @@ fn divisions(rt: HostRuntime) {
                 Ok(1),
                 Ok(-1),
             ],
-            [Err(DivideByZero), Ok(MAX), Ok(-2_147_483_647), Ok(0), Ok(1)],
+            [
+                Err(DivideByZero),
+                Ok(MAX),
+                Ok(-9_223_372_036_854_775_807),
+                Ok(0),
+                Ok(1),
+            ],
         ],
     );
     division(
         &rt,
-        BinOp::DivU(I32),
+        BinOp::DivU(I64),
         &[
             [Err(DivideByZero), Ok(0), Ok(0), Ok(0), Ok(0)],
             [Err(DivideByZero), Ok(1), Ok(0), Ok(0), Ok(0)],
@@ -190,7 +208,7 @@ fn divisions(rt: HostRuntime) {
     );
     division(
         &rt,
-        BinOp::RemS(I32),
+        BinOp::RemS(I64),
         &[
             [Err(DivideByZero), Ok(0), Ok(0), Ok(0), Ok(0)],
             [Err(DivideByZero), Ok(0), Ok(0), Ok(1), Ok(1)],
@@ -201,7 +219,7 @@ fn divisions(rt: HostRuntime) {
     );
     division(
         &rt,
-        BinOp::RemU(I32),
+        BinOp::RemU(I64),
         &[
             [Err(DivideByZero), Ok(0), Ok(0), Ok(0), Ok(0)],
             [Err(DivideByZero), Ok(0), Ok(1), Ok(1), Ok(1)],
@@ -216,73 +234,127 @@ fn divisions(rt: HostRuntime) {
 fn shifts_and_rotations(rt: HostRuntime) {
     shift(
         &rt,
-        BinOp::Shl(I32),
+        BinOp::Shl(I64),
         &[
             [0, 0, 0, 0, 0],
             [1, 2, MIN, 1, 2],
             [-1, -2, MIN, -1, -2],
             [MIN, 0, 0, MIN, 0],
             [MAX, -2, MIN, MAX, -2],
-            [305_419_896, 610_839_792, 0, 305_419_896, 610_839_792],
-        ],
-    );
-    shift(
-        &rt,
-        BinOp::ShrS(I32),
-        &[
-            [0, 0, 0, 0, 0],
-            [1, 0, 0, 1, 0],
-            [-1, -1, -1, -1, -1],
-            [MIN, -1_073_741_824, -1, MIN, -1_073_741_824],
-            [MAX, 1_073_741_823, 0, MAX, 1_073_741_823],
-            [305_419_896, 152_709_948, 0, 305_419_896, 152_709_948],
-        ],
-    );
-    shift(
-        &rt,
-        BinOp::ShrU(I32),
-        &[
-            [0, 0, 0, 0, 0],
-            [1, 0, 0, 1, 0],
-            [-1, MAX, 1, -1, MAX],
-            [MIN, 1_073_741_824, 1, MIN, 1_073_741_824],
-            [MAX, 1_073_741_823, 0, MAX, 1_073_741_823],
-            [305_419_896, 152_709_948, 0, 305_419_896, 152_709_948],
-        ],
-    );
-    shift(
-        &rt,
-        BinOp::Rotl(I32),
-        &[
-            [0, 0, 0, 0, 0],
-            [1, 2, MIN, 1, 2],
-            [-1, -1, -1, -1, -1],
-            [MIN, 1, 1_073_741_824, MIN, 1],
-            [MAX, -2, -1_073_741_825, MAX, -2],
             [
-                305_419_896,
-                610_839_792,
-                152_709_948,
-                305_419_896,
-                610_839_792,
+                1_311_768_467_463_790_320,
+                2_623_536_934_927_580_640,
+                0,
+                1_311_768_467_463_790_320,
+                2_623_536_934_927_580_640,
             ],
         ],
     );
     shift(
         &rt,
-        BinOp::Rotr(I32),
+        BinOp::ShrS(I64),
+        &[
+            [0, 0, 0, 0, 0],
+            [1, 0, 0, 1, 0],
+            [-1, -1, -1, -1, -1],
+            [
+                MIN,
+                -4_611_686_018_427_387_904,
+                -1,
+                MIN,
+                -4_611_686_018_427_387_904,
+            ],
+            [
+                MAX,
+                4_611_686_018_427_387_903,
+                0,
+                MAX,
+                4_611_686_018_427_387_903,
+            ],
+            [
+                1_311_768_467_463_790_320,
+                655_884_233_731_895_160,
+                0,
+                1_311_768_467_463_790_320,
+                655_884_233_731_895_160,
+            ],
+        ],
+    );
+    shift(
+        &rt,
+        BinOp::ShrU(I64),
+        &[
+            [0, 0, 0, 0, 0],
+            [1, 0, 0, 1, 0],
+            [-1, MAX, 1, -1, MAX],
+            [
+                MIN,
+                4_611_686_018_427_387_904,
+                1,
+                MIN,
+                4_611_686_018_427_387_904,
+            ],
+            [
+                MAX,
+                4_611_686_018_427_387_903,
+                0,
+                MAX,
+                4_611_686_018_427_387_903,
+            ],
+            [
+                1_311_768_467_463_790_320,
+                655_884_233_731_895_160,
+                0,
+                1_311_768_467_463_790_320,
+                655_884_233_731_895_160,
+            ],
+        ],
+    );
+    shift(
+        &rt,
+        BinOp::Rotl(I64),
+        &[
+            [0, 0, 0, 0, 0],
+            [1, 2, MIN, 1, 2],
+            [-1, -1, -1, -1, -1],
+            [MIN, 1, 4_611_686_018_427_387_904, MIN, 1],
+            [MAX, -2, -4_611_686_018_427_387_905, MAX, -2],
+            [
+                1_311_768_467_463_790_320,
+                2_623_536_934_927_580_640,
+                655_884_233_731_895_160,
+                1_311_768_467_463_790_320,
+                2_623_536_934_927_580_640,
+            ],
+        ],
+    );
+    shift(
+        &rt,
+        BinOp::Rotr(I64),
         &[
             [0, 0, 0, 0, 0],
             [1, MIN, 2, 1, MIN],
             [-1, -1, -1, -1, -1],
-            [MIN, 1_073_741_824, 1, MIN, 1_073_741_824],
-            [MAX, -1_073_741_825, -2, MAX, -1_073_741_825],
             [
-                305_419_896,
-                152_709_948,
-                610_839_792,
-                305_419_896,
-                152_709_948,
+                MIN,
+                4_611_686_018_427_387_904,
+                1,
+                MIN,
+                4_611_686_018_427_387_904,
+            ],
+            [
+                MAX,
+                -4_611_686_018_427_387_905,
+                -2,
+                MAX,
+                -4_611_686_018_427_387_905,
+            ],
+            [
+                1_311_768_467_463_790_320,
+                655_884_233_731_895_160,
+                2_623_536_934_927_580_640,
+                1_311_768_467_463_790_320,
+                655_884_233_731_895_160,
             ],
         ],
     );
@@ -292,7 +364,7 @@ fn shifts_and_rotations(rt: HostRuntime) {
 fn comparisons(rt: HostRuntime) {
     comparison(
         &rt,
-        RelOp::Equal(I32),
+        RelOp::Equal(I64),
         &[
             [1, 0, 0, 0, 0],
             [0, 1, 0, 0, 0],
@@ -303,7 +375,7 @@ fn comparisons(rt: HostRuntime) {
     );
     comparison(
         &rt,
-        RelOp::NotEqual(I32),
+        RelOp::NotEqual(I64),
         &[
             [0, 1, 1, 1, 1],
             [1, 0, 1, 1, 1],
@@ -314,7 +386,7 @@ fn comparisons(rt: HostRuntime) {
     );
     comparison(
         &rt,
-        RelOp::LtS(I32),
+        RelOp::LtS(I64),
         &[
             [0, 1, 0, 0, 1],
             [0, 0, 0, 0, 1],
@@ -325,7 +397,7 @@ fn comparisons(rt: HostRuntime) {
     );
     comparison(
         &rt,
-        RelOp::LtU(I32),
+        RelOp::LtU(I64),
         &[
             [0, 1, 1, 1, 1],
             [0, 0, 1, 1, 1],
@@ -336,7 +408,7 @@ fn comparisons(rt: HostRuntime) {
     );
     comparison(
         &rt,
-        RelOp::GtS(I32),
+        RelOp::GtS(I64),
         &[
             [0, 0, 1, 1, 0],
             [1, 0, 1, 1, 0],
@@ -347,7 +419,7 @@ fn comparisons(rt: HostRuntime) {
     );
     comparison(
         &rt,
-        RelOp::GtU(I32),
+        RelOp::GtU(I64),
         &[
             [0, 0, 0, 0, 0],
             [1, 0, 0, 0, 0],
@@ -358,7 +430,7 @@ fn comparisons(rt: HostRuntime) {
     );
     comparison(
         &rt,
-        RelOp::LeS(I32),
+        RelOp::LeS(I64),
         &[
             [1, 1, 0, 0, 1],
             [0, 1, 0, 0, 1],
@@ -369,7 +441,7 @@ fn comparisons(rt: HostRuntime) {
     );
     comparison(
         &rt,
-        RelOp::LeU(I32),
+        RelOp::LeU(I64),
         &[
             [1, 1, 1, 1, 1],
             [0, 1, 1, 1, 1],
@@ -380,7 +452,7 @@ fn comparisons(rt: HostRuntime) {
     );
     comparison(
         &rt,
-        RelOp::GeS(I32),
+        RelOp::GeS(I64),
         &[
             [1, 0, 1, 1, 0],
             [1, 1, 1, 1, 0],
@@ -391,7 +463,7 @@ fn comparisons(rt: HostRuntime) {
     );
     comparison(
         &rt,
-        RelOp::GeU(I32),
+        RelOp::GeU(I64),
         &[
             [1, 0, 0, 0, 0],
             [1, 1, 0, 0, 0],
@@ -404,15 +476,15 @@ fn comparisons(rt: HostRuntime) {
 
 #[test]
 fn counts_of_bits(rt: HostRuntime) {
-    count(&rt, UnOp::Clz(I32), &[32, 31, 0, 0, 1, 3]);
-    count(&rt, UnOp::Ctz(I32), &[32, 0, 0, 31, 0, 3]);
-    count(&rt, UnOp::Popcnt(I32), &[0, 1, 32, 1, 31, 13]);
+    count(&rt, UnOp::Clz(I64), &[64, 63, 0, 0, 1, 3]);
+    count(&rt, UnOp::Ctz(I64), &[64, 0, 0, 63, 0, 4]);
+    count(&rt, UnOp::Popcnt(I64), &[0, 1, 64, 1, 63, 32]);
 }
 
 #[test]
 fn tests_of_zero(rt: HostRuntime) {
     for (operand, answer) in SHIFTED.iter().zip(&[1, 0, 0, 0, 0, 0]) {
-        let found = test(TestOp::Eqz(I32), Value::I32(*operand));
+        let found = test(TestOp::Eqz(I64), Value::I64(*operand));
         assert_eq!(rt; found, Value::I32(*answer), "eqz of {operand}");
     }
 }

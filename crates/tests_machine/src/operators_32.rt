@@ -1,47 +1,47 @@
-//! The operators of 64 bits beside another implementation: the answers were computed by V8's WebAssembly engine
+//! The operators of 32 bits beside another implementation: the answers were computed by V8's WebAssembly engine
 //! (Node.js 20.20), from a module with a function for each operator. A table has a row for each first operand.
 ghost use Rattle.std.specs.Prelude.{◌≡◌};
 ghost use Rattle.spec_numeric.specs.Operators.{binary_type, compare_type, unary_type};
 
-use crate::{binary, compare, test, unary};
+use numeric::{binary, compare, test, unary};
 use std::process::Abort;
 use wtypes::TrapCode::{DivideByZero, IntegerOverflow};
-use wtypes::ValType::I64;
+use wtypes::ValType::I32;
 use wtypes::{BinOp, RelOp, TestOp, TrapCode, UnOp, ValType, Value};
 
-const MIN: i64 = i64::MIN;
+const MIN: i32 = i32::MIN;
 
-const MAX: i64 = i64::MAX;
+const MAX: i32 = i32::MAX;
 
-const OPERANDS: [i64; 5] = [0, 1, -1, MIN, MAX];
+const OPERANDS: [i32; 5] = [0, 1, -1, MIN, MAX];
 
-const SHIFTED: [i64; 6] = [0, 1, -1, MIN, MAX, 0x1234_5678_9abc_def0];
+const SHIFTED: [i32; 6] = [0, 1, -1, MIN, MAX, 0x1234_5678];
 
-const COUNTS: [i64; 5] = [0, 1, 63, 64, 65];
+const COUNTS: [i32; 5] = [0, 1, 31, 32, 33];
 
-fn total(rt: &impl Abort, op: BinOp, answers: &[[i64; 5]; 5])
-    requires { binary_type op ≡ ValType.I64 }
+fn total(rt: &impl Abort, op: BinOp, answers: &[[i32; 5]; 5])
+    requires { binary_type op ≡ ValType.I32 }
 {
     for (first, row) in OPERANDS.iter().zip(answers) {
         for (second, answer) in OPERANDS.iter().zip(row) {
-            let found = binary(op, Value::I64(*first), Value::I64(*second));
+            let found = binary(op, Value::I32(*first), Value::I32(*second));
             assert_eq!(rt;
                 found,
-                Ok(Value::I64(*answer)),
+                Ok(Value::I32(*answer)),
                 "{op:?} of {first} and {second}"
             );
         }
     }
 }
 
-fn division(rt: &impl Abort, op: BinOp, answers: &[[Result<i64, TrapCode>; 5]; 5])
-    requires { binary_type op ≡ ValType.I64 }
+fn division(rt: &impl Abort, op: BinOp, answers: &[[Result<i32, TrapCode>; 5]; 5])
+    requires { binary_type op ≡ ValType.I32 }
 {
     for (first, row) in OPERANDS.iter().zip(answers) {
         for (second, answer) in OPERANDS.iter().zip(row) {
-            let found = binary(op, Value::I64(*first), Value::I64(*second));
+            let found = binary(op, Value::I32(*first), Value::I32(*second));
             let wanted = match answer {
-                Ok(number) => Ok(Value::I64(*number)),
+                Ok(number) => Ok(Value::I32(*number)),
                 Err(code) => Err(*code),
             };
             assert_eq!(rt; found, wanted, "{op:?} of {first} and {second}");
@@ -49,15 +49,15 @@ fn division(rt: &impl Abort, op: BinOp, answers: &[[Result<i64, TrapCode>; 5]; 5
     }
 }
 
-fn shift(rt: &impl Abort, op: BinOp, answers: &[[i64; 5]; 6])
-    requires { binary_type op ≡ ValType.I64 }
+fn shift(rt: &impl Abort, op: BinOp, answers: &[[i32; 5]; 6])
+    requires { binary_type op ≡ ValType.I32 }
 {
     for (first, row) in SHIFTED.iter().zip(answers) {
         for (count, answer) in COUNTS.iter().zip(row) {
-            let found = binary(op, Value::I64(*first), Value::I64(*count));
+            let found = binary(op, Value::I32(*first), Value::I32(*count));
             assert_eq!(rt;
                 found,
-                Ok(Value::I64(*answer)),
+                Ok(Value::I32(*answer)),
                 "{op:?} of {first} by {count}"
             );
         }
@@ -65,11 +65,11 @@ fn shift(rt: &impl Abort, op: BinOp, answers: &[[i64; 5]; 6])
 }
 
 fn comparison(rt: &impl Abort, op: RelOp, answers: &[[i32; 5]; 5])
-    requires { compare_type op ≡ ValType.I64 }
+    requires { compare_type op ≡ ValType.I32 }
 {
     for (first, row) in OPERANDS.iter().zip(answers) {
         for (second, answer) in OPERANDS.iter().zip(row) {
-            let found = compare(op, Value::I64(*first), Value::I64(*second));
+            let found = compare(op, Value::I32(*first), Value::I32(*second));
             assert_eq!(rt;
                 found,
                 Value::I32(*answer),
@@ -79,12 +79,12 @@ fn comparison(rt: &impl Abort, op: RelOp, answers: &[[i32; 5]; 5])
     }
 }
 
-fn count(rt: &impl Abort, op: UnOp, answers: &[i64; 6])
-    requires { unary_type op ≡ ValType.I64 }
+fn count(rt: &impl Abort, op: UnOp, answers: &[i32; 6])
+    requires { unary_type op ≡ ValType.I32 }
 {
     for (operand, answer) in SHIFTED.iter().zip(answers) {
-        let found = unary(op, Value::I64(*operand));
-        assert_eq!(rt; found, Value::I64(*answer), "{op:?} of {operand}");
+        let found = unary(op, Value::I32(*operand));
+        assert_eq!(rt; found, Value::I32(*answer), "{op:?} of {operand}");
     }
 }
 
@@ -92,46 +92,40 @@ fn count(rt: &impl Abort, op: UnOp, answers: &[i64; 6])
 fn sums_products_and_bits(rt: HostRuntime) {
     total(
         &rt,
-        BinOp::Add(I64),
+        BinOp::Add(I32),
         &[
             [0, 1, -1, MIN, MAX],
-            [1, 2, 0, -9_223_372_036_854_775_807, MIN],
-            [-1, 0, -2, MAX, 9_223_372_036_854_775_806],
-            [MIN, -9_223_372_036_854_775_807, MAX, 0, -1],
-            [MAX, MIN, 9_223_372_036_854_775_806, -1, -2],
+            [1, 2, 0, -2_147_483_647, MIN],
+            [-1, 0, -2, MAX, 2_147_483_646],
+            [MIN, -2_147_483_647, MAX, 0, -1],
+            [MAX, MIN, 2_147_483_646, -1, -2],
         ],
     );
     total(
         &rt,
-        BinOp::Sub(I64),
+        BinOp::Sub(I32),
         &[
-            [0, -1, 1, MIN, -9_223_372_036_854_775_807],
-            [
-                1,
-                0,
-                2,
-                -9_223_372_036_854_775_807,
-                -9_223_372_036_854_775_806,
-            ],
+            [0, -1, 1, MIN, -2_147_483_647],
+            [1, 0, 2, -2_147_483_647, -2_147_483_646],
             [-1, -2, 0, MAX, MIN],
-            [MIN, MAX, -9_223_372_036_854_775_807, 0, 1],
-            [MAX, 9_223_372_036_854_775_806, MIN, -1, 0],
+            [MIN, MAX, -2_147_483_647, 0, 1],
+            [MAX, 2_147_483_646, MIN, -1, 0],
         ],
     );
     total(
         &rt,
-        BinOp::Mul(I64),
+        BinOp::Mul(I32),
         &[
             [0, 0, 0, 0, 0],
             [0, 1, -1, MIN, MAX],
-            [0, -1, 1, MIN, -9_223_372_036_854_775_807],
+            [0, -1, 1, MIN, -2_147_483_647],
             [0, MIN, MIN, 0, MIN],
-            [0, MAX, -9_223_372_036_854_775_807, MIN, 1],
+            [0, MAX, -2_147_483_647, MIN, 1],
         ],
     );
     total(
         &rt,
-        BinOp::And(I64),
+        BinOp::And(I32),
         &[
             [0, 0, 0, 0, 0],
             [0, 1, 1, 0, 1],
@@ -142,30 +136,24 @@ fn sums_products_and_bits(rt: HostRuntime) {
     );
     total(
         &rt,
-        BinOp::Or(I64),
+        BinOp::Or(I32),
         &[
             [0, 1, -1, MIN, MAX],
-            [1, 1, -1, -9_223_372_036_854_775_807, MAX],
+            [1, 1, -1, -2_147_483_647, MAX],
             [-1, -1, -1, -1, -1],
-            [MIN, -9_223_372_036_854_775_807, -1, MIN, -1],
+            [MIN, -2_147_483_647, -1, MIN, -1],
             [MAX, MAX, -1, -1, MAX],
         ],
     );
     total(
         &rt,
-        BinOp::Xor(I64),
+        BinOp::Xor(I32),
         &[
             [0, 1, -1, MIN, MAX],
-            [
-                1,
-                0,
-                -2,
-                -9_223_372_036_854_775_807,
-                9_223_372_036_854_775_806,
-            ],
+            [1, 0, -2, -2_147_483_647, 2_147_483_646],
             [-1, -2, 0, MAX, MIN],
-            [MIN, -9_223_372_036_854_775_807, MAX, 0, -1],
-            [MAX, 9_223_372_036_854_775_806, MIN, -1, 0],
+            [MIN, -2_147_483_647, MAX, 0, -1],
+            [MAX, 2_147_483_646, MIN, -1, 0],
         ],
     );
 }
@@ -174,7 +162,7 @@ fn sums_products_and_bits(rt: HostRuntime) {
 fn divisions(rt: HostRuntime) {
     division(
         &rt,
-        BinOp::DivS(I64),
+        BinOp::DivS(I32),
         &[
             [Err(DivideByZero), Ok(0), Ok(0), Ok(0), Ok(0)],
             [Err(DivideByZero), Ok(1), Ok(-1), Ok(0), Ok(0)],
@@ -186,18 +174,12 @@ fn divisions(rt: HostRuntime) {
                 Ok(1),
                 Ok(-1),
             ],
-            [
-                Err(DivideByZero),
-                Ok(MAX),
-                Ok(-9_223_372_036_854_775_807),
-                Ok(0),
-                Ok(1),
-            ],
+            [Err(DivideByZero), Ok(MAX), Ok(-2_147_483_647), Ok(0), Ok(1)],
         ],
     );
     division(
         &rt,
-        BinOp::DivU(I64),
+        BinOp::DivU(I32),
         &[
             [Err(DivideByZero), Ok(0), Ok(0), Ok(0), Ok(0)],
             [Err(DivideByZero), Ok(1), Ok(0), Ok(0), Ok(0)],
@@ -208,7 +190,7 @@ fn divisions(rt: HostRuntime) {
     );
     division(
         &rt,
-        BinOp::RemS(I64),
+        BinOp::RemS(I32),
         &[
             [Err(DivideByZero), Ok(0), Ok(0), Ok(0), Ok(0)],
             [Err(DivideByZero), Ok(0), Ok(0), Ok(1), Ok(1)],
@@ -219,7 +201,7 @@ fn divisions(rt: HostRuntime) {
     );
     division(
         &rt,
-        BinOp::RemU(I64),
+        BinOp::RemU(I32),
         &[
             [Err(DivideByZero), Ok(0), Ok(0), Ok(0), Ok(0)],
             [Err(DivideByZero), Ok(0), Ok(1), Ok(1), Ok(1)],
@@ -234,127 +216,73 @@ fn divisions(rt: HostRuntime) {
 fn shifts_and_rotations(rt: HostRuntime) {
     shift(
         &rt,
-        BinOp::Shl(I64),
+        BinOp::Shl(I32),
         &[
             [0, 0, 0, 0, 0],
             [1, 2, MIN, 1, 2],
             [-1, -2, MIN, -1, -2],
             [MIN, 0, 0, MIN, 0],
             [MAX, -2, MIN, MAX, -2],
-            [
-                1_311_768_467_463_790_320,
-                2_623_536_934_927_580_640,
-                0,
-                1_311_768_467_463_790_320,
-                2_623_536_934_927_580_640,
-            ],
+            [305_419_896, 610_839_792, 0, 305_419_896, 610_839_792],
         ],
     );
     shift(
         &rt,
-        BinOp::ShrS(I64),
+        BinOp::ShrS(I32),
         &[
             [0, 0, 0, 0, 0],
             [1, 0, 0, 1, 0],
             [-1, -1, -1, -1, -1],
-            [
-                MIN,
-                -4_611_686_018_427_387_904,
-                -1,
-                MIN,
-                -4_611_686_018_427_387_904,
-            ],
-            [
-                MAX,
-                4_611_686_018_427_387_903,
-                0,
-                MAX,
-                4_611_686_018_427_387_903,
-            ],
-            [
-                1_311_768_467_463_790_320,
-                655_884_233_731_895_160,
-                0,
-                1_311_768_467_463_790_320,
-                655_884_233_731_895_160,
-            ],
+            [MIN, -1_073_741_824, -1, MIN, -1_073_741_824],
+            [MAX, 1_073_741_823, 0, MAX, 1_073_741_823],
+            [305_419_896, 152_709_948, 0, 305_419_896, 152_709_948],
         ],
     );
     shift(
         &rt,
-        BinOp::ShrU(I64),
+        BinOp::ShrU(I32),
         &[
             [0, 0, 0, 0, 0],
             [1, 0, 0, 1, 0],
             [-1, MAX, 1, -1, MAX],
-            [
-                MIN,
-                4_611_686_018_427_387_904,
-                1,
-                MIN,
-                4_611_686_018_427_387_904,
-            ],
-            [
-                MAX,
-                4_611_686_018_427_387_903,
-                0,
-                MAX,
-                4_611_686_018_427_387_903,
-            ],
-            [
-                1_311_768_467_463_790_320,
-                655_884_233_731_895_160,
-                0,
-                1_311_768_467_463_790_320,
-                655_884_233_731_895_160,
-            ],
+            [MIN, 1_073_741_824, 1, MIN, 1_073_741_824],
+            [MAX, 1_073_741_823, 0, MAX, 1_073_741_823],
+            [305_419_896, 152_709_948, 0, 305_419_896, 152_709_948],
         ],
     );
     shift(
         &rt,
-        BinOp::Rotl(I64),
+        BinOp::Rotl(I32),
         &[
             [0, 0, 0, 0, 0],
             [1, 2, MIN, 1, 2],
             [-1, -1, -1, -1, -1],
-            [MIN, 1, 4_611_686_018_427_387_904, MIN, 1],
-            [MAX, -2, -4_611_686_018_427_387_905, MAX, -2],
+            [MIN, 1, 1_073_741_824, MIN, 1],
+            [MAX, -2, -1_073_741_825, MAX, -2],
             [
-                1_311_768_467_463_790_320,
-                2_623_536_934_927_580_640,
-                655_884_233_731_895_160,
-                1_311_768_467_463_790_320,
-                2_623_536_934_927_580_640,
+                305_419_896,
+                610_839_792,
+                152_709_948,
+                305_419_896,
+                610_839_792,
             ],
         ],
     );
     shift(
         &rt,
-        BinOp::Rotr(I64),
+        BinOp::Rotr(I32),
         &[
             [0, 0, 0, 0, 0],
             [1, MIN, 2, 1, MIN],
             [-1, -1, -1, -1, -1],
+            [MIN, 1_073_741_824, 1, MIN, 1_073_741_824],
+            [MAX, -1_073_741_825, -2, MAX, -1_073_741_825],
             [
-                MIN,
-                4_611_686_018_427_387_904,
-                1,
-                MIN,
-                4_611_686_018_427_387_904,
-            ],
-            [
-                MAX,
-                -4_611_686_018_427_387_905,
-                -2,
-                MAX,
-                -4_611_686_018_427_387_905,
-            ],
-            [
-                1_311_768_467_463_790_320,
-                655_884_233_731_895_160,
-                2_623_536_934_927_580_640,
-                1_311_768_467_463_790_320,
-                655_884_233_731_895_160,
+                305_419_896,
+                152_709_948,
+                610_839_792,
+                305_419_896,
+                152_709_948,
             ],
         ],
     );
@@ -364,7 +292,7 @@ fn shifts_and_rotations(rt: HostRuntime) {
 fn comparisons(rt: HostRuntime) {
     comparison(
         &rt,
-        RelOp::Equal(I64),
+        RelOp::Equal(I32),
         &[
             [1, 0, 0, 0, 0],
             [0, 1, 0, 0, 0],
@@ -375,7 +303,7 @@ fn comparisons(rt: HostRuntime) {
     );
     comparison(
         &rt,
-        RelOp::NotEqual(I64),
+        RelOp::NotEqual(I32),
         &[
             [0, 1, 1, 1, 1],
             [1, 0, 1, 1, 1],
@@ -386,7 +314,7 @@ fn comparisons(rt: HostRuntime) {
     );
     comparison(
         &rt,
-        RelOp::LtS(I64),
+        RelOp::LtS(I32),
         &[
             [0, 1, 0, 0, 1],
             [0, 0, 0, 0, 1],
@@ -397,7 +325,7 @@ fn comparisons(rt: HostRuntime) {
     );
     comparison(
         &rt,
-        RelOp::LtU(I64),
+        RelOp::LtU(I32),
         &[
             [0, 1, 1, 1, 1],
             [0, 0, 1, 1, 1],
@@ -408,7 +336,7 @@ fn comparisons(rt: HostRuntime) {
     );
     comparison(
         &rt,
-        RelOp::GtS(I64),
+        RelOp::GtS(I32),
         &[
             [0, 0, 1, 1, 0],
             [1, 0, 1, 1, 0],
@@ -419,7 +347,7 @@ fn comparisons(rt: HostRuntime) {
     );
     comparison(
         &rt,
-        RelOp::GtU(I64),
+        RelOp::GtU(I32),
         &[
             [0, 0, 0, 0, 0],
             [1, 0, 0, 0, 0],
@@ -430,7 +358,7 @@ fn comparisons(rt: HostRuntime) {
     );
     comparison(
         &rt,
-        RelOp::LeS(I64),
+        RelOp::LeS(I32),
         &[
             [1, 1, 0, 0, 1],
             [0, 1, 0, 0, 1],
@@ -441,7 +369,7 @@ fn comparisons(rt: HostRuntime) {
     );
     comparison(
         &rt,
-        RelOp::LeU(I64),
+        RelOp::LeU(I32),
         &[
             [1, 1, 1, 1, 1],
             [0, 1, 1, 1, 1],
@@ -452,7 +380,7 @@ fn comparisons(rt: HostRuntime) {
     );
     comparison(
         &rt,
-        RelOp::GeS(I64),
+        RelOp::GeS(I32),
         &[
             [1, 0, 1, 1, 0],
             [1, 1, 1, 1, 0],
@@ -463,7 +391,7 @@ fn comparisons(rt: HostRuntime) {
     );
     comparison(
         &rt,
-        RelOp::GeU(I64),
+        RelOp::GeU(I32),
         &[
             [1, 0, 0, 0, 0],
             [1, 1, 0, 0, 0],
@@ -476,15 +404,15 @@ fn comparisons(rt: HostRuntime) {
 
 #[test]
 fn counts_of_bits(rt: HostRuntime) {
-    count(&rt, UnOp::Clz(I64), &[64, 63, 0, 0, 1, 3]);
-    count(&rt, UnOp::Ctz(I64), &[64, 0, 0, 63, 0, 4]);
-    count(&rt, UnOp::Popcnt(I64), &[0, 1, 64, 1, 63, 32]);
+    count(&rt, UnOp::Clz(I32), &[32, 31, 0, 0, 1, 3]);
+    count(&rt, UnOp::Ctz(I32), &[32, 0, 0, 31, 0, 3]);
+    count(&rt, UnOp::Popcnt(I32), &[0, 1, 32, 1, 31, 13]);
 }
 
 #[test]
 fn tests_of_zero(rt: HostRuntime) {
     for (operand, answer) in SHIFTED.iter().zip(&[1, 0, 0, 0, 0, 0]) {
-        let found = test(TestOp::Eqz(I64), Value::I64(*operand));
+        let found = test(TestOp::Eqz(I32), Value::I32(*operand));
         assert_eq!(rt; found, Value::I32(*answer), "eqz of {operand}");
     }
 }

@@ -1,5 +1,5 @@
 use Rattle.interp.specs.Progress.{IsFree}
-use Rattle.interp_runs.proofs.tests.run.Given as goal
+use Rattle.tests_machine.proofs.runs.run.Given as goal
 
 abbrev pub invariant-loop : goal.invariant-loop
 invariant-loop l = IsFree l.machine.status

@@ -1,8 +1,6 @@
-//! The operators beside another implementation, V8's WebAssembly engine (Node.js 20.20), on the values at the edges of each width.
-mod bits_32;
-mod bits_64;
+//! Conversions beside another implementation, V8's WebAssembly engine (Node.js 20.20), on the values at the edges of each width.
 
-use crate::convert;
+use numeric::convert;
 use wtypes::{CvtOp, Value};
 
 #[test]

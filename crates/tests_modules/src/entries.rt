@@ -1,8 +1,8 @@
 // Which function a call starts with.
-use crate::contract::{CONTRACT, linked};
 use call::Call;
 use link::deployed::Deployed;
 use opening::{Refusal, entry_of};
+use samples::{EXAMPLE, deployed};
 use std::alloc::Global;
 use std::test::Fail;
 use wtypes::Value;
@@ -21,7 +21,7 @@ fn entry(
 #[test]
 fn functions_and_arguments(rt: HostRuntime) -> Result<(), Fail> {
     let a = rt.alloc();
-    let contract = linked(a, &CONTRACT)?;
+    let contract = deployed(a, &EXAMPLE)?;
     let rows: [(&str, &[Value], Result<u32, Refusal>); 9] = [
         ("bump", &[I64(7), I64(5)], Ok(4)),
         ("peek", &[I64(7)], Ok(7)),
@@ -46,7 +46,7 @@ fn exports_that_are_no_functions(rt: HostRuntime) -> Result<(), Fail> {
     // (module (import "boost" "get" (func (param i64) (result i64))) (memory 0) (export "get" (func 0)) (export "memory" (memory 0)))
     let bytes =
         b"\x00asm\x01\x00\x00\x00\x01\x06\x01`\x01~\x01~\x02\x0d\x01\x05boost\x03get\x00\x00\x05\x03\x01\x00\x00\x07\x10\x02\x03get\x00\x00\x06memory\x02\x00";
-    let contract = linked(a, bytes)?;
+    let contract = deployed(a, bytes)?;
     assert_eq!(rt;
         entry(a, &contract, "get", &[I64(7)])?,
         Err(Refusal::NotFunction)

@@ -1,16 +1,14 @@
-use crate::programs::{COUNTDOWN, EXAMPLE, TWO, WRITER};
+use crate::debugged::{COUNTDOWN, TWO, WRITER};
 use call::Call;
 use debugger::Contract;
 use debugger::session::{Refusal, Session};
 use interp::start::StartRefusal;
-use link::deploy::deploy;
-use loader::load;
+use samples::{EXAMPLE, Unfit, call, deployed};
 use spec_ledger::Outcome;
 use std::alloc::Global;
 use std::process::Abort;
 use std::test::Fail;
 use storage::Cells;
-use typing::check::check;
 use wtypes::{TrapCode, Value};
 
 // What is asked of a session, with what it must answer.
@@ -38,16 +36,9 @@ enum Ask<'a> {
     OutOfRange(u64, u64),
 }
 
-fn contracts(alloc: Global, bytes: &[u8]) -> Result<Vec<Contract<Global>>, Fail> {
-    let tree = load(alloc, bytes).ok().ok_or("a module")?;
-    let valid = check(&alloc, tree).ok().ok_or("a valid module")?;
-    let deployed = deploy(&alloc, valid).ok().ok_or("a module that is linked")?;
-    Ok(vec![in alloc; deployed]?)
-}
-
-fn call(alloc: Global, name: &str, args: &[Value], fuel: u64) -> Result<Call, Fail> {
-    let call = Call::new(0, name.to_string(alloc)?, args.to_vec(alloc)?, fuel);
-    Ok(call.ok_or("within the limits")?)
+/// A call of the contract.
+fn calling(alloc: Global, name: &str, args: &[Value], fuel: u64) -> Result<Call, Unfit> {
+    call(alloc, 0, name, args, fuel)
 }
 
 fn open<'a>(
@@ -117,7 +108,7 @@ fn debugs<R: Abort>(
     call: &Call,
     asks: &[Ask<'_>],
 ) -> Result<(), Fail> {
-    let contracts = contracts(alloc, module)?;
+    let contracts = [deployed(alloc, module)?];
     let cells = Cells::new(alloc);
     let mut session = open(alloc, &contracts, &cells, call)?;
     all_agree(rt, &mut session, asks);
@@ -126,7 +117,7 @@ fn debugs<R: Abort>(
 
 #[test]
 fn forward_and_back(rt: HostRuntime) -> Result<(), Fail> {
-    let call = call(rt.alloc(), "down", &[Value::I64(2)], 16)?;
+    let call = calling(rt.alloc(), "down", &[Value::I64(2)], 16)?;
     let asks = [
         Ask::At(0, 0, 0),
         Ask::Step(3, 3),
@@ -153,7 +144,7 @@ fn forward_and_back(rt: HostRuntime) -> Result<(), Fail> {
 
 #[test]
 fn on_to_a_break(rt: HostRuntime) -> Result<(), Fail> {
-    let call = call(rt.alloc(), "down", &[Value::I64(2)], 16)?;
+    let call = calling(rt.alloc(), "down", &[Value::I64(2)], 16)?;
     let asks = [
         Ask::Break(0, 6, Ok(())),
         Ask::Break(0, 6, Ok(())),
@@ -181,7 +172,7 @@ fn on_to_a_break(rt: HostRuntime) -> Result<(), Fail> {
 
 #[test]
 fn back_over_a_host_call_that_added(rt: HostRuntime) -> Result<(), Fail> {
-    let call = call(rt.alloc(), "both", &[Value::I64(7), Value::I64(1)], 100)?;
+    let call = calling(rt.alloc(), "both", &[Value::I64(7), Value::I64(1)], 100)?;
     let asks = [
         Ask::Step(4, 4),
         Ask::At(4, 6, 4),
@@ -198,7 +189,7 @@ fn back_over_a_host_call_that_added(rt: HostRuntime) -> Result<(), Fail> {
 
 #[test]
 fn back_over_a_store(rt: HostRuntime) -> Result<(), Fail> {
-    let call = call(rt.alloc(), "w", &[], 100)?;
+    let call = calling(rt.alloc(), "w", &[], 100)?;
     let asks = [
         Ask::Step(5, 5),
         Ask::Done(5, Outcome::Returned(None)),
@@ -217,7 +208,7 @@ fn back_over_a_store(rt: HostRuntime) -> Result<(), Fail> {
 // 72623859790382856 is 0x0102030405060708, whose double is 0x020406080A0C0E10.
 #[test]
 fn two_functions_and_a_page_border(rt: HostRuntime) -> Result<(), Fail> {
-    let call = call(
+    let call = calling(
         rt.alloc(),
         "border",
         &[Value::I64(72_623_859_790_382_856)],
@@ -258,7 +249,7 @@ fn two_functions_and_a_page_border(rt: HostRuntime) -> Result<(), Fail> {
 
 #[test]
 fn a_trap(rt: HostRuntime) -> Result<(), Fail> {
-    let call = call(rt.alloc(), "trap", &[Value::I64(3)], 100)?;
+    let call = calling(rt.alloc(), "trap", &[Value::I64(3)], 100)?;
     let asks = [
         Ask::Step(8, 8),
         Ask::At(8, 3, 3),
@@ -277,7 +268,7 @@ fn a_trap(rt: HostRuntime) -> Result<(), Fail> {
 
 #[test]
 fn want_of_fuel(rt: HostRuntime) -> Result<(), Fail> {
-    let call = call(rt.alloc(), "down", &[Value::I64(2)], 15)?;
+    let call = calling(rt.alloc(), "down", &[Value::I64(2)], 15)?;
     let asks = [
         Ask::Step(99, 15),
         Ask::Done(15, Outcome::OutOfFuel),
@@ -292,8 +283,8 @@ fn want_of_fuel(rt: HostRuntime) -> Result<(), Fail> {
 #[test]
 fn a_call_that_does_not_start(rt: HostRuntime) -> Result<(), Fail> {
     let alloc = rt.alloc();
-    let contracts = contracts(alloc, &COUNTDOWN)?;
-    let up = call(alloc, "up", &[], 15)?;
+    let contracts = [deployed(alloc, &COUNTDOWN)?];
+    let up = calling(alloc, "up", &[], 15)?;
     let cells = Cells::new(alloc);
     assert_eq!(rt;
         Session::open(alloc, &contracts, &cells, &up).err(),
@@ -305,7 +296,7 @@ fn a_call_that_does_not_start(rt: HostRuntime) -> Result<(), Fail> {
 // 12,500 rounds of 8 turns. States are kept on the way, so that few of the turns are made again.
 #[test]
 fn back_in_a_long_run(rt: HostRuntime) -> Result<(), Fail> {
-    let call = call(rt.alloc(), "down", &[Value::I64(12_500)], 200_000)?;
+    let call = calling(rt.alloc(), "down", &[Value::I64(12_500)], 200_000)?;
     let asks = [
         Ask::Step(99_990, 99_990),
         Ask::At(99_990, 0, 6),
