@@ -5,6 +5,5 @@ pub mod check;
 mod operands;
 mod operators;
 mod plain;
-mod rows;
 pub mod scope;
 pub mod spaces;

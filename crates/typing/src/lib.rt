@@ -2,7 +2,6 @@
 #![tactic(auto)]
 
 pub mod check;
-mod rows;
 mod rules;
 mod uses;
 pub mod valid;
