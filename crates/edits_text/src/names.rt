@@ -1,0 +1,29 @@
+//! Names.
+ghost use Rattle.std.specs.Prelude.{◌≡◌, map, IfOk, IfErr};
+ghost use Rattle.spec_text.specs.Resolve.{AreDistinct};
+ghost use Rattle.text_body.specs.Views.{text_of};
+ghost use Rattle.text_names.specs.Lookup.{find};
+ghost use Rattle.text_names.specs.Outcome.{Gives, Unless};
+
+use std::alloc::Allocator;
+use text_names::{AsmRefusal, Finds, Labels, Space};
+use text_words::Piece;
+
+/// As [`Labels::find`].
+pub fn find_label<A: Allocator>(labels: &Labels<'_, A>, piece: Piece<'_>) -> Result<u32, AsmRefusal>
+    ensures { Gives (λ n. n) result (find piece.entry.text.now (map text_of labels.now.open.items)) }
+{
+    labels.find(piece)
+}
+
+/// As [`Space::of`].
+pub fn space_of<'a, A: Allocator + Clone>(
+    alloc: &A,
+    names: Vec<Option<Piece<'a>>, A>,
+) -> Result<Space<'a, A>, AsmRefusal>
+    ensures names { IfOk result (λ space. space.names.items ≡ names.entry.items) }
+    ensures distinct { IfOk result (λ _. AreDistinct (map text_of names.entry.items)) }
+    ensures refused { IfErr result (Unless (AreDistinct (map text_of names.entry.items) → ⊥)) }
+{
+    Space::of(alloc, names)
+}

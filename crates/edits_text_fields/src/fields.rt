@@ -1,0 +1,45 @@
+//! Fields and the parts that they make.
+ghost use Rattle.std.specs.Prelude.{◌≡◌, true, map, IfOk};
+ghost use Rattle.spec_text.specs.Resolve.{count_imported};
+ghost use Rattle.module_tree.specs.ModuleView.{func_type_view};
+ghost use Rattle.text_tree.specs.Views.{field_of, fields_of};
+ghost use Rattle.text_names.specs.Outcome.{Gives};
+ghost use Rattle.text_resolve.specs.Views.{spaces_of};
+ghost use Rattle.text_fields.specs.PartView.{part_view, is_numbered};
+ghost use Rattle.text_fields.specs.Parts.{part_at, part_fits};
+ghost use Rattle.text_module.specs.Made.{make_at};
+ghost use Rattle.text_parts.specs.PartsView.{parts_view, with_types, are_parts_numbered, AreInRange};
+
+use std::alloc::Allocator;
+use text_fields::Part;
+use text_names::AsmRefusal;
+use text_parts::Parts;
+use text_resolve::Spaces;
+use text_tree::{Field, Text};
+
+/// As [`text_fields::part_of`].
+pub fn part_of<'a, A: Allocator + Clone>(
+    alloc: &A,
+    spaces: &Spaces<'a, A>,
+    field: &Field<'a, A>,
+    func: u32,
+) -> Result<Part<A>, AsmRefusal>
+    ensures part { Gives part_view result (part_at (spaces_of spaces.now) func (field_of field.now)) }
+    ensures in_range { IfOk result (λ p. part_fits (part_view p) ≡ true) }
+    ensures numbered { IfOk result (λ p. is_numbered p ≡ true) }
+{
+    text_fields::part_of(alloc, spaces, field, func)
+}
+
+/// As [`text_parts::parts_of_text`].
+pub fn parts_of_text<'a, A: Allocator + Clone>(
+    alloc: &A,
+    spaces: &Spaces<'a, A>,
+    text: &Text<'a, A>,
+) -> Result<Parts<A>, AsmRefusal>
+    ensures parts { Gives (λ p. with_types (map func_type_view spaces.now.types.items) (parts_view p)) result (make_at (spaces_of spaces.now) (fields_of text.now) (count_imported (fields_of text.now))) }
+    ensures in_range { IfOk result (λ p. AreInRange (parts_view p)) }
+    ensures numbered { IfOk result (λ p. are_parts_numbered p ≡ true) }
+{
+    text_parts::parts_of_text(alloc, spaces, text)
+}
