@@ -1,0 +1,45 @@
+//! What the debugger prints.
+
+ghost use Rattle.std.specs.Prelude.{◌≡◌, IsTrue, IfOk, IfErr, OnOk, MatchOption, string_bytes};
+ghost use Rattle.interp.specs.Lent.{contracts_view};
+ghost use Rattle.debug_lines.specs.Prints.{IsDebugged};
+ghost use Rattle.wblock_line.specs.Answers.{CountsFault};
+ghost use Rattle.wblock_debug.specs.Debugs.{IsNotListed, Debugs};
+
+use call::Call;
+use debug_asked::Debugging;
+use debug_lines::Printed;
+use debug_words::Command;
+use debugger::Contract;
+use std::alloc::{Allocator, Global};
+use storage::Cells;
+use wblock_io::Files;
+use wblock_line::{Answer, Fault};
+use wtypes::NoMemory;
+
+/// As [`debug_lines::debug_call`].
+pub fn debug_call<A: Allocator + Copy>(
+    alloc: A,
+    contracts: &[Contract<A>],
+    cells: &Cells<A>,
+    call: &Call,
+    commands: &[Command],
+) -> Result<Printed<A>, NoMemory>
+    ensures { IfOk result (λ p. IsDebugged (contracts_view contracts.now) cells.now.cells call.now commands.now p.refused (string_bytes p.text)) }
+{
+    debug_lines::debug_call(alloc, contracts, cells, call, commands)
+}
+
+/// As [`wblock_debug::debug_world`].
+pub fn debug_world<'a, F: Files>(
+    alloc: Global,
+    files: &mut F,
+    task: &Debugging<'a>,
+) -> Result<Option<Answer<'a>>, Fault<'a>>
+    ensures answers { IfOk result (λ found. IsTrue F.tells → MatchOption found (IsNotListed (F.holds files.old) task.now) (Debugs (F.holds files.old) task.now)) }
+    ensures kept { IsTrue F.tells → F.holds files.new ≡ F.holds files.old }
+    ensures calm { OnOk result (F.failures files.new ≡ F.failures files.old) }
+    ensures counted { IfErr result (λ f. CountsFault f (F.failures files.old) (F.failures files.new)) }
+{
+    wblock_debug::debug_world(alloc, files, task)
+}

@@ -1,0 +1,61 @@
+//! Sessions of the debugger.
+
+ghost use Rattle.std.specs.Prelude.{◌≡◌};
+ghost use Rattle.debugger.specs.Sight.{place_at, globals_at};
+ghost use Rattle.debugger.specs.Commands.{Steps, GoesBack, Continues, Breaks};
+
+use debugger::session::{Refusal, Session};
+use std::alloc::Allocator;
+use wtypes::Value;
+
+/// As [`debugger::session::Session::step`].
+pub fn step<'a, A: Allocator + Copy>(
+    session: &mut Session<'a, A>,
+    count: u64,
+) -> Result<u64, Refusal>
+    ensures { Steps session.old count result session.new }
+{
+    session.step(count)
+}
+
+/// As [`debugger::session::Session::back`].
+pub fn back<'a, A: Allocator + Copy>(
+    session: &mut Session<'a, A>,
+    count: u64,
+) -> Result<(), Refusal>
+    ensures { GoesBack session.old count result session.new }
+{
+    session.back(count)
+}
+
+/// As [`debugger::session::Session::cont`].
+pub fn cont<'a, A: Allocator + Copy>(session: &mut Session<'a, A>) -> Result<u64, Refusal>
+    ensures { Continues session.old result session.new }
+{
+    session.cont()
+}
+
+/// As [`debugger::session::Session::break_at`].
+pub fn break_at<'a, A: Allocator + Copy>(
+    session: &mut Session<'a, A>,
+    func: u32,
+    ordinal: u32,
+) -> Result<(), Refusal>
+    ensures { Breaks session.old (func, ordinal) result session.new }
+{
+    session.break_at(func, ordinal)
+}
+
+/// As [`debugger::session::Session::place`].
+pub fn place<'a, A: Allocator + Copy>(session: &Session<'a, A>) -> Option<(u32, u32)>
+    ensures { result ≡ place_at session.now }
+{
+    session.place()
+}
+
+/// As [`debugger::session::Session::globals`].
+pub fn globals<'b, 'a, A: Allocator + Copy>(session: &'b Session<'a, A>) -> &'b [Value]
+    ensures { result.now ≡ globals_at session.now }
+{
+    session.globals()
+}

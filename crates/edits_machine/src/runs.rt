@@ -1,0 +1,56 @@
+//! Runs of machines.
+
+ghost use Rattle.std.specs.Prelude.{◌≡◌, IfOk, IfErr, MatchResult};
+ghost use Rattle.spec_execution.specs.Run.{opening};
+ghost use Rattle.interp.specs.Lent.{contracts_view};
+ghost use Rattle.interp.specs.Progress.{NextIs, IsFree, IsProgress, IsAwaited, HasAnswered, IsFinishOf, IsUnfinished, IsStartOf};
+ghost use Rattle.interp.specs.Starting.{IsRefusedFor};
+
+use call::Call;
+use interp::finished::Finished;
+use interp::machine::Machine;
+use interp::start::StartRefusal;
+use interp::turns::Turn;
+use link::deployed::Deployed;
+use spec_ledger::Reply;
+use std::alloc::Allocator;
+
+/// As [`interp::machine::Machine::start`].
+pub fn start<'a, A: Allocator + Copy>(
+    alloc: A,
+    contracts: &'a [Deployed<A>],
+    call: &'a Call,
+) -> Result<Machine<'a, A>, StartRefusal>
+    ensures start { IfOk result (λ m. IsStartOf (contracts_view contracts.now) call.now m) }
+    ensures on_run { IfOk result (λ m. IsProgress m) }
+    ensures refused { IfErr result (λ refusal. IsRefusedFor refusal (opening (contracts_view contracts.now) call.now)) }
+{
+    Machine::start(alloc, contracts, call)
+}
+
+/// As [`interp::machine::Machine::next`].
+pub fn next<'a, A: Allocator + Copy>(machine: &mut Machine<'a, A>) -> Turn
+    requires { IsFree machine.old.status }
+    ensures turn { NextIs machine.old result machine.new }
+    ensures on_run { IsProgress machine.new }
+{
+    machine.next()
+}
+
+/// As [`interp::machine::Machine::answer`].
+pub fn answer<'a, A: Allocator + Copy>(machine: &mut Machine<'a, A>, reply: Reply)
+    requires { IsAwaited machine.old.status reply }
+    ensures answered { HasAnswered machine.old reply machine.new }
+    ensures on_run { IsProgress machine.new }
+{
+    machine.answer(reply)
+}
+
+/// As [`interp::machine::Machine::finish`].
+pub fn finish<'a, A: Allocator + Copy>(
+    machine: Machine<'a, A>,
+) -> Result<Finished<'a, A>, Machine<'a, A>>
+    ensures { MatchResult result (IsFinishOf machine.entry) (λ m. (m ≡ machine.entry) × IsUnfinished machine.entry.status) }
+{
+    machine.finish()
+}
