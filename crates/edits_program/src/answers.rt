@@ -1,0 +1,48 @@
+//! What is told: the stored run, an answer that is carried out, a fault, and the usage.
+ghost use Rattle.std.specs.Prelude.{◌≡◌, ◌≢◌, ◌⊎◌, IsTrue, IfOk, IfErr, string_bytes};
+ghost use Rattle.codec.specs.Putting.{IsRaised};
+ghost use Rattle.wblock_line.specs.Answers.{IsPerformed, IsCut, status_of, status_of_fault};
+ghost use Rattle.wblock_stored.specs.Stored.{ShowsStored};
+ghost use Rattle.wblock_usage.specs.Lines.{EndsLine};
+
+use codec::Sink;
+use std::alloc::{AllocError, Global};
+use wblock_io::Files;
+use wblock_line::{Answer, Fault, Status};
+
+/// As [`wblock_stored::show_stored`].
+pub fn show_stored<'a>(alloc: Global) -> Result<Answer<'a>, Fault<'a>>
+    ensures answers { IfOk result ShowsStored }
+    ensures fault { IfErr result (λ f. f ≡ Fault.NoMemory) }
+{
+    wblock_stored::show_stored(alloc)
+}
+
+/// As [`wblock_usage::usage_text`].
+pub fn usage_text<'a>(alloc: Global, words: &'a [&'a str]) -> Result<String, AllocError>
+    ensures { IfOk result (λ text. EndsLine (string_bytes text)) }
+{
+    wblock_usage::usage_text(alloc, words)
+}
+
+/// As [`wblock_line::tell_fault`].
+pub fn tell_fault<E: Sink>(fault: Fault, err: &mut E) -> Status
+    ensures { result ≡ status_of_fault fault.entry }
+{
+    wblock_line::tell_fault(fault, err)
+}
+
+/// As [`wblock_line::carry_out`].
+pub fn carry_out<F: Files, O: Sink, E: Sink>(
+    answer: Answer,
+    files: &mut F,
+    out: &mut O,
+    err: &mut E,
+) -> Status
+    ensures status { result ≢ Status.File → result ≡ status_of answer.entry }
+    ensures performed { result ≢ Status.File → IsTrue F.tells → IsTrue O.tells → IsPerformed answer.entry (F.holds files.old) (F.holds files.new) (O.told out.old) (O.told out.new) }
+    ensures cut { result ≡ Status.File → IsTrue F.tells → IsTrue O.tells → IsCut answer.entry (F.holds files.old) (F.holds files.new) (O.told out.old) (O.told out.new) }
+    ensures counted { result ≡ Status.File → IsRaised (F.failures files.old) (F.failures files.new) ⊎ IsRaised (O.failures out.old) (O.failures out.new) }
+{
+    wblock_line::carry_out(answer, files, out, err)
+}

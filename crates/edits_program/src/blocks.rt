@@ -1,0 +1,77 @@
+//! The commands on blocks, and what they read.
+ghost use Rattle.std.specs.Prelude.{◌≡◌, ◌≤◌, IsTrue, IfOk, IfErr, OnOk, vec_len};
+ghost use Rattle.calls_text.specs.Texts.{SpellsCalls};
+ghost use Rattle.calls_text.specs.Refusals.{Tells};
+ghost use Rattle.wblock_line.specs.Answers.{CountsFault};
+ghost use Rattle.wblock_inputs.specs.Inputs.{HasFew, Gives};
+ghost use Rattle.wblock_mine.specs.Mines.{Mines};
+ghost use Rattle.wblock_validate.specs.Validates.{Validates};
+
+use call::Call;
+use calls_text::{CallsRefusal, MOST_CALLS};
+use std::alloc::Global;
+use std::sync::Wait;
+use std::thread::Threads;
+use wblock_inputs::Inputs;
+use wblock_io::Files;
+use wblock_line::{Answer, Fault};
+use wblock_mine::Mining;
+use wblock_validate::Validation;
+
+/// As [`calls_text::read_calls`].
+pub fn read_calls(alloc: Global, text: &[u8]) -> Result<Vec<Call>, CallsRefusal>
+    ensures spelled { IfOk result (λ calls. SpellsCalls text.now calls.items) }
+    ensures few { IfOk result (λ calls. vec_len calls ≤ MOST_CALLS) }
+    ensures refused { IfErr result (Tells text.now) }
+{
+    calls_text::read_calls(alloc, text)
+}
+
+/// As [`wblock_inputs::read_inputs`].
+pub fn read_inputs<'a, F: Files>(
+    alloc: Global,
+    files: &mut F,
+    world: &'a str,
+    calls: &'a str,
+) -> Result<Inputs, Fault<'a>>
+    ensures few { IfOk result HasFew }
+    ensures gives { IfOk result (λ inputs. IsTrue F.tells → Gives (F.holds files.old) world.entry.now calls.entry.now inputs) }
+    ensures kept { IsTrue F.tells → F.holds files.new ≡ F.holds files.old }
+    ensures calm { OnOk result (F.failures files.new ≡ F.failures files.old) }
+    ensures counted { IfErr result (λ f. CountsFault f (F.failures files.old) (F.failures files.new)) }
+{
+    wblock_inputs::read_inputs(alloc, files, world, calls)
+}
+
+/// As [`wblock_mine::mine_block`].
+pub fn mine_block<'a, R: Threads + Wait + Sync, F: Files>(
+    rt: &R,
+    alloc: Global,
+    files: &mut F,
+    task: Mining<'a>,
+) -> Result<Answer<'a>, Fault<'a>>
+    requires workers { (1 ≤ task.workers) × (task.workers ≤ 64) }
+    requires tries { (1 ≤ task.tries) × (task.tries ≤ 16) }
+    ensures answers { IfOk result (λ a. IsTrue F.tells → Mines (F.holds files.old) task.entry a) }
+    ensures kept { IsTrue F.tells → F.holds files.new ≡ F.holds files.old }
+    ensures calm { OnOk result (F.failures files.new ≡ F.failures files.old) }
+    ensures counted { IfErr result (λ f. CountsFault f (F.failures files.old) (F.failures files.new)) }
+{
+    wblock_mine::mine_block(rt, alloc, files, task)
+}
+
+/// As [`wblock_validate::validate_block`].
+pub fn validate_block<'a, R: Threads + Wait + Sync, F: Files>(
+    rt: &R,
+    alloc: Global,
+    files: &mut F,
+    task: Validation<'a>,
+) -> Result<Answer<'a>, Fault<'a>>
+    requires workers { (1 ≤ task.workers) × (task.workers ≤ 64) }
+    ensures answers { IfOk result (λ a. IsTrue F.tells → Validates (F.holds files.old) task.entry a) }
+    ensures kept { IsTrue F.tells → F.holds files.new ≡ F.holds files.old }
+    ensures calm { OnOk result (F.failures files.new ≡ F.failures files.old) }
+    ensures counted { IfErr result (λ f. CountsFault f (F.failures files.old) (F.failures files.new)) }
+{
+    wblock_validate::validate_block(rt, alloc, files, task)
+}

@@ -1,0 +1,57 @@
+//! The commands on modules.
+ghost use Rattle.std.specs.Prelude.{◌≡◌, ◌≤◌, IsTrue, IfOk, IfErr, OnOk, length, map};
+ghost use Rattle.wblock_line.specs.Answers.{CountsFault};
+ghost use Rattle.wblock_asm.specs.Assembles.{Assembles};
+ghost use Rattle.wblock_check.specs.Checks.{Checks};
+ghost use Rattle.wblock_deploy.specs.Deploys.{Deploys};
+
+use std::alloc::Global;
+use wblock_io::Files;
+use wblock_line::{Answer, Fault};
+use world::World;
+
+/// As [`wblock_asm::assemble_file`].
+pub fn assemble_file<'a, F: Files>(
+    alloc: Global,
+    files: &mut F,
+    text: &'a str,
+    target: &'a str,
+) -> Result<Answer<'a>, Fault<'a>>
+    ensures answers { IfOk result (λ a. IsTrue F.tells → Assembles (F.holds files.old) text.entry.now target.entry.now a) }
+    ensures kept { IsTrue F.tells → F.holds files.new ≡ F.holds files.old }
+    ensures calm { OnOk result (F.failures files.new ≡ F.failures files.old) }
+    ensures counted { IfErr result (λ f. CountsFault f (F.failures files.old) (F.failures files.new)) }
+{
+    wblock_asm::assemble_file(alloc, files, text, target)
+}
+
+/// As [`wblock_check::check_module`].
+pub fn check_module<'a, F: Files>(
+    alloc: Global,
+    files: &mut F,
+    target: &'a str,
+    heap: Option<u32>,
+) -> Result<Answer<'a>, Fault<'a>>
+    ensures answers { IfOk result (λ a. IsTrue F.tells → Checks (F.holds files.old) target.entry.now a) }
+    ensures kept { IsTrue F.tells → F.holds files.new ≡ F.holds files.old }
+    ensures calm { OnOk result (F.failures files.new ≡ F.failures files.old) }
+    ensures counted { IfErr result (λ f. CountsFault f (F.failures files.old) (F.failures files.new)) }
+{
+    wblock_check::check_module(alloc, files, target, heap)
+}
+
+/// As [`wblock_deploy::deploy_modules`].
+pub fn deploy_modules<'a, F: Files>(
+    alloc: Global,
+    files: &mut F,
+    world: &'a str,
+    modules: &[&'a str],
+) -> Result<Answer<'a>, Fault<'a>>
+    requires { length modules.now ≤ World.MOST_CONTRACTS }
+    ensures answers { IfOk result (λ a. IsTrue F.tells → Deploys (F.holds files.old) world.entry.now (map (λ w. w.now) modules.now) a) }
+    ensures kept { IsTrue F.tells → F.holds files.new ≡ F.holds files.old }
+    ensures calm { OnOk result (F.failures files.new ≡ F.failures files.old) }
+    ensures counted { IfErr result (λ f. CountsFault f (F.failures files.old) (F.failures files.new)) }
+{
+    wblock_deploy::deploy_modules(alloc, files, world, modules)
+}
