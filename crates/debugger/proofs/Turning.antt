@@ -6,7 +6,7 @@ use Rattle.spec_ledger.specs.declared.Step.{Step}
 use Rattle.spec_ledger.specs.declared.Outcome.{Outcome}
 use Rattle.spec_ledger.specs.Cells.{Cells, reply_to, cells_after}
 use Rattle.spec_ledger.specs.Book.{after, GetsReplies}
-use Rattle.interp.proofs.Finding.{append-nil}
+use Rattle.sequences.specs.Finding.{append-nil}
 use Rattle.spec_ledger.proofs.Traces.{after-append, GetsReplies-push}
 use Rattle.spec_execution.specs.Configuration.{Deployed, Contract, Config, Running}
 use Rattle.spec_execution.specs.Run.{ContractCall, Opening, opening, Opens, first, IsReply}

@@ -20,17 +20,17 @@ use Rattle.interp.specs.declared.turns.Turn.{Turn}
 use Rattle.interp.specs.declared.turns.Turn.TheVariants as turn
 use Rattle.interp.specs.declared.turns.Status.{Status}
 use Rattle.interp.specs.declared.turns.Status.TheVariants as status
-use Rattle.interp.specs.Meaning.{Open, View, listed, put, height, around, frames, at, state, whole, config, calling, invoking, sequence, Stands, IsOrdered, IsFineCall, IsReady, ChargedCall}
-use Rattle.interp.specs.Plain.{onto}
-use Rattle.interp.specs.Calls.{HasEntered}
+use Rattle.sequences.specs.Meaning.{Open, View, listed, put, height, around, frames, at, state, whole, config, calling, invoking, sequence, Stands, IsOrdered, IsFineCall, IsReady, ChargedCall}
+use Rattle.sequences.specs.Plain.{onto}
+use Rattle.sequences.specs.Calls.{HasEntered}
 use Rattle.interp.specs.Progress.{HasStepped, HasAsked, HasAnswered, AnsweredAt, NextIs}
 use Rattle.interp.specs.Machine.{Seen, on, first_of, progress, Reaches, IsWaiting, IsAt, IsMachine, IsCalling, IsStarted, HasStarted, IsAskedFor, HasAskedFor, params_of, arity_of, going_on, value_of_reply}
-use Rattle.interp.proofs.Context.{values_onto, lift, lift_asks}
-use Rattle.interp.proofs.Charging.{next_whole, fine_at, above, Stands_at, length-onto, onto_top, put-append}
-use Rattle.interp.proofs.Finding.{onto_is}
-use Rattle.interp.proofs.Calling.{with_values_is, reverse_onto}
-use Rattle.interp.specs.Tails.{joined, with_tail, joined_next}
-use Rattle.interp.proofs.Joining.{reduce_joined, reduces_joined, stuck_joined, at_rest}
+use Rattle.sequences.specs.Context.{values_onto, lift, lift_asks}
+use Rattle.sequences.specs.Charging.{next_whole, fine_at, above, Stands_at, length-onto, onto_top, put-append}
+use Rattle.sequences.specs.Finding.{onto_is}
+use Rattle.sequences.specs.Calling.{with_values_is, reverse_onto}
+use Rattle.sequences.specs.Tails.{joined, with_tail, joined_next}
+use Rattle.sequences.specs.Joining.{reduce_joined, reduces_joined, stuck_joined, at_rest}
 use Rattle.interp.proofs.Turning.{live_of, reached_by_frees, below}
 
 -- what a charged call leads to

@@ -1,8 +1,9 @@
 -- The beginning of a run.
-use Rattle.std.proofs.Common.{◌≡◌, ℕ, ◌<◌, ◌≤◌, Bool, true, false, nat_lt, List, [], length, refl, sym, ap, ◌∙◌, subst, arith, Option, Some, None}
+use Rattle.std.proofs.Common.{◌≡◌, ℕ, ◌<◌, ◌≤◌, Bool, true, false, nat_lt, List, [], length, refl, sym, ap, ap₂, ◌∙◌, subst, arith, Option, Some, None}
 use Rattle.std.specs.Prelude.{slice_index_or}
 use Rattle.std.proofs.Math.Logic.{∥∥₁_elim}
 use Rattle.std.proofs.lemmas.Bool.{ltb-true, ltb-false}
+use Rattle.wtypes.specs.declared.Value.{Value}
 use Rattle.wtypes.specs.declared.HostCall.{HostCall}
 use Rattle.wtypes.specs.declared.HostCall.TheVariants as host
 use Rattle.spec_syntax.specs.Syntax.{Module}
@@ -13,19 +14,21 @@ use Rattle.spec_execution.specs.Turns.{Frees, IsAtRest}
 use Rattle.soundness.specs.Laws.{DeployedCallsAreSafe}
 use Rattle.module_tree.specs.declared.module.Module as in_memory
 use Rattle.module_tree.specs.Modules.{module_view}
+use Rattle.instance.specs.declared.Instance.{Instance}
+use Rattle.instance.specs.States.{based, IsFresh}
 use Rattle.link.specs.declared.deployed.Deployed as linked
 use Rattle.link.specs.Parts.{tree_of, hosts_of}
 use Rattle.interp.specs.declared.turns.Status.{Status}
 use Rattle.interp.specs.declared.turns.Status.TheVariants as status
 use Rattle.interp.specs.declared.turns.Turn.{Turn}
 use Rattle.interp.specs.declared.turns.Turn.TheVariants as turn
-use Rattle.interp.specs.Meaning.{View, height, state, sequence, config, calling, IsOrdered, IsReady}
-use Rattle.interp.specs.Tails.{with_tail}
-use Rattle.interp.specs.Waiting.{alone}
+use Rattle.sequences.specs.Meaning.{View, height, state, sequence, config, calling, IsOrdered, IsReady}
+use Rattle.sequences.specs.Tails.{with_tail}
+use Rattle.frames.specs.Waiting.{alone}
 use Rattle.interp.specs.Progress.{IsStartOf, GoesOn}
 use Rattle.interp.specs.Machine.{Seen, on, progress, first_of, arity_of, IsAt, IsLive, IsMachine, IsCalling, IsSame, HasStarted, HasBegun}
-use Rattle.interp.proofs.Joining.{stuck_joined, at_rest}
-use Rattle.interp.proofs.Numbering.{read_at}
+use Rattle.sequences.specs.Joining.{stuck_joined, at_rest}
+use Rattle.sequences.specs.Finding.{read_at}
 use Rattle.interp.proofs.Turning.{reached_by_frees}
 use Rattle.interp.proofs.Asking.{host_room}
 
@@ -157,3 +160,9 @@ contract_same n n0 m hosts d d0 e f h k = record {
       ∙ ap (λ x. record { number = n0; deployed = record { tree = module_view x; hosts = hosts } }) (f ∙ ap tree_of k)
       ∙ ap (λ x. record { number = n0; deployed = record { tree = module_view (tree_of d0); hosts = x } }) (h ∙ ap hosts_of k);
 }
+
+-- the state of a fresh instance
+pub based_fresh : {A : Type 0} (m : Module) (i : Instance A) → IsFresh i m → based (fresh m) i ≡ fresh m
+based_fresh m i made =
+    ap₂ (λ (gs : List Value) (bs : List ℕ). record (fresh m) { globals = gs; memory = bs; table = i.table.items }) made.globals made.memory
+    ∙ ap (λ (es : List (Option ℕ)). record (fresh m) { table = es }) made.table

@@ -4,11 +4,11 @@ use Rattle.spec_execution.specs.Reduction.{reduce}
 use Rattle.spec_execution.specs.Run.{trapped}
 use Rattle.interp.specs.declared.turns.Status.{Status}
 use Rattle.interp.specs.declared.turns.Status.TheVariants as status
-use Rattle.interp.specs.Meaning.{state, sequence, invoking}
+use Rattle.sequences.specs.Meaning.{state, sequence, invoking}
 use Rattle.interp.specs.Progress.{IsProgress, IsProgressAt}
 use Rattle.interp.specs.Machine.{Seen, on, progress, IsAt, IsMachine, going_on}
-use Rattle.interp.specs.Tails.{joined, joined_next}
-use Rattle.interp.proofs.Joining.{reduce_joined, stuck_joined, at_rest}
+use Rattle.sequences.specs.Tails.{joined, joined_next}
+use Rattle.sequences.specs.Joining.{reduce_joined, stuck_joined, at_rest}
 
 pub progress_of : (s : Seen) → IsMachine s → IsProgress (progress s)
 progress_of s m = record { at = by s.status m.at }

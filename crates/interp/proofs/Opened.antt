@@ -3,12 +3,11 @@ use Rattle.std.proofs.Common.{◌≡◌, ℕ, Bool, true, false, List, Option, S
 use Rattle.std.specs.Prelude.{if◌then◌else◌, nat_lt}
 use Rattle.wtypes.specs.declared.Value.{Value}
 use Rattle.wtypes.specs.declared.HostCall.{HostCall}
-use Rattle.spec_syntax.specs.Syntax.{ExportDesc, ExportFunc, ExportTable, ExportMemory, ExportGlobal}
+use Rattle.spec_syntax.specs.Syntax.{ExportDesc, ExportFunc, ExportTable, ExportMemory, ExportGlobal, FuncType, Func}
 use Rattle.spec_execution.specs.Configuration.{Deployed, Contract, Function, Hosted, Defined, function_at}
 use Rattle.spec_execution.specs.Run.{ContractCall, opening, Opens, Refused, by_wrong, by_function, by_export, by_contract, wrong_argument, exported}
-use Rattle.spec_syntax.specs.Syntax.{FuncType, Func}
 use Rattle.std.proofs.lemmas.Bool.{eqb-true}
-use Rattle.interp.specs.Waiting.{IsEntry}
+use Rattle.frames.specs.Waiting.{IsEntry}
 
 wrong_same : (c k : Contract) (f func : ℕ) (o : Option ℕ) → by_wrong c f o ≡ Opens k func → f ≡ func
 wrong_same c k f func None e = cc

@@ -7,21 +7,22 @@ use Rattle.spec_ledger.specs.declared.Op.{Op}
 use Rattle.spec_ledger.specs.declared.Outcome.{Outcome}
 use Rattle.spec_ledger.specs.declared.Outcome.TheVariants.{Returned, Trapped, OutOfFuel, Rejected}
 use Rattle.spec_execution.specs.Configuration as c
-use Rattle.spec_execution.specs.Configuration.{Seq, End, Config, Running, Trap}
+use Rattle.spec_execution.specs.Configuration.{Seq, End, Config, Running}
 use Rattle.spec_execution.specs.Reduction.{reduce, Next, Goes, Traps, Asks, Branches, Returns, Ended, Stuck}
 use Rattle.spec_execution.specs.Run.{next, IsCharged, result_of}
 use Rattle.spec_execution.specs.Turns.{is_to_come, state_of, stack_in, locals_in, place_in, place_of, stack_of, locals_of}
 use Rattle.interp.specs.declared.turns.Status.{Status}
 use Rattle.interp.specs.declared.turns.Status.TheVariants as status
-use Rattle.interp.specs.Meaning.{Item, View, config, calling, invoking, sequence, state, listed, height, IsOrdered}
-use Rattle.interp.specs.Branches.{in_call}
-use Rattle.interp.specs.Plain.{onto}
+use Rattle.sequences.specs.Meaning.{Item, View, config, calling, invoking, sequence, state, listed, height, IsOrdered}
+use Rattle.sequences.specs.Branches.{in_call}
+use Rattle.sequences.specs.Plain.{onto}
 use Rattle.interp.specs.Machine.{Seen, on, progress, config_at, IsAt, IsLive, IsWaiting, IsMachine}
-use Rattle.interp.specs.Shown.{ending, ending_by, is_out, unless_ended, function_in, stack_shown, locals_shown, place_shown, IsOpen}
-use Rattle.interp.proofs.Charging.{height-le}
-use Rattle.interp.proofs.Rest.{is_charged, is_ended}
-use Rattle.interp.specs.Tails.{joined, with_tail, joined_next}
-use Rattle.interp.proofs.Joining.{joined_end, charged_joined, reduce_joined}
+use Rattle.interp.specs.Shown.{ending, ending_by, is_out, unless_ended, stack_shown, locals_shown, place_shown, IsOpen}
+use Rattle.frames.specs.Innermost.{function_in}
+use Rattle.sequences.specs.Charging.{height-le}
+use Rattle.sequences.specs.Rest.{is_charged, is_ended}
+use Rattle.sequences.specs.Tails.{joined, with_tail, joined_next}
+use Rattle.sequences.specs.Joining.{joined_end, charged_joined, reduce_joined}
 use Rattle.interp.proofs.Showing.{stack_whole, locals_whole, place_whole, call-le, Stops, IsHidden, hidden_end, hidden_stop, stops_whole}
 use Rattle.interp.proofs.Turning.{live_of, fine}
 

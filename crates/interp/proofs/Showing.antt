@@ -3,14 +3,14 @@ use Rattle.std.proofs.Common.{◌≡◌, ℕ, zero, suc, ◌≤◌, List, [], �
 use Rattle.std.proofs.lemmas.List.{take-append-drop, drop-append-le, length-take}
 use Rattle.wtypes.specs.declared.Value.{Value}
 use Rattle.spec_execution.specs.Configuration as c
-use Rattle.spec_execution.specs.Configuration.{Contract, Seq, End, Val, Code, State, Config, Running, Trap}
+use Rattle.spec_execution.specs.Configuration.{Seq, End, Val, Code}
 use Rattle.spec_execution.specs.Turns.{place_in, stack_in, locals_in}
-use Rattle.interp.specs.Meaning.{Item, Scope, Block, Loop, Frame, Open, put, outer, item, height, around, whole, Stands, outermost}
-use Rattle.interp.specs.Branches.{in_call, from_call}
-use Rattle.interp.specs.Shown.{function_of, function_in}
-use Rattle.interp.specs.Tails.{joined}
-use Rattle.interp.proofs.Charging.{height-le}
-use Rattle.interp.proofs.Joining.{joined_end}
+use Rattle.sequences.specs.Meaning.{Item, Scope, Block, Loop, Frame, Open, put, outer, item, height, around, whole, Stands, outermost}
+use Rattle.sequences.specs.Branches.{in_call, from_call}
+use Rattle.frames.specs.Innermost.{function_of, function_in}
+use Rattle.sequences.specs.Tails.{joined}
+use Rattle.sequences.specs.Charging.{height-le}
+use Rattle.sequences.specs.Joining.{joined_end}
 
 -- ---- values before a sequence
 

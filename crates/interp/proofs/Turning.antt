@@ -10,13 +10,13 @@ use Rattle.spec_execution.specs.Run.{Reached, reduced, Reduces, Ends, returns, t
 use Rattle.spec_execution.specs.Turns.{Frees, none, one_more, by_trap, not_asked}
 use Rattle.interp.specs.declared.turns.Status.{Status}
 use Rattle.interp.specs.declared.turns.Status.TheVariants as status
-use Rattle.interp.specs.Meaning.{Item, View, config, sequence, state, IsOrdered, IsFine, IsFineAfter, IsSafeAt, IsReady}
-use Rattle.interp.specs.Plain.{onto}
+use Rattle.sequences.specs.Meaning.{Item, View, config, sequence, state, IsOrdered, IsFine, IsFineAfter, IsSafeAt, IsReady}
+use Rattle.sequences.specs.Plain.{onto}
 use Rattle.interp.specs.Progress.{HasStepped, IsDone}
 use Rattle.interp.specs.Machine.{Seen, on, first_of, progress, Reaches, IsLive, IsFallen, IsAt, IsMachine}
-use Rattle.interp.specs.Tails.{with_tail}
-use Rattle.interp.proofs.Joining.{with_no_tail, reduces_joined, stuck_joined, charged_joined, at_rest}
-use Rattle.interp.proofs.Rest.{is_charged, is_ended}
+use Rattle.sequences.specs.Tails.{with_tail}
+use Rattle.sequences.specs.Joining.{with_no_tail, reduces_joined, stuck_joined, charged_joined, at_rest}
+use Rattle.sequences.specs.Rest.{is_charged, is_ended}
 
 pub live_of : (s : Seen) → IsMachine s → s.status ≡ status.Running → IsLive s
 live_of s m e = subst (IsAt s) e m.at

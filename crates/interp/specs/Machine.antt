@@ -20,9 +20,9 @@ use Rattle.interp.specs.declared.turns.Status.{Status}
 use Rattle.interp.specs.declared.turns.Status.TheVariants as status
 use Rattle.interp.specs.declared.turns.Turn.{Turn}
 use Rattle.interp.specs.declared.turns.Turn.TheVariants as turn
-use Rattle.interp.specs.Meaning.{View, height, whole, listed, config, calling, invoking, state, IsOrdered, IsReady}
+use Rattle.sequences.specs.Meaning.{View, height, whole, listed, config, calling, invoking, state, IsOrdered, IsReady}
 use Rattle.interp.specs.Progress.{Progress, GoesOn, IsStartOf}
-use Rattle.interp.specs.Tails.{with_tail}
+use Rattle.sequences.specs.Tails.{with_tail}
 
 -- the parts of a machine in the words of the definitions; tail is what waits behind all that is open, asked the number of the import that is called while the host is asked
 pub record Seen : Type 0 where

@@ -2,11 +2,12 @@
 use Rattle.std.specs.Prelude.{◌≡◌, ℕ, []}
 use Rattle.module_tree.specs.Modules.{module_view}
 use Rattle.interp.specs.declared.machine.Run.{Run}
-use Rattle.interp.specs.Views.{view}
-use Rattle.interp.specs.Calls.{contract_of, base_of}
-use Rattle.interp.specs.Steps.{IsCounted, Suits}
+use Rattle.frames.specs.Views.{view}
+use Rattle.operands.specs.Lent.{contract_of, base_of}
+use Rattle.frames.specs.Steps.{IsCounted}
+use Rattle.execute.specs.Steps.{Suits}
 use Rattle.interp.specs.Lent.{contracts_view}
-use Rattle.interp.specs.Waiting.{alone, tail_of, Waits, HasEach}
+use Rattle.frames.specs.Waiting.{alone, tail_of, Waits, HasEach}
 use Rattle.interp.specs.declared.turns.Status.TheVariants as status
 use Rattle.spec_execution.specs.Configuration.{End, Invoke, arguments, fresh}
 use Rattle.spec_execution.specs.Run.{opening, Opens, IsSafe}

@@ -1,5 +1,5 @@
 -- What is shown of a call that runs.
-use Rattle.std.specs.Prelude.{◌≡◌, ℕ, ◌+◌, ◌==◌, ◌&&◌, ◌<◌, ◌≤◌, Bool, true, false, List, [], ◌∷◌, Option, Some, None, Result, Ok, Err, if◌then◌else◌, length, take, drop, Vec}
+use Rattle.std.specs.Prelude.{◌≡◌, ℕ, ◌+◌, ◌==◌, ◌&&◌, ◌<◌, ◌≤◌, Bool, true, false, List, [], Option, Some, None, Result, Ok, Err, if◌then◌else◌, length, take, drop, Vec}
 use Rattle.wtypes.specs.declared.Value.{Value}
 use Rattle.spec_ledger.specs.declared.Outcome.{Outcome}
 use Rattle.spec_ledger.specs.declared.Outcome.TheVariants.{Returned, Trapped, OutOfFuel}
@@ -11,7 +11,6 @@ use Rattle.interp.specs.declared.readers.BytesRefusal.{BytesRefusal}
 use Rattle.interp.specs.declared.readers.BytesRefusal.TheVariants as refusal
 use Rattle.interp.specs.declared.turns.Status.{Status}
 use Rattle.interp.specs.declared.turns.Status.TheVariants as status
-use Rattle.interp.specs.Meaning.{Scope, Block, Loop, Frame, Open}
 use Rattle.interp.specs.Progress.{Progress}
 
 -- how a run has ended, if it has
@@ -55,23 +54,6 @@ abbrev pub IsOpen : Status → Type 0
 IsOpen (status.Ended o) = ⊥
 IsOpen status.NoMemory = ⊥
 IsOpen _ = Unit {0}
-
--- ---- of what is open round the code
-
--- the innermost of these
-abbrev pub innermost : List Open → Option Open
-innermost [] = None
-innermost (e ∷ es) = Some e
-
-abbrev pub function_of : Scope → Option ℕ
-function_of Block = None
-function_of Loop = None
-function_of (Frame f saved) = Some f
-
--- the function of the innermost frame
-abbrev pub function_in : List Open → Option ℕ
-function_in [] = None
-function_in (e ∷ es) = function_of e.scope
 
 -- what is read of memory: exactly where all of these bytes lie in it, these
 abbrev pub IsReadOf : {A : Type 0} → Config → (from count : ℕ) → Result (Vec ℕ A) BytesRefusal → Type 0

@@ -6,18 +6,19 @@ ghost use Rattle.interp.specs.Machine.{progress, IsMachine, IsCalling, HasStarte
 ghost use Rattle.interp.specs.Progress.{NextIs, IsFree, IsAwaited, HasAnswered, IsFinishOf};
 ghost use Rattle.interp.specs.Run.{seen, IsKept, IsBegun, IsFirst};
 
-use crate::calls::{Lent, enter};
 use crate::finished::Finished;
-use crate::parts::Parts;
-use crate::plain::After;
 use crate::start::{Opened, StartRefusal, open_call, refusal_of};
-use crate::steps::execute;
 use crate::turns::{Status, Turn};
-use crate::values::bits;
-use crate::waiting::{Waiting, prepare, settle_all};
 use call::Call;
+use execute::steps::execute;
+use frames::calls::enter;
+use frames::parts::Parts;
+use frames::waiting::{Waiting, prepare, settle_all};
 use instance::open_instance;
 use link::deployed::Deployed;
+use operands::lent::Lent;
+use operands::plain::After;
+use operands::values::bits;
 use soundness::deployed_calls_are_safe;
 use spec_ledger::{NoMemory, Op, Outcome, Place, Reply, Step};
 use std::alloc::Allocator;

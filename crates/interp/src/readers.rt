@@ -1,22 +1,16 @@
 // What a debugger reads off a machine.
-ghost use Rattle.std.specs.Prelude.{◌≡◌, ◌<◌, ◌≤◌, IfOk, length, drop, option_map, vec_len, vec_capacity};
-ghost use Rattle.spec_execution.specs.Configuration.{End};
-ghost use Rattle.spec_execution.specs.Turns.{state_of, place_in};
-ghost use Rattle.interp.specs.Meaning.{height, listed};
-ghost use Rattle.interp.specs.Views.{open_of, opens_of, items_of, ordinal_of};
-ghost use Rattle.interp.specs.Branches.{in_call};
+ghost use Rattle.std.specs.Prelude.{◌≡◌, ◌<◌, ◌≤◌, IfOk, length, drop, vec_len, vec_capacity};
+ghost use Rattle.spec_execution.specs.Turns.{state_of};
 ghost use Rattle.interp.specs.Machine.{progress};
 ghost use Rattle.interp.specs.Run.{seen, IsKept};
-ghost use Rattle.interp.specs.Shown.{innermost, function_in, is_out, ending, stack_shown, locals_shown, place_shown, IsOpen, IsReadOf};
+ghost use Rattle.interp.specs.Shown.{is_out, ending, stack_shown, locals_shown, place_shown, IsOpen, IsReadOf};
 
-use crate::branches::up_to_call;
-use crate::calls::Lent;
-use crate::copies::{copy_parts, copy_waiting};
 use crate::machine::{Machine, Run};
-use crate::parts::{Entry, Kind, Parts};
 use crate::turns::Status;
-use module_tree::instr::Instr;
+use frames::copies::{copy_parts, copy_waiting};
+use frames::places::{height_of_call, place_in_code};
 use module_tree::module::Module;
+use operands::lent::Lent;
 use spec_ledger::{NoMemory, Outcome, Step};
 use std::alloc::Allocator;
 use wtypes::Value;
@@ -28,32 +22,6 @@ pub enum BytesRefusal {
     OutOfRange,
     /// Memory was refused.
     NoMemory,
-}
-
-// The innermost call that is open.
-fn innermost_call<'b, 'a, A: Allocator + Copy>(
-    entries: &'b [Entry<'a, A>],
-) -> Option<&'b Entry<'a, A>>
-    ensures { option_map (λ e. open_of e.now) result ≡ innermost (in_call (opens_of entries.now)) }
-{
-    let left = up_to_call(entries);
-    if left == 0 {
-        return None;
-    }
-    Some(&entries[left - 1])
-}
-
-// The ordinal of an instruction.
-fn ordinal<A: Allocator + Copy>(instr: &Instr<A>) -> u32
-    ensures { result ≡ ordinal_of instr.now }
-{
-    match instr {
-        Instr::Plain(ordinal, _) => *ordinal,
-        Instr::BrTable(ordinal, _, _) => *ordinal,
-        Instr::Block(ordinal, _, _) => *ordinal,
-        Instr::Loop(ordinal, _, _) => *ordinal,
-        Instr::If(ordinal, _, _, _) => *ordinal,
-    }
 }
 
 // How the run has ended, if it has.
@@ -97,16 +65,6 @@ fn above(stack: &[Value], height: usize) -> &[Value]
     }
 }
 
-// How many values stand below the innermost call.
-fn height_of_call<'a, A: Allocator + Copy>(entries: &[Entry<'a, A>]) -> usize
-    ensures { result ≡ height (in_call (opens_of entries.now)) }
-{
-    match innermost_call(entries) {
-        Some(entry) => entry.height,
-        None => 0,
-    }
-}
-
 // The values of the innermost call, bottom first.
 fn stack_of_call<'b, 'a, A: Allocator + Copy>(run: &'b Run<'a, A>) -> &'b [Value]
     requires { IsKept run.now }
@@ -129,19 +87,6 @@ fn locals_of_call<'b, 'a, A: Allocator + Copy>(run: &'b Run<'a, A>) -> &'b [Valu
     match ending_of_run(run) {
         None => &run.parts.locals,
         Some(_) => &[],
-    }
-}
-
-// The function and the ordinal of the first instruction of the code that is left.
-fn place_in_code<'a, A: Allocator + Copy>(parts: &Parts<'a, A>) -> Option<(u32, u32)>
-    ensures { result ≡ place_in (function_in (in_call (opens_of parts.now.entries.items))) (listed (items_of parts.now.code.now) End) }
-{
-    let (Some(instr), Some(entry)) = (parts.code.first(), innermost_call(&parts.entries)) else {
-        return None;
-    };
-    match &entry.kind {
-        Kind::Frame(func, _) => Some((*func, ordinal(instr))),
-        Kind::Block | Kind::Loop => None,
     }
 }
 

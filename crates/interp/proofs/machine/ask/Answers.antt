@@ -1,6 +1,6 @@
 use Rattle.std.proofs.Common.{sym, ap, ◌∙◌, ◌-◌, arith, subst, List, drop}
 use Rattle.std.specs.Prelude.{slice_index_or}
-use Rattle.interp.proofs.Numbering.{read_at}
+use Rattle.sequences.specs.Finding.{read_at}
 use Rattle.wtypes.specs.declared.HostCall.TheVariants.{Get}
 use Rattle.spec_ledger.specs.declared.Step.{Step}
 use Rattle.spec_execution.specs.Reduction.{op_of}

@@ -1,7 +1,7 @@
 use Rattle.std.proofs.Common.{subst}
 use Rattle.spec_execution.specs.Run.{ran}
 use Rattle.interp.specs.Machine.{IsAt, ended_at}
-use Rattle.interp.specs.Tails.{with_tail}
+use Rattle.sequences.specs.Tails.{with_tail}
 use Rattle.interp.specs.Run.{seen}
 use Rattle.interp.proofs.machine.finished.Goals as goal
 

@@ -1,6 +1,6 @@
 use Rattle.std.proofs.Common.{ap, ◌∙◌, ◌-◌, length, slice_get}
 use Rattle.interp.specs.Run.{seen}
-use Rattle.interp.specs.Views.{items_of}
+use Rattle.frames.specs.Views.{items_of}
 use Rattle.interp.proofs.Turning.{machine_returned, has_returned, result_last}
 use Rattle.interp.proofs.machine.give_result.Goals as goal
 

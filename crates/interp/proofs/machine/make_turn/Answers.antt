@@ -1,16 +1,15 @@
 use Rattle.std.proofs.Common.{ap, ◌∙◌, sym, subst, true≢false, length}
 use Rattle.std.specs.Prelude.{◌==◌}
-use Rattle.interp.specs.declared.plain.After.{After}
-use Rattle.interp.specs.Calls.{base_of}
-use Rattle.interp.specs.Views.{view}
-use Rattle.interp.specs.Waiting.{tail_of}
-use Rattle.interp.specs.Steps.{Led}
+use Rattle.operands.specs.declared.plain.After.{After}
+use Rattle.operands.specs.Lent.{base_of}
+use Rattle.frames.specs.Views.{view}
+use Rattle.frames.specs.Waiting.{tail_of}
+use Rattle.execute.specs.Steps.{Led}
 use Rattle.interp.specs.Run.{seen}
-use Rattle.interp.proofs.Acting.{items_nil, ordered_any}
+use Rattle.frames.specs.ViewLaws.{items_nil, ordered_any, last_of}
 use Rattle.interp.proofs.Turning.{live_of, safe_at, machine_exhausted, has_exhausted, machine_stepped, has_stepped, machine_fell, has_fallen}
-use Rattle.interp.proofs.Rest.{Frees_join}
-use Rattle.interp.proofs.Joining.{frees_joined}
-use Rattle.interp.proofs.Entering.{last_of}
+use Rattle.sequences.specs.Rest.{Frees_join}
+use Rattle.sequences.specs.Joining.{frees_joined}
 use Rattle.interp.proofs.Asking.{calling_of, asked_turn, started_turn}
 use Rattle.interp.proofs.machine.make_turn.Goals as goal
 

@@ -1,12 +1,12 @@
 use Rattle.std.proofs.Common.{subst, Bool, ap, ◌∙◌}
 use Rattle.wtypes.specs.declared.TrapCode.TheVariants.{CallDepth}
-use Rattle.interp.specs.Calls.{Enters, base_of}
-use Rattle.interp.specs.Views.{view}
-use Rattle.interp.specs.Waiting.{tail_of}
+use Rattle.frames.specs.Calls.{Enters}
+use Rattle.operands.specs.Lent.{base_of}
+use Rattle.frames.specs.Views.{view}
+use Rattle.frames.specs.Waiting.{tail_of}
 use Rattle.interp.specs.Run.{seen}
-use Rattle.interp.proofs.Acting.{items_nil}
+use Rattle.frames.specs.ViewLaws.{items_nil, last_of}
 use Rattle.interp.proofs.Asking.{fine_call, machine_started, is_started, machine_trapped, is_trapped}
-use Rattle.interp.proofs.Entering.{last_of}
 use Rattle.interp.proofs.machine.start_function.Goals as goal
 
 pub enter-requires-clause-call : goal.enter-requires-clause-call

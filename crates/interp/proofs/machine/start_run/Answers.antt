@@ -1,10 +1,9 @@
 use Rattle.std.proofs.Common.{ap, ◌∙◌}
-use Rattle.interp.specs.Calls.{base_of}
-use Rattle.interp.specs.Views.{view}
-use Rattle.interp.specs.Waiting.{tail_of}
+use Rattle.operands.specs.Lent.{base_of}
+use Rattle.frames.specs.Views.{view}
+use Rattle.frames.specs.Waiting.{tail_of}
 use Rattle.interp.specs.Run.{seen}
-use Rattle.interp.proofs.Acting.{items_nil}
-use Rattle.interp.proofs.Entering.{last_of}
+use Rattle.frames.specs.ViewLaws.{items_nil, last_of}
 use Rattle.interp.proofs.Beginning.{start_calling, start_own, machine_entered, has_entered}
 use Rattle.interp.proofs.machine.start_run.Goals as goal
 

@@ -2,13 +2,12 @@ use Rattle.std.proofs.Common.{ap, ◌∙◌, ◌-◌, ◌++◌, subst, take}
 use Rattle.interp.specs.Machine.{params_of, value_of_reply}
 use Rattle.interp.specs.Progress.{IsAwaited}
 use Rattle.interp.specs.Run.{seen}
-use Rattle.interp.specs.Calls.{base_of}
-use Rattle.interp.specs.Views.{view}
-use Rattle.interp.specs.Waiting.{tail_of}
+use Rattle.operands.specs.Lent.{base_of}
+use Rattle.frames.specs.Views.{view}
+use Rattle.frames.specs.Waiting.{tail_of}
 use Rattle.interp.specs.declared.turns.Status.{Status}
-use Rattle.interp.proofs.Acting.{items_nil}
+use Rattle.frames.specs.ViewLaws.{items_nil, last_of}
 use Rattle.interp.proofs.Asking.{machine_answered, has_answered}
-use Rattle.interp.proofs.Entering.{last_of}
 use Rattle.interp.proofs.machine.take_answer.Goals as goal
 
 pub returns-in-Asking-clause-kept : goal.returns-in-Asking-clause-kept

@@ -1,12 +1,13 @@
 use Rattle.std.proofs.Common.{List, ap, ap₂, ◌∙◌, sym, subst}
 use Rattle.spec_ledger.specs.declared.Step.{Step}
 use Rattle.spec_execution.specs.Configuration.{Seq}
-use Rattle.interp.specs.Meaning.{View}
-use Rattle.interp.specs.Calls.{base_of, contract_of}
+use Rattle.sequences.specs.Meaning.{View}
+use Rattle.operands.specs.Lent.{base_of, contract_of}
 use Rattle.interp.specs.Machine.{Seen, IsMachine}
 use Rattle.interp.specs.Run.{seen}
-use Rattle.interp.specs.Waiting.{tail_of}
-use Rattle.interp.proofs.Copying.{same_view, same_counted, same_tail, same_waits, same_place, room_for}
+use Rattle.frames.specs.Waiting.{tail_of}
+use Rattle.frames.specs.CopyLaws.{same_view, same_counted, same_tail, same_waits, same_place}
+use Rattle.interp.proofs.Copying.{room_for}
 use Rattle.interp.proofs.readers.copy_run.Goals as goal
 
 pub returns-clause-same : goal.returns-clause-same

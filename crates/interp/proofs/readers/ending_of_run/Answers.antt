@@ -2,8 +2,8 @@ use Rattle.std.proofs.Common.{ap, ◌∙◌, ◌-◌, sym, length, slice_get, tr
 use Rattle.std.specs.Prelude.{◌==◌}
 use Rattle.spec_ledger.specs.declared.Outcome.TheVariants.{Returned}
 use Rattle.interp.specs.Run.{seen}
-use Rattle.interp.specs.Views.{items_of}
-use Rattle.interp.proofs.Acting.{items_nil}
+use Rattle.frames.specs.Views.{items_of}
+use Rattle.frames.specs.ViewLaws.{items_nil}
 use Rattle.interp.proofs.Turning.{result_last}
 use Rattle.interp.proofs.Outlook.{no_items, ends_returned, ends_exhausted, goes_on, asks_on}
 use Rattle.interp.proofs.readers.ending_of_run.Goals as goal

@@ -1,7 +1,7 @@
 use Rattle.std.proofs.Common.{◌≡◌, ◌∙◌, sym, ap, ap₂, arith, length, drop}
-use Rattle.interp.specs.Views.{opens_of}
-use Rattle.interp.specs.Meaning.{height}
-use Rattle.interp.specs.Branches.{in_call}
+use Rattle.frames.specs.Views.{opens_of}
+use Rattle.sequences.specs.Meaning.{height}
+use Rattle.sequences.specs.Branches.{in_call}
 use Rattle.interp.specs.Run.{seen}
 use Rattle.interp.proofs.Outlook.{left_within, left_stack}
 use Rattle.interp.proofs.readers.stack_of_call.Goals as goal

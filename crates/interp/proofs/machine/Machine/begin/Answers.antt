@@ -5,16 +5,15 @@ use Rattle.spec_typing.specs.Linking.{IsLinked}
 use Rattle.spec_execution.specs.Configuration.{Contract, End, Invoke, arguments, fresh}
 use Rattle.spec_execution.specs.Run.{opening, Opens}
 use Rattle.instance.specs.States.{IsFresh}
-use Rattle.interp.specs.declared.parts.Entry.{Entry}
+use Rattle.frames.specs.declared.parts.Entry.{Entry}
 use Rattle.interp.specs.Lent.{contracts_view}
-use Rattle.interp.specs.Meaning.{Open, frames}
+use Rattle.sequences.specs.Meaning.{Open, frames}
 use Rattle.interp.specs.Run.{seen}
-use Rattle.interp.proofs.Acting.{based_fresh}
-use Rattle.interp.specs.Steps.{EachNumbered}
-use Rattle.interp.specs.Views.{opens_of}
-use Rattle.interp.specs.Waiting.{IsEntry, IsPrepared}
-use Rattle.interp.proofs.Beginning.{safe_of, contract_same, at_number}
-use Rattle.interp.proofs.Charging.{mk}
+use Rattle.interp.proofs.Beginning.{based_fresh, safe_of, contract_same, at_number}
+use Rattle.frames.specs.Steps.{EachNumbered}
+use Rattle.frames.specs.Views.{opens_of}
+use Rattle.frames.specs.Waiting.{IsEntry, IsPrepared}
+use Rattle.sequences.specs.Charging.{mk}
 use Rattle.interp.proofs.Going.{progress_of}
 use Rattle.interp.proofs.Opened.{opened_entry}
 use Rattle.interp.proofs.machine.Machine.begin.Goals as goal

@@ -1,0 +1,125 @@
+-- What the steps of the code do to the parts.
+use Rattle.std.proofs.Common.{true≢false, false, ◌≡◌, ℕ, ◌+◌, ◌≤◌, List, [], ◌∷◌, ◌++◌, length, drop, refl, sym, ap, ◌∙◌, subst, Vec, Result, Ok, Err, IfOk, true, arith, length-append}
+use Rattle.wtypes.specs.declared.Value.{Value}
+use Rattle.wtypes.specs.declared.PlainInstr.{PlainInstr}
+use Rattle.wtypes.specs.declared.LoadOp.{LoadOp}
+use Rattle.wtypes.specs.declared.StoreOp.{StoreOp}
+use Rattle.wtypes.specs.declared.PlainInstr.TheVariants.{Call, CallIndirect, Br, BrIf, Return, GlobalGet, GlobalSet, Load, Store, MemorySize, MemoryGrow, LocalTee}
+use Rattle.spec_syntax.specs.Syntax.{Plain}
+use Rattle.module_tree.specs.declared.instr.Instr.{Instr}
+use Rattle.spec_execution.specs.Configuration.{Contract, State, Config, End, Trap}
+use Rattle.spec_execution.specs.Reduction.{Goes, reduce, execute, execute_plain}
+use Rattle.spec_execution.specs.Run.{Reduces}
+use Rattle.frames.specs.declared.parts.Entry.{Entry}
+use Rattle.frames.specs.declared.parts.Parts.{Parts}
+use Rattle.operands.specs.declared.lent.Lent.{Lent}
+use Rattle.operands.specs.declared.plain.After.{After}
+use Rattle.operands.specs.declared.plain.After.TheVariants as after
+use Rattle.sequences.specs.Meaning.{Item, Open, height, outermost, at, config, Stands, IsOrdered, calling, listed, frames}
+use Rattle.sequences.specs.Forms.{operands, runs_on, runs_on_instance, IsReadyFor}
+use Rattle.sequences.specs.Finding.{ready_for}
+use Rattle.operands.specs.Lent.{contract_of}
+use Rattle.sequences.specs.Plain.{onto, at_once, by_two}
+use Rattle.operands.specs.Plain.{Did}
+use Rattle.spec_execution.specs.Turns.{Frees, none}
+use Rattle.instance.specs.declared.Instance.{Instance}
+use Rattle.instance.specs.States.{based}
+use Rattle.frames.specs.Views.{items_of, opens_of, view}
+use Rattle.execute.specs.Steps.{IsReadyToRun, Led, LedView}
+use Rattle.frames.specs.Steps.{IsOrderedParts, IsCounted, AreNumbered, EachNumbered}
+use Rattle.sequences.specs.Context.{values_onto}
+use Rattle.sequences.specs.Charging.{mk, local, fine_at, fine_after_at, charged_ran, charged_fell, charged_teed, between, Stands_at}
+
+module _ (c : Contract) (b : State) (es : List Open) (stack locals : List Value) (n : ℕ) (op : PlainInstr) (is : List Item) (there : height es + operands op ≤ length stack) (o : IsOrdered (mk b es stack locals (record { ordinal = n; instr = Plain op } ∷ is))) where
+  pub led : (a : After) (stack' locals' : List Value) → Did op stack locals a stack' locals' → LedView c (mk b es stack locals (record { ordinal = n; instr = Plain op } ∷ is)) a (mk b es stack' locals' is)
+  unfolding reduce execute execute_plain
+  led after.Ran stack' locals' (at_once d) =
+      let r = charged_ran c b es stack locals n op is there o.stands stack' locals' d in
+      record { middle = _; reduces = r.0; frees = none _; ordered = record { stands = r.1; each = o.each } }
+  led after.Ran stack' locals' (by_two d) =
+      let op_is : operands op ≡ 1 = ap operands d.tees in
+      let h : Stands es (length d.kept) = Stands_at es (length stack) (length d.kept) (omega (arith, there, op_is, ap length d.before, length-append d.kept (d.value ∷ []))) o.stands in
+      let r = charged_teed c b es d.kept d.value d.old locals n d.local is h d.there in
+      let mid : Config = between c b es d.kept d.value d.old locals n d.local is h d.there in
+      record {
+        middle = mid;
+        reduces = subst (λ (p : PlainInstr). Reduces c (config (mk b es stack locals (record { ordinal = n; instr = Plain p } ∷ is))) 1 mid) (sym d.tees)
+            (subst (λ (x : List Value). Reduces c (config (mk b es x locals (record { ordinal = n; instr = Plain (LocalTee d.local) } ∷ is))) 1 mid) (sym d.before) r.0);
+        frees = subst (λ (x : List Value). Frees c mid (config (mk b es x locals' is))) (sym (d.same ∙ d.before)) (subst (λ (x : List Value). Frees c mid (config (mk b es (d.kept ++ d.value ∷ []) x is))) (sym d.set) r.1);
+        ordered = record { stands = subst (λ (x : List Value). Stands es (length x)) (sym d.same) o.stands; each = o.each };
+      }
+  led (after.Fell t) stack' locals' d =
+      record { reduces = subst (λ (x : List Value). Reduces c (config (mk b es stack locals (record { ordinal = n; instr = Plain op } ∷ is))) 1 (Trap (at b (outermost es x)) t)) (sym d.same) (charged_fell c b es stack locals n op is there o.stands t locals' d) }
+  led (after.Calls f) stack' locals' d = record {
+    reduces =
+        subst (λ (p : PlainInstr). Reduces c (config (mk b es stack locals (record { ordinal = n; instr = Plain p } ∷ is))) 1 (calling (mk b es stack' locals' is) f)) (sym d.call)
+        (subst (λ (x : List Value). Reduces c (config (mk b es stack locals (record { ordinal = n; instr = Plain (Call f) } ∷ is))) 1 (calling (mk b es x locals' is) f)) (sym d.same)
+        (subst (λ (x : List Value). Reduces c (config (mk b es stack locals (record { ordinal = n; instr = Plain (Call f) } ∷ is))) 1 (calling (mk b es stack x is) f)) (sym d.same_locals)
+        (local c b b es stack stack locals locals 1 _ _ refl (ap (Goes 1 (at b locals)) (values_onto (drop (height es) stack) [] _)))));
+    ordered = record { stands = subst (λ (x : List Value). Stands es (length x)) (sym d.same) o.stands; each = o.each };
+  }
+
+pub if_ok : {X E : Type 0} (r : Result X E) (P Q : X → Type 0) → ((x : X) → P x → Q x) → IfOk r P → IfOk r Q
+if_ok (Ok x) P Q f h = f x h
+if_ok (Err e) P Q f h = h
+
+pub led_parts : {A : Type 0} (l : Lent A) (p q : Parts A) (n : ℕ) (op : PlainInstr) (a : After) → IsOrderedParts p → items_of p.code.now ≡ record { ordinal = n; instr = Plain op } ∷ items_of q.code.now → q.entries ≡ p.entries → q.instance ≡ p.instance →
+    height (opens_of p.entries.items) + operands op ≤ length p.stack.items → Did op p.stack.items p.locals.items a q.stack.items q.locals.items → Led l p a q
+led_parts {A} l p q n op a o here same untouched there d b safe suits =
+    let c : Contract = contract_of l in
+    let u : State = based b p.instance in
+    let es : opens_of q.entries.items ≡ opens_of p.entries.items = ap (λ (v : Vec (Entry A) A). opens_of v.items) same in
+    let oo : IsOrdered (mk u (opens_of p.entries.items) p.stack.items p.locals.items (record { ordinal = n; instr = Plain op } ∷ items_of q.code.now)) = subst (λ (x : List Item). IsOrdered (mk u (opens_of p.entries.items) p.stack.items p.locals.items x)) here (o b) in
+    subst (λ (i : Instance A). LedView c (view b p) a (mk (based b i) (opens_of q.entries.items) q.stack.items q.locals.items (items_of q.code.now))) (sym untouched)
+    (subst (λ (x : List Open). LedView c (view b p) a (mk u x q.stack.items q.locals.items (items_of q.code.now))) (sym es)
+    (subst (λ (x : List Item). LedView c (mk u (opens_of p.entries.items) p.stack.items p.locals.items x) a (mk u (opens_of p.entries.items) q.stack.items q.locals.items (items_of q.code.now))) (sym here)
+    (led c u (opens_of p.entries.items) p.stack.items p.locals.items n op (items_of q.code.now) there oo a q.stack.items q.locals.items d)))
+
+-- the instruction to come finds what it takes, where it is not stuck
+module _ {A : Type 0} (l : Lent A) (p q : Parts A) (rest : List (Instr A)) (r : IsReadyToRun l p) where
+  module _ (n : ℕ) (op : PlainInstr) (is : items_of p.code.now ≡ record { ordinal = n; instr = Plain op } ∷ items_of rest) (on : runs_on op ≡ true) where
+    abbrev es : List Open
+    es = opens_of p.entries.items
+
+    pub ready_plain : (height es + operands op ≤ length p.stack.items) × IsReadyFor op p.stack.items p.locals.items
+    unfolding reduce execute
+    ready_plain = ready_for (contract_of l) (based r.base p.instance) es p.stack.items p.locals.items (listed (items_of rest) End) (r.ordered r.base).stands op on
+        (λ h. fine_at (contract_of l) (based r.base p.instance) es p.stack.items p.locals.items (listed (items_of p.code.now) End) r.safe.fine.not_stuck
+        (ap (λ (js : List Item). reduce (contract_of l) (frames es 0) (at (based r.base p.instance) p.locals.items) (onto (drop (height es) p.stack.items) []) (listed js End)) is ∙ h))
+        (λ s y e. fine_after_at (contract_of l) (based r.base p.instance) s es p.stack.items p.locals.items s.locals (listed (items_of p.code.now) End) y r.safe.after.not_stuck
+        (ap (λ (js : List Item). reduce (contract_of l) (frames es 0) (at (based r.base p.instance) p.locals.items) (onto (drop (height es) p.stack.items) []) (listed js End)) is ∙ e))
+
+    pub led_first : q.code.now ≡ rest → q.entries ≡ p.entries → q.instance ≡ p.instance → (a : After) → Did op p.stack.items p.locals.items a q.stack.items q.locals.items → Led l p a q
+    led_first after same untouched a did = led_parts l p q n op a r.ordered (is ∙ ap (λ js. record { ordinal = n; instr = Plain op } ∷ items_of js) (sym after)) same untouched ready_plain.0 did
+
+pub counted_rest : {A : Type 0} (p q : Parts A) → q.entries ≡ p.entries → q.depth ≡ p.depth → AreNumbered q.code.now → IsCounted p → IsCounted q
+counted_rest {A} p q e d h k = record {
+  count = d ∙ k.count ∙ ap (λ (es : Vec (Entry A) A). frames (opens_of es.items) 0) (sym e);
+  few = subst (λ n. n ≤ 256) (sym d) k.few;
+  code = h;
+  each = subst (λ (es : Vec (Entry A) A). EachNumbered es.items) (sym e) k.each;
+}
+
+-- an operator that leaves the order of the code as it is, and touches no more than the values and the locals
+pub operator_runs : (op : PlainInstr) → ((l : ℕ) → op ≡ Br l → ⊥) → ((l : ℕ) → op ≡ BrIf l → ⊥) → (op ≡ Return → ⊥) → ((t : ℕ) → op ≡ CallIndirect t → ⊥) → runs_on_instance op ≡ false → runs_on op ≡ true
+operator_runs (Br l) f g h k i = absurd (f l refl)
+operator_runs (BrIf l) f g h k i = absurd (g l refl)
+operator_runs Return f g h k i = absurd (h refl)
+operator_runs (CallIndirect t) f g h k i = absurd (k t refl)
+operator_runs (GlobalGet x) f g h k i = absurd (true≢false i)
+operator_runs (GlobalSet x) f g h k i = absurd (true≢false i)
+operator_runs (Load o align offset) f g h k i = absurd (true≢false i)
+operator_runs (Store o align offset) f g h k i = absurd (true≢false i)
+operator_runs MemorySize f g h k i = absurd (true≢false i)
+operator_runs MemoryGrow f g h k i = absurd (true≢false i)
+operator_runs op f g h k i = refl
+
+pub not_on_instance : (op : PlainInstr) → ((x : ℕ) → op ≡ GlobalGet x → ⊥) → ((x : ℕ) → op ≡ GlobalSet x → ⊥) → ((o : LoadOp) (align offset : ℕ) → op ≡ Load o align offset → ⊥) → ((o : StoreOp) (align offset : ℕ) → op ≡ Store o align offset → ⊥)
+    → (op ≡ MemorySize → ⊥) → (op ≡ MemoryGrow → ⊥) → runs_on_instance op ≡ false
+not_on_instance (GlobalGet x) e f g h i j = absurd (e x refl)
+not_on_instance (GlobalSet x) e f g h i j = absurd (f x refl)
+not_on_instance (Load o align offset) e f g h i j = absurd (g o align offset refl)
+not_on_instance (Store o align offset) e f g h i j = absurd (h o align offset refl)
+not_on_instance MemorySize e f g h i j = absurd (i refl)
+not_on_instance MemoryGrow e f g h i j = absurd (j refl)
+not_on_instance op e f g h i j = refl

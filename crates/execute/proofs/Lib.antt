@@ -1,0 +1,4 @@
+pub mod Acting
+pub mod Controlling
+pub mod Reaching
+pub mod Selecting

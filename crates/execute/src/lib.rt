@@ -1,0 +1,4 @@
+// One instruction: its charged reduction, and the free ones of what it becomes.
+#![tactic(auto)]
+
+pub mod steps;

@@ -1,0 +1,205 @@
+// One instruction of the code.
+ghost use Rattle.std.specs.Prelude.{◌≡◌, ◌+◌, ◌<◌, ◌∷◌, length, IfOk, slice_get, unwrap_or, true};
+ghost use Rattle.wtypes.specs.declared.PlainInstr.TheVariants.{CallIndirect};
+ghost use Rattle.spec_numeric.specs.Operators.{bits_of};
+ghost use Rattle.spec_execution.specs.Reduction.{arity as arity_of};
+ghost use Rattle.sequences.specs.Forms.{runs_on_instance};
+ghost use Rattle.execute.specs.Steps.{IsOperator, IsReadyToRun, Led};
+ghost use Rattle.frames.specs.Steps.{IsCounted};
+
+use frames::blocks::open;
+use frames::branches::{branch, leave_call};
+use frames::parts::{Kind, Parts};
+use module_tree::instr::Instr;
+use operands::elements::function_of_element;
+use operands::lent::Lent;
+use operands::memories::{execute_grow, execute_load, execute_store, memory_size};
+use operands::plain::{After, execute_plain};
+use operands::values::{bits, pop_top};
+use std::alloc::{AllocError, Allocator};
+use wtypes::{PlainInstr, ValType, Value};
+
+/// Makes the charged reduction of the instruction to come, and the free ones of what it becomes.
+#[inline(always)]
+pub fn execute<'a, A: Allocator + Copy>(
+    lent: &Lent<'a, A>,
+    parts: &mut Parts<'a, A>,
+) -> Result<After, AllocError>
+    requires ready { IsReadyToRun lent.now parts.old }
+    requires counted { IsCounted parts.old }
+    ensures led { IfOk result (λ a. Led lent.now parts.old a parts.new) }
+    ensures counted { IfOk result (λ a. IsCounted parts.new) }
+    ensures max { parts.new.instance.memory.max ≡ parts.old.instance.memory.max }
+{
+    let (instr, rest) = first(parts.code);
+    match instr {
+        Instr::Plain(_, op) => execute_operator(lent, parts, op, rest),
+        Instr::BrTable(_, labels, fallback) => {
+            let choice = pop_top(&mut parts.stack);
+            branch(parts, chosen_label(labels, *fallback, choice));
+            Ok(After::Ran)
+        }
+        Instr::Block(at, result, body) => {
+            open(parts, Kind::Block, *at, arity(result), rest, body)
+        }
+        Instr::Loop(at, _, body) => open(parts, Kind::Loop, *at, 0, parts.code, body),
+        Instr::If(at, result, met, unmet) => {
+            let choice = pop_top(&mut parts.stack);
+            let count = arity(result);
+            if bits(choice) == 0 {
+                open(parts, Kind::Block, *at, count, rest, unmet)
+            } else {
+                open(parts, Kind::Block, *at, count, rest, met)
+            }
+        }
+    }
+}
+
+// The same for an instruction that holds no other one, with those behind it.
+#[inline(always)]
+fn execute_operator<'a, A: Allocator + Copy>(
+    lent: &Lent<'a, A>,
+    parts: &mut Parts<'a, A>,
+    op: &PlainInstr,
+    rest: &'a [Instr<A>],
+) -> Result<After, AllocError>
+    requires ready { IsReadyToRun lent.now parts.old }
+    requires counted { IsCounted parts.old }
+    requires here { IsOperator parts.old op.now rest.now }
+    ensures led { IfOk result (λ a. Led lent.now parts.old a parts.new) }
+    ensures counted { IfOk result (λ a. IsCounted parts.new) }
+    ensures max { parts.new.instance.memory.max ≡ parts.old.instance.memory.max }
+{
+    match op {
+        PlainInstr::Br(label) => {
+            branch(parts, *label);
+            Ok(After::Ran)
+        }
+        PlainInstr::BrIf(label) => {
+            let choice = pop_top(&mut parts.stack);
+            if bits(choice) == 0 {
+                parts.code = rest;
+            } else {
+                branch(parts, *label);
+            }
+            Ok(After::Ran)
+        }
+        PlainInstr::Return => {
+            leave_call(parts);
+            Ok(After::Ran)
+        }
+        PlainInstr::CallIndirect(form) => Ok(call_element(lent, parts, *form, rest)),
+        PlainInstr::GlobalGet(_) => execute_on_instance(lent, parts, op, rest),
+        PlainInstr::GlobalSet(_) => execute_on_instance(lent, parts, op, rest),
+        PlainInstr::Load(_, _, _) => execute_on_instance(lent, parts, op, rest),
+        PlainInstr::Store(_, _, _) => execute_on_instance(lent, parts, op, rest),
+        PlainInstr::MemorySize => execute_on_instance(lent, parts, op, rest),
+        PlainInstr::MemoryGrow => execute_on_instance(lent, parts, op, rest),
+        _ => {
+            parts.code = rest;
+            execute_plain(op, &mut parts.stack, &mut parts.locals)
+        }
+    }
+}
+
+// The same for an instruction that reads or writes the instance.
+fn execute_on_instance<'a, A: Allocator + Copy>(
+    lent: &Lent<'a, A>,
+    parts: &mut Parts<'a, A>,
+    op: &PlainInstr,
+    rest: &'a [Instr<A>],
+) -> Result<After, AllocError>
+    requires ready { IsReadyToRun lent.now parts.old }
+    requires counted { IsCounted parts.old }
+    requires here { IsOperator parts.old op.now rest.now }
+    requires on_instance { runs_on_instance op.now ≡ true }
+    ensures led { IfOk result (λ a. Led lent.now parts.old a parts.new) }
+    ensures counted { IfOk result (λ a. IsCounted parts.new) }
+    ensures max { parts.new.instance.memory.max ≡ parts.old.instance.memory.max }
+{
+    parts.code = rest;
+    match op {
+        PlainInstr::GlobalGet(x) => {
+            let value = parts.instance.globals[*x as usize];
+            parts.stack.push(value)?;
+            Ok(After::Ran)
+        }
+        PlainInstr::GlobalSet(x) => {
+            let value = pop_top(&mut parts.stack);
+            parts.instance.globals[*x as usize] = value;
+            Ok(After::Ran)
+        }
+        PlainInstr::Load(operator, _, offset) => {
+            Ok(execute_load(*operator, *offset, &mut parts.stack, &parts.instance.memory))
+        }
+        PlainInstr::Store(operator, _, offset) => {
+            execute_store(
+                *operator,
+                *offset,
+                &mut parts.stack,
+                &mut parts.instance.memory,
+            )
+        }
+        PlainInstr::MemoryGrow => {
+            execute_grow(&mut parts.stack, &mut parts.instance.memory)?;
+            Ok(After::Ran)
+        }
+        PlainInstr::MemorySize => {
+            parts.stack.push(memory_size(&parts.instance.memory))?;
+            Ok(After::Ran)
+        }
+        _ => unreachable!(),
+    }
+}
+
+// Calls the function that an element of the table is, where it has the type of this number; the element's number is on top.
+// It stays out of line, for the speed of the other instructions.
+#[inline(never)]
+fn call_element<'a, A: Allocator + Copy>(
+    lent: &Lent<'a, A>,
+    parts: &mut Parts<'a, A>,
+    type_index: u32,
+    rest: &'a [Instr<A>],
+) -> After
+    requires ready { IsReadyToRun lent.now parts.old }
+    requires counted { IsCounted parts.old }
+    requires here { IsOperator parts.old (CallIndirect type_index) rest.now }
+    ensures led { Led lent.now parts.old result parts.new }
+    ensures counted { IsCounted parts.new }
+    ensures instance { parts.new.instance ≡ parts.old.instance }
+{
+    parts.code = rest;
+    let element = bits(pop_top(&mut parts.stack));
+    match function_of_element(lent, &parts.instance.table, element, type_index) {
+        Ok(func) => After::Calls(func),
+        Err(code) => After::Fell(code),
+    }
+}
+
+// The label of this number, or else the default one.
+fn chosen_label(labels: &[u32], fallback: u32, choice: Value) -> u32
+    ensures { result ≡ unwrap_or (slice_get labels.now (bits_of choice)) fallback }
+{
+    labels
+        .get(bits(choice) as usize)
+        .copied()
+        .unwrap_or(fallback)
+}
+
+// How many values a block leaves.
+fn arity(block: &Option<ValType>) -> usize
+    ensures { result ≡ arity_of block.now }
+{
+    match block {
+        Some(_) => 1,
+        None => 0,
+    }
+}
+
+// The first instruction, and those behind it.
+fn first<'a, A: Allocator + Copy>(code: &'a [Instr<A>]) -> (&'a Instr<A>, &'a [Instr<A>])
+    requires { 0 < length code.now }
+    ensures { code.now ≡ result.0.now ∷ result.1.now }
+{
+    (&code[0], &code[1..])
+}

@@ -1,0 +1,5 @@
+pub mod Settling
+pub mod Jumping
+pub mod Entering
+pub mod Copying
+pub mod Placing

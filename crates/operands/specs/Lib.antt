@@ -1,0 +1,4 @@
+pub mod Lent
+pub mod Plain
+pub mod Memories
+pub mod Elements

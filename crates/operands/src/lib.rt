@@ -1,0 +1,8 @@
+// What instructions do to the values on the stack, the locals, the memory and the table.
+#![tactic(auto)]
+
+pub mod elements;
+pub mod lent;
+pub mod memories;
+pub mod plain;
+pub mod values;

@@ -1,0 +1,139 @@
+// Loads and stores.
+ghost use Rattle.std.specs.Prelude.{◌≡◌, ◌<◌, ◌≤◌, ◌^◌, IfOk};
+ghost use Rattle.wtypes.specs.declared.ValType.TheVariants as val_type;
+ghost use Rattle.spec_numeric.specs.Operators.{type_of, bits_of, value_of};
+ghost use Rattle.spec_numeric.specs.Storage as storage;
+ghost use Rattle.spec_execution.specs.Reduction.{pages};
+ghost use Rattle.sequences.specs.Forms.{HasOne};
+ghost use Rattle.operands.specs.Memories.{DidLoad, DidStore, DidGrow, HasPlace};
+
+use crate::plain::After;
+use crate::values::{bits, pop_top, put_back};
+use memory::{Linear, StoreRefusal};
+use std::alloc::{AllocError, Allocator};
+use wtypes::{LoadOp, NoMemory, StoreOp, Value};
+
+/// Loads a value.
+pub fn execute_load<A: Allocator + Copy>(
+    operator: LoadOp,
+    offset: u32,
+    stack: &mut Vec<Value, A>,
+    memory: &Linear<A>,
+) -> After
+    requires { HasOne val_type.I32 stack.old.items }
+    ensures { DidLoad operator offset memory.now.bytes stack.old.items result stack.new.items }
+{
+    let at = address(pop_top(stack));
+    match memory.load(at, offset, load_width(operator)) {
+        Ok(number) => {
+            put_back(stack, extend(operator, number));
+            After::Ran
+        }
+        Err(code) => After::Fell(code),
+    }
+}
+
+/// Stores a value.
+pub fn execute_store<A: Allocator + Copy>(
+    operator: StoreOp,
+    offset: u32,
+    stack: &mut Vec<Value, A>,
+    memory: &mut Linear<A>,
+) -> Result<After, AllocError>
+    requires { HasPlace operator stack.old.items }
+    ensures did { IfOk result (λ a. DidStore operator offset memory.old memory.new stack.old.items a stack.new.items) }
+    ensures max { memory.new.max ≡ memory.old.max }
+{
+    let value = pop_top(stack);
+    let at = address(pop_top(stack));
+    match memory.store(at, offset, store_width(operator), bits(value)) {
+        Ok(()) => Ok(After::Ran),
+        Err(StoreRefusal::Trap(code)) => Ok(After::Fell(code)),
+        Err(StoreRefusal::NoMemory) => Err(AllocError),
+    }
+}
+
+/// Grows memory.
+pub fn execute_grow<A: Allocator + Copy>(
+    stack: &mut Vec<Value, A>,
+    memory: &mut Linear<A>,
+) -> Result<(), AllocError>
+    requires { HasOne val_type.I32 stack.old.items }
+    ensures did { IfOk result (λ _. DidGrow memory.old memory.new stack.old.items stack.new.items) }
+    ensures max { memory.new.max ≡ memory.old.max }
+{
+    let delta = address(pop_top(stack));
+    let old = memory_size(memory);
+    match memory.grow(delta) {
+        Ok(count) => {
+            if count < 0 {
+                put_back(stack, Value::I32(-1));
+            } else {
+                put_back(stack, old);
+            }
+            Ok(())
+        }
+        Err(NoMemory) => Err(AllocError),
+    }
+}
+
+/// The size of memory in pages, as a value.
+pub fn memory_size<A: Allocator + Copy>(memory: &Linear<A>) -> Value
+    ensures { result ≡ value_of val_type.I32 (pages memory.now.bytes) }
+{
+    Value::I32(memory.size().cast_signed())
+}
+
+fn address(value: Value) -> u32
+    requires { type_of value ≡ val_type.I32 }
+    ensures { result ≡ bits_of value }
+{
+    match value {
+        Value::I32(x) => x.cast_unsigned(),
+        Value::I64(_) => unreachable!(),
+    }
+}
+
+// How many bytes are read.
+fn load_width(operator: LoadOp) -> u32
+    ensures { result ≡ storage.load_width operator }
+{
+    match operator {
+        LoadOp::I32Load8S | LoadOp::I32Load8U | LoadOp::I64Load8S | LoadOp::I64Load8U => 1,
+        LoadOp::I32Load16S | LoadOp::I32Load16U | LoadOp::I64Load16S | LoadOp::I64Load16U => 2,
+        LoadOp::I32Load | LoadOp::I64Load32S | LoadOp::I64Load32U => 4,
+        LoadOp::I64Load => 8,
+    }
+}
+
+// How many bytes are written.
+fn store_width(operator: StoreOp) -> u32
+    ensures { result ≡ storage.store_width operator }
+{
+    match operator {
+        StoreOp::I32Store8 | StoreOp::I64Store8 => 1,
+        StoreOp::I32Store16 | StoreOp::I64Store16 => 2,
+        StoreOp::I32Store | StoreOp::I64Store32 => 4,
+        StoreOp::I64Store => 8,
+    }
+}
+
+// The value of the number that was read.
+fn extend(operator: LoadOp, number: u64) -> Value
+    requires { number < 256 ^ storage.load_width operator }
+    ensures { result ≡ value_of (storage.load_type operator) (storage.extended operator number) }
+{
+    match operator {
+        LoadOp::I32Load | LoadOp::I32Load8U | LoadOp::I32Load16U => {
+            Value::I32((number as u32).cast_signed())
+        }
+        LoadOp::I32Load8S => Value::I32(i32::from((number as u8).cast_signed())),
+        LoadOp::I32Load16S => Value::I32(i32::from((number as u16).cast_signed())),
+        LoadOp::I64Load | LoadOp::I64Load8U | LoadOp::I64Load16U | LoadOp::I64Load32U => {
+            Value::I64(number.cast_signed())
+        }
+        LoadOp::I64Load8S => Value::I64(i64::from((number as u8).cast_signed())),
+        LoadOp::I64Load16S => Value::I64(i64::from((number as u16).cast_signed())),
+        LoadOp::I64Load32S => Value::I64(i64::from((number as u32).cast_signed())),
+    }
+}

@@ -1,0 +1,15 @@
+pub mod Meaning
+pub mod Tails
+pub mod Forms
+pub mod Plain
+pub mod Branches
+pub mod Calls
+pub mod Context
+pub mod Charging
+pub mod Finding
+pub mod Topmost
+pub mod Rest
+pub mod Leaving
+pub mod Calling
+pub mod Branching
+pub mod Joining
