@@ -5,3 +5,4 @@
 pub mod instances;
 pub mod readers;
 pub mod runs;
+pub mod steps;
