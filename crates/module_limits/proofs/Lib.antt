@@ -1,4 +1,3 @@
 pub mod Depths
 pub mod Below
 pub mod Fitting
-pub mod Counted

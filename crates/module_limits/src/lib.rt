@@ -6,8 +6,6 @@ mod judge;
 mod lists;
 mod parts;
 mod ranges;
-#[cfg(test)]
-mod tests;
 
 pub use judge::{Unsealed, seal};
 pub use lists::Lists;

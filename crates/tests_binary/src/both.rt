@@ -1,0 +1,228 @@
+use crate::loading::HEADER;
+use bumpalo::Bump;
+use encoder::encode;
+use leb::write_u32;
+use linked_list_allocator::LocalHeap;
+use loader::{LoadRefusal, load};
+use module_tree::module::Module;
+use samples::EXAMPLE;
+use std::alloc::{Allocator, Global};
+use std::process::Abort;
+use std::test::Fail;
+
+// The shortest spelling of a module.
+fn encoded<A: Allocator>(a: Global, module: &Module<A>) -> Result<Vec<u8, Global>, Fail> {
+    let mut out = Vec::new(a);
+    encode(module, &mut out)?;
+    Ok(out)
+}
+
+// The shortest spelling of the module of these bytes.
+fn shortest(a: Global, bytes: &[u8]) -> Result<Vec<u8, Global>, Fail> {
+    encoded(a, &load(a, bytes)?)
+}
+
+/// Bytes, and the shortest spelling of their module.
+type Row<'b> = (&'b [u8], &'b [u8]);
+
+fn come_back(rt: &impl Abort, a: Global, rows: &[Row]) -> Result<(), Fail> {
+    for (bytes, wanted) in rows {
+        assert_eq!(rt; shortest(a, *bytes)?.as_slice(), *wanted, "{bytes:?}");
+    }
+    Ok(())
+}
+
+#[test]
+fn the_shortest_spelling_comes_back(rt: HostRuntime) -> Result<(), Fail> {
+    come_back(&rt, rt.alloc(), &[(&EXAMPLE, &EXAMPLE)])
+}
+
+// A function of `i32.const 0`: the header, and sections of 7, 4 and 8 bytes.
+const SHORTEST: [u8; 27] = [
+    0x00, 0x61, 0x73, 0x6D, 0x01, 0x00, 0x00, 0x00, 0x01, 0x05, 0x01, 0x60, 0x00, 0x01, 0x7F, 0x03,
+    0x02, 0x01, 0x00, 0x0A, 0x06, 0x01, 0x04, 0x00, 0x41, 0x00, 0x0B,
+];
+
+// It with a 0 in two bytes, a run of no locals, an empty section and a custom section.
+const LONGER: [u8; 37] = [
+    0x00, 0x61, 0x73, 0x6D, 0x01, 0x00, 0x00, 0x00, 0x01, 0x05, 0x01, 0x60, 0x00, 0x01, 0x7F, 0x03,
+    0x02, 0x01, 0x00, 0x04, 0x01, 0x00, 0x0A, 0x09, 0x01, 0x07, 0x01, 0x00, 0x7E, 0x41, 0x80, 0x00,
+    0x0B, 0x00, 0x02, 0x01, 0x61,
+];
+
+#[test]
+fn a_longer_spelling_comes_back_as_the_shortest(rt: HostRuntime) -> Result<(), Fail> {
+    come_back(&rt, rt.alloc(), &[(&LONGER, &SHORTEST)])
+}
+
+// It with a 0 in two bytes.
+const LONG_NUMBER: [u8; 28] = [
+    0x00, 0x61, 0x73, 0x6D, 0x01, 0x00, 0x00, 0x00, 0x01, 0x05, 0x01, 0x60, 0x00, 0x01, 0x7F, 0x03,
+    0x02, 0x01, 0x00, 0x0A, 0x07, 0x01, 0x05, 0x00, 0x41, 0x80, 0x00, 0x0B,
+];
+
+// The same, and a custom section named `a` with one byte, which is no text, behind the header and behind each section.
+const WITH_CUSTOM: [u8; 48] = [
+    0x00, 0x61, 0x73, 0x6D, 0x01, 0x00, 0x00, 0x00, 0x00, 0x03, 0x01, 0x61, 0xFF, 0x01, 0x05, 0x01,
+    0x60, 0x00, 0x01, 0x7F, 0x00, 0x03, 0x01, 0x61, 0xFF, 0x03, 0x02, 0x01, 0x00, 0x00, 0x03, 0x01,
+    0x61, 0xFF, 0x0A, 0x07, 0x01, 0x05, 0x00, 0x41, 0x80, 0x00, 0x0B, 0x00, 0x03, 0x01, 0x61, 0xFF,
+];
+
+// Custom sections before each section and at the end make no difference.
+#[test]
+fn custom_sections_give_the_same_tree(rt: HostRuntime) -> Result<(), Fail> {
+    come_back(
+        &rt,
+        rt.alloc(),
+        &[(&LONG_NUMBER, &SHORTEST), (&WITH_CUSTOM, &SHORTEST)],
+    )
+}
+
+// Whether the module has the example's functions and imports.
+fn is_example<A: Allocator>(module: &Module<A>) -> bool {
+    module.funcs.len() == 6
+        && module.imports.len() == 4
+        && matches!(module.imports.last(), Some(import) if import.name.as_str() == "put")
+}
+
+#[test]
+fn in_an_arena(rt: HostRuntime) -> Result<(), Fail> {
+    let arena = Bump::new(rt.alloc());
+    let module = load(&arena, &EXAMPLE)?;
+    assert!(rt; is_example(&module));
+    let mut out = Vec::new(&arena);
+    encode(&module, &mut out)?;
+    assert_eq!(rt; out.as_slice(), EXAMPLE.as_slice());
+    Ok(())
+}
+
+// How many functions the example has in a heap of this size, which is given back.
+fn in_heap(rt: &impl Abort, a: Global, size: usize) -> Result<Result<usize, LoadRefusal>, Fail> {
+    let heap = LocalHeap::new(a, size)?;
+    let before = heap.used();
+    let answer = match load(&heap, &EXAMPLE) {
+        Ok(module) => Ok(module.funcs.len()),
+        Err(refusal) => Err(refusal),
+    };
+    assert_eq!(rt; heap.used(), before, "{size}");
+    Ok(answer)
+}
+
+// In heaps of rising size the module is refused for want of memory alone, until it fits; what was taken is given back.
+#[test]
+fn in_heaps_of_fixed_size(rt: HostRuntime) -> Result<(), Fail> {
+    let mut refused = 0u32;
+    let mut loaded = 0u32;
+    for step in 1..200 {
+        match in_heap(&rt, rt.alloc(), 100 * step)? {
+            Ok(functions) => {
+                assert_eq!(rt; functions, 6);
+                loaded = loaded.saturating_add(1);
+            }
+            Err(refusal) => {
+                assert_eq!(rt; refusal, LoadRefusal::NoMemory);
+                assert_eq!(rt; loaded, 0);
+                refused = refused.saturating_add(1);
+            }
+        }
+    }
+    assert!(rt; refused > 0 && loaded > 0);
+    Ok(())
+}
+
+// The empty module's spelling is put behind what is there.
+#[test]
+fn bytes_before_stay(rt: HostRuntime) -> Result<(), Fail> {
+    let module = load(rt.alloc(), &HEADER)?;
+    let mut bytes = [7, 9].to_vec(rt.alloc())?;
+    encode(&module, &mut bytes)?;
+    assert_eq!(rt;
+        bytes.as_slice(),
+        [7, 9, 0x00, 0x61, 0x73, 0x6D, 0x01, 0x00, 0x00, 0x00].as_slice()
+    );
+    Ok(())
+}
+
+// A buffer that can't grow far enough is as it was.
+#[test]
+fn a_full_buffer_is_as_it_was(rt: HostRuntime) -> Result<(), Fail> {
+    let module = load(rt.alloc(), &EXAMPLE)?;
+    let heap = LocalHeap::new(rt.alloc(), 150)?;
+    let mut bytes = Vec::new(&heap);
+    bytes.push(7)?;
+    assert!(rt; encode(&module, &mut bytes).is_err());
+    assert_eq!(rt; bytes.as_slice(), [7].as_slice());
+    Ok(())
+}
+
+// A module of one function with so many blocks in one another, at least 16 and at most 8,000: two bytes spell each size.
+fn nested(a: Global, blocks: u32) -> Result<Vec<u8, Global>, Fail> {
+    let mut bytes = HEADER.to_vec(a)?;
+    bytes.extend_from_slice(&[
+        0x01, 0x04, 0x01, 0x60, 0x00, 0x00, 0x03, 0x02, 0x01, 0x00, 0x0A,
+    ])?;
+    let body = blocks.saturating_mul(3).saturating_add(2);
+    write_u32(&mut bytes, body.saturating_add(3))?;
+    bytes.push(0x01)?;
+    write_u32(&mut bytes, body)?;
+    bytes.push(0x00)?;
+    for _i in 0..blocks {
+        bytes.extend_from_slice(&[0x02, 0x40])?;
+    }
+    for _i in 0..blocks {
+        bytes.push(0x0B)?;
+    }
+    bytes.push(0x0B)?;
+    Ok(bytes)
+}
+
+// What is to hold of a body of 128 nested blocks.
+fn is_nested<A: Allocator>(module: &Module<A>) -> bool {
+    module.depth() == 128 && module.instr_at(0, 127).is_some() && module.instr_at(0, 128).is_none()
+}
+
+// The refusal of bytes in this allocator.
+fn refusal<A: Allocator + Clone>(a: A, bytes: &[u8]) -> Option<LoadRefusal> {
+    load(a, bytes).err()
+}
+
+// 128 nested blocks are loaded in this allocator, and there and copied to the machine's memory they are spelled by the same bytes.
+fn are_copied_out<A: Allocator + Clone>(rt: &impl Abort, a: Global, other: A) -> Result<(), Fail> {
+    let bytes = nested(a, 128)?;
+    let module = load(other, &bytes)?;
+    assert!(rt; is_nested(&module));
+    assert_eq!(rt; encoded(a, &module)?, bytes);
+    let copied = module.copy_in(a)?;
+    assert!(rt; is_nested(&copied));
+    assert_eq!(rt; encoded(a, &copied)?, bytes);
+    Ok(())
+}
+
+// 128 nested blocks in the machine's memory, in an arena, in a heap and as a copy are one tree; 129 are refused.
+#[test]
+fn nested_blocks_under_each_allocator(rt: HostRuntime) -> Result<(), Fail> {
+    let arena = Bump::new(rt.alloc());
+    are_copied_out(&rt, rt.alloc(), rt.alloc())?;
+    are_copied_out(&rt, rt.alloc(), &arena)?;
+    Ok(())
+}
+
+#[test]
+fn nested_blocks_in_a_heap(rt: HostRuntime) -> Result<(), Fail> {
+    let bytes = nested(rt.alloc(), 128)?;
+    let heap = LocalHeap::new(rt.alloc(), 100_000)?;
+    are_copied_out(&rt, rt.alloc(), &heap)?;
+    let copied = load(rt.alloc(), &bytes)?.copy_in(&heap)?;
+    assert!(rt; is_nested(&copied));
+    Ok(())
+}
+
+#[test]
+fn deeper_blocks_under_each_allocator(rt: HostRuntime) -> Result<(), Fail> {
+    let bytes = nested(rt.alloc(), 129)?;
+    let arena = Bump::new(rt.alloc());
+    let too_large = Some(LoadRefusal::TooLarge(4));
+    assert_eq!(rt; refusal(rt.alloc(), &bytes), too_large);
+    assert_eq!(rt; refusal(&arena, &bytes), too_large);
+    Ok(())
+}

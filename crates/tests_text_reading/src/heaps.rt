@@ -1,0 +1,101 @@
+use crate::texts::{read, repeated, tree_of};
+use lexer::{LexRefusal, tokens};
+use linked_list_allocator::LocalHeap;
+use std::alloc::{Allocator, Global};
+use std::test::Fail;
+use text_tree::{Field, parse};
+use text_words::TextRefusal;
+
+// Each kind of field, with names, strings and instructions that take memory.
+const TEXT: &str =
+    "(module (type $t (func (param i64) (result i64))) (import \"host\" \"add\" (func (type $t)))
+(import \"host\" \"total\" (global i64)) (func $f (export \"one\") (export \"two\") (type $t) (local i32)
+(block (br_table 0 0 0 (i32.const 1))) (call_indirect (param i64) (result i64) (local.get 0) (i32.const 0)))
+(table 1 funcref) (memory 1 2) (global (mut i32) i32.const 0) (export \"memory\" (memory 0))
+(elem 0 (offset i32.const 0) $f $f) (data 0 (offset (i32.const 0)) \"some\" \"bytes\"))";
+
+// How a text was read.
+#[derive(Clone, Copy, Debug, PartialEq, Eq)]
+enum Outcome {
+    Fields(usize),
+    Full,
+    Refused,
+}
+
+// How the text is read in this allocator.
+fn read_in<A: Allocator + Clone>(alloc: &A, text: &str) -> Result<Outcome, Fail> {
+    let tokens = match tokens(alloc.clone()?, text) {
+        Ok(tokens) => tokens,
+        Err(LexRefusal::NoMemory) => return Ok(Outcome::Full),
+        Err(_) => return Ok(Outcome::Refused),
+    };
+    match parse(alloc, text, &tokens) {
+        Ok(tree) => Ok(Outcome::Fields(tree.fields.len())),
+        Err(TextRefusal::NoMemory) => Ok(Outcome::Full),
+        Err(_) => Ok(Outcome::Refused),
+    }
+}
+
+// How the text is read in a heap of this size.
+fn read_in_heap(a: Global, size: usize) -> Result<Outcome, Fail> {
+    let heap = LocalHeap::new(a, size)?;
+    read_in(&&heap, TEXT)
+}
+
+#[test]
+fn heaps_that_are_too_small(rt: HostRuntime) -> Result<(), Fail> {
+    assert_eq!(rt; read_in(&rt.alloc(), TEXT)?, Outcome::Fields(10));
+    let mut full = 0u32;
+    let mut read = 0u32;
+    for step in 1..160usize {
+        let found = read_in_heap(rt.alloc(), step * 256)?;
+        if found == Outcome::Full {
+            assert_eq!(rt; read, 0);
+            full = full.saturating_add(1);
+        } else {
+            assert_eq!(rt; found, Outcome::Fields(10));
+            read = read.saturating_add(1);
+        }
+    }
+    assert!(rt; full > 10 && read > 10);
+    Ok(())
+}
+
+// How a text of so many pieces between a front and a back is refused.
+fn refusal(a: Global, parts: [&str; 3], times: u32) -> Result<Option<TextRefusal>, Fail> {
+    let text = repeated(a, parts, times)?;
+    Ok(read(a, text.as_str())?.err())
+}
+
+// Fronts, pieces and backs, how many pieces, and the place at which the text is refused: at the second bracket, and at the end.
+const BRACKETS: [([&str; 3], u32, usize); 3] = [
+    (["", "(", ""], 1_048_576, 1),
+    (["(module (func ", "(block ", ""], 140_000, 980_014),
+    (["(module (func ", "(drop ", "))"], 140_000, 840_016),
+];
+
+#[test]
+fn a_megabyte_of_brackets(rt: HostRuntime) -> Result<(), Fail> {
+    for (parts, times, at) in BRACKETS {
+        let wanted = Some(TextRefusal::Unexpected(at));
+        assert_eq!(rt; refusal(rt.alloc(), parts, times)?, wanted, "{at}");
+    }
+    Ok(())
+}
+
+// How many instructions the only field has, where it is a function.
+fn size_of_body(fields: &[Field<'_, Global>]) -> Option<usize> {
+    match fields.first() {
+        Some(Field::Func(found)) if fields.len() == 1 => Some(found.body.len()),
+        _ => None,
+    }
+}
+
+#[test]
+fn operands_within_operands(rt: HostRuntime) -> Result<(), Fail> {
+    let opened = repeated(rt.alloc(), ["(module (func ", "(drop ", ""], 100_000)?;
+    let text = repeated(rt.alloc(), [opened.as_str(), ")", ""], 100_002)?;
+    let tree = tree_of(rt.alloc(), text.as_str())?;
+    assert_eq!(rt; size_of_body(&tree.fields), Some(100_000));
+    Ok(())
+}
