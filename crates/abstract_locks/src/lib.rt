@@ -9,8 +9,6 @@ ghost use Rattle.abstract_locks.specs.Held.{MayJoin, count_in, held_once};
 
 mod holder;
 mod sharing;
-#[cfg(test)]
-mod tests;
 
 use holder::Holder;
 use sharing::{Shared, Sharing, let_all_go};

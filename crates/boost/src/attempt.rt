@@ -35,6 +35,22 @@ impl<A: Allocator> Model for Entry<A> {
     ghost view = { λ e. record { call = e.call; trace = e.trace.items; outcome = e.outcome; modes = touched e.trace.items } };
 }
 
+impl<A: Allocator> Entry<A> {
+    /// The call's number.
+    pub fn call(&self) -> u32
+        ensures { result ≡ self.now.call }
+    {
+        self.call
+    }
+
+    /// How the run ended.
+    pub fn outcome(&self) -> Outcome
+        ensures { result ≡ self.now.outcome }
+    {
+        self.outcome
+    }
+}
+
 /// A live try of a call.
 #[derive(Drop)]
 pub struct Attempt<A: Allocator = Global> {

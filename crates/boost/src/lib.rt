@@ -5,6 +5,4 @@ pub mod attempt;
 pub mod book;
 pub mod play;
 mod standing;
-#[cfg(test)]
-mod tests;
 mod trace;

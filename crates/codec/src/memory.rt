@@ -56,37 +56,3 @@ impl Sink for MemorySink {
         Ok(n)
     }
 }
-
-#[cfg(test)]
-mod tests {
-    use super::*;
-    use crate::sink::put_all;
-    use std::test::Fail;
-
-    #[test]
-    fn takes_all_in_pieces(rt: HostRuntime) -> Result<(), Fail> {
-        for piece in [0, 1, 3, 100] {
-            let mut sink = MemorySink::new(rt.alloc(), piece, Failures::none());
-            assert_eq!(rt; put_all(&mut sink, b"one line\n"), Ok(()));
-            assert_eq!(rt; put_all(&mut sink, b""), Ok(()));
-            assert_eq!(rt; put_all(&mut sink, b"two\n"), Ok(()));
-            assert_eq!(rt;
-                sink.bytes(),
-                b"one line\ntwo\n".as_slice(),
-                "pieces of {piece}"
-            );
-        }
-        Ok(())
-    }
-
-    #[test]
-    fn keeps_a_beginning_after_a_failure(rt: HostRuntime) -> Result<(), Fail> {
-        for (calls, kept) in [(0, ""), (1, "abc"), (2, "abcdef"), (3, "abcdefg")] {
-            let mut sink = MemorySink::new(rt.alloc(), 3, Failures::after(calls));
-            let put = put_all(&mut sink, b"abcdefg");
-            assert_eq!(rt; put.is_err(), calls < 3, "after {calls} calls");
-            assert_eq!(rt; sink.bytes(), kept.as_bytes(), "after {calls} calls");
-        }
-        Ok(())
-    }
-}

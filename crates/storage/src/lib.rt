@@ -13,9 +13,6 @@ ghost use Rattle.storage.specs.Slots.{cells_in, counts_in, cell_in, count_in};
 ghost use Rattle.std.specs.FinMap as finite;
 ghost use Rattle.std.specs.Iterator.{YieldsFirst, item_count};
 
-#[cfg(test)]
-mod tests;
-
 pub use spec_ledger::{Inverse, Kind, Lock, NoMemory, Op, Place, Reply, Step};
 use std::alloc::{Allocator, Global};
 use std::collections::BTreeMap;

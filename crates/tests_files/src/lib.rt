@@ -4,9 +4,13 @@
 #[cfg(test)]
 mod blocks;
 #[cfg(test)]
+mod calls;
+#[cfg(test)]
 mod cells;
 #[cfg(test)]
 mod graphs;
+#[cfg(test)]
+mod locks;
 #[cfg(test)]
 mod numbers;
 #[cfg(test)]

@@ -2,8 +2,6 @@
 #![tactic(auto)]
 
 #[cfg(test)]
-mod contracts;
-#[cfg(test)]
 mod judged_blocks;
 #[cfg(test)]
 mod orders_of_blocks;
@@ -11,6 +9,8 @@ mod orders_of_blocks;
 mod published;
 #[cfg(test)]
 mod runs;
+#[cfg(test)]
+mod settings;
 #[cfg(test)]
 mod worlds;
 #[cfg(test)]

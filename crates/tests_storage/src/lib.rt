@@ -1,0 +1,11 @@
+//! Tests of storage, of the table of locks, of the book of calls and of sinks. There is no code here.
+#![tactic(auto)]
+
+#[cfg(test)]
+mod books;
+#[cfg(test)]
+mod cells;
+#[cfg(test)]
+mod sinks;
+#[cfg(test)]
+mod tables;
