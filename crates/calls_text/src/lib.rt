@@ -4,8 +4,6 @@
 mod line;
 mod reader;
 mod receipt;
-#[cfg(test)]
-mod tests;
 mod words;
 
 pub use reader::{CallsRefusal, MOST_CALLS, read_calls};

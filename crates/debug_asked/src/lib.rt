@@ -1,9 +1,6 @@
 //! What the words of a line ask to debug.
 #![tactic(auto)]
 
-#[cfg(test)]
-mod tests;
-
 ghost use Rattle.std.specs.Prelude.{◌≡◌, ◌↔◌, ℕ, List, IfOk, IsTrue, MatchOption};
 ghost use Rattle.wblock_line.specs.Words.{line_of};
 ghost use Rattle.debug_words.specs.Words.{texts};

@@ -3,7 +3,5 @@
 
 mod command;
 mod numbers;
-#[cfg(test)]
-mod tests;
 
 pub use command::{Command, command_of, commands_of};

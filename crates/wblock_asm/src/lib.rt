@@ -8,8 +8,6 @@ ghost use Rattle.wblock_line.specs.Answers.{CountsFault};
 ghost use Rattle.wblock_asm.specs.Assembles.{told, refusal_line, IsSpelled, IsRefusalOf, IsDone, IsAnswer, Assembles};
 
 mod places;
-#[cfg(test)]
-mod tests;
 
 use assembler::{AsmRefusal, assemble};
 use encoder::encode;

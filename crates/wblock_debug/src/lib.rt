@@ -1,9 +1,6 @@
 //! The command `debug WORLD CALLS CALL CMD...`: a call that runs alone over a world, turn by turn, and what is read of its states.
 #![tactic(auto)]
 
-#[cfg(test)]
-mod tests;
-
 ghost use Rattle.std.specs.Prelude.{◌≡◌, IsTrue, IfOk, IfErr, OnOk, MatchOption, string_bytes};
 ghost use Rattle.world.specs.Views.{world_view};
 ghost use Rattle.wblock_line.specs.Answers.{CountsFault};

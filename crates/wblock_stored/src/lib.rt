@@ -4,7 +4,5 @@
 mod answer;
 mod runs;
 mod stored;
-#[cfg(test)]
-mod tests;
 
 pub use answer::show_stored;

@@ -1,0 +1,408 @@
+//! Lines of words that mine and validate, at each fault in turn.
+
+use crate::blocks::{BUMP, FIRST_AND_LAST, LEFT, NO_CALLS, TWO, WITHOUT_LAST};
+use crate::modules::{WORLD, WORLD_OF_FIRST, WORLD_OF_MANY, WORLD_WITH_2, WORLD_WITH_5};
+use crate::rows::Wanted::{self, Absent, All, Front, Text};
+use crate::rows::{File, Line, NOTHING, Part, unlike};
+use std::alloc::Global;
+use std::process::Abort;
+use std::sync::Wait;
+use std::test::Fail;
+use std::thread::Threads;
+use wblock_line::Status::{self, Done, File as NotReached, Refused};
+
+/// What some files hold after a line.
+type After<'a> = &'a [(&'a str, Wanted<'a>)];
+
+/// A line that meets no fault, with the files before it, what it prints, and what some files hold after it.
+type Row<'a> = (&'a str, &'a [File<'a>], Wanted<'a>, After<'a>);
+
+/// A line ends with this status, comes to what its row says, and puts nothing on standard error.
+fn comes_to<R: Abort + Threads + Wait + Sync>(
+    rt: &R,
+    alloc: Global,
+    row: Row,
+    status: Status,
+) -> Result<(), Fail> {
+    let (words, files, out, after) = row;
+    let line = Line {
+        words,
+        files,
+        file_fails: None,
+        out_fails: None,
+        status,
+        out,
+        err: NOTHING,
+        after,
+    };
+    assert_eq!(rt; unlike(rt, alloc, &line)?, None, "{words}");
+    Ok(())
+}
+
+/// Each line is done.
+fn are_done<R: Abort + Threads + Wait + Sync>(
+    rt: &R,
+    alloc: Global,
+    rows: &[Row],
+) -> Result<(), Fail> {
+    for row in rows {
+        comes_to(rt, alloc, *row, Done)?;
+    }
+    Ok(())
+}
+
+const BEFORE: &[u8] = b"before ddc5e3d488f3844cdf731c6e2fcdb213a1eea2313f8fc0baf8aaafed8b7d0b92\n";
+
+const SAME: &[u8] = b"after ddc5e3d488f3844cdf731c6e2fcdb213a1eea2313f8fc0baf8aaafed8b7d0b92\n";
+
+const WITH_5: &[u8] = b"after 771327414d62d43fc9ac4f25b2072caf6a5f630b2a3fde2819bf8f990bd82d69\n";
+
+const WITH_2: &[u8] = b"after 09c01476d491558048df3d2e326244fada59b60b436bb77a2a13e141164b53a1\n";
+
+/// `bump(7,5)`.
+const ONE_BUMP: [Part; 1] = [(1, b"0 100 bump i64:7 i64:5\n")];
+
+/// `bump(7,6)`.
+const OTHER_BUMP: [Part; 1] = [(1, b"0 100 bump i64:7 i64:6\n")];
+
+/// Three calls `bump(7,1)` with less and less fuel.
+const THREE_BUMPS: [Part; 3] = [
+    (1, b"0 60 bump i64:7 i64:1\n"),
+    (1, b"0 50 bump i64:7 i64:1\n"),
+    (1, b"0 40 bump i64:7 i64:1\n"),
+];
+
+/// `peek(1)`, which traps, and `set(1,9)`.
+const PEEK_AND_SET: [Part; 2] = [(1, b"0 100 peek i64:1\n"), (1, b"0 100 set i64:1 i64:9\n")];
+
+/// The example contract's world with no cells, and `bump(7,5)`.
+const OF_BUMP: [File; 2] = [("w", &WORLD), ("c", &ONE_BUMP)];
+
+/// These with the block of the call.
+const OF_BLOCK: [File; 3] = [("w", &WORLD), ("c", &ONE_BUMP), ("b", &[(1, &BUMP)])];
+
+/// The block of `bump(7,5)`.
+const A_BLOCK: (&str, Wanted) = ("b", All(&[(1, &BUMP)]));
+
+/// The world after it.
+const NEXT: (&str, Wanted) = ("n", All(&WORLD_WITH_5));
+
+/// What is printed of `bump(7,5)`.
+const BUMPED: Wanted = All(&[
+    (1, b"0 call 0 returned fuel 3\nfuel 3\n"),
+    (1, BEFORE),
+    (1, WITH_5),
+]);
+
+/// What is printed where the only call is left.
+const IS_LEFT: Wanted = All(&[(1, b"left 0\nfuel 0\n"), (1, BEFORE), (1, SAME)]);
+
+const CHAINED: [Row; 3] = [
+    (
+        "mine --workers=1 w c --fuel 100 b n",
+        &OF_BUMP,
+        BUMPED,
+        &[A_BLOCK, NEXT],
+    ),
+    (
+        "validate w c b --fuel=100 --workers 2",
+        &OF_BLOCK,
+        All(&[(1, b"accept\n"), (1, WITH_5)]),
+        &[],
+    ),
+    // the next world is a world
+    (
+        "mine n c b o --fuel=99 --tries=1",
+        &[("n", &WORLD_WITH_5), ("c", &ONE_BUMP)],
+        Front(b"left 0\nfuel 0\nbefore 7713"),
+        &[("o", All(&WORLD_WITH_5)), NEXT],
+    ),
+];
+
+#[test]
+fn what_is_mined_is_accepted(rt: HostRuntime) -> Result<(), Fail> {
+    are_done(&rt, rt.alloc(), &CHAINED)
+}
+
+const MINED: [Row; 5] = [
+    (
+        "mine w c b n --fuel=0 --workers=4",
+        &[("w", &WORLD), ("c", &[])],
+        All(&[(1, b"fuel 0\n"), (1, BEFORE), (1, SAME)]),
+        &[("b", All(&[(1, &NO_CALLS)])), ("n", All(&WORLD))],
+    ),
+    (
+        "mine w c b n --fuel=100 --workers=1",
+        &OF_BUMP,
+        BUMPED,
+        &[A_BLOCK, NEXT],
+    ),
+    (
+        "mine w c b n --fuel=99 --workers=1",
+        &OF_BUMP,
+        IS_LEFT,
+        &[("n", All(&WORLD))],
+    ),
+    (
+        "mine w c b n --fuel=99",
+        &[("w", &WORLD), ("c", &OTHER_BUMP)],
+        IS_LEFT,
+        &[("b", All(&[(1, &LEFT)]))],
+    ),
+    // limits count, and not the fuel used
+    (
+        "mine w c b n --fuel=100 --workers=1",
+        &[("w", &WORLD), ("c", &THREE_BUMPS)],
+        All(&[
+            (1, b"0 call 0 returned fuel 3\n1 call 2 returned fuel 3\n"),
+            (1, b"left 1\nfuel 6\n"),
+            (1, BEFORE),
+            (1, WITH_2),
+        ]),
+        &[
+            ("b", All(&[(1, &FIRST_AND_LAST)])),
+            ("n", All(&WORLD_WITH_2)),
+        ],
+    ),
+];
+
+#[test]
+fn calls_are_published_or_left(rt: HostRuntime) -> Result<(), Fail> {
+    are_done(&rt, rt.alloc(), &MINED)
+}
+
+/// Calls of the contract that adds five to a counter, and the lines of their block up to its digests.
+const RECEIPTS: [(&str, &str); 8] = [
+    ("", "fuel 0\n"),
+    (
+        "0 100 run i64:7\n0 100 run i64:8\n",
+        "0 call 0 returned i64:5 fuel 7\n1 call 1 returned i64:5 fuel 7\nfuel 14\n",
+    ),
+    ("0 6 run i64:7\n", "0 call 0 out-of-fuel fuel 6\nfuel 6\n"),
+    (
+        "0 7 run i64:7\n",
+        "0 call 0 returned i64:5 fuel 7\nfuel 7\n",
+    ),
+    ("1 100 run i64:7\n", "0 call 0 rejected 6 fuel 0\nfuel 0\n"),
+    ("0 100 walk i64:7\n", "0 call 0 rejected 1 fuel 0\nfuel 0\n"),
+    ("0 100 run\n", "0 call 0 rejected 3 fuel 0\nfuel 0\n"),
+    ("0 100 run i32:7\n", "0 call 0 rejected 4 fuel 0\nfuel 0\n"),
+];
+
+#[test]
+fn prints_the_rows(rt: HostRuntime) -> Result<(), Fail> {
+    let alloc = rt.alloc();
+    for (calls, lines) in RECEIPTS {
+        let front = format!(in alloc; "{lines}before ")?;
+        let calls: [Part; 1] = [(1, calls.as_bytes())];
+        let files: [File; 2] = [("w", &WORLD_OF_FIRST), ("c", &calls)];
+        let words = "mine w c b n --fuel=200 --workers=1";
+        comes_to(
+            &rt,
+            alloc,
+            (words, &files, Front(front.as_bytes()), &[]),
+            Done,
+        )?;
+    }
+    Ok(())
+}
+
+/// A world, calls and the refusal of the first of the two that is refused.
+const REFUSALS: [(&[Part], &[Part], &[u8]); 7] = [
+    (&[(1, b"WBWE")], &[(1, b"0 1")], b"world 1 0"),
+    (&WORLD_OF_MANY, &[(1, b"0 1")], b"world 2 -"),
+    (&WORLD, &[(1, b"0 1 f\n0 1")], b"calls 1 2"),
+    (&WORLD, &[(65_536, b"0 1 f\n")], b"calls 2"),
+    (&WORLD, &[(1, b"0 1 f")], b"calls 1 1"),
+    (
+        &WORLD_OF_FIRST,
+        &[(1, b"0 100 run i64:7\n0  100 run\n")],
+        b"calls 1 2",
+    ),
+    (&WORLD_OF_FIRST, &[(1, b"0 100 run i64:7")], b"calls 1 1"),
+];
+
+/// No file is written.
+const NONE_WRITTEN: [(&str, Wanted); 2] = [("b", Absent), ("n", Absent)];
+
+#[test]
+fn tells_refused_worlds_and_calls(rt: HostRuntime) -> Result<(), Fail> {
+    let alloc = rt.alloc();
+    for (world, calls, line) in REFUSALS {
+        let files: [File; 2] = [("w", world), ("c", calls)];
+        let out: [Part; 3] = [(1, b"refused "), (1, line), (1, b"\n")];
+        for words in ["mine w c b n --fuel=100", "validate w c b --fuel=100"] {
+            comes_to(
+                &rt,
+                alloc,
+                (words, &files, All(&out), &NONE_WRITTEN),
+                Refused,
+            )?;
+        }
+    }
+    Ok(())
+}
+
+/// A block that is judged over the example contract's world with no cells: its bytes, changes of them at places, the text of its calls,
+/// the fuel, and what is printed.
+type Judged<'a> = (&'a [u8], &'a [(usize, u8)], &'a [Part<'a>], u64, &'a [u8]);
+
+/// The bytes with some changes.
+fn changed(alloc: Global, bytes: &[u8], changes: &[(usize, u8)]) -> Result<Vec<u8>, Fail> {
+    let mut copy = bytes.to_vec(alloc)?;
+    for (at, byte) in changes {
+        let place = copy.get_mut(*at).ok_or("a byte")?;
+        *place = *byte;
+    }
+    Ok(copy)
+}
+
+const JUDGED: [Judged; 20] = [
+    (
+        &NO_CALLS,
+        &[],
+        &[],
+        0,
+        b"accept\nafter ddc5e3d488f3844cdf731c6e2fcdb213a1eea2313f8fc0baf8aaafed8b7d0b92\n",
+    ),
+    (
+        &TWO,
+        &[],
+        &PEEK_AND_SET,
+        200,
+        b"accept\nafter 9f2fc0686bb827ca292338c9e58ca50f6165f51f61f87af407bc3cb32e694327\n",
+    ),
+    // the magic, the digest before, the number of the call, the turn and the mode of its lock, the fuel of all
+    (&BUMP, &[(0, 0)], &ONE_BUMP, 100, b"reject 1\n"),
+    (&BUMP, &[(8, 0)], &ONE_BUMP, 100, b"reject 2\n"),
+    (&BUMP, &[(76, 1)], &ONE_BUMP, 100, b"reject 4 0\n"),
+    (&BUMP, &[(108, 1)], &ONE_BUMP, 100, b"reject 7 0\n"),
+    (&BUMP, &[(107, 2)], &ONE_BUMP, 100, b"reject 8 0\n"),
+    (&BUMP, &[(112, 8)], &ONE_BUMP, 100, b"reject 9\n"),
+    // too little fuel, another call, and a call that there is room for
+    (&BUMP, &[], &ONE_BUMP, 99, b"reject 5\n"),
+    (&BUMP, &[], &OTHER_BUMP, 100, b"reject 3\n"),
+    (&LEFT, &[], &OTHER_BUMP, 100, b"reject 6 0\n"),
+    // the last byte is not there
+    (&WITHOUT_LAST, &[], &[], 0, b"reject 1\n"),
+    (
+        &NO_CALLS,
+        &[],
+        &[(1, b"0 1 peek i64:1\n")],
+        0,
+        b"reject 3\n",
+    ),
+    // the digest before, the number of the second call, its turn, the fuel of both
+    (&TWO, &[(8, 0)], &PEEK_AND_SET, 200, b"reject 2\n"),
+    (&TWO, &[(112, 2)], &PEEK_AND_SET, 200, b"reject 4 1\n"),
+    (&TWO, &[(144, 0)], &PEEK_AND_SET, 200, b"reject 7 1\n"),
+    (&TWO, &[(148, 8)], &PEEK_AND_SET, 200, b"reject 9\n"),
+    (&TWO, &[], &PEEK_AND_SET, 199, b"reject 5\n"),
+    // the fuel of the first call is 5 and that of both is 8
+    (
+        &TWO,
+        &[(80, 5), (148, 8)],
+        &PEEK_AND_SET,
+        200,
+        b"reject 8 0\n",
+    ),
+    // the calls are refused before the block is read
+    (&NO_CALLS, &[], &[(1, b"0 1 f")], 0, b"refused calls 1 1\n"),
+];
+
+#[test]
+fn judges_blocks(rt: HostRuntime) -> Result<(), Fail> {
+    let alloc = rt.alloc();
+    for (block, changes, calls, fuel, verdict) in JUDGED {
+        let status = if verdict.starts_with(b"accept") {
+            Done
+        } else {
+            Refused
+        };
+        let words = format!(in alloc; "validate w c b --fuel={fuel}")?;
+        let block = changed(alloc, block, changes)?;
+        let block: [Part; 1] = [(1, &block)];
+        let files: [File; 3] = [("w", &WORLD), ("c", calls), ("b", &block)];
+        comes_to(
+            &rt,
+            alloc,
+            (words.as_str(), &files, Text(verdict), &[]),
+            status,
+        )?;
+    }
+    Ok(())
+}
+
+/// Which call of the files or of the output fails, the file that is said to fail, and what some files hold after it.
+type Fault<'a> = (Option<u64>, Option<u64>, &'a [u8], After<'a>);
+
+/// A line ends with the status of a file and prints nothing, where its calls fail in turn.
+fn fails_as_told<R: Abort + Threads + Wait + Sync>(
+    rt: &R,
+    alloc: Global,
+    words: &str,
+    files: &[File],
+    rows: &[Fault],
+) -> Result<(), Fail> {
+    for (file_fails, out_fails, name, after) in rows {
+        let said: [Part; 3] = [(1, b"file "), (1, *name), (1, b"\n")];
+        let line = Line {
+            words,
+            files,
+            file_fails: *file_fails,
+            out_fails: *out_fails,
+            status: NotReached,
+            out: NOTHING,
+            err: All(&said),
+            after: *after,
+        };
+        assert_eq!(rt; unlike(rt, alloc, &line)?, None, "{words} {file_fails:?}");
+    }
+    Ok(())
+}
+
+const CUT_SHORT: [Fault; 7] = [
+    (Some(0), None, b"w", &[("n", Absent)]),
+    (Some(1), None, b"c", &[("n", Absent)]),
+    (Some(2), None, b"b", &[("n", Absent)]),
+    (Some(4), None, b"b", &[("n", Absent)]),
+    (Some(5), None, b"n", &[A_BLOCK]),
+    (Some(7), None, b"n", &[A_BLOCK]),
+    (None, Some(0), b"stdout", &[A_BLOCK, NEXT]),
+];
+
+#[test]
+fn the_block_is_written_before_the_next_world(rt: HostRuntime) -> Result<(), Fail> {
+    let words = "mine w c b n --fuel=100";
+    fails_as_told(&rt, rt.alloc(), words, &OF_BUMP, &CUT_SHORT)
+}
+
+/// The example contract's world with no cells, no calls and their block.
+const OF_NO_CALLS: [File; 3] = [("w", &WORLD), ("c", &[]), ("b", &[(1, &NO_CALLS)])];
+
+const NOT_READ: [Fault; 3] = [
+    (Some(0), None, b"w", &[("n", Absent)]),
+    (Some(1), None, b"c", &[("n", Absent)]),
+    (Some(2), None, b"b", &[("n", Absent)]),
+];
+
+#[test]
+fn tells_the_file_that_is_not_read(rt: HostRuntime) -> Result<(), Fail> {
+    let alloc = rt.alloc();
+    fails_as_told(
+        &rt,
+        alloc,
+        "validate w c b --fuel=100",
+        &OF_BLOCK,
+        &NOT_READ,
+    )?;
+    fails_as_told(
+        &rt,
+        alloc,
+        "validate w c b --fuel=0",
+        &OF_NO_CALLS,
+        &NOT_READ,
+    )?;
+    let words = "mine w c o n --fuel=5 --workers=2";
+    fails_as_told(&rt, alloc, words, &OF_NO_CALLS, &NOT_READ[..2])
+}

@@ -1,0 +1,177 @@
+//! Lines of words that debug a call, over modules whose bytes another program made.
+
+use crate::modules::{WORLD, WORLD_OF_LOOP, WORLD_OF_WRITER};
+use crate::rows::Wanted::{self, Text};
+use crate::rows::{File, Line, NOTHING, Part, unlike};
+use std::alloc::Global;
+use std::process::Abort;
+use std::sync::Wait;
+use std::test::Fail;
+use std::thread::Threads;
+use wblock_line::Status::{self, Done, File as NotReached, Refused, Usage};
+
+/// A line that debugs: its words, the world, the calls, and what it prints.
+type Session<'a> = (&'a str, &'a [Part<'a>], &'a [Part<'a>], &'a [u8]);
+
+/// A line ends with this status, where the files fail after so many calls; it prints what its row says, and says this to be wrong.
+fn comes_to<R: Abort + Threads + Wait + Sync>(
+    rt: &R,
+    alloc: Global,
+    row: Session,
+    file_fails: Option<u64>,
+    status: Status,
+    err: Wanted,
+) -> Result<(), Fail> {
+    let (words, world, calls, printed) = row;
+    let files: [File; 2] = [("w", world), ("c", calls)];
+    let line = Line {
+        words,
+        files: &files,
+        file_fails,
+        out_fails: None,
+        status,
+        out: Text(printed),
+        err,
+        after: &[],
+    };
+    assert_eq!(rt; unlike(rt, alloc, &line)?, None, "{words}");
+    Ok(())
+}
+
+/// Sessions whose commands are all done.
+const ALL_DONE: [Session; 5] = [
+    // back over host calls and stores
+    (
+        "debug w c 0 step:4 stack back:2 cont",
+        &WORLD,
+        &[(1, b"0 100 both i64:7 i64:1\n")],
+        b"4 at 6 4\nstack i64:7\n2 at 6 2\n5 done returned i64:1 fuel 5\n",
+    ),
+    (
+        "debug w c 0 step:5 globals bytes:0:1 back:4 globals bytes:0:1 bytes:65536:0",
+        &WORLD_OF_WRITER,
+        &[(1, b"0 100 w\n")],
+        b"5 done returned fuel 5\nglobals i64:5\nbytes 09\n1 at 0 1\nglobals i64:1\nbytes 00\nbytes \n",
+    ),
+    // how a call ends
+    (
+        "debug w c 0 cont stack locals",
+        &WORLD_OF_LOOP,
+        &[(1, b"0 15 down i64:2\n")],
+        b"15 done out-of-fuel fuel 15\nstack\nlocals\n",
+    ),
+    (
+        "debug w c 0 cont",
+        &WORLD,
+        &[(1, b"0 100 fail i64:7 i64:5\n")],
+        b"4 done trapped 1 fuel 4\n",
+    ),
+    // the call of another number
+    (
+        "debug w c 1 cont",
+        &WORLD_OF_LOOP,
+        &[(1, b"0 16 down i64:2\n0 100 down i64:3\n")],
+        b"24 done returned fuel 24\n",
+    ),
+];
+
+/// Sessions with a command that is refused.
+const REFUSED_IN_PART: [Session; 3] = [
+    (
+        "debug w c 0 step:1 locals cont back:9",
+        &WORLD,
+        &[(1, b"0 100 bump i64:7 i64:5\n")],
+        b"1 at 4 1\nlocals i64:7 i64:5\n3 done returned fuel 3\nrefused 1\n",
+    ),
+    (
+        "debug w c 0 step:3 stack back:1 stack back:5 step:6 locals step:99 place",
+        &WORLD_OF_LOOP,
+        &[(1, b"0 16 down i64:2\n")],
+        b"3 at 0 3\nstack i64:2 i64:1\n2 at 0 2\nstack i64:2\nrefused 1\n8 at 0 0\nlocals i64:1\n16 done returned fuel 16\n16 done returned fuel 16\n",
+    ),
+    // breaks
+    (
+        "debug w c 0 break:0:6 cont cont cont back:2 clear:0:6 cont break:0:9 bytes:0:1",
+        &WORLD_OF_LOOP,
+        &[(1, b"0 16 down i64:2\n")],
+        b"ok\n6 at 0 6\n14 at 0 6\n16 done returned fuel 16\n14 at 0 6\nok\n16 done returned fuel 16\nrefused 2\nrefused 3\n",
+    ),
+];
+
+/// The line that shows where the first call stands.
+const PLACE: &str = "debug w c 0 place";
+
+#[test]
+fn debugs_calls(rt: HostRuntime) -> Result<(), Fail> {
+    for row in ALL_DONE {
+        comes_to(&rt, rt.alloc(), row, None, Done, NOTHING)?;
+    }
+    for row in REFUSED_IN_PART {
+        comes_to(&rt, rt.alloc(), row, None, Refused, NOTHING)?;
+    }
+    Ok(())
+}
+
+/// Calls that do not start, and what is printed of them.
+const NOT_STARTED: [(&[Part], &[u8]); 5] = [
+    (&[(1, b"1 100 down\n")], b"refused start 6\n"),
+    (&[(1, b"0 100 up\n")], b"refused start 1\n"),
+    (&[(1, b"0 100 down\n")], b"refused start 3\n"),
+    (&[(1, b"0 100 down i32:1\n")], b"refused start 4\n"),
+    (&[(1, b"0 100 down")], b"refused calls 1 1\n"),
+];
+
+#[test]
+fn tells_why_a_call_does_not_start(rt: HostRuntime) -> Result<(), Fail> {
+    for (calls, line) in NOT_STARTED {
+        let row: Session = (PLACE, &WORLD_OF_LOOP, calls, line);
+        comes_to(&rt, rt.alloc(), row, None, Refused, NOTHING)?;
+    }
+    Ok(())
+}
+
+/// Lines that ask for a call that is not there.
+const NOT_THERE: [Session; 3] = [
+    (
+        "debug w c 1 place",
+        &WORLD,
+        &[(1, b"0 100 bump i64:7 i64:5\n")],
+        b"",
+    ),
+    (
+        "debug w c 2 cont",
+        &WORLD_OF_LOOP,
+        &[(1, b"0 16 down i64:2\n0 100 down i64:3\n")],
+        b"",
+    ),
+    (
+        "debug w c 18446744073709551615 cont",
+        &WORLD_OF_LOOP,
+        &[(1, b"0 16 down i64:2\n0 100 down i64:3\n")],
+        b"",
+    ),
+];
+
+#[test]
+fn takes_the_call_of_a_number(rt: HostRuntime) -> Result<(), Fail> {
+    for row in NOT_THERE {
+        comes_to(&rt, rt.alloc(), row, None, Usage, Text(b"usage\n"))?;
+    }
+    Ok(())
+}
+
+/// Lines, after how many calls of the files one fails, and the file that is said to fail.
+const FAULTS: [(&str, Option<u64>, &[u8]); 3] = [
+    ("debug w x 0 place", None, b"file x\n"),
+    (PLACE, Some(0), b"file w\n"),
+    (PLACE, Some(1), b"file c\n"),
+];
+
+#[test]
+fn tells_the_file_that_is_not_read(rt: HostRuntime) -> Result<(), Fail> {
+    for (words, fails, said) in FAULTS {
+        let row: Session = (words, &WORLD_OF_LOOP, &[], b"");
+        comes_to(&rt, rt.alloc(), row, fails, NotReached, Text(said))?;
+    }
+    Ok(())
+}

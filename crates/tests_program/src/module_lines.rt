@@ -1,0 +1,311 @@
+//! Lines of words that assemble, check and deploy modules, at each fault in turn.
+
+use crate::modules::{HEADER, MODULES, WORLD, WORLD_OF_NOPS, WORLD_OF_TWO};
+use crate::rows::Wanted::{self, Absent, All, Cut, Text, Usage};
+use crate::rows::{File, Line, NOTHING, Part, unlike};
+use std::alloc::Global;
+use std::process::Abort;
+use std::sync::Wait;
+use std::test::Fail;
+use std::thread::Threads;
+use wblock_line::Status::{self, Done, File as NotReached, Memory, Refused, Usage as Misused};
+
+/// The file `w` as it was.
+const OLD: Wanted = Text(b"old");
+
+/// A line over the modules, with what it prints, what it says is wrong, and what the file `w` holds after it.
+type Row<'a> = (&'a str, Wanted<'a>, Wanted<'a>, Wanted<'a>);
+
+/// After how many calls of the files one fails, and after how many of the output.
+type Fails = (Option<u64>, Option<u64>);
+
+/// No call fails.
+const CALM: Fails = (None, None);
+
+/// A line ends with this status, where these calls fail, and comes to what its row says.
+fn comes_to<R: Abort + Threads + Wait + Sync>(
+    rt: &R,
+    alloc: Global,
+    row: Row,
+    fails: Fails,
+    status: Status,
+) -> Result<(), Fail> {
+    let (words, out, err, world) = row;
+    let (file_fails, out_fails) = fails;
+    let line = Line {
+        words,
+        files: &MODULES,
+        file_fails,
+        out_fails,
+        status,
+        out,
+        err,
+        after: &[("w", world)],
+    };
+    assert_eq!(rt; unlike(rt, alloc, &line)?, None, "{words} {file_fails:?}");
+    Ok(())
+}
+
+/// Each of the lines, which stand before arrows, ends with this status, prints the line behind its arrow, and leaves `w` as it was.
+fn print<R: Abort + Threads + Wait + Sync>(
+    rt: &R,
+    alloc: Global,
+    status: Status,
+    rows: &[&str],
+) -> Result<(), Fail> {
+    for row in rows {
+        let (words, line) = row.split_once(" -> ").ok_or("an arrow")?;
+        let out: [Part; 2] = [(1, line.as_bytes()), (1, b"\n")];
+        comes_to(rt, alloc, (words, All(&out), NOTHING, OLD), CALM, status)?;
+    }
+    Ok(())
+}
+
+/// What is printed of the empty module.
+const ASSEMBLED: Wanted = Text(b"assembled 8 bytes\n");
+
+#[test]
+fn assembles_texts(rt: HostRuntime) -> Result<(), Fail> {
+    let row = ("asm text w", ASSEMBLED, NOTHING, Text(&HEADER));
+    comes_to(&rt, rt.alloc(), row, CALM, Done)?;
+    let rows = ["asm broken w -> refused assemble 2 7"];
+    print(&rt, rt.alloc(), Refused, &rows)
+}
+
+const SHOWN: Wanted = All(&[
+    (1, b"0 call 0 returned i64:5 fuel 7\n"),
+    (1, b"1 call 1 returned i64:10 fuel 7\n"),
+    (1, b"fuel 14\n"),
+]);
+
+#[test]
+fn no_words_show_the_stored_run(rt: HostRuntime) -> Result<(), Fail> {
+    comes_to(&rt, rt.alloc(), ("", SHOWN, NOTHING, OLD), CALM, Done)
+}
+
+const VALID: [&str; 5] = [
+    "check contract -> valid 6 functions",
+    "check nops -> valid 1 functions",
+    "check nops --heap 1048576 -> valid 1 functions",
+    "check --heap=16777216 nops -> valid 1 functions",
+    "check pages -> valid 0 functions",
+];
+
+const NOT_VALID: [&str; 7] = [
+    "check short -> refused load 1 4",
+    "check front -> refused load 1 4",
+    "check float -> refused load 2 14",
+    "check deep -> refused load 3 4",
+    "check untyped -> refused check 18 0 1",
+    "check exports -> refused check 6 - 1",
+    "check --heap 1048576 untyped -> refused check 18 0 1",
+];
+
+#[test]
+fn checks_modules(rt: HostRuntime) -> Result<(), Fail> {
+    print(&rt, rt.alloc(), Done, &VALID)?;
+    print(&rt, rt.alloc(), Refused, &NOT_VALID)
+}
+
+const DEPLOYED: [Row; 2] = [
+    (
+        "deploy w contract",
+        Text(b"deployed 1 contracts\n"),
+        NOTHING,
+        All(&WORLD),
+    ),
+    (
+        "deploy w contract contract",
+        Text(b"deployed 2 contracts\n"),
+        NOTHING,
+        All(&WORLD_OF_TWO),
+    ),
+];
+
+#[test]
+fn deploys_modules(rt: HostRuntime) -> Result<(), Fail> {
+    for row in DEPLOYED {
+        comes_to(&rt, rt.alloc(), row, CALM, Done)?;
+    }
+    Ok(())
+}
+
+const NOT_DEPLOYED: [&str; 9] = [
+    "deploy w contract other front -> refused deploy 2 0 module 1",
+    "deploy w deep -> refused load 3 4 module 0",
+    "deploy w exports -> refused check 6 - 1 module 0",
+    "deploy w env -> refused deploy 1 0 module 0",
+    "deploy w data -> refused deploy 3 0 module 0",
+    "deploy w table -> refused deploy 5 - module 0",
+    "deploy w pages other -> refused deploy 4 - module 0",
+    "deploy w contract contract untyped -> refused check 18 0 1 module 2",
+    "deploy w front absent -> refused load 1 4 module 0",
+];
+
+#[test]
+fn tells_the_first_refused_module(rt: HostRuntime) -> Result<(), Fail> {
+    print(&rt, rt.alloc(), Refused, &NOT_DEPLOYED)
+}
+
+#[test]
+fn a_heap_may_be_too_small(rt: HostRuntime) -> Result<(), Fail> {
+    let row = ("check nops --heap=1024", NOTHING, Text(b"memory\n"), OLD);
+    comes_to(&rt, rt.alloc(), row, CALM, Memory)
+}
+
+/// A line, which calls fail, the file that is said to fail, what is printed, and what the file `w` holds then.
+type Fault<'a> = (&'a str, Fails, &'a [u8], &'a [u8], Wanted<'a>);
+
+const TWO: &str = "deploy w contract nops";
+
+const FAULTS: [Fault; 8] = [
+    ("asm absent w", CALM, b"absent", b"", OLD),
+    ("deploy w contract absent", CALM, b"absent", b"", OLD),
+    (TWO, (Some(0), None), b"contract", b"", OLD),
+    (TWO, (Some(1), None), b"nops", b"", OLD),
+    (TWO, (Some(2), None), b"w", b"", OLD),
+    (TWO, (Some(3), None), b"w", b"", Cut(&WORLD_OF_NOPS)),
+    (TWO, (Some(10), None), b"w", b"", Cut(&WORLD_OF_NOPS)),
+    (
+        TWO,
+        (None, Some(2)),
+        b"stdout",
+        b"deploy",
+        All(&WORLD_OF_NOPS),
+    ),
+];
+
+#[test]
+fn tells_faults_of_files(rt: HostRuntime) -> Result<(), Fail> {
+    for (words, fails, name, printed, world) in FAULTS {
+        let err: [Part; 3] = [(1, b"file "), (1, name), (1, b"\n")];
+        let row = (words, Text(printed), All(&err), world);
+        comes_to(&rt, rt.alloc(), row, fails, NotReached)?;
+    }
+    let out = Text(b"deployed 2 contracts\n");
+    let whole = (TWO, out, NOTHING, All(&WORLD_OF_NOPS));
+    comes_to(&rt, rt.alloc(), whole, CALM, Done)
+}
+
+/// Lines that the command line does not take.
+const NOT_TAKEN: [&str; 18] = [
+    "check",
+    "check contract nops",
+    "check contract --heap",
+    "check contract --fuel=2000",
+    "deploy",
+    "deploy w",
+    "deploy w contract --heap=2000",
+    "mine w c b n",
+    "mine w c b --fuel=5",
+    "mine w c b n o --fuel=5",
+    "mine w c b n --fuel",
+    "mine w c b n --fuel=5 --fuel=5",
+    "mine w c b n --fuel=5 --heap=5",
+    "validate w c b",
+    "validate w c b n --fuel=5",
+    "validate w c b --fuel=5 --tries=3",
+    "walk",
+    "--help",
+];
+
+/// Lines that the command line takes and that ask for nothing.
+const NOTHING_ASKED: [&str; 12] = [
+    "check contract --heap 1023",
+    "check contract --heap 16777217",
+    "check contract --heap=01024",
+    "check contract --heap=+1024",
+    "mine w c b n --fuel=05",
+    "mine w c b n --fuel=+5",
+    "mine w c b n --fuel=18446744073709551616",
+    "mine w c b n --fuel=5 --workers=0",
+    "mine w c b n --fuel=5 --workers=65",
+    "mine w c b n --fuel=5 --tries=0",
+    "mine w c b n --fuel=5 --tries=17",
+    "validate w c b --fuel=5 --workers=65",
+];
+
+/// What the program says where it has no words of its own.
+const OWN: Wanted = Text(b"usage\n");
+
+/// Lines that ask for nothing leave `w` as it was, print nothing, and say this.
+fn are_misused<R: Abort + Threads + Wait + Sync>(
+    rt: &R,
+    alloc: Global,
+    lines: &[&str],
+    said: Wanted,
+) -> Result<(), Fail> {
+    for words in lines {
+        comes_to(rt, alloc, (*words, NOTHING, said, OLD), CALM, Misused)?;
+    }
+    Ok(())
+}
+
+#[test]
+fn tells_usage(rt: HostRuntime) -> Result<(), Fail> {
+    are_misused(&rt, rt.alloc(), &NOT_TAKEN, Usage)?;
+    are_misused(&rt, rt.alloc(), &NOTHING_ASKED, OWN)
+}
+
+#[test]
+fn a_world_has_at_most_1024_contracts(rt: HostRuntime) -> Result<(), Fail> {
+    let alloc = rt.alloc();
+    let modules = " contract".repeat(alloc, 1_025)?;
+    let words = format!(in alloc; "deploy w{modules}")?;
+    are_misused(&rt, alloc, &[words.as_str()], OWN)
+}
+
+/// Texts, and the refusal of each.
+const TEXTS: [(&[Part], &[u8]); 12] = [
+    (&[(1, b"(module 7x)")], b"1 8"),
+    (&[(1, b"(module (; x")], b"1 8"),
+    (&[(1, b"(module (func)")], b"2 14"),
+    (&[(1, b"(module (func (local.get $x)))")], b"3 25"),
+    (&[(1, b"(module (func $f) (func $f))")], b"4 24"),
+    (&[(1, b"(module (func i32.const 4294967296))")], b"5 24"),
+    (
+        &[(1, b"(module (func "), (1_025, b"(local i32)"), (1, b"))")],
+        b"6 3",
+    ),
+    // bytes that are not UTF-8: between tokens, in a string, in comments, and behind another fault
+    (&[(1, b"(module \xFF)")], b"1 8"),
+    (&[(1, b"(module (export \"a\xC3\" (func 0)))")], b"1 16"),
+    (&[(1, b"(module (; \x80 ;))")], b"1 11"),
+    (&[(1, b"(module) ;; \xFF")], b"1 12"),
+    (&[(1, b"(module 7x \xFF)")], b"1 8"),
+];
+
+/// A text is assembled with this status: this is printed, and the file of the module holds this.
+fn is_assembled<R: Abort + Threads + Wait + Sync>(
+    rt: &R,
+    alloc: Global,
+    text: &[Part],
+    status: Status,
+    out: Wanted,
+    module: Wanted,
+) -> Result<(), Fail> {
+    let files: [File; 1] = [("text", text)];
+    let line = Line {
+        words: "asm text out",
+        files: &files,
+        file_fails: None,
+        out_fails: None,
+        status,
+        out,
+        err: NOTHING,
+        after: &[("out", module)],
+    };
+    assert_eq!(rt; unlike(rt, alloc, &line)?, None, "{text:?}");
+    Ok(())
+}
+
+#[test]
+fn tells_each_refusal_of_a_text(rt: HostRuntime) -> Result<(), Fail> {
+    for (text, place) in TEXTS {
+        let out: [Part; 3] = [(1, b"refused assemble "), (1, place), (1, b"\n")];
+        is_assembled(&rt, rt.alloc(), text, Refused, All(&out), Absent)?;
+    }
+    let text: [Part; 1] = [(1, b"(module $m (; nothing ;))")];
+    let module = Text(&HEADER);
+    is_assembled(&rt, rt.alloc(), &text, Done, ASSEMBLED, module)
+}
