@@ -1,0 +1,50 @@
+//! The block of an order.
+
+ghost use Rattle.std.specs.Prelude.{◌≡◌, ◌<◌, ◌^◌, IfOk, length, ◌≤◌};
+ghost use Rattle.spec_block.specs.Blocks.{positions, block_of, world_after};
+ghost use Rattle.serial.specs.Positions.{positions as ran_of};
+ghost use Rattle.world.specs.Views.{world_view};
+ghost use Rattle.serial_block.specs.Ordered.{used_by};
+
+use block::{Block, Position};
+use call::Call;
+use lock_profile::Touched;
+use serial::Core;
+use spec_ledger::Receipt;
+use std::alloc::Allocator;
+use world::World;
+use wtypes::NoMemory;
+
+/// As [`serial_block::positions_of`].
+pub fn positions_of<A: Allocator + Copy>(
+    alloc: A,
+    order: &[u32],
+    receipts: &[Receipt],
+    touched: &[Touched<A>],
+) -> Result<Vec<Position<A>, A>, NoMemory>
+    requires few { length order.now < 2 ^ 16 }
+    requires receipts { length receipts.now ≡ length order.now }
+    requires touched { length touched.now ≡ length order.now }
+    ensures { IfOk result (λ made. made.items ≡ positions order.now (ran_of receipts.now touched.now)) }
+{
+    serial_block::positions_of(alloc, order, receipts, touched)
+}
+
+/// As [`serial_block::seal`].
+pub fn seal<A: Allocator + Copy>(
+    alloc: A,
+    world: &World<A>,
+    calls: &[Call],
+    order: &[u32],
+    core: Core<A>,
+) -> Result<(Block<A>, World<A>), NoMemory>
+    requires calls { length calls.now ≤ 65535 }
+    requires order { length order.now ≤ Block.MOST_POSITIONS }
+    requires receipts { length core.receipts.items ≡ length order.now }
+    requires touched { length core.touched.items ≡ length order.now }
+    requires fuel { used_by core.receipts.items < 2 ^ 64 }
+    ensures block { IfOk result (λ r. r.0 ≡ block_of (world_view world.now) calls.now order.now (ran_of core.receipts.items core.touched.items) core.cells.cells) }
+    ensures world { IfOk result (λ r. world_view r.1 ≡ world_after (world_view world.now) core.cells.cells) }
+{
+    serial_block::seal(alloc, world, calls, order, core)
+}

@@ -1,0 +1,35 @@
+//! Blocks and lists of calls, written.
+
+ghost use Rattle.std.specs.Prelude.{◌≡◌, ◌++◌, OnOk, IsErrOf, IsTrue, ◌≤◌, length, IfOk};
+ghost use Rattle.codec.specs.Putting.{IsCutShort, IsRaised};
+ghost use Rattle.spec_block.specs.Bytes.{block_bytes, calls_bytes};
+ghost use Rattle.sha2.specs.Sha256.{sha256};
+
+use block::{Block, WriteRefusal};
+use call::Call;
+use codec::Sink;
+use std::alloc::Allocator;
+use wtypes::NoMemory;
+
+/// As [`block::write_block`].
+pub fn write_block<A: Allocator, S: Sink>(
+    alloc: A,
+    block: &Block<A>,
+    sink: &mut S,
+) -> Result<(), WriteRefusal>
+    ensures put { OnOk result (IsTrue S.tells → S.told sink.new ≡ S.told sink.old ++ block_bytes block.now) }
+    ensures calm { OnOk result (S.failures sink.new ≡ S.failures sink.old) }
+    ensures unchanged { IsErrOf result WriteRefusal.NoMemory → sink.new ≡ sink.old }
+    ensures failed { IsErrOf result WriteRefusal.Write → IsRaised (S.failures sink.old) (S.failures sink.new) }
+    ensures cut_short { IsErrOf result WriteRefusal.Write → IsTrue S.tells → IsCutShort (S.told sink.old) (S.told sink.new) (block_bytes block.now) }
+{
+    block::write_block(alloc, block, sink)
+}
+
+/// As [`block::digest_calls`].
+pub fn digest_calls<A: Allocator>(alloc: A, calls: &[Call]) -> Result<[u8; 32], NoMemory>
+    requires { length calls.now ≤ 65535 }
+    ensures { IfOk result (λ digest. digest ≡ sha256 (calls_bytes calls.now)) }
+{
+    block::digest_calls(alloc, calls)
+}

@@ -1,0 +1,49 @@
+//! The book.
+
+ghost use Rattle.std.specs.Prelude.{◌≡◌, ◌↔◌, IfOk, OnErr, Err, IfErr, ◌≤◌, length};
+ghost use Rattle.spec_ledger.specs.Events.{IsStale, OpDone, IsConflict, CommitDone, IsOther, BeginDone, HasNoAttempt};
+ghost use Rattle.spec_ledger.specs.Book.{call_is_new};
+
+use boost::book::{BeginRefusal, Book, CommitRefusal, OpRefusal, Run, Ticket};
+use spec_ledger::{Op, Reply};
+use std::alloc::Allocator;
+
+/// As [`Book::op`].
+pub fn op<A: Allocator + Copy>(
+    book: &mut Book<A>,
+    ticket: &Ticket,
+    op: Op,
+) -> Result<Reply, OpRefusal>
+    ensures ok { IfOk result (λ reply. OpDone book.old book.new ticket.now.call ticket.now.number op reply) }
+    ensures conflict { (result ≡ Err OpRefusal.Conflict) ↔ IsConflict book.old ticket.now.call ticket.now.number op }
+    ensures stale { (result ≡ Err OpRefusal.Stale) ↔ IsStale book.old ticket.now.call ticket.now.number }
+    ensures err { OnErr result (book.new ≡ book.old) }
+{
+    book.op(ticket, op)
+}
+
+/// As [`Book::commit`].
+pub fn commit<A: Allocator + Copy>(
+    book: &mut Book<A>,
+    ticket: Ticket,
+    run: &Run<'_>,
+) -> Result<u32, (Ticket, CommitRefusal)>
+    ensures ok { IfOk result (λ position. CommitDone book.old book.new ticket.call ticket.number run.now.trace.now run.now.outcome position) }
+    ensures stale { IfErr result (λ e. (e.1 ≡ CommitRefusal.Stale) ↔ IsStale book.old ticket.call ticket.number) }
+    ensures differs { IfErr result (λ e. (e.1 ≡ CommitRefusal.Differs) ↔ IsOther book.old ticket.call ticket.number run.now.trace.now) }
+    ensures ticket { IfErr result (λ e. e.0 ≡ ticket) }
+    ensures err { OnErr result (book.new ≡ book.old) }
+{
+    book.commit(ticket, run)
+}
+
+/// As [`Book::begin`].
+pub fn begin<A: Allocator + Copy>(book: &mut Book<A>, call: u32) -> Result<Ticket, BeginRefusal>
+    ensures ok { IfOk result (λ ticket. (ticket.call ≡ call) × BeginDone book.old book.new call ticket.number) }
+    ensures no_such_call { (result ≡ Err BeginRefusal.NoSuchCall) ↔ (length book.old.begun ≤ call) }
+    ensures live { (result ≡ Err BeginRefusal.Live) ↔ ¬ (HasNoAttempt call book.old.attempts) }
+    ensures committed { (result ≡ Err BeginRefusal.Committed) ↔ ¬ (call_is_new call book.old.entries) }
+    ensures err { OnErr result (book.new ≡ book.old) }
+{
+    book.begin(call)
+}

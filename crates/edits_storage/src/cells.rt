@@ -1,0 +1,49 @@
+//! Cells.
+
+ghost use Rattle.std.specs.Prelude.{◌≡◌, IfOk, OnOk, OnErr};
+ghost use Rattle.std.specs.FinMap as finite;
+ghost use Rattle.spec_ledger.specs.Cells.{cells_after, reply_to, inverse_to, back};
+ghost use Rattle.storage.specs.Counts.{opened, IsUnsettled, closed};
+
+use std::alloc::Allocator;
+use storage::{Cells, Inverse, Lock, NoMemory, Op, Reply};
+
+/// As [`storage::Cells::get`].
+pub fn get<A: Allocator + Copy>(cells: &Cells<A>, lock: Lock) -> Option<u64>
+    ensures { result ≡ finite.get cells.now.cells lock }
+{
+    cells.get(lock)
+}
+
+/// As [`storage::Cells::apply`].
+pub fn apply<A: Allocator + Copy>(
+    cells: &mut Cells<A>,
+    op: Op,
+) -> Result<(Reply, Inverse), NoMemory>
+    ensures reply { IfOk result (λ r. r.0 ≡ reply_to op cells.old.cells) }
+    ensures inverse { IfOk result (λ r. r.1 ≡ inverse_to op cells.old.cells) }
+    ensures cells { OnOk result (cells.new.cells ≡ cells_after op cells.old.cells) }
+    ensures unsettled { IfOk result (λ r. cells.new.unsettled ≡ opened r.1 cells.old.unsettled) }
+    ensures kept { IfOk result (λ r. IsUnsettled r.1 cells.new.unsettled) }
+    ensures err { OnErr result (cells.new ≡ cells.old) }
+{
+    cells.apply(op)
+}
+
+/// As [`storage::Cells::take_back`].
+pub fn take_back<A: Allocator + Copy>(cells: &mut Cells<A>, inverse: Inverse)
+    requires { IsUnsettled inverse cells.old.unsettled }
+    ensures cells { cells.new.cells ≡ back inverse cells.old.cells }
+    ensures unsettled { cells.new.unsettled ≡ closed inverse cells.old.unsettled }
+{
+    cells.take_back(inverse);
+}
+
+/// As [`storage::Cells::settle`].
+pub fn settle<A: Allocator + Copy>(cells: &mut Cells<A>, inverse: Inverse)
+    requires { IsUnsettled inverse cells.old.unsettled }
+    ensures cells { cells.new.cells ≡ cells.old.cells }
+    ensures unsettled { cells.new.unsettled ≡ closed inverse cells.old.unsettled }
+{
+    cells.settle(inverse);
+}

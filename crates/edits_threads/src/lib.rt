@@ -1,0 +1,7 @@
+//! What the contracts of threads refuse: each function calls one function of the threads' layer and has its contract.
+#![tactic(auto)]
+
+pub mod books;
+pub mod intakes;
+pub mod mined;
+pub mod verdicts;
