@@ -6,7 +6,7 @@ use crate::adder_load::Load;
 use crate::orders::all_numbers;
 use call::Call;
 use link::deployed::Deployed;
-use miner::mine_core;
+use mining::mine_core;
 use pace::NoPace;
 use serial::serial_core;
 use std::alloc::Global;

@@ -13,7 +13,7 @@ ghost use Rattle.world.specs.Views.{world_view};
 
 use call::Call;
 use link::deployed::Deployed as Contract;
-use miner::MinedCore;
+use mining::MinedCore;
 use mining::Mined;
 use pace::Pace;
 use std::alloc::Allocator;
@@ -23,7 +23,7 @@ use storage::Cells;
 use world::World;
 use wtypes::NoMemory;
 
-/// As [`miner::mine_core`].
+/// As [`mining::mine_core`].
 pub fn mine_core<'a, R: Threads + Wait + Sync, A: Allocator + Copy + Send + Sync, P: Pace>(
     rt: &R,
     alloc: A,
@@ -47,7 +47,7 @@ pub fn mine_core<'a, R: Threads + Wait + Sync, A: Allocator + Copy + Send + Sync
     ensures left { IfOk result (λ core. AreLeft core.order.items (length calls.now) core.left.items) }
     ensures by_workers { IfOk result (λ core. core.by_workers ≤ length core.order.items) }
 {
-    let core = miner::mine_core(
+    let core = mining::mine_core(
         rt, alloc, contracts, cells, calls, block_fuel, workers, tries, pace,
     )?;
     Ok(core)

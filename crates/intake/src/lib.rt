@@ -5,8 +5,6 @@ mod account;
 mod intake;
 mod rule;
 mod seat;
-#[cfg(test)]
-mod tests;
 
 pub use account::{Account, Limits};
 pub use intake::{Intake, NoMemory};

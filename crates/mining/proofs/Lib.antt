@@ -1,1 +1,5 @@
+pub mod Crossing
+pub mod Jobs
 pub mod Orders
+pub mod Runs
+pub mod Seats

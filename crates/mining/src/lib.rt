@@ -3,14 +3,19 @@
 //! 2017, section 4: the miner).
 #![tactic(auto)]
 
+mod attempt;
+mod mined_core;
+mod outcome;
+mod worker;
+
 ghost use Rattle.std.specs.Prelude.{◌≤◌, IfOk, length};
 ghost use Rattle.spec_block.specs.Worlds.{order_of};
 ghost use Rattle.spec_block.specs.Headline.{Headline, IsLeft};
 ghost use Rattle.world.specs.Views.{world_view};
 
+pub use crate::mined_core::{MinedCore, mine_core};
 use block::Block;
 use call::Call;
-use miner::{MinedCore, mine_core};
 use pace::Pace;
 use serial::Core;
 use serial_block::seal;

@@ -1,9 +1,6 @@
 //! The steps of a call's way through the threads that run calls at once, told to whoever wants to know them or to hold a thread at one of them.
 #![tactic(auto)]
 
-#[cfg(test)]
-mod tests;
-
 /// A step of a call. Calls are named by their number; tries and operations count from 0.
 #[derive(Clone, Copy, Debug, PartialEq, Eq)]
 pub enum Step {

@@ -2,7 +2,5 @@
 #![tactic(auto)]
 
 mod shared;
-#[cfg(test)]
-mod tests;
 
 pub use shared::SharedBook;

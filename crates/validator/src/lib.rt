@@ -8,8 +8,6 @@ mod end;
 mod fold;
 mod job;
 mod local;
-#[cfg(test)]
-mod tests;
 mod verdict;
 mod waves;
 
@@ -36,12 +34,13 @@ use std::thread::Threads;
 use world::World;
 use wtypes::NoMemory;
 
-/// What was found of a block whose calls were run.
+/// What was found of a block.
 #[derive(Drop)]
-pub(crate) struct Validated<A: Allocator = Global> {
-    pub(crate) verdict: Verdict<A>,
+pub struct Validated<A: Allocator = Global> {
+    /// The verdict on it.
+    pub verdict: Verdict<A>,
     /// How many positions the caller ran, since no worker's run of them had the replies of the serial execution.
-    pub(crate) again: u32,
+    pub again: u32,
 }
 
 /// Runs the calls of a block that passes so far, and compares what they come to with what it says.
@@ -81,8 +80,12 @@ fn run<R: Threads + Sync, A: Allocator + Copy + Send + Sync, P: Pace>(
     })
 }
 
-/// The verdict on the bytes of a block.
-pub(crate) fn find_verdict<R: Threads + Sync, A: Allocator + Copy + Send + Sync, P: Pace>(
+/// As [`validate_in`], with how many positions the caller had to run again: a measure of the workers' use, on which no verdict rests.
+///
+/// # Errors
+///
+/// The allocator refused memory to the caller or to a worker.
+pub fn find_verdict<R: Threads + Sync, A: Allocator + Copy + Send + Sync, P: Pace>(
     rt: &R,
     alloc: A,
     world: &World<A>,

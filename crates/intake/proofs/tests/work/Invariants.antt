@@ -1,9 +1,0 @@
-use Rattle.intake.specs.Intakes.{IsSeatOf}
-use Rattle.intake.proofs.tests.work.Given as goal
-
-abbrev pub invariant-loop : goal.invariant-loop
-invariant-loop g l = record {
-  can_next : (goal.iterator-loop g).can_next l.iterator';
-  is_finite : (goal.iterator-loop g).is_finite l.iterator';
-  seat : IsSeatOf l.intake l.seat;
-}

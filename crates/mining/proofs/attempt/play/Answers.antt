@@ -1,0 +1,23 @@
+use Rattle.std.proofs.Common.{◌∙◌, sym, ap, refl, length}
+use Rattle.std.specs.Prelude.{Some}
+use Rattle.std.proofs.lemmas.Option.{slice_get_read}
+use Rattle.serial.proofs.Doing.{free_first}
+use Rattle.mining.proofs.Runs.{is_run}
+use Rattle.mining.proofs.attempt.play.Goals as goal
+
+pub run-requires-clause-free : goal.run-requires-clause-free
+run-requires-clause-free g c κs within = free_first c.in-Ok.machine.status c.in-Ok.ensures.start.goes_on
+
+pub returns-in-Ok : goal.returns-in-Ok
+returns-in-Ok g c =
+    let start = c.in-Ok.ensures.start in
+    let calls = c.args.job.now.calls.now in
+    let at = slice_get_read calls (length calls) c.args.number c.index-job-number.result refl c.requires c.index-job-number.is in
+    is_run c.run.result _ c.in-Ok.machine.contracts _ c.args.number c.in-Ok.machine.call c.run.ensures.contracts c.run.ensures.call start.contracts (at ∙ ap (λ x. Some x) (c.index-job-number.is ∙ sym start.call_is))
+
+pub returns-in-Err : goal.returns-in-Err
+returns-in-Err g c =
+    let r = c.rejected.ensures in
+    let calls = c.args.job.now.calls.now in
+    let at = slice_get_read calls (length calls) c.args.number c.index-job-number.result refl c.requires c.index-job-number.is in
+    record { lent = r.lent; call_is = at ∙ ap (λ x. Some x) (c.index-job-number.is ∙ sym r.call_is) }

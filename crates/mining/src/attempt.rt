@@ -1,0 +1,247 @@
+// One attempt at a call.
+ghost use Rattle.std.specs.Prelude.{◌≡◌, ◌<◌, ◌≤◌, ◌^◌, Ok, true, false, IfOk, OnOk, IfSome, length};
+ghost use Rattle.spec_execution.specs.Run.{IsReply};
+ghost use Rattle.spec_execution.specs.Run.{opening};
+ghost use Rattle.interp.specs.Lent.{contracts_view};
+ghost use Rattle.interp.specs.Starting.{IsOpened, IsRejection};
+ghost use Rattle.interp.specs.Progress.{IsFree, IsSameCall};
+ghost use Rattle.serial.specs.Playing.{HasTurned, IsEnded};
+ghost use Rattle.mining.specs.Handed.{IsRunOf, IsCommitted};
+
+use boost::book::{BeginRefusal, CommitRefusal, OpRefusal, Run, Ticket};
+use call::Call;
+use intake::Intake;
+use interp::finished::Finished;
+use interp::machine::Machine;
+use interp::start::StartRefusal;
+use interp::turns::Turn;
+use link::deployed::Deployed as Contract;
+use pace::{Pace, Step};
+use shared_book::SharedBook;
+use spec_ledger::{NoMemory, Op, Reply};
+use std::alloc::Allocator;
+use std::sync::Wait;
+
+/// What the workers share.
+#[derive(Drop)]
+pub(crate) struct Job<'s, 'a, A: Allocator, P: Pace> {
+    pub(crate) alloc: A,
+    pub(crate) contracts: &'a [Contract<A>],
+    pub(crate) calls: &'a [Call],
+    pub(crate) book: &'s SharedBook<A>,
+    pub(crate) intake: &'s Intake<A>,
+    pub(crate) pace: &'s P,
+    /// How often a call is tried.
+    pub(crate) tries: u32,
+}
+
+/// A run that was committed.
+#[derive(Drop)]
+pub(crate) struct Committed<'a, A: Allocator> {
+    /// The position that the book answered.
+    pub(crate) position: u32,
+    /// The number of the call.
+    pub(crate) call: u32,
+    pub(crate) finished: Finished<'a, A>,
+}
+
+/// Why an attempt is not committed.
+enum Stop {
+    /// The book refused.
+    Refused,
+    /// Memory was refused.
+    NoMemory,
+}
+
+/// Why an attempt stops at an operation.
+fn stop_at(refusal: OpRefusal) -> Stop {
+    match refusal {
+        OpRefusal::Conflict | OpRefusal::Stale => Stop::Refused,
+        OpRefusal::NoMemory => Stop::NoMemory,
+    }
+}
+
+/// Asks the book for an operation, and tells the pace before it, and after a refusal.
+fn ask<A: Allocator + Copy, R: Wait, P: Pace>(
+    rt: &R,
+    job: &Job<'_, '_, A, P>,
+    ticket: &Ticket,
+    call: u32,
+    n: u64,
+    op: Op,
+) -> Result<Reply, Stop>
+    ensures { IfOk result (λ reply. IsReply op reply) }
+{
+    job.pace.at(Step::Op { call, n });
+    match job.book.op(rt, ticket, op) {
+        Ok(reply) => Ok(reply),
+        Err(refusal) => {
+            job.pace.at(Step::Refused { call });
+            Err(stop_at(refusal))
+        }
+    }
+}
+
+/// Makes a turn, with the operation that it asks for. Answers whether the run goes on.
+fn make_turn<'a, A: Allocator + Copy, R: Wait, P: Pace>(
+    rt: &R,
+    job: &Job<'_, 'a, A, P>,
+    ticket: &Ticket,
+    call: u32,
+    machine: &mut Machine<'a, A>,
+    asked: &mut u64,
+) -> Result<bool, Stop>
+    requires free { IsFree machine.old.status }
+    requires limit { machine.old.call.fuel < 2 ^ 64 }
+    requires asked { asked.old ≤ machine.old.used }
+    ensures same { OnOk result (IsSameCall machine.old machine.new) }
+    ensures goes_on { result ≡ Ok true → HasTurned machine.old machine.new }
+    ensures ended { result ≡ Ok false → IsEnded machine.new.status }
+    ensures asked { OnOk result (asked.new ≤ machine.new.used) }
+{
+    match machine.next() {
+        Turn::Stepped => Ok(true),
+        Turn::Host(op) => {
+            let reply = ask(rt, job, ticket, call, *asked, op)?;
+            machine.answer(reply);
+            *asked += 1;
+            Ok(true)
+        }
+        Turn::Done(_) => Ok(false),
+        Turn::NoMemory => Err(Stop::NoMemory),
+    }
+}
+
+/// Makes the turns of a call that starts.
+fn run<'a, A: Allocator + Copy, R: Wait, P: Pace>(
+    rt: &R,
+    job: &Job<'_, 'a, A, P>,
+    ticket: &Ticket,
+    call: u32,
+    mut machine: Machine<'a, A>,
+) -> Result<Finished<'a, A>, Stop>
+    requires free { IsFree machine.status }
+    requires limit { machine.call.fuel < 2 ^ 64 }
+    ensures contracts { IfOk result (λ finished. finished.contracts ≡ machine.entry.contracts) }
+    ensures call { IfOk result (λ finished. finished.call ≡ machine.entry.call) }
+{
+    let mut asked = 0;
+    'turns: while make_turn(rt, job, ticket, call, &mut machine, &mut asked)? {}
+    match machine.finish() {
+        Ok(finished) => Ok(finished),
+        Err(_) => unreachable!(),
+    }
+}
+
+/// The empty run of a call that does not start.
+fn rejected<'a, A: Allocator + Copy>(
+    alloc: A,
+    contracts: &'a [Contract<A>],
+    call: &'a Call,
+) -> Finished<'a, A>
+    requires { ¬ IsOpened (opening (contracts_view contracts.now) call.now) }
+    ensures { IsRejection (contracts_view contracts.now) call.now result }
+{
+    match Finished::rejected(alloc, contracts, call) {
+        Some(finished) => finished,
+        None => unreachable!(),
+    }
+}
+
+/// Runs a live attempt to its end.
+fn play<'a, A: Allocator + Copy, R: Wait, P: Pace>(
+    rt: &R,
+    job: &Job<'_, 'a, A, P>,
+    ticket: &Ticket,
+    number: u32,
+) -> Result<Finished<'a, A>, Stop>
+    requires { number < length job.now.calls.now }
+    ensures { IfOk result (IsRunOf (contracts_view job.now.contracts.now) job.now.calls.now number) }
+{
+    let call = &job.calls[number as usize];
+    let _limit = call.fuel();
+    match Machine::start(job.alloc, job.contracts, call) {
+        Ok(machine) => run(rt, job, ticket, number, machine),
+        Err(StartRefusal::NoMemory) => Err(Stop::NoMemory),
+        Err(_) => Ok(rejected(job.alloc, job.contracts, call)),
+    }
+}
+
+/// Commits a live attempt by its run, and undoes it where the book refuses.
+fn commit<'a, A: Allocator + Copy, R: Wait, P: Pace>(
+    rt: &R,
+    job: &Job<'_, 'a, A, P>,
+    ticket: Ticket,
+    call: u32,
+    finished: Finished<'a, A>,
+) -> Result<Committed<'a, A>, Stop>
+    requires { IsRunOf (contracts_view job.now.contracts.now) job.now.calls.now call finished }
+    ensures { IfOk result (IsCommitted (contracts_view job.now.contracts.now) job.now.calls.now) }
+{
+    job.pace.at(Step::Commit { call });
+    let run = Run {
+        trace: finished.trace(),
+        outcome: finished.outcome(),
+    };
+    match job.book.commit(rt, ticket, &run) {
+        Ok(position) => {
+            job.pace.at(Step::Committed { call });
+            Ok(Committed {
+                position,
+                call,
+                finished,
+            })
+        }
+        Err((ticket, refusal)) => {
+            job.book.undo(rt, ticket);
+            match refusal {
+                CommitRefusal::Stale | CommitRefusal::Differs => Err(Stop::Refused),
+                CommitRefusal::NoMemory => Err(Stop::NoMemory),
+            }
+        }
+    }
+}
+
+/// One attempt at a call: its run, where it was committed.
+fn attempt<'a, A: Allocator + Copy, R: Wait, P: Pace>(
+    rt: &R,
+    job: &Job<'_, 'a, A, P>,
+    call: u32,
+    nth: u32,
+) -> Result<Committed<'a, A>, Stop>
+    requires { call < length job.now.calls.now }
+    ensures { IfOk result (IsCommitted (contracts_view job.now.contracts.now) job.now.calls.now) }
+{
+    job.pace.at(Step::Attempt { call, nth });
+    let ticket = match job.book.begin(rt, call) {
+        Ok(ticket) => ticket,
+        Err(BeginRefusal::NoMemory) => return Err(Stop::NoMemory),
+        Err(_) => return Err(Stop::Refused),
+    };
+    match play(rt, job, &ticket, call) {
+        Ok(finished) => commit(rt, job, ticket, call, finished),
+        Err(stop) => {
+            job.book.undo(rt, ticket);
+            Err(stop)
+        }
+    }
+}
+
+/// Tries a call until it is committed, at most as often as the job says. None where each try was refused.
+pub(crate) fn try_call<'a, A: Allocator + Copy, R: Wait, P: Pace>(
+    rt: &R,
+    job: &Job<'_, 'a, A, P>,
+    call: u32,
+) -> Result<Option<Committed<'a, A>>, NoMemory>
+    requires { call < length job.now.calls.now }
+    ensures { IfOk result (λ o. IfSome o (IsCommitted (contracts_view job.now.contracts.now) job.now.calls.now)) }
+{
+    for nth in 0..job.tries {
+        match attempt(rt, job, call, nth) {
+            Ok(committed) => return Ok(Some(committed)),
+            Err(Stop::NoMemory) => return Err(NoMemory),
+            Err(Stop::Refused) => {}
+        }
+    }
+    Ok(None)
+}

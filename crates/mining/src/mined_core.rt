@@ -1,0 +1,118 @@
+// Mining over contracts and cells.
+ghost use Rattle.std.specs.Prelude.{◌≡◌, ◌≤◌, All, IfOk, length};
+ghost use Rattle.std.specs.FinMap as finite;
+ghost use Rattle.spec_ledger.specs.Order.{IsAdmissible};
+ghost use Rattle.spec_execution.specs.Serial.{Serial};
+ghost use Rattle.interp.specs.Lent.{contracts_view};
+ghost use Rattle.serial.specs.Positions.{positions};
+ghost use Rattle.intake.specs.Intakes.{IsSeatOf};
+ghost use Rattle.publish.specs.Publication.{AreLeft, limits, fuel_used};
+ghost use Rattle.mining.specs.Handed.{AreRuns};
+
+use crate::attempt::Job;
+use crate::outcome::publish;
+use crate::worker::{Worked, work};
+use call::Call;
+use intake::{Intake, Seat};
+use link::deployed::Deployed as Contract;
+use lock_profile::Touched;
+use pace::Pace;
+use shared_book::SharedBook;
+use spec_ledger::{NoMemory, Receipt};
+use std::alloc::{Allocator, Global};
+use std::sync::Wait;
+use std::thread;
+use std::thread::Threads;
+use storage::Cells;
+
+/// What was mined.
+#[derive(Drop)]
+pub struct MinedCore<A: Allocator = Global> {
+    /// The numbers of the calls, by position.
+    pub order: Vec<u32, A>,
+    /// The receipt at each position.
+    pub receipts: Vec<Receipt, A>,
+    /// The locks that the call at each position asked for, each with the join of its modes.
+    pub touched: Vec<Touched<A>, A>,
+    /// The cells after the last call, in which nothing is unsettled.
+    pub cells: Cells<A>,
+    /// The fuel that the calls used together.
+    pub fuel: u64,
+    /// The numbers of the calls outside the order, rising.
+    pub left: Vec<u32, A>,
+    /// How many calls of the order the workers committed. The others ran alone, after the workers.
+    pub by_workers: u32,
+}
+
+/// Runs calls over contracts and cells in this many workers at once, of which the calling thread is one, and publishes an
+/// order of them. A worker draws the least call that no worker has drawn, reserves its limit of the block's fuel, and tries it
+/// at most so often; a try ends when an operation does not go with what another live attempt has done. Then the calls that
+/// were tried in vain run alone in rising number, and then each other call that still has room. The pace is told each step.
+///
+/// Whatever the workers do at once, the order is admissible, and the receipts, locks and cells are those of its calls run one
+/// after another in that order.
+///
+/// # Errors
+///
+/// Memory was refused to the caller or to a worker.
+pub fn mine_core<'a, R: Threads + Wait + Sync, A: Allocator + Copy + Send + Sync, P: Pace>(
+    rt: &R,
+    alloc: A,
+    contracts: &'a [Contract<A>],
+    cells: &Cells<A>,
+    calls: &'a [Call],
+    block_fuel: u64,
+    workers: u32,
+    tries: u32,
+    pace: &P,
+) -> Result<MinedCore<A>, NoMemory>
+    requires calls { length calls.now ≤ 65535 }
+    requires workers { (1 ≤ workers) × (workers ≤ 64) }
+    requires tries { (1 ≤ tries) × (tries ≤ 16) }
+    ensures serial { IfOk result (λ core. Serial (contracts_view contracts.now) calls.now core.order.items cells.now.cells (positions core.receipts.items core.touched.items) core.cells.cells) }
+    ensures admissible { IfOk result (λ core. IsAdmissible (limits calls.now) core.order.items block_fuel) }
+    ensures receipts { IfOk result (λ core. length core.receipts.items ≡ length core.order.items) }
+    ensures touched { IfOk result (λ core. length core.touched.items ≡ length core.order.items) }
+    ensures settled { IfOk result (λ core. core.cells.unsettled ≡ finite.empty) }
+    ensures fuel { IfOk result (λ core. core.fuel ≡ fuel_used (positions core.receipts.items core.touched.items)) }
+    ensures left { IfOk result (λ core. AreLeft core.order.items (length calls.now) core.left.items) }
+    ensures by_workers { IfOk result (λ core. core.by_workers ≤ length core.order.items) }
+{
+    let count = calls.len() as u32;
+    let book = SharedBook::open(alloc, cells.copy(alloc)?, count)?;
+    let Ok((intake, seats)) = Intake::open(alloc, count, block_fuel, workers) else {
+        return Err(NoMemory);
+    };
+    let job = Job {
+        alloc,
+        contracts,
+        calls,
+        book: &book,
+        intake: &intake,
+        pace,
+        tries,
+    };
+    let worked = run_workers(rt, &job, seats)?;
+    publish(alloc, contracts, calls, cells, block_fuel, worked)
+}
+
+/// What the workers hand back, one for each seat.
+fn run_workers<'a, R: Threads + Wait + Sync, A: Allocator + Copy + Send + Sync, P: Pace>(
+    rt: &R,
+    job: &Job<'_, 'a, A, P>,
+    seats: Vec<Seat, A>,
+) -> Result<Vec<Result<Worked<'a, A>, NoMemory>, A>, NoMemory>
+    requires calls { job.now.intake.now.limits.calls ≡ length job.now.calls.now }
+    requires seats { All (IsSeatOf job.now.intake.now) seats.items }
+    ensures { IfOk result (λ parts. All (λ part. IfOk part (AreRuns (contracts_view job.now.contracts.now) job.now.calls.now)) parts.items) }
+{
+    let parts = thread::map_vec(
+        rt,
+        seats,
+        &|seat: Seat| -> Result<Worked<A>, NoMemory>
+            requires { (job.now.intake.now.limits.calls ≡ length job.now.calls.now) × IsSeatOf job.now.intake.now seat }
+            ensures { IfOk result (AreRuns (contracts_view job.entry.now.contracts.now) job.entry.now.calls.now) }
+        { work(rt, job, seat) },
+    )?;
+    Ok(parts)
+}

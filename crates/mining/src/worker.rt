@@ -1,0 +1,67 @@
+// A worker: it draws calls until none is left.
+ghost use Rattle.std.specs.Prelude.{◌≡◌, ◌<◌, IfOk, OnOk, length};
+ghost use Rattle.interp.specs.Lent.{contracts_view};
+ghost use Rattle.intake.specs.Intakes.{IsSeatOf};
+ghost use Rattle.mining.specs.Handed.{AreRuns};
+
+use crate::attempt::{Committed, Job, try_call};
+use intake::Seat;
+use pace::Pace;
+use spec_ledger::NoMemory;
+use std::alloc::Allocator;
+use std::sync::Wait;
+
+/// What a worker hands back.
+#[derive(Drop)]
+pub(crate) struct Worked<'a, A: Allocator> {
+    /// The runs that it committed.
+    pub(crate) committed: Vec<Committed<'a, A>, A>,
+    /// The calls whose tries were all refused.
+    pub(crate) set_aside: Vec<u32, A>,
+}
+
+/// Tries a call, and keeps what it came to.
+#[tactic(auto, using(crate::proofs::Runs::one_more_run))]
+fn work_on<'a, A: Allocator + Copy, R: Wait, P: Pace>(
+    rt: &R,
+    job: &Job<'_, 'a, A, P>,
+    call: u32,
+    worked: &mut Worked<'a, A>,
+) -> Result<(), NoMemory>
+    requires call { call < length job.now.calls.now }
+    requires runs { AreRuns (contracts_view job.now.contracts.now) job.now.calls.now worked.old }
+    ensures { OnOk result (AreRuns (contracts_view job.now.contracts.now) job.now.calls.now worked.new) }
+{
+    match try_call(rt, job, call)? {
+        Some(committed) => worked.committed.push(committed)?,
+        None => worked.set_aside.push(call)?,
+    }
+    Ok(())
+}
+
+/// Draws calls until none is left. A call whose limit cannot be reserved is left out.
+pub(crate) fn work<'a, A: Allocator + Copy, R: Wait, P: Pace>(
+    rt: &R,
+    job: &Job<'_, 'a, A, P>,
+    mut seat: Seat,
+) -> Result<Worked<'a, A>, NoMemory>
+    requires calls { job.now.intake.now.limits.calls ≡ length job.now.calls.now }
+    requires seat { IsSeatOf job.now.intake.now seat }
+    ensures { IfOk result (AreRuns (contracts_view job.now.contracts.now) job.now.calls.now) }
+{
+    let mut worked = Worked {
+        committed: Vec::new(job.alloc),
+        set_aside: Vec::new(job.alloc),
+    };
+    for _ in 0..job.calls.len() {
+        let Some(number) = job.intake.draw(&mut seat) else {
+            break;
+        };
+        let limit = job.calls[number as usize].fuel();
+        if !job.intake.reserve(rt, &mut seat, limit) {
+            continue;
+        }
+        work_on(rt, job, number, &mut worked)?;
+    }
+    Ok(worked)
+}

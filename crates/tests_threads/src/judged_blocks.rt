@@ -1,0 +1,466 @@
+// Blocks of the example contract, as they are made and with single things changed, and what validating says of them.
+ghost use Rattle.std.specs.Prelude.{◌≡◌, ◌≤◌, IfOk, length};
+
+use crate::given::{CellRow, are_cells, values, world_of};
+use crate::meetings::{LOOKS, Meet, Meeting};
+use block::{Block, write_block};
+use block_judge::Reason;
+use call::Call;
+use codec::{Failures, MemorySink};
+use pace::{NoPace, Pace};
+use ration::Ration;
+use serial_block::run;
+use spec_ledger::Kind;
+use std::alloc::Global;
+use std::sync::Wait;
+use std::test::Fail;
+use std::thread::Threads;
+use validator::{Verdict, find_verdict, validate, validate_in};
+use world::World;
+
+/// An entry of the contract, and its numbers.
+type Entry = (&'static str, &'static [i64]);
+
+/// Two calls that run one after another over these cells.
+struct Two {
+    cells: &'static [CellRow],
+    calls: [Entry; 2],
+    /// Whether the second one stands first in the block.
+    swapped: bool,
+}
+
+/// A call with 100 of fuel.
+fn calling(alloc: Global, entry: Entry) -> Result<Call, Fail>
+    ensures { IfOk result (λ made. made.fuel ≡ 100) }
+{
+    let (name, numbers) = entry;
+    let args = values(alloc, numbers)?;
+    match samples::call(alloc, 0, name, &args, 100) {
+        Ok(call) => Ok(call),
+        Err(_) => Err(Fail::from("no call")),
+    }
+}
+
+/// The bytes of a block.
+fn written(alloc: Global, block: &Block) -> Result<Vec<u8>, Fail> {
+    let mut sink = MemorySink::new(alloc, 1_000_000, Failures::none());
+    write_block(alloc, block, &mut sink).or(Err("refused"))?;
+    Ok(sink.bytes().to_vec(alloc)?)
+}
+
+/// Two calls, and the bytes of their block, the second one first where `swapped`.
+fn made(
+    alloc: Global,
+    world: &World,
+    first: Call,
+    second: Call,
+    swapped: bool,
+) -> Result<([Call; 2], Vec<u8>), Fail>
+    requires first { first.fuel ≡ 100 }
+    requires second { second.fuel ≡ 100 }
+{
+    let calls = [first, second];
+    let order = if swapped { [1, 0] } else { [0, 1] };
+    let Ok((block, _)) = run(alloc, world, &calls, &order) else {
+        return Err(Fail::from("refused"));
+    };
+    let bytes = written(alloc, &block)?;
+    Ok((calls, bytes))
+}
+
+/// Two calls, and the bytes of their block.
+fn made_of(alloc: Global, world: &World, two: &Two) -> Result<([Call; 2], Vec<u8>), Fail> {
+    let [first, second] = two.calls;
+    let first = calling(alloc, first)?;
+    made(alloc, world, first, calling(alloc, second)?, two.swapped)
+}
+
+/// A change of bytes.
+#[derive(Clone, Copy)]
+enum Edit {
+    /// The byte at this place is this one.
+    Byte(usize, u8),
+    /// The bytes from one place to before another are not there.
+    Cut(usize, usize),
+}
+
+/// The same bytes, but for those from one place to before another.
+fn without(alloc: Global, bytes: &[u8], from: usize, to: usize) -> Result<Vec<u8>, Fail> {
+    let mut kept = Vec::new(alloc);
+    for (at, byte) in bytes.iter().enumerate() {
+        if at < from || at >= to {
+            kept.push(*byte)?;
+        }
+    }
+    Ok(kept)
+}
+
+/// The bytes after these changes, one after another.
+fn edited(alloc: Global, bytes: &[u8], edits: &[Edit]) -> Result<Vec<u8>, Fail> {
+    let mut copy = bytes.to_vec(alloc)?;
+    for edit in edits {
+        match edit {
+            Edit::Byte(at, byte) => {
+                let place = copy.get_mut(*at).ok_or("a byte")?;
+                *place = *byte;
+            }
+            Edit::Cut(from, to) => copy = without(alloc, &copy, *from, *to)?,
+        }
+    }
+    Ok(copy)
+}
+
+/// Why the bytes are rejected by four workers, with 1,000 of fuel. None where they are accepted.
+fn reason<R: Threads + Wait + Sync>(
+    rt: &R,
+    alloc: Global,
+    world: &World,
+    calls: &[Call],
+    bytes: &[u8],
+) -> Result<Option<Reason>, Fail>
+    requires { length calls.now ≤ 65535 }
+{
+    match validate(rt, alloc, world, calls, 1_000, bytes, 4, &NoPace) {
+        Ok(Verdict::Accept(_)) => Ok(None),
+        Ok(Verdict::Reject(reason)) => Ok(Some(reason)),
+        Err(_) => Err(Fail::from("refused")),
+    }
+}
+
+/// The world after a block that is accepted, in which no position was run again.
+fn after_at<R: Threads + Wait + Sync, P: Pace>(
+    rt: &R,
+    alloc: Global,
+    world: &World,
+    calls: &[Call],
+    bytes: &[u8],
+    pace: &P,
+) -> Result<World, Fail>
+    requires { length calls.now ≤ 65535 }
+{
+    let Ok(found) = find_verdict(rt, alloc, world, calls, 1_000, bytes, 2, pace) else {
+        return Err(Fail::from("refused"));
+    };
+    if found.again != 0 {
+        return Err(Fail::from("run again"));
+    }
+    match found.verdict {
+        Verdict::Accept(next) => Ok(next),
+        Verdict::Reject(_) => Err(Fail::from("rejected")),
+    }
+}
+
+/// The same, where the calls meet as it is said.
+fn after<R: Threads + Wait + Sync>(
+    rt: &R,
+    alloc: Global,
+    world: &World,
+    calls: &[Call],
+    bytes: &[u8],
+    meeting: Option<Meeting>,
+) -> Result<World, Fail>
+    requires { length calls.now ≤ 65535 }
+{
+    let Some(meeting) = meeting else {
+        return after_at(rt, alloc, world, calls, bytes, &NoPace);
+    };
+    let pace = Meet::new(meeting, LOOKS);
+    let next = after_at(rt, alloc, world, calls, bytes, &pace)?;
+    if !pace.was_met() {
+        return Err(Fail::from("the calls did not meet"));
+    }
+    Ok(next)
+}
+
+/// Two calls whose block is accepted.
+struct Accepted {
+    name: &'static str,
+    two: Two,
+    /// How the calls are made to meet. None: no thread is held.
+    meeting: Option<Meeting>,
+    after: &'static [CellRow],
+}
+
+/// Whether the block of two calls is accepted, with these cells after it.
+fn is_accepted<R: Threads + Wait + Sync>(
+    rt: &R,
+    alloc: Global,
+    row: &Accepted,
+) -> Result<bool, Fail> {
+    let world = world_of(alloc, row.two.cells)?;
+    let (calls, bytes) = made_of(alloc, &world, &row.two)?;
+    let next = after(rt, alloc, &world, &calls, &bytes, row.meeting)?;
+    Ok(are_cells(next.cells(), row.after))
+}
+
+/// Why the block of two calls is rejected after these changes of its bytes. None where it is accepted.
+fn reason_of<R: Threads + Wait + Sync>(
+    rt: &R,
+    alloc: Global,
+    two: &Two,
+    edits: &[Edit],
+) -> Result<Option<Reason>, Fail> {
+    let world = world_of(alloc, two.cells)?;
+    let (calls, bytes) = made_of(alloc, &world, two)?;
+    let other = edited(alloc, &bytes, edits)?;
+    reason(rt, alloc, &world, &calls, &other)
+}
+
+/// How many bytes the block of no calls has, and why it is rejected after these changes.
+fn reason_of_none<R: Threads + Wait + Sync>(
+    rt: &R,
+    alloc: Global,
+    edits: &[Edit],
+) -> Result<(usize, Option<Reason>), Fail> {
+    let world = world_of(alloc, &[])?;
+    let Ok((block, _)) = run(alloc, &world, &[], &[]) else {
+        return Err(Fail::from("refused"));
+    };
+    let bytes = written(alloc, &block)?;
+    let other = edited(alloc, &bytes, edits)?;
+    Ok((bytes.len(), reason(rt, alloc, &world, &[], &other)?))
+}
+
+#[test]
+fn no_calls_are_accepted(rt: HostRuntime) -> Result<(), Fail> {
+    let rows = [
+        ([].as_slice(), None),
+        ([Edit::Cut(115, 116)].as_slice(), Some(Reason::Malformed)),
+    ];
+    for (edits, expected) in rows {
+        assert_eq!(rt; reason_of_none(&rt, rt.alloc(), edits)?, (116, expected));
+    }
+    Ok(())
+}
+
+/// A reader that traps, and a writer of its cell.
+const READER_AND_WRITER: Two = Two {
+    cells: &[],
+    calls: [("peek", &[1]), ("set", &[1, 9])],
+    swapped: false,
+};
+
+/// Two calls that add to two counters.
+const COUNTERS: Two = Two {
+    cells: &[],
+    calls: [("bump", &[7, 1]), ("bump", &[8, 1])],
+    swapped: false,
+};
+
+const COUNTERS_SWAPPED: Two = Two {
+    cells: &[],
+    calls: [("bump", &[7, 1]), ("bump", &[8, 1])],
+    swapped: true,
+};
+
+const ACCEPTED: [Accepted; 7] = [
+    Accepted {
+        name: "calls of one wave run at once",
+        two: Two {
+            cells: &[],
+            calls: [("bump", &[7, 5]), ("bump", &[7, -5])],
+            swapped: false,
+        },
+        meeting: Some(Meeting::BothAsk),
+        after: &[],
+    },
+    Accepted {
+        name: "a trapped reader and a writer",
+        two: READER_AND_WRITER,
+        meeting: None,
+        after: &[(Kind::Map, 1, 9)],
+    },
+    Accepted {
+        name: "two movers",
+        two: Two {
+            cells: &[(Kind::Map, 1, 10), (Kind::Map, 2, 20)],
+            calls: [("move", &[1, 2]), ("move", &[2, 1])],
+            swapped: false,
+        },
+        meeting: None,
+        after: &[(Kind::Map, 1, 10), (Kind::Map, 2, 10)],
+    },
+    Accepted {
+        name: "two movers in the other order",
+        two: Two {
+            cells: &[(Kind::Map, 1, 10), (Kind::Map, 2, 20)],
+            calls: [("move", &[1, 2]), ("move", &[2, 1])],
+            swapped: true,
+        },
+        meeting: None,
+        after: &[(Kind::Map, 1, 20), (Kind::Map, 2, 20)],
+    },
+    Accepted {
+        name: "two counters",
+        two: COUNTERS,
+        meeting: None,
+        after: &[(Kind::Counter, 7, 1), (Kind::Counter, 8, 1)],
+    },
+    Accepted {
+        name: "two counters in the other order",
+        two: COUNTERS_SWAPPED,
+        meeting: None,
+        after: &[(Kind::Counter, 7, 1), (Kind::Counter, 8, 1)],
+    },
+    Accepted {
+        name: "a chain of waves",
+        two: Two {
+            cells: &[(Kind::Map, 1, 10)],
+            calls: [("move", &[1, 2]), ("move", &[2, 3])],
+            swapped: false,
+        },
+        meeting: None,
+        after: &[(Kind::Map, 1, 10), (Kind::Map, 2, 10), (Kind::Map, 3, 10)],
+    },
+];
+
+#[test]
+fn blocks_are_accepted(rt: HostRuntime) -> Result<(), Fail> {
+    for row in &ACCEPTED {
+        assert!(rt; is_accepted(&rt, rt.alloc(), row)?, "{}", row.name);
+    }
+    Ok(())
+}
+
+const ONE_CHANGED_BYTE: [(usize, u8, Reason); 16] = [
+    (0, 0x58, Reason::Malformed),
+    (8, 0, Reason::WrongWorld),
+    (40, 0, Reason::WrongCalls),
+    (76, 1, Reason::BadOrder(1)),
+    (80, 5, Reason::Deviates(0)),
+    (89, 2, Reason::Deviates(0)),
+    (94, 1, Reason::BadTurns(1)),
+    (107, 1, Reason::Deviates(0)),
+    (107, 2, Reason::Deviates(0)),
+    (108, 1, Reason::BadTurns(0)),
+    (116, 4, Reason::Deviates(1)),
+    (143, 0, Reason::BadTurns(1)),
+    (143, 1, Reason::Deviates(1)),
+    (144, 2, Reason::BadTurns(1)),
+    (148, 8, Reason::WrongEnd),
+    (156, 0, Reason::WrongEnd),
+];
+
+#[test]
+fn one_changed_byte(rt: HostRuntime) -> Result<(), Fail> {
+    for (at, byte, expected) in ONE_CHANGED_BYTE {
+        let found = reason_of(&rt, rt.alloc(), &READER_AND_WRITER, &[Edit::Byte(at, byte)])?;
+        assert_eq!(rt; found, Some(expected), "byte {at} is {byte}");
+    }
+    Ok(())
+}
+
+/// Changes of the bytes of a block, and why it is rejected after them.
+struct Changed {
+    name: &'static str,
+    two: Two,
+    edits: &'static [Edit],
+    reason: Reason,
+}
+
+const CHANGED: [Changed; 6] = [
+    Changed {
+        name: "the fuel of the first call and that of the block",
+        two: READER_AND_WRITER,
+        edits: &[Edit::Byte(80, 5), Edit::Byte(148, 8)],
+        reason: Reason::Deviates(0),
+    },
+    Changed {
+        name: "the mode of the writer and its turn",
+        two: READER_AND_WRITER,
+        edits: &[Edit::Byte(143, 0), Edit::Byte(144, 0)],
+        reason: Reason::Deviates(1),
+    },
+    Changed {
+        name: "a trapped reader without its entry",
+        two: READER_AND_WRITER,
+        edits: &[Edit::Byte(90, 0), Edit::Cut(94, 112)],
+        reason: Reason::BadTurns(1),
+    },
+    Changed {
+        name: "a trapped reader without its entry, and the writer first",
+        two: READER_AND_WRITER,
+        edits: &[Edit::Byte(90, 0), Edit::Cut(94, 112), Edit::Byte(126, 0)],
+        reason: Reason::Deviates(0),
+    },
+    Changed {
+        name: "two counters exchanged",
+        two: COUNTERS,
+        edits: &[Edit::Byte(76, 1), Edit::Byte(112, 0)],
+        reason: Reason::Deviates(0),
+    },
+    Changed {
+        name: "two counters in the other order exchanged",
+        two: COUNTERS_SWAPPED,
+        edits: &[Edit::Byte(76, 0), Edit::Byte(112, 1)],
+        reason: Reason::Deviates(0),
+    },
+];
+
+#[test]
+fn changed_blocks(rt: HostRuntime) -> Result<(), Fail> {
+    for row in &CHANGED {
+        let found = reason_of(&rt, rt.alloc(), &row.two, row.edits)?;
+        assert_eq!(rt; found, Some(row.reason), "{}", row.name);
+    }
+    Ok(())
+}
+
+/// More blocks of memory than these tests take.
+const AMPLE: u64 = 1_000_000;
+
+/// More blocks of memory than a block of two calls takes.
+const MANY: u64 = 200;
+
+/// How many blocks of memory the world of the contract takes.
+fn blocks_of_world(heap: Global) -> Result<u64, Fail> {
+    let ration = Ration::new(heap, AMPLE);
+    let _world = world_of(&ration, &[])?;
+    Ok(AMPLE.saturating_sub(ration.left()))
+}
+
+/// Whether two workers accept the block of a writer, with so many blocks of memory beside those of the world. Otherwise memory is
+/// refused.
+fn accept_within<R: Threads + Wait + Sync>(
+    rt: &R,
+    heap: Global,
+    blocks: u64,
+    calls: &[Call],
+    bytes: &[u8],
+) -> Result<bool, Fail>
+    requires { length calls.now ≤ 65535 }
+{
+    let ration = Ration::new(heap, blocks_of_world(heap)?.saturating_add(blocks));
+    let before = world_of(&ration, &[])?;
+    match validate_in(rt, &ration, &before, calls, 1_000, bytes, 2, &NoPace) {
+        Ok(Verdict::Accept(next)) if are_cells(next.cells(), &[(Kind::Map, 1, 9)]) => Ok(true),
+        Ok(Verdict::Accept(_)) => Err(Fail::from("another world")),
+        Ok(Verdict::Reject(_)) => Err(Fail::from("rejected")),
+        Err(_) => Ok(false),
+    }
+}
+
+/// How many of the rations below this one are too small for the block of a reader and a writer.
+fn too_small<R: Threads + Wait + Sync>(rt: &R, alloc: Global, below: u64) -> Result<u32, Fail> {
+    let world = world_of(alloc, &[])?;
+    let (calls, bytes) = made_of(alloc, &world, &READER_AND_WRITER)?;
+    if !accept_within(rt, alloc, AMPLE, &calls, &bytes)? {
+        return Err(Fail::from("an ample ration was refused"));
+    }
+    let mut refused = 0u32;
+    for blocks in 0..below {
+        if !accept_within(rt, alloc, blocks, &calls, &bytes)? {
+            refused = refused.saturating_add(1);
+        }
+    }
+    Ok(refused)
+}
+
+#[test]
+fn a_want_of_memory_is_no_verdict(rt: HostRuntime) -> Result<(), Fail> {
+    assert_eq!(rt; too_small(&rt, rt.alloc(), 1)?, 1);
+    let refused = too_small(&rt, rt.alloc(), MANY)?;
+    assert!(rt; refused > 1, "{refused} rations are too small");
+    assert!(rt; refused < MANY as u32, "{refused} rations are too small");
+    Ok(())
+}

@@ -1,0 +1,24 @@
+//! Tests of verdicts: random blocks of the example contract, as they were made and with single things changed, and what the validator says of
+//! them beside a plain verdict, which reads the bytes, runs the calls and compares on its own. There is no code here.
+#![tactic(auto)]
+
+#[cfg(test)]
+mod calls;
+#[cfg(test)]
+mod change;
+#[cfg(test)]
+mod execute;
+#[cfg(test)]
+mod plain;
+#[cfg(test)]
+mod random;
+#[cfg(test)]
+mod read;
+#[cfg(test)]
+mod rows;
+#[cfg(test)]
+mod sealed;
+#[cfg(test)]
+mod verdict;
+#[cfg(test)]
+mod write;
