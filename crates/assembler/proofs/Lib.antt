@@ -1,4 +1,10 @@
+pub mod Collecting
+pub mod Counting
+pub mod Fronts
 pub mod Limits
+pub mod Making
 pub mod Naming
+pub mod OneModule
+pub mod Ordered
 pub mod Sealing
 pub mod Turned

@@ -10,8 +10,8 @@ use Rattle.spec_syntax.specs.Limits.{both, first, second, is_u32, expression_fit
 use Rattle.spec_binary.specs.Shortest.{shortest}
 use Rattle.spec_binary.specs.Spells.{FuncFits, ModuleFits}
 use Rattle.text_fields.specs.Parts.{body_fits}
-use Rattle.text_module.specs.Made.{ExpressionsFit}
-use Rattle.text_parts.specs.PartsView.{AreInRange}
+use Rattle.assembler.specs.Made.{ExpressionsFit}
+use Rattle.assembler.specs.PartsView.{AreInRange}
 
 -- ---- what is judged is within the limits
 

@@ -8,13 +8,13 @@ use Rattle.spec_text.specs.Lexical.{Token, Lexes, LexesToOne}
 use Rattle.spec_text.specs.Named as N
 use Rattle.spec_text.specs.Resolve.{Spaces, AreSpaces, Resolves, count_imported}
 use Rattle.spec_text.specs.Names.{Names}
-use Rattle.text_names.specs.Outcome.{Unless}
-use Rattle.text_names.specs.declared.AsmRefusal.{AsmRefusal}
-use Rattle.text_names.specs.declared.AsmRefusal.TheVariants.{Lex, Unexpected, UnknownName, RepeatedName, NumberRange, TooLarge, NoMemory}
+use Rattle.text_resolve.specs.Outcome.{Unless}
+use Rattle.text_resolve.specs.declared.refusal.AsmRefusal.{AsmRefusal}
+use Rattle.text_resolve.specs.declared.refusal.AsmRefusal.TheVariants.{Lex, Unexpected, UnknownName, RepeatedName, NumberRange, TooLarge, NoMemory}
 use Rattle.text_tree.specs.Texts.{IsText, NoText, TextsAreOne}
-use Rattle.text_spaces.specs.Listed.{NoSpaces, SpacesAreOne}
-use Rattle.text_module.specs.Made.{make_at, ExpressionsFit, ReadingIsExact}
-use Rattle.text_module.proofs.Ordered.{made_in_order}
+use Rattle.text_fields.specs.Listed.{NoSpaces, SpacesAreOne}
+use Rattle.assembler.specs.Made.{make_at, ExpressionsFit, ReadingIsExact}
+use Rattle.assembler.proofs.Ordered.{made_in_order}
 use Rattle.assembler.specs.Named.{HasFields, NamesNothing, LexesToNothing, ResolveToNothing}
 
 -- ---- tokens and fields

@@ -8,9 +8,9 @@ use Rattle.spec_binary.specs.Shortest.{shortest}
 use Rattle.spec_binary.specs.Spells.{ModuleFits}
 use Rattle.spec_text.specs.Named as N
 use Rattle.spec_text.specs.Resolve.{Spaces, AreSpaces, Resolves, count_imported}
-use Rattle.text_spaces.specs.Listed.{SpacesAreOne}
-use Rattle.text_module.specs.Made.{make_at, ExpressionsFit, ReadingIsExact}
-use Rattle.text_parts.specs.PartsView.{with_types, AreInRange}
+use Rattle.text_fields.specs.Listed.{SpacesAreOne}
+use Rattle.assembler.specs.Made.{make_at, ExpressionsFit, ReadingIsExact}
+use Rattle.assembler.specs.PartsView.{with_types, AreInRange}
 use Rattle.module_limits.specs.ListsView.{IsTooLarge}
 use Rattle.assembler.specs.Named.{ResolveToNothing}
 use Rattle.assembler.proofs.Limits.{is_within, is_judged, is_short}

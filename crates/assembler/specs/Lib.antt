@@ -1,1 +1,4 @@
+pub mod Counted
+pub mod Made
 pub mod Named
+pub mod PartsView

@@ -2,13 +2,13 @@
 ghost use Rattle.std.specs.Prelude.{◌≡◌, length, IfOk, IfErr};
 ghost use Rattle.lexer.specs.Views.{views, SpansRise};
 ghost use Rattle.spec_text.specs.Lexical.{Lexes};
-ghost use Rattle.text_names.specs.Outcome.{Unless};
+ghost use Rattle.text_resolve.specs.Outcome.{Unless};
 ghost use Rattle.text_tree.specs.Views.{fields_of};
 ghost use Rattle.assembler.specs.Named.{HasFields, NamesNothing, LexesToNothing};
 
 use lexer::{LexRefusal, Tokens, no_text_lexes_to_two_lists, tokens};
 use std::alloc::Allocator;
-use text_names::AsmRefusal;
+use text_resolve::AsmRefusal;
 use text_tree::{Text, no_words_are_two_texts, parse};
 use text_words::TextRefusal;
 

@@ -1,23 +1,29 @@
-//! The assembler: a text in the text format of WebAssembly becomes the module that it names (Core Specification, 6 Text
-//! Format).
+//! The assembler: all fields of a text in the text format of WebAssembly are put together to the module that the text names, and no text names two (Core
+//! Specification, 6 Text Format).
 #![tactic(auto)]
 
 ghost use Rattle.std.specs.Prelude.{◌≡◌, IfOk, IfErr};
 ghost use Rattle.module_tree.specs.Modules.{module_view};
 ghost use Rattle.spec_text.specs.Names.{Names};
-ghost use Rattle.text_names.specs.Outcome.{Unless};
-ghost use Rattle.text_names.specs.declared.AsmRefusal.TheVariants.{NoMemory};
+ghost use Rattle.text_resolve.specs.Outcome.{Unless};
+ghost use Rattle.text_resolve.specs.declared.refusal.AsmRefusal.TheVariants.{NoMemory};
 ghost use Rattle.assembler.specs.Named.{NamesNothing};
 
+mod collect;
 mod fields;
+mod laws;
 mod lists;
+mod parts;
 mod whole;
 
+pub use collect::parts_of_text;
 use fields::tree_of;
+pub use laws::{no_fields_make_two_modules, no_text_names_two_modules, reading_of_fields_is_exact};
 use module_tree::module::Module;
+pub use parts::{Parts, put};
 use std::alloc::Allocator;
 use text_faults::first_fault;
-pub use text_names::AsmRefusal;
+pub use text_resolve::AsmRefusal;
 use text_tree::Text;
 use whole::module_of;
 

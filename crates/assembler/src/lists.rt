@@ -2,11 +2,11 @@
 ghost use Rattle.std.specs.Prelude.{◌≡◌, true, map, reverse};
 ghost use Rattle.module_tree.specs.ModuleView.{func_type_view, are_numbered};
 ghost use Rattle.module_limits.specs.ListsView.{lists_view};
-ghost use Rattle.text_parts.specs.PartsView.{parts_view, with_types, are_parts_numbered};
+ghost use Rattle.assembler.specs.PartsView.{parts_view, with_types, are_parts_numbered};
 
+use crate::Parts;
 use module_limits::Lists;
 use std::alloc::Allocator;
-use text_parts::Parts;
 use wtypes::FuncType;
 
 // The list from its last to its first.

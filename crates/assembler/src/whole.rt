@@ -3,18 +3,17 @@ ghost use Rattle.std.specs.Prelude.{◌≡◌, IfOk, IfErr};
 ghost use Rattle.module_tree.specs.Modules.{module_view};
 ghost use Rattle.spec_binary.specs.Spells.{ModuleFits};
 ghost use Rattle.spec_text.specs.Resolve.{Resolves};
-ghost use Rattle.text_names.specs.Outcome.{Unless};
+ghost use Rattle.text_resolve.specs.Outcome.{Unless};
 ghost use Rattle.text_tree.specs.Views.{fields_of};
 ghost use Rattle.assembler.specs.Named.{ResolveToNothing};
 
 use crate::lists::lists_of;
+use crate::{parts_of_text, reading_of_fields_is_exact};
 use module_limits::{Unsealed, seal};
 use module_tree::module::Module;
 use std::alloc::Allocator;
-use text_module::reading_of_fields_is_exact;
-use text_names::AsmRefusal;
-use text_parts::parts_of_text;
-use text_spaces::{no_text_has_two_lists_of_spaces, spaces_of_text};
+use text_fields::{no_text_has_two_lists_of_spaces, spaces_of_text};
+use text_resolve::AsmRefusal;
 use text_tree::Text;
 
 /// The module that fields make, within its limits. They are refused for another cause than memory only where they make no

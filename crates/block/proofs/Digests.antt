@@ -2,8 +2,8 @@
 use Rattle.std.proofs.Common.{ℕ, zero, suc, ◌<◌, List, [], ◌∷◌, arith}
 use Rattle.std.specs.List.{AllByRecursion}
 use Rattle.spec_block.specs.Bytes.{IsDigest}
-use Rattle.fields.specs.Exact.{AreBytes}
-use Rattle.fields.proofs.Numbers.{HasSize}
+use Rattle.records.specs.Exact.{AreBytes}
+use Rattle.records.proofs.Numbers.{HasSize}
 
 pub each_byte : (bytes : List ℕ) → AreBytes bytes → AllByRecursion (λ b. b < 256) bytes
 each_byte [] h = tt

@@ -9,13 +9,13 @@ use Rattle.spec_ledger.specs.declared.Outcome.{Outcome}
 use Rattle.spec_ledger.specs.declared.Outcome.TheVariants.{Returned, Trapped, OutOfFuel, Rejected}
 use Rattle.spec_block.specs.Worlds.{Position, Block}
 use Rattle.spec_block.specs.Bytes.{counted, outcome_bytes, entry_bytes, position_bytes, block_bytes, IsPosition, IsBlock, SpellsBlock}
-use Rattle.fields.specs.declared.fault.Fault.{Fault}
-use Rattle.fields.specs.declared.fault.Fault.TheVariants.{TooLarge}
-use Rattle.fields.specs.Reading.{number_at, front_at, tag_at, after_count, Gives, whole}
-use Rattle.fields.specs.Exact.{AreBytes, Takes, ReadsExactly, Follow}
-use Rattle.fields.proofs.Steps.{bind_ok, guard_ok, ok_is, Takes-then, whole_takes, whole_again}
-use Rattle.fields.proofs.Numbers.{u32_exact, u64_exact, front_exact, tag_takes, tag_again}
-use Rattle.fields.proofs.Items.{counted_take, counted_again}
+use Rattle.records.specs.declared.fault.Fault.{Fault}
+use Rattle.records.specs.declared.fault.Fault.TheVariants.{TooLarge}
+use Rattle.records.specs.Reading.{number_at, front_at, tag_at, after_count, Gives, whole}
+use Rattle.records.specs.Exact.{AreBytes, Takes, ReadsExactly, Follow}
+use Rattle.records.proofs.Steps.{bind_ok, guard_ok, ok_is, Takes-then, whole_takes, whole_again}
+use Rattle.records.proofs.Numbers.{u32_exact, u64_exact, front_exact, tag_takes, tag_again}
+use Rattle.records.proofs.Items.{counted_take, counted_again}
 use Rattle.records.specs.Positions.{position_at}
 use Rattle.block.specs.Reading.{next_position_at, positions_at, block_at}
 use Rattle.block.proofs.Digests.{is_digest, has_size}

@@ -2,8 +2,8 @@
 use Rattle.std.specs.Prelude.{ℕ, List, Option, Ok, Err, nat_lt, length, if◌then◌else◌}
 use Rattle.std.specs.Int.{w32, w64}
 use Rattle.spec_block.specs.Worlds.{Position, Block}
-use Rattle.fields.specs.declared.fault.Fault.TheVariants.{TooLarge}
-use Rattle.fields.specs.Reading.{Read, ◌>>=◌, number_at, front_at, tag_at, after_count}
+use Rattle.records.specs.declared.fault.Fault.TheVariants.{TooLarge}
+use Rattle.records.specs.Reading.{Read, ◌>>=◌, number_at, front_at, tag_at, after_count}
 use Rattle.records.specs.Positions.{position_at}
 
 -- positions do not depend on one another

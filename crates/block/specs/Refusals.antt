@@ -1,8 +1,8 @@
 -- Which refusal is answered.
 use Rattle.std.specs.Prelude.{◌≡◌, ℕ, ◌-◌, Result, Err}
 use Rattle.spec_block.specs.Worlds.{Block}
-use Rattle.fields.specs.declared.fault.Fault.{Fault}
-use Rattle.fields.specs.declared.fault.Fault.TheVariants as fault
+use Rattle.records.specs.declared.fault.Fault.{Fault}
+use Rattle.records.specs.declared.fault.Fault.TheVariants as fault
 use Rattle.block.specs.declared.refusal.BlockRefusal.{BlockRefusal}
 use Rattle.block.specs.declared.refusal.BlockRefusal.TheVariants.{Malformed, TooLarge, NoMemory}
 

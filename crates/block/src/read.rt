@@ -3,15 +3,14 @@
 ghost use Rattle.std.specs.Prelude.{◌≡◌, ◌≤◌, ◌⊎◌, None, Ok, IfOk, IfErr, length};
 ghost use Rattle.spec_block.specs.Worlds.{Block as TheBlock};
 ghost use Rattle.spec_block.specs.Bytes.{SpellsBlock};
-ghost use Rattle.fields.specs.Reading.{Gives, items_at, front_at, whole};
+ghost use Rattle.records.specs.Reading.{Gives, items_at, front_at, whole};
 ghost use Rattle.block.specs.declared.refusal.BlockRefusal.TheVariants.{NoMemory};
 ghost use Rattle.block.specs.Reading.{next_position_at, positions_at, block_at};
 ghost use Rattle.block.specs.Refusals.{Refuses};
 
 use crate::refusal::BlockRefusal;
 use crate::value::Block;
-use fields::{Fault, read_tag, read_u32, read_u64};
-use records::{Position, read_position};
+use records::{Fault, Position, read_position, read_tag, read_u32, read_u64};
 use std::alloc::Allocator;
 
 /// The magic, `57 42 4C 4B`, as a number.

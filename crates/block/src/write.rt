@@ -8,8 +8,7 @@ use crate::read::{MAGIC, VERSION};
 use crate::refusal::WriteRefusal;
 use crate::value::Block;
 use codec::{Sink, put_all};
-use fields::{append_u32, append_u64};
-use records::{Position, append_position};
+use records::{Position, append_position, append_u32, append_u64};
 use std::alloc::{AllocError, Allocator};
 
 /// Puts bytes that are made.

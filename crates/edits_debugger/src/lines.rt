@@ -2,22 +2,20 @@
 
 ghost use Rattle.std.specs.Prelude.{◌≡◌, IsTrue, IfOk, IfErr, OnOk, MatchOption, string_bytes};
 ghost use Rattle.interp.specs.Lent.{contracts_view};
-ghost use Rattle.debug_lines.specs.Prints.{IsDebugged};
+ghost use Rattle.wblock_debug.specs.Prints.{IsDebugged};
 ghost use Rattle.wblock_line.specs.Answers.{CountsFault};
 ghost use Rattle.wblock_debug.specs.Debugs.{IsNotListed, Debugs};
 
 use call::Call;
-use debug_asked::Debugging;
-use debug_lines::Printed;
-use debug_words::Command;
 use debugger::Contract;
 use std::alloc::{Allocator, Global};
 use storage::Cells;
+use wblock_debug::{Command, Debugging, Printed};
 use wblock_io::Files;
 use wblock_line::{Answer, Fault};
 use wtypes::NoMemory;
 
-/// As [`debug_lines::debug_call`].
+/// As [`wblock_debug::debug_call`].
 pub fn debug_call<A: Allocator + Copy>(
     alloc: A,
     contracts: &[Contract<A>],
@@ -27,7 +25,7 @@ pub fn debug_call<A: Allocator + Copy>(
 ) -> Result<Printed<A>, NoMemory>
     ensures { IfOk result (λ p. IsDebugged (contracts_view contracts.now) cells.now.cells call.now commands.now p.refused (string_bytes p.text)) }
 {
-    debug_lines::debug_call(alloc, contracts, cells, call, commands)
+    wblock_debug::debug_call(alloc, contracts, cells, call, commands)
 }
 
 /// As [`wblock_debug::debug_world`].

@@ -3,14 +3,13 @@
 ghost use Rattle.std.specs.Prelude.{◌≡◌, ◌++◌, ℕ, List, IfOk, ◌<◌, ◌^◌, OnOk, length, take, ◌↔◌, IsSome, IfSome};
 ghost use Rattle.spec_ledger.specs.declared.Entry.{Entry};
 ghost use Rattle.spec_block.specs.Bytes.{entry_bytes, receipt_bytes, IsOutcome, IsPosition, position_bytes};
-ghost use Rattle.fields.specs.Reading.{Gives, IsRead};
+ghost use Rattle.records.specs.Reading.{Gives, IsRead};
 ghost use Rattle.records.specs.Profiles.{entry_at, IsEntryAfter, profile_at, profile_bytes, IsBlockProfile};
 ghost use Rattle.spec_block.specs.Worlds.{Position as ThePosition};
 ghost use Rattle.records.specs.Positions.{position_at};
 
-use fields::Fault;
 use lock_profile::Profile;
-use records::Position;
+use records::{Fault, Position};
 use spec_ledger::{Entry, Receipt};
 use std::alloc::{AllocError, Allocator};
 

@@ -1,41 +1,41 @@
 //! Fields, read.
 
 ghost use Rattle.std.specs.Int.{w32, w64};
-ghost use Rattle.fields.specs.Reading.{Gives, byte_at, number_at, front_at, tag_at};
+ghost use Rattle.records.specs.Reading.{Gives, byte_at, number_at, front_at, tag_at};
 
-use fields::Fault;
+use records::Fault;
 
-/// As [`fields::read_byte`].
+/// As [`records::read_byte`].
 pub fn read_byte(bytes: &[u8]) -> Result<(u8, &[u8]), Fault>
     ensures { Gives (λ x. (x.0, x.1.now)) result (byte_at bytes.now) }
 {
-    fields::read_byte(bytes)
+    records::read_byte(bytes)
 }
 
-/// As [`fields::read_u32`].
+/// As [`records::read_u32`].
 pub fn read_u32(bytes: &[u8]) -> Result<(u32, &[u8]), Fault>
     ensures { Gives (λ x. (x.0, x.1.now)) result (number_at w32 bytes.now) }
 {
-    fields::read_u32(bytes)
+    records::read_u32(bytes)
 }
 
-/// As [`fields::read_u64`].
+/// As [`records::read_u64`].
 pub fn read_u64(bytes: &[u8]) -> Result<(u64, &[u8]), Fault>
     ensures { Gives (λ x. (x.0, x.1.now)) result (number_at w64 bytes.now) }
 {
-    fields::read_u64(bytes)
+    records::read_u64(bytes)
 }
 
-/// As [`fields::read_front`].
+/// As [`records::read_front`].
 pub fn read_front(bytes: &[u8], size: usize) -> Result<(&[u8], &[u8]), Fault>
     ensures { Gives (λ x. (x.0.now, x.1.now)) result (front_at size bytes.now) }
 {
-    fields::read_front(bytes, size)
+    records::read_front(bytes, size)
 }
 
-/// As [`fields::read_tag`].
+/// As [`records::read_tag`].
 pub fn read_tag(bytes: &[u8], tag: u32) -> Result<&[u8], Fault>
     ensures { Gives (λ x. x.now) result (tag_at tag bytes.now) }
 {
-    fields::read_tag(bytes, tag)
+    records::read_tag(bytes, tag)
 }

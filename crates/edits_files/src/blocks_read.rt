@@ -3,7 +3,7 @@
 ghost use Rattle.std.specs.Prelude.{◌≡◌, ◌⊎◌, IfOk, IfErr, length};
 ghost use Rattle.spec_block.specs.Worlds.{Block as TheBlock};
 ghost use Rattle.spec_block.specs.Bytes.{SpellsBlock};
-ghost use Rattle.fields.specs.Reading.{whole};
+ghost use Rattle.records.specs.Reading.{whole};
 ghost use Rattle.block.specs.declared.refusal.BlockRefusal.TheVariants.{NoMemory};
 ghost use Rattle.block.specs.Reading.{block_at};
 ghost use Rattle.block.specs.Refusals.{Refuses};

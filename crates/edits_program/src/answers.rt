@@ -2,27 +2,27 @@
 ghost use Rattle.std.specs.Prelude.{◌≡◌, ◌≢◌, ◌⊎◌, IsTrue, IfOk, IfErr, string_bytes};
 ghost use Rattle.codec.specs.Putting.{IsRaised};
 ghost use Rattle.wblock_line.specs.Answers.{IsPerformed, IsCut, status_of, status_of_fault};
-ghost use Rattle.wblock_stored.specs.Stored.{ShowsStored};
-ghost use Rattle.wblock_usage.specs.Lines.{EndsLine};
+ghost use Rattle.wblock_commands.specs.Stored.{ShowsStored};
+ghost use Rattle.wblock_commands.specs.Lines.{EndsLine};
 
 use codec::Sink;
 use std::alloc::{AllocError, Global};
 use wblock_io::Files;
 use wblock_line::{Answer, Fault, Status};
 
-/// As [`wblock_stored::show_stored`].
+/// As [`wblock_commands::show_stored`].
 pub fn show_stored<'a>(alloc: Global) -> Result<Answer<'a>, Fault<'a>>
     ensures answers { IfOk result ShowsStored }
     ensures fault { IfErr result (λ f. f ≡ Fault.NoMemory) }
 {
-    wblock_stored::show_stored(alloc)
+    wblock_commands::show_stored(alloc)
 }
 
-/// As [`wblock_usage::usage_text`].
+/// As [`wblock_commands::usage_text`].
 pub fn usage_text<'a>(alloc: Global, words: &'a [&'a str]) -> Result<String, AllocError>
     ensures { IfOk result (λ text. EndsLine (string_bytes text)) }
 {
-    wblock_usage::usage_text(alloc, words)
+    wblock_commands::usage_text(alloc, words)
 }
 
 /// As [`wblock_line::tell_fault`].

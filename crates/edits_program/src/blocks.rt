@@ -3,20 +3,18 @@ ghost use Rattle.std.specs.Prelude.{◌≡◌, ◌≤◌, IsTrue, IfOk, IfErr, O
 ghost use Rattle.calls_text.specs.Texts.{SpellsCalls};
 ghost use Rattle.calls_text.specs.Refusals.{Tells};
 ghost use Rattle.wblock_line.specs.Answers.{CountsFault};
-ghost use Rattle.wblock_inputs.specs.Inputs.{HasFew, Gives};
-ghost use Rattle.wblock_mine.specs.Mines.{Mines};
-ghost use Rattle.wblock_validate.specs.Validates.{Validates};
+ghost use Rattle.wblock_blocks.specs.Inputs.{HasFew, Gives};
+ghost use Rattle.wblock_blocks.specs.Mines.{Mines};
+ghost use Rattle.wblock_blocks.specs.Validates.{Validates};
 
 use call::Call;
 use calls_text::{CallsRefusal, MOST_CALLS};
 use std::alloc::Global;
 use std::sync::Wait;
 use std::thread::Threads;
-use wblock_inputs::Inputs;
+use wblock_blocks::{Inputs, Mining, Validation};
 use wblock_io::Files;
 use wblock_line::{Answer, Fault};
-use wblock_mine::Mining;
-use wblock_validate::Validation;
 
 /// As [`calls_text::read_calls`].
 pub fn read_calls(alloc: Global, text: &[u8]) -> Result<Vec<Call>, CallsRefusal>
@@ -27,7 +25,7 @@ pub fn read_calls(alloc: Global, text: &[u8]) -> Result<Vec<Call>, CallsRefusal>
     calls_text::read_calls(alloc, text)
 }
 
-/// As [`wblock_inputs::read_inputs`].
+/// As [`wblock_blocks::read_inputs`].
 pub fn read_inputs<'a, F: Files>(
     alloc: Global,
     files: &mut F,
@@ -40,10 +38,10 @@ pub fn read_inputs<'a, F: Files>(
     ensures calm { OnOk result (F.failures files.new ≡ F.failures files.old) }
     ensures counted { IfErr result (λ f. CountsFault f (F.failures files.old) (F.failures files.new)) }
 {
-    wblock_inputs::read_inputs(alloc, files, world, calls)
+    wblock_blocks::read_inputs(alloc, files, world, calls)
 }
 
-/// As [`wblock_mine::mine_block`].
+/// As [`wblock_blocks::mine_block`].
 pub fn mine_block<'a, R: Threads + Wait + Sync, F: Files>(
     rt: &R,
     alloc: Global,
@@ -57,10 +55,10 @@ pub fn mine_block<'a, R: Threads + Wait + Sync, F: Files>(
     ensures calm { OnOk result (F.failures files.new ≡ F.failures files.old) }
     ensures counted { IfErr result (λ f. CountsFault f (F.failures files.old) (F.failures files.new)) }
 {
-    wblock_mine::mine_block(rt, alloc, files, task)
+    wblock_blocks::mine_block(rt, alloc, files, task)
 }
 
-/// As [`wblock_validate::validate_block`].
+/// As [`wblock_blocks::validate_block`].
 pub fn validate_block<'a, R: Threads + Wait + Sync, F: Files>(
     rt: &R,
     alloc: Global,
@@ -73,5 +71,5 @@ pub fn validate_block<'a, R: Threads + Wait + Sync, F: Files>(
     ensures calm { OnOk result (F.failures files.new ≡ F.failures files.old) }
     ensures counted { IfErr result (λ f. CountsFault f (F.failures files.old) (F.failures files.new)) }
 {
-    wblock_validate::validate_block(rt, alloc, files, task)
+    wblock_blocks::validate_block(rt, alloc, files, task)
 }

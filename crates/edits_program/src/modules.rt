@@ -1,16 +1,16 @@
 //! The commands on modules.
 ghost use Rattle.std.specs.Prelude.{◌≡◌, ◌≤◌, IsTrue, IfOk, IfErr, OnOk, length, map};
 ghost use Rattle.wblock_line.specs.Answers.{CountsFault};
-ghost use Rattle.wblock_asm.specs.Assembles.{Assembles};
-ghost use Rattle.wblock_check.specs.Checks.{Checks};
-ghost use Rattle.wblock_deploy.specs.Deploys.{Deploys};
+ghost use Rattle.wblock_modules.specs.Assembles.{Assembles};
+ghost use Rattle.wblock_modules.specs.Checks.{Checks};
+ghost use Rattle.wblock_modules.specs.Deploys.{Deploys};
 
 use std::alloc::Global;
 use wblock_io::Files;
 use wblock_line::{Answer, Fault};
 use world::World;
 
-/// As [`wblock_asm::assemble_file`].
+/// As [`wblock_modules::assemble_file`].
 pub fn assemble_file<'a, F: Files>(
     alloc: Global,
     files: &mut F,
@@ -22,10 +22,10 @@ pub fn assemble_file<'a, F: Files>(
     ensures calm { OnOk result (F.failures files.new ≡ F.failures files.old) }
     ensures counted { IfErr result (λ f. CountsFault f (F.failures files.old) (F.failures files.new)) }
 {
-    wblock_asm::assemble_file(alloc, files, text, target)
+    wblock_modules::assemble_file(alloc, files, text, target)
 }
 
-/// As [`wblock_check::check_module`].
+/// As [`wblock_modules::check_module`].
 pub fn check_module<'a, F: Files>(
     alloc: Global,
     files: &mut F,
@@ -37,10 +37,10 @@ pub fn check_module<'a, F: Files>(
     ensures calm { OnOk result (F.failures files.new ≡ F.failures files.old) }
     ensures counted { IfErr result (λ f. CountsFault f (F.failures files.old) (F.failures files.new)) }
 {
-    wblock_check::check_module(alloc, files, target, heap)
+    wblock_modules::check_module(alloc, files, target, heap)
 }
 
-/// As [`wblock_deploy::deploy_modules`].
+/// As [`wblock_modules::deploy_modules`].
 pub fn deploy_modules<'a, F: Files>(
     alloc: Global,
     files: &mut F,
@@ -53,5 +53,5 @@ pub fn deploy_modules<'a, F: Files>(
     ensures calm { OnOk result (F.failures files.new ≡ F.failures files.old) }
     ensures counted { IfErr result (λ f. CountsFault f (F.failures files.old) (F.failures files.new)) }
 {
-    wblock_deploy::deploy_modules(alloc, files, world, modules)
+    wblock_modules::deploy_modules(alloc, files, world, modules)
 }

@@ -2,11 +2,11 @@
 ghost use Rattle.std.specs.Prelude.{◌≡◌, map, IfOk, IfErr};
 ghost use Rattle.spec_text.specs.Resolve.{AreDistinct};
 ghost use Rattle.text_body.specs.Views.{text_of};
-ghost use Rattle.text_names.specs.Lookup.{find};
-ghost use Rattle.text_names.specs.Outcome.{Gives, Unless};
+ghost use Rattle.text_resolve.specs.Lookup.{find};
+ghost use Rattle.text_resolve.specs.Outcome.{Gives, Unless};
 
 use std::alloc::Allocator;
-use text_names::{AsmRefusal, Finds, Labels, Space};
+use text_resolve::{AsmRefusal, Finds, Labels, Space};
 use text_words::Piece;
 
 /// As [`Labels::find`].

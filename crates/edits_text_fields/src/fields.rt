@@ -3,18 +3,17 @@ ghost use Rattle.std.specs.Prelude.{◌≡◌, true, map, IfOk};
 ghost use Rattle.spec_text.specs.Resolve.{count_imported};
 ghost use Rattle.module_tree.specs.ModuleView.{func_type_view};
 ghost use Rattle.text_tree.specs.Views.{field_of, fields_of};
-ghost use Rattle.text_names.specs.Outcome.{Gives};
+ghost use Rattle.text_resolve.specs.Outcome.{Gives};
 ghost use Rattle.text_resolve.specs.Views.{spaces_of};
 ghost use Rattle.text_fields.specs.PartView.{part_view, is_numbered};
 ghost use Rattle.text_fields.specs.Parts.{part_at, part_fits};
-ghost use Rattle.text_module.specs.Made.{make_at};
-ghost use Rattle.text_parts.specs.PartsView.{parts_view, with_types, are_parts_numbered, AreInRange};
+ghost use Rattle.assembler.specs.Made.{make_at};
+ghost use Rattle.assembler.specs.PartsView.{parts_view, with_types, are_parts_numbered, AreInRange};
 
+use assembler::Parts;
 use std::alloc::Allocator;
 use text_fields::Part;
-use text_names::AsmRefusal;
-use text_parts::Parts;
-use text_resolve::Spaces;
+use text_resolve::{AsmRefusal, Spaces};
 use text_tree::{Field, Text};
 
 /// As [`text_fields::part_of`].
@@ -31,7 +30,7 @@ pub fn part_of<'a, A: Allocator + Clone>(
     text_fields::part_of(alloc, spaces, field, func)
 }
 
-/// As [`text_parts::parts_of_text`].
+/// As [`assembler::parts_of_text`].
 pub fn parts_of_text<'a, A: Allocator + Clone>(
     alloc: &A,
     spaces: &Spaces<'a, A>,
@@ -41,5 +40,5 @@ pub fn parts_of_text<'a, A: Allocator + Clone>(
     ensures in_range { IfOk result (λ p. AreInRange (parts_view p)) }
     ensures numbered { IfOk result (λ p. are_parts_numbered p ≡ true) }
 {
-    text_parts::parts_of_text(alloc, spaces, text)
+    assembler::parts_of_text(alloc, spaces, text)
 }

@@ -4,8 +4,8 @@ ghost use Rattle.spec_syntax.specs.Limits.{instr_fits};
 ghost use Rattle.module_tree.specs.ModuleView.{func_type_view};
 ghost use Rattle.module_tree.specs.View.{instr_view, instr_ordinals};
 ghost use Rattle.text_body.specs.Views.{text_of, flat_of};
-ghost use Rattle.text_names.specs.Outcome.{Gives};
-ghost use Rattle.text_names.specs.declared.AsmRefusal.TheVariants.{NoMemory};
+ghost use Rattle.text_resolve.specs.Outcome.{Gives};
+ghost use Rattle.text_resolve.specs.declared.refusal.AsmRefusal.TheVariants.{NoMemory};
 ghost use Rattle.text_resolve.specs.Plain.{plain_at};
 ghost use Rattle.text_resolve.specs.Types.{first_type};
 ghost use Rattle.text_resolve.specs.Views.{spaces_of};
@@ -13,8 +13,7 @@ ghost use Rattle.text_resolve.specs.Views.{spaces_of};
 use module_tree::instr::Instr;
 use std::alloc::Allocator;
 use text_body::Flat;
-use text_names::{AsmRefusal, Labels, Space};
-use text_resolve::Spaces;
+use text_resolve::{AsmRefusal, Labels, Space, Spaces};
 use wtypes::FuncType;
 
 /// As [`text_resolve::first_type`].

@@ -2,12 +2,12 @@
 ghost use Rattle.std.specs.Prelude.{IfOk, IfErr};
 ghost use Rattle.spec_text.specs.Names.{Names};
 ghost use Rattle.module_tree.specs.Modules.{module_view};
-ghost use Rattle.text_names.specs.Outcome.{Unless};
+ghost use Rattle.text_resolve.specs.Outcome.{Unless};
 ghost use Rattle.assembler.specs.Named.{NamesNothing};
 
 use module_tree::module::Module;
 use std::alloc::Allocator;
-use text_names::AsmRefusal;
+use text_resolve::AsmRefusal;
 
 /// As [`assembler::assemble`].
 pub fn assemble<A: Allocator + Clone>(alloc: A, text: &str) -> Result<Module<A>, AsmRefusal>

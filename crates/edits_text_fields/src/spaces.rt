@@ -4,18 +4,17 @@ ghost use Rattle.std.specs.List.{flat_map, filter_map};
 ghost use Rattle.spec_text.specs.Resolve.{Adds, AreSpaces, inline_of_field, declared_type};
 ghost use Rattle.module_tree.specs.ModuleView.{func_type_view};
 ghost use Rattle.text_tree.specs.Views.{fields_of};
-ghost use Rattle.text_names.specs.Outcome.{Unless};
-ghost use Rattle.text_names.specs.declared.AsmRefusal.TheVariants.{NoMemory};
+ghost use Rattle.text_resolve.specs.Outcome.{Unless};
+ghost use Rattle.text_resolve.specs.declared.refusal.AsmRefusal.TheVariants.{NoMemory};
 ghost use Rattle.text_resolve.specs.Views.{spaces_of};
-ghost use Rattle.text_spaces.specs.Listed.{NoSpaces};
+ghost use Rattle.text_fields.specs.Listed.{NoSpaces};
 
 use std::alloc::Allocator;
-use text_names::AsmRefusal;
-use text_resolve::Spaces;
+use text_resolve::{AsmRefusal, Spaces};
 use text_tree::Text;
 use wtypes::FuncType;
 
-/// As [`text_types::types_of_text`].
+/// As [`text_fields::types_of_text`].
 pub fn types_of_text<'a, A: Allocator + Clone>(
     alloc: &A,
     text: &Text<'a, A>,
@@ -23,10 +22,10 @@ pub fn types_of_text<'a, A: Allocator + Clone>(
     ensures types { IfOk result (λ v. Adds (filter_map declared_type (fields_of text.now)) (flat_map inline_of_field (fields_of text.now)) (map func_type_view v.items)) }
     ensures refused { IfErr result (λ e. e ≡ NoMemory) }
 {
-    text_types::types_of_text(alloc, text)
+    text_fields::types_of_text(alloc, text)
 }
 
-/// As [`text_spaces::spaces_of_text`].
+/// As [`text_fields::spaces_of_text`].
 pub fn spaces_of_text<'a, A: Allocator + Clone>(
     alloc: &A,
     text: &Text<'a, A>,
@@ -34,5 +33,5 @@ pub fn spaces_of_text<'a, A: Allocator + Clone>(
     ensures spaces { IfOk result (λ s. AreSpaces (fields_of text.now) (spaces_of s)) }
     ensures refused { IfErr result (Unless (NoSpaces (fields_of text.now))) }
 {
-    text_spaces::spaces_of_text(alloc, text)
+    text_fields::spaces_of_text(alloc, text)
 }

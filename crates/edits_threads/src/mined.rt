@@ -13,8 +13,7 @@ ghost use Rattle.world.specs.Views.{world_view};
 
 use call::Call;
 use link::deployed::Deployed as Contract;
-use mining::MinedCore;
-use mining::Mined;
+use mining::{Mined, MinedCore};
 use pace::Pace;
 use std::alloc::Allocator;
 use std::sync::Wait;

@@ -11,7 +11,7 @@ use Rattle.spec_binary.specs.Shortest.{shortest}
 use Rattle.spec_binary.specs.Spells.{Spells}
 use Rattle.spec_module_laws.specs.ReadingModules.{module_at}
 use Rattle.spec_module_laws.specs.OneTree.{module_in, bodies_fit, globals_fit, elements_fit, datas_fit, module_takes, module_again}
-use Rattle.spec_spelling_laws.specs.Spellings.{spelled_fits, shortest_no_longer}
+use Rattle.spec_shortest.specs.Spellings.{spelled_fits, shortest_no_longer}
 use Rattle.loader.specs.Refusals.{NoModule}
 
 pub spelled_is : (bytes : List ℕ) (m : Module) → length bytes ≤ byte_limit → module_at bytes ≡ Some m → nat_le (length (shortest m)) byte_limit ≡ true → Spells bytes m

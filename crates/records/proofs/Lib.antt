@@ -1,4 +1,7 @@
-mod Values
-mod Profiles
-mod Positions
+pub mod Items
 mod Neighbours
+pub mod Numbers
+mod Positions
+mod Profiles
+pub mod Steps
+mod Values

@@ -3,10 +3,10 @@ use Rattle.std.proofs.Common.{◌≡◌, ℕ, List, ◌++◌, Ok, refl, ap, subs
 use Rattle.std.specs.Int.{w32, to_le_bytes}
 use Rattle.spec_block.specs.Worlds.{Position}
 use Rattle.spec_block.specs.Bytes.{receipt_bytes, position_bytes, IsPosition}
-use Rattle.fields.specs.Reading.{◌>>=◌, number_at}
-use Rattle.fields.specs.Exact.{AreBytes, Takes, ReadsExactly}
-use Rattle.fields.proofs.Steps.{bind_ok, ok_is, Takes-then}
-use Rattle.fields.proofs.Numbers.{u32_exact}
+use Rattle.records.specs.Reading.{◌>>=◌, number_at}
+use Rattle.records.specs.Exact.{AreBytes, Takes, ReadsExactly}
+use Rattle.records.proofs.Steps.{bind_ok, ok_is, Takes-then}
+use Rattle.records.proofs.Numbers.{u32_exact}
 use Rattle.records.specs.Values.{receipt_at}
 use Rattle.records.specs.Profiles.{profile_at, profile_bytes}
 use Rattle.records.specs.Positions.{position_at}

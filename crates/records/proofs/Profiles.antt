@@ -12,12 +12,12 @@ use Rattle.spec_ledger.specs.declared.Mode.TheVariants as modes
 use Rattle.spec_ledger.specs.declared.Lock.{Lock}
 use Rattle.spec_ledger.specs.declared.Entry.{Entry}
 use Rattle.spec_block.specs.Bytes.{kind_code, mode_code, entry_bytes, IsEntry, AreRising}
-use Rattle.fields.specs.declared.fault.Fault.TheVariants.{Malformed}
-use Rattle.fields.specs.Reading.{Read, ◌>>=◌, number_at, found, after_count}
-use Rattle.fields.specs.Exact.{AreBytes, Takes, ReadsExactly, Follow}
-use Rattle.fields.proofs.Steps.{rest_are_bytes, bind_ok, guard_holds, ok_is, some_is, found_is, Takes-then}
-use Rattle.fields.proofs.Numbers.{u32_exact, u64_exact}
-use Rattle.fields.proofs.Items.{counted_take, counted_again}
+use Rattle.records.specs.declared.fault.Fault.TheVariants.{Malformed}
+use Rattle.records.specs.Reading.{Read, ◌>>=◌, number_at, found, after_count}
+use Rattle.records.specs.Exact.{AreBytes, Takes, ReadsExactly, Follow}
+use Rattle.records.proofs.Steps.{rest_are_bytes, bind_ok, guard_holds, ok_is, some_is, found_is, Takes-then}
+use Rattle.records.proofs.Numbers.{u32_exact, u64_exact}
+use Rattle.records.proofs.Items.{counted_take, counted_again}
 use Rattle.records.specs.Profiles.{kind_of, mode_of, kind_at, mode_at, is_after, lock_at, entry_at, profile_at, IsEntryAfter, IsBlockProfile, profile_bytes}
 
 -- ---- codes

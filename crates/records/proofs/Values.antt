@@ -12,11 +12,11 @@ use Rattle.spec_ledger.specs.declared.Outcome.{Outcome}
 use Rattle.spec_ledger.specs.declared.Outcome.TheVariants.{Returned, Trapped, OutOfFuel, Rejected}
 use Rattle.spec_ledger.specs.declared.Receipt.{Receipt}
 use Rattle.spec_block.specs.Bytes.{value_bytes, trap_code, outcome_bytes, receipt_bytes, IsValue, IsOutcome, IsReceipt}
-use Rattle.fields.specs.declared.fault.Fault.TheVariants.{Malformed}
-use Rattle.fields.specs.Reading.{Read, ◌>>=◌, number_at, found}
-use Rattle.fields.specs.Exact.{AreBytes, Takes, ReadsExactly}
-use Rattle.fields.proofs.Steps.{rest_are_bytes, bind_ok, chosen, guard_holds, ok_is, some_is, found_is, Takes-then, Takes-byte}
-use Rattle.fields.proofs.Numbers.{u32_exact, u64_exact}
+use Rattle.records.specs.declared.fault.Fault.TheVariants.{Malformed}
+use Rattle.records.specs.Reading.{Read, ◌>>=◌, number_at, found}
+use Rattle.records.specs.Exact.{AreBytes, Takes, ReadsExactly}
+use Rattle.records.proofs.Steps.{rest_are_bytes, bind_ok, chosen, guard_holds, ok_is, some_is, found_is, Takes-then, Takes-byte}
+use Rattle.records.proofs.Numbers.{u32_exact, u64_exact}
 use Rattle.records.specs.Values.{value_at, values_by, values_at, trap_of, trap_at, is_rejection, rejection_at, outcome_by, outcome_at, receipt_at}
 
 -- what a field's reader took, and what is known of it

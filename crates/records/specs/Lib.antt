@@ -1,3 +1,5 @@
-pub mod Values
-pub mod Profiles
+pub mod Exact
 pub mod Positions
+pub mod Profiles
+pub mod Reading
+pub mod Values

@@ -2,7 +2,7 @@
 use Rattle.std.specs.Prelude.{ℕ, List, Ok}
 use Rattle.std.specs.Int.{w32}
 use Rattle.spec_block.specs.Worlds.{Position}
-use Rattle.fields.specs.Reading.{Read, ◌>>=◌, number_at}
+use Rattle.records.specs.Reading.{Read, ◌>>=◌, number_at}
 use Rattle.records.specs.Values.{receipt_at}
 use Rattle.records.specs.Profiles.{profile_at}
 

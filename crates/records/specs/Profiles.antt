@@ -11,8 +11,8 @@ use Rattle.spec_ledger.specs.declared.Lock.{Lock}
 use Rattle.spec_ledger.specs.declared.Entry.{Entry}
 use Rattle.spec_ledger.specs.Cells.{lock_cmp}
 use Rattle.spec_block.specs.Bytes.{IsEntry, AreRising, counted, entry_bytes}
-use Rattle.fields.specs.declared.fault.Fault.TheVariants.{Malformed}
-use Rattle.fields.specs.Reading.{Read, ◌>>=◌, byte_at, number_at, found, after_count}
+use Rattle.records.specs.declared.fault.Fault.TheVariants.{Malformed}
+use Rattle.records.specs.Reading.{Read, ◌>>=◌, byte_at, number_at, found, after_count}
 
 abbrev pub kind_of : ℕ → Option Kind
 kind_of zero = Some Map

@@ -8,8 +8,8 @@ use Rattle.wtypes.specs.declared.TrapCode.TheVariants.{Unreachable, DivideByZero
 use Rattle.spec_ledger.specs.declared.Outcome.{Outcome}
 use Rattle.spec_ledger.specs.declared.Outcome.TheVariants.{Returned, Trapped, OutOfFuel, Rejected}
 use Rattle.spec_ledger.specs.declared.Receipt.{Receipt}
-use Rattle.fields.specs.declared.fault.Fault.TheVariants.{Malformed}
-use Rattle.fields.specs.Reading.{Read, ◌>>=◌, byte_at, number_at, found}
+use Rattle.records.specs.declared.fault.Fault.TheVariants.{Malformed}
+use Rattle.records.specs.Reading.{Read, ◌>>=◌, byte_at, number_at, found}
 
 unfoldable pub value_at : List ℕ → Read Value
 value_at bytes = do

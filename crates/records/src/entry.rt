@@ -5,10 +5,10 @@ ghost use Rattle.std.specs.Ordering.{is_lt};
 ghost use Rattle.spec_ledger.specs.Cells.{lock_cmp};
 ghost use Rattle.spec_ledger.specs.declared.Entry.{Entry};
 ghost use Rattle.spec_block.specs.Bytes.{entry_bytes, kind_code, mode_code};
-ghost use Rattle.fields.specs.Reading.{Gives, IsRead};
+ghost use Rattle.records.specs.Reading.{Gives, IsRead};
 ghost use Rattle.records.specs.Profiles.{kind_of, kind_at, mode_of, mode_at, is_after, lock_at, entry_at, IsEntryAfter};
 
-use fields::{Fault, append_u32, append_u64, read_byte, read_u32, read_u64};
+use crate::{Fault, append_u32, append_u64, read_byte, read_u32, read_u64};
 use spec_ledger::{Entry, Kind, Lock, Mode};
 use std::alloc::{AllocError, Allocator};
 use std::cmp::Ordering;

@@ -3,13 +3,13 @@
 ghost use Rattle.std.specs.Prelude.{◌≡◌, ◌++◌, ◌↔◌, ◌<◌, ◌^◌, ℕ, List, IfOk, OnOk, IsSome, IfSome, length, take};
 ghost use Rattle.spec_block.specs.Worlds.{Position as ThePosition};
 ghost use Rattle.spec_block.specs.Bytes.{IsOutcome, IsPosition, position_bytes};
-ghost use Rattle.fields.specs.Reading.{Gives, IsRead};
-ghost use Rattle.fields.specs.Exact.{ReadsExactly};
+ghost use Rattle.records.specs.Reading.{Gives, IsRead};
+ghost use Rattle.records.specs.Exact.{ReadsExactly};
 ghost use Rattle.records.specs.Positions.{position_at};
 
 use crate::profile::{append_profile, note_entries, read_profile};
 use crate::receipt::{append_receipt, has_bytes, read_receipt};
-use fields::{Fault, append_u32, read_u32};
+use crate::{Fault, append_u32, read_u32};
 use lock_profile::Profile;
 use spec_ledger::Receipt;
 use std::alloc::{AllocError, Allocator, Global};

@@ -5,11 +5,11 @@ ghost use Rattle.std.specs.List.{AllByRecursion};
 ghost use Rattle.spec_ledger.specs.declared.Entry.{Entry};
 ghost use Rattle.lock_profile.specs.Turns.{IsProfile};
 ghost use Rattle.spec_block.specs.Bytes.{IsEntry};
-ghost use Rattle.fields.specs.Reading.{Gives, IsRead, items_at};
+ghost use Rattle.records.specs.Reading.{Gives, IsRead, items_at};
 ghost use Rattle.records.specs.Profiles.{entry_at, profile_at, profile_bytes, IsBlockProfile};
 
 use crate::entry::{append_entry, read_entry};
-use fields::{Fault, append_u32, read_u32};
+use crate::{Fault, append_u32, read_u32};
 use lock_profile::Profile;
 use spec_ledger::Entry;
 use std::alloc::{AllocError, Allocator};

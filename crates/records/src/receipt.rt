@@ -3,11 +3,11 @@
 ghost use Rattle.std.specs.Prelude.{◌≡◌, ◌++◌, ◌↔◌, ◌<◌, ◌^◌, ℕ, List, IfOk, OnOk, IsTrue, take, length};
 ghost use Rattle.spec_ledger.specs.declared.Receipt.{Receipt};
 ghost use Rattle.spec_block.specs.Bytes.{IsReceipt, IsOutcome, outcome_bytes, receipt_bytes, trap_code};
-ghost use Rattle.fields.specs.Reading.{Gives, IsRead};
+ghost use Rattle.records.specs.Reading.{Gives, IsRead};
 ghost use Rattle.records.specs.Values.{values_at, trap_of, trap_at, is_rejection, rejection_at, outcome_at, receipt_at};
 
 use crate::value::{append_value, read_value};
-use fields::{Fault, append_u64, read_byte, read_u64};
+use crate::{Fault, append_u64, read_byte, read_u64};
 use spec_ledger::{Outcome, Receipt};
 use std::alloc::{AllocError, Allocator};
 use wtypes::{TrapCode, Value};

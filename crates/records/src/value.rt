@@ -3,10 +3,10 @@
 ghost use Rattle.std.specs.Prelude.{◌≡◌, ◌++◌, ℕ, List, IfOk, OnOk, take, length};
 ghost use Rattle.wtypes.specs.declared.Value.{Value};
 ghost use Rattle.spec_block.specs.Bytes.{IsValue, value_bytes};
-ghost use Rattle.fields.specs.Reading.{Gives, IsRead};
+ghost use Rattle.records.specs.Reading.{Gives, IsRead};
 ghost use Rattle.records.specs.Values.{value_at};
 
-use fields::{Fault, append_u32, append_u64, read_byte, read_u32, read_u64};
+use crate::{Fault, append_u32, append_u64, read_byte, read_u32, read_u64};
 use std::alloc::{AllocError, Allocator};
 use wtypes::Value;
 

@@ -1,10 +1,10 @@
 // Two lists of cells, read.
 use crate::locks::lock;
-use cells_reader::read_cells;
-use fields::Fault;
+use records::Fault;
 use spec_ledger::Kind::{self, Counter, Map};
 use std::alloc::Global;
 use storage::Cells;
+use world_reader::read_cells;
 
 /// Map cell 1 of contract 0 with 10, and counter 7 of contract 0 with 5.
 const CELLS: [u8; 56] = [

@@ -1,5 +1,5 @@
 // Numbers of fields, read and written.
-use fields::{Fault, append_u32, append_u64, read_byte, read_front, read_tag, read_u32, read_u64};
+use records::{Fault, append_u32, append_u64, read_byte, read_front, read_tag, read_u32, read_u64};
 use std::alloc::Global;
 
 /// A field of bytes.

@@ -1,8 +1,7 @@
 // Values, receipts, entries, lock profiles and positions, read and written.
 use crate::locks::{Turn, are, entry, profile};
-use fields::Fault;
 use records::{
-    Position, append_entry, append_position, append_profile, append_receipt, append_value,
+    Fault, Position, append_entry, append_position, append_profile, append_receipt, append_value,
     read_entry, read_position, read_profile, read_receipt, read_value,
 };
 use spec_ledger::Kind::{Counter, Map};

@@ -4,7 +4,7 @@ use crate::modules::{WORLD_OF_MANY, WORLD_OF_NONE};
 use crate::rows::{Part, holding};
 use std::alloc::Global;
 use std::test::Fail;
-use wblock_inputs::{Inputs, read_inputs};
+use wblock_blocks::{Inputs, read_inputs};
 use wblock_line::Fault;
 
 /// A world, calls, after how many calls of the files one fails, and what is told: the contract and the entry of each call where both

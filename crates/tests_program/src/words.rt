@@ -1,12 +1,11 @@
 //! Words that are commands of a debugger, lines that ask to debug, and what is said of lines that ask for nothing.
 
 use crate::rows::words_of;
-use debug_asked::debugging_of;
-use debug_words::{Command, command_of, commands_of};
 use std::alloc::Global;
 use std::test::Fail;
+use wblock_commands::usage_text;
+use wblock_debug::{Command, command_of, commands_of, debugging_of};
 use wblock_line::split_words;
-use wblock_usage::usage_text;
 
 const COMMANDS: [(&str, Command); 10] = [
     ("step:0", Command::Step(0)),

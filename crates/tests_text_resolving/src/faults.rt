@@ -3,7 +3,7 @@ use std::alloc::Global;
 use std::process::Abort;
 use std::test::Fail;
 use text_faults::first_fault;
-use text_names::AsmRefusal::{self, NumberRange, RepeatedName, TooLarge, UnknownName};
+use text_resolve::AsmRefusal::{self, NumberRange, RepeatedName, TooLarge, UnknownName};
 
 /// A text, and its refusal.
 type Row<'t> = (&'t str, AsmRefusal);

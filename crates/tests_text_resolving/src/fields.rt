@@ -4,7 +4,7 @@ use module_tree::module::{DataSegment, Element, Export, ExportDesc, Func, Import
 use std::alloc::Global;
 use std::test::Fail;
 use text_fields::{Part, part_of};
-use text_names::AsmRefusal::{self, NumberRange, RepeatedName, UnknownName};
+use text_resolve::AsmRefusal::{self, NumberRange, RepeatedName, UnknownName};
 use wtypes::{Limits, PlainInstr, ValType, Value};
 
 type Parts = Vec<Part<Global>, Global>;

@@ -5,7 +5,7 @@ use std::alloc::Global;
 use std::process::Abort;
 use std::test::Fail;
 use text_body::body;
-use text_names::AsmRefusal::{self, NumberRange, TooLarge, UnknownName};
+use text_resolve::AsmRefusal::{self, NumberRange, TooLarge, UnknownName};
 use text_resolve::expression;
 use text_words::words;
 use wtypes::{LoadOp, PlainInstr, StoreOp, ValType, Value};

@@ -3,8 +3,8 @@ use std::alloc::Global;
 use std::process::Abort;
 use std::test::Fail;
 use text_body::Index;
-use text_names::AsmRefusal::{self, NumberRange, RepeatedName, UnknownName};
-use text_names::{Finds, Labels, Space, index_in, indices_in, number};
+use text_resolve::AsmRefusal::{self, NumberRange, RepeatedName, UnknownName};
+use text_resolve::{Finds, Labels, Space, index_in, indices_in, number};
 use text_words::Piece;
 
 // A part of a text at a place.

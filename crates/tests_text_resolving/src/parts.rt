@@ -1,9 +1,9 @@
 use crate::texts::{spaces_of, tree_of};
+use assembler::{Parts, parts_of_text};
 use module_tree::module::{Export, ExportDesc, ImportDesc};
 use std::alloc::Global;
 use std::test::Fail;
-use text_names::AsmRefusal::{self, UnknownName};
-use text_parts::{Parts, parts_of_text};
+use text_resolve::AsmRefusal::{self, UnknownName};
 
 // The parts of a text, or why it has none.
 fn answer_to(a: Global, text: &str) -> Result<Result<Parts<Global>, AsmRefusal>, Fail> {

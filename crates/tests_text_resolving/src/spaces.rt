@@ -1,8 +1,7 @@
 use crate::texts::spaces_of;
 use std::alloc::Global;
 use std::test::Fail;
-use text_names::{AsmRefusal, Finds, Space};
-use text_resolve::Spaces;
+use text_resolve::{AsmRefusal, Finds, Space, Spaces};
 use text_words::Piece;
 
 /// A space.

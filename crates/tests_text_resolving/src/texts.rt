@@ -2,9 +2,8 @@
 use lexer::tokens;
 use std::alloc::{AllocError, Global};
 use std::test::Fail;
-use text_names::{AsmRefusal, Space};
-use text_resolve::Spaces;
-use text_spaces::spaces_of_text;
+use text_fields::spaces_of_text;
+use text_resolve::{AsmRefusal, Space, Spaces};
 use text_tree::{Text, parse};
 use text_words::Piece;
 

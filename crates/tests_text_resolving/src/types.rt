@@ -1,7 +1,7 @@
 use crate::texts::tree_of;
 use std::alloc::{AllocError, Global};
 use std::test::Fail;
-use text_types::types_of_text;
+use text_fields::types_of_text;
 use wtypes::ValType;
 
 fn put_letters(text: &mut String<Global>, types: &[ValType]) -> Result<(), AllocError> {

@@ -1,7 +1,7 @@
 // Random calls of the example contract.
 ghost use Rattle.std.specs.Prelude.{◌<◌, ◌≤◌};
 
-use crate::execute::Stored;
+use crate::plain_executor::Stored;
 use crate::random::Random;
 use call::Call;
 use spec_ledger::{Kind, Lock};

@@ -7,9 +7,9 @@ mod calls;
 #[cfg(test)]
 mod change;
 #[cfg(test)]
-mod execute;
-#[cfg(test)]
 mod plain;
+#[cfg(test)]
+mod plain_executor;
 #[cfg(test)]
 mod random;
 #[cfg(test)]

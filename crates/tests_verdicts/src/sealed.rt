@@ -1,6 +1,6 @@
 // The block of an order, by hand.
-use crate::execute::{Ran, Stored, execute};
 use crate::plain::{Place, Plain, take_turns};
+use crate::plain_executor::{Ran, Stored, execute};
 use block::digest_calls;
 use call::Call;
 use samples::example;

@@ -1,6 +1,6 @@
 // The verdict, by hand: the nine reasons one after another.
-use crate::execute::{Ran, Stored};
 use crate::plain::{Place, Plain, turn_at};
+use crate::plain_executor::{Ran, Stored};
 use crate::read::read;
 use crate::sealed::{calls_digest, run_all, stored_in, used_by, world_digest, world_with};
 use block_judge::Reason;

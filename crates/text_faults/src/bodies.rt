@@ -5,8 +5,7 @@ use crate::labels::OpenLabels;
 use spec_text::Operator;
 use std::alloc::Allocator;
 use text_body::{Flat, Index, TypeUse};
-use text_names::{Labels, Space};
-use text_resolve::{Spaces, plain, type_number};
+use text_resolve::{Labels, Space, Spaces, plain, type_number};
 use wtypes::NoMemory;
 
 const NESTING_LIMIT: usize = 128;

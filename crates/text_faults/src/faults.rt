@@ -1,6 +1,6 @@
 //! Faults of a text.
 
-use text_names::AsmRefusal;
+use text_resolve::AsmRefusal;
 use wtypes::NoMemory;
 
 /// The faults of a text that have been met: the one at the least place, and the least limit that is passed.

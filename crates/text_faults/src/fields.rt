@@ -5,10 +5,9 @@ use crate::faults::Faults;
 use crate::names::space_of;
 use std::alloc::Allocator;
 use text_body::{Flat, Index};
-use text_names::{AsmRefusal, Space, index_in, number};
-use text_resolve::Spaces;
+use text_fields::types_of_text;
+use text_resolve::{AsmRefusal, Space, Spaces, index_in, number};
 use text_tree::{Bounds, Desc, ElemField, ExportField, Field, FuncField, ImportField, Kind, Text};
-use text_types::types_of_text;
 use text_words::Piece;
 use wtypes::NoMemory;
 

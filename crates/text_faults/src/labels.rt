@@ -5,7 +5,7 @@ use crate::names::{Counts, count_of};
 use std::alloc::Allocator;
 use std::collections::HashMap;
 use text_body::Index;
-use text_names::{AsmRefusal, number};
+use text_resolve::{AsmRefusal, number};
 use text_words::Piece;
 use wtypes::NoMemory;
 

@@ -4,7 +4,7 @@ use crate::faults::Faults;
 use std::alloc::Allocator;
 use std::collections::HashMap;
 use std::hash::{BuildHasherDefault, FoldHasher};
-use text_names::{AsmRefusal, Space};
+use text_resolve::{AsmRefusal, Space};
 use text_words::Piece;
 use wtypes::NoMemory;
 

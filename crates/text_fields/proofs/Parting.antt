@@ -12,11 +12,11 @@ use Rattle.spec_syntax.specs.Limits.{is_u32, export_fits, both, first, second}
 use Rattle.spec_binary.specs.Spells.{ExpressionFits}
 use Rattle.spec_text.specs.Named as N
 use Rattle.spec_text.specs.Resolve.{Names, Spaces, Body, FirstAt, AreDistinct, no_names, unnamed, a_name}
-use Rattle.text_names.specs.declared.AsmRefusal.{AsmRefusal}
-use Rattle.text_names.specs.declared.AsmRefusal.TheVariants.{Lex, Unexpected, UnknownName, RepeatedName, NumberRange, TooLarge, NoMemory}
-use Rattle.text_names.specs.Outcome.{Unless, Gives}
-use Rattle.text_names.specs.Lookup.{find}
-use Rattle.text_names.proofs.Lookups.{found_is_first, not_found}
+use Rattle.text_resolve.specs.declared.refusal.AsmRefusal.{AsmRefusal}
+use Rattle.text_resolve.specs.declared.refusal.AsmRefusal.TheVariants.{Lex, Unexpected, UnknownName, RepeatedName, NumberRange, TooLarge, NoMemory}
+use Rattle.text_resolve.specs.Outcome.{Unless, Gives}
+use Rattle.text_resolve.specs.Lookup.{find}
+use Rattle.text_resolve.proofs.Lookups.{found_is_first, not_found}
 use Rattle.text_resolve.specs.Bodies.{Read, body_at, NoBody}
 use Rattle.text_resolve.proofs.Bodied.{expression_is_read, expression_is}
 use Rattle.text_fields.specs.Parts as P

@@ -1,2 +1,4 @@
-pub mod Parts
+pub mod Added
+pub mod Listed
 pub mod PartView
+pub mod Parts

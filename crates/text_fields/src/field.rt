@@ -6,8 +6,8 @@ ghost use Rattle.module_tree.specs.View.{instrs_view, ordinals};
 ghost use Rattle.module_tree.specs.ModuleView.{limits_view, import_desc_view, import_view, func_view, global_type_view, global_view, export_desc_view, export_view, element_view, data_view, func_ordinals, global_ordinals, element_ordinals, data_ordinals};
 ghost use Rattle.text_body.specs.Views.{text_of, index_of, binding_of, use_of, flats_of};
 ghost use Rattle.text_tree.specs.Views.{bounds_of, kind_of, desc_of, field_of};
-ghost use Rattle.text_names.specs.Outcome.{Gives};
-ghost use Rattle.text_names.specs.declared.AsmRefusal.TheVariants.{NoMemory};
+ghost use Rattle.text_resolve.specs.Outcome.{Gives};
+ghost use Rattle.text_resolve.specs.declared.refusal.AsmRefusal.TheVariants.{NoMemory};
 ghost use Rattle.text_resolve.specs.Views.{spaces_of};
 ghost use Rattle.text_fields.specs.Parts.{expression_at, bounds_at, desc_at, kind_at, exported, import_at, func_at, global_at, export_at, element_at, data_at, part_at, body_fits, part_fits};
 ghost use Rattle.text_fields.specs.PartView.{part_view, is_numbered};
@@ -20,8 +20,9 @@ use module_tree::module::{
 };
 use std::alloc::Allocator;
 use text_body::{Flat, Index};
-use text_names::{AsmRefusal, Space, are_in_range, index_in, indices_in, number};
-use text_resolve::{Spaces, expression, type_number};
+use text_resolve::{
+    AsmRefusal, Space, Spaces, are_in_range, expression, index_in, indices_in, number, type_number,
+};
 use text_tree::{
     Bounds, DataField, Desc, ElemField, ExportField, Field, FuncField, GlobalField, ImportField,
     Kind,

@@ -3,14 +3,14 @@ ghost use Rattle.std.specs.Prelude.{◌≡◌, ◌++◌, [], map, OnOk, IfOk, If
 ghost use Rattle.spec_text.specs.Resolve.{names_of, types_of};
 ghost use Rattle.module_tree.specs.ModuleView.{func_type_view};
 ghost use Rattle.text_body.specs.Views.{text_of, binding_of, use_of};
-ghost use Rattle.text_names.specs.Outcome.{Gives};
-ghost use Rattle.text_names.specs.declared.AsmRefusal.TheVariants.{NoMemory};
+ghost use Rattle.text_resolve.specs.Outcome.{Gives};
+ghost use Rattle.text_resolve.specs.declared.refusal.AsmRefusal.TheVariants.{NoMemory};
 ghost use Rattle.text_resolve.specs.Types.{is_bare};
 ghost use Rattle.text_fields.specs.Parts.{none_of, unnamed, names_at, distinct_at};
 
 use std::alloc::Allocator;
 use text_body::{Binding, TypeUse};
-use text_names::{AsmRefusal, Space};
+use text_resolve::{AsmRefusal, Space};
 use text_words::Piece;
 use wtypes::{FuncType, ValType};
 

@@ -1,5 +1,7 @@
-pub mod Numbers
 pub mod Alike
-pub mod Turns
-pub mod Plains
 pub mod Bodied
+pub mod Lookups
+pub mod Numbers
+pub mod Plains
+pub mod Standing
+pub mod Turns

@@ -8,7 +8,7 @@ use Rattle.std.proofs.lemmas.Option.{none-some, same_Some}
 use Rattle.spec_text.specs.Numbers.{IsBits}
 use Rattle.text_words.specs.Values.{bits_at}
 use Rattle.text_words.proofs.Amounts.{bits_are_read, read_are_bits}
-use Rattle.text_names.proofs.Lookups.{picked}
+use Rattle.text_resolve.proofs.Lookups.{picked}
 use Rattle.text_resolve.specs.Plain.{exponent_from, exponent_at}
 
 pub bits_found : (N : ℕ) (text : List ℕ) (n : ℕ) → IsBits N text n → bits_at N text ≡ Some n

@@ -23,9 +23,9 @@ use Rattle.spec_text.specs.Named as N
 use Rattle.spec_text.specs.Resolve.{Names, Spaces, FirstType, this_type, later_type, Uses, inline, alone, again, written_type, names_of, indexed, names_in, OffsetOf, no_offset, an_offset, AlignOf, no_align, an_align, Becomes, simply, with_index, br_table, call_indirect, load, store, const}
 use Rattle.text_words.specs.Values.{bits_at}
 use Rattle.text_words.proofs.Amounts.{bits_are_read, read_are_bits}
-use Rattle.text_names.specs.Lookup.{u32_at, stands_at, all_stand_at}
-use Rattle.text_names.proofs.Lookups.{mapped, picked, u32_found, u32_is_found}
-use Rattle.text_names.proofs.Standing.{chained, stands_is_read, read_stands, all_are_read, read_all_stand}
+use Rattle.text_resolve.specs.Lookup.{u32_at, stands_at, all_stand_at}
+use Rattle.text_resolve.proofs.Lookups.{mapped, picked, u32_found, u32_is_found}
+use Rattle.text_resolve.proofs.Standing.{chained, stands_is_read, read_stands, all_are_read, read_all_stand}
 use Rattle.text_resolve.specs.Types.{same_func, first_type, given, is_bare, use_at}
 use Rattle.text_resolve.specs.Plain.{exponent_at, offset_at, align_at, constant_at, table_at, access_at, operator_at, plain_at}
 use Rattle.text_resolve.proofs.Alike.{func_same, func_is}

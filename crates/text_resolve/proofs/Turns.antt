@@ -8,9 +8,9 @@ use Rattle.std.proofs.Math.ListN.{drop_of_length-le}
 use Rattle.std.proofs.lemmas.Bool.{eq-eqb}
 use Rattle.spec_syntax.specs.Limits.{instr_fits, instrs_fit, counts_from, both, first, second}
 use Rattle.spec_text.specs.Named as N
-use Rattle.text_names.specs.declared.AsmRefusal.{AsmRefusal}
-use Rattle.text_names.specs.declared.AsmRefusal.TheVariants.{Lex, Unexpected, UnknownName, RepeatedName, NumberRange, TooLarge, NoMemory}
-use Rattle.text_names.specs.Outcome.{Unless, Fails}
+use Rattle.text_resolve.specs.declared.refusal.AsmRefusal.{AsmRefusal}
+use Rattle.text_resolve.specs.declared.refusal.AsmRefusal.TheVariants.{Lex, Unexpected, UnknownName, RepeatedName, NumberRange, TooLarge, NoMemory}
+use Rattle.text_resolve.specs.Outcome.{Unless, Fails}
 use Rattle.spec_text.specs.Resolve.{Names, Spaces}
 use Rattle.module_tree.specs.declared.instr.Instr.{Instr, Loop, If, the_lemmas}
 use Rattle.module_tree.specs.View.{instr_view, instrs_view, instr_ordinals, ordinals}

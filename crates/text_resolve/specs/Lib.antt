@@ -1,4 +1,7 @@
-pub mod Types
-pub mod Plain
-pub mod Views
 pub mod Bodies
+pub mod Firsts
+pub mod Lookup
+pub mod Outcome
+pub mod Plain
+pub mod Types
+pub mod Views

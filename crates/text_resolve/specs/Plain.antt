@@ -13,7 +13,7 @@ use Rattle.spec_text.specs.declared.Operator.{Operator}
 use Rattle.spec_text.specs.Named as N
 use Rattle.spec_text.specs.Resolve.{Names, Spaces, simple, indexed, names_in}
 use Rattle.text_words.specs.Values.{bits_at}
-use Rattle.text_names.specs.Lookup.{u32_at, stands_at, all_stand_at}
+use Rattle.text_resolve.specs.Lookup.{u32_at, stands_at, all_stand_at}
 use Rattle.text_resolve.specs.Types.{use_at}
 
 -- the first exponent, of so many from e on, whose power is n

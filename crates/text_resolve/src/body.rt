@@ -7,16 +7,16 @@ ghost use Rattle.spec_text.specs.Resolve.{Body};
 ghost use Rattle.module_tree.specs.View.{instr_view, instrs_view, instr_ordinals, ordinals};
 ghost use Rattle.module_tree.specs.Numbering.{Numbered};
 ghost use Rattle.text_body.specs.Views.{text_of, flat_of, flats_of};
-ghost use Rattle.text_names.specs.Outcome.{Gives, Unless};
+ghost use Rattle.text_resolve.specs.Outcome.{Gives, Unless};
 ghost use Rattle.text_resolve.specs.Views.{spaces_of, flats_from};
 ghost use Rattle.text_resolve.specs.Bodies.{closes, behind_end, behind_else, stops, is_done, one_at, body_at, NoBody, ExpressionsAreOne};
 
 use crate::instrs::plain;
 use crate::spaces::Spaces;
+use crate::{AsmRefusal, Labels, Space};
 use module_tree::instr::Instr;
 use std::alloc::Allocator;
 use text_body::{Flat, Opener};
-use text_names::{AsmRefusal, Labels, Space};
 use text_words::Piece;
 use wtypes::ValType;
 

@@ -4,18 +4,17 @@ ghost use Rattle.spec_text.specs.Resolve as Resolve;
 ghost use Rattle.spec_syntax.specs.Limits.{instr_fits};
 ghost use Rattle.module_tree.specs.View.{instr_view, instr_ordinals};
 ghost use Rattle.text_body.specs.Views.{text_of, index_of, use_of, flat_of};
-ghost use Rattle.text_names.specs.Outcome.{Gives};
+ghost use Rattle.text_resolve.specs.Outcome.{Gives};
 ghost use Rattle.text_resolve.specs.Views.{spaces_of};
 ghost use Rattle.text_resolve.specs.Plain.{indexed_at, operator_at, plain_at, table_at};
 
-use crate::operators;
 use crate::spaces::Spaces;
 use crate::types::type_number;
+use crate::{AsmRefusal, Labels, Space, are_in_range, index_in, indices_in, operators};
 use module_tree::instr::Instr;
 use spec_text::Operator;
 use std::alloc::Allocator;
 use text_body::{Flat, Index};
-use text_names::{AsmRefusal, Labels, Space, are_in_range, index_in, indices_in};
 use wtypes::PlainInstr;
 
 const LABEL_LIMIT: usize = 1024;

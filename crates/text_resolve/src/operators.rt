@@ -3,10 +3,10 @@ ghost use Rattle.std.specs.Prelude.{◌≡◌};
 ghost use Rattle.spec_numeric.specs.Storage as Storage;
 ghost use Rattle.text_body.specs.Views.{text_of};
 ghost use Rattle.text_words.specs.Values.{bits_at};
-ghost use Rattle.text_names.specs.Outcome.{Gives};
+ghost use Rattle.text_resolve.specs.Outcome.{Gives};
 ghost use Rattle.text_resolve.specs.Plain.{exponent_at, offset_at, align_at, constant_at};
 
-use text_names::{AsmRefusal, number};
+use crate::{AsmRefusal, number};
 use text_words::{Piece, bits_32, bits_64};
 use wtypes::{LoadOp, StoreOp, ValType, Value};
 

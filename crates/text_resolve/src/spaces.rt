@@ -1,6 +1,6 @@
 //! The types and the index spaces of a text.
+use crate::Space;
 use std::alloc::Allocator;
-use text_names::Space;
 use wtypes::FuncType;
 
 /// The types of a text and its index spaces, those of locals and labels aside.

@@ -4,13 +4,13 @@ ghost use Rattle.spec_numeric.specs.Operators as Operators;
 ghost use Rattle.spec_text.specs.Resolve.{types_of, written_type};
 ghost use Rattle.module_tree.specs.ModuleView.{func_type_view};
 ghost use Rattle.text_body.specs.Views.{text_of, binding_of, use_of};
-ghost use Rattle.text_names.specs.Outcome.{Gives};
-ghost use Rattle.text_names.specs.declared.AsmRefusal.TheVariants.{NoMemory};
+ghost use Rattle.text_resolve.specs.Outcome.{Gives};
+ghost use Rattle.text_resolve.specs.declared.refusal.AsmRefusal.TheVariants.{NoMemory};
 ghost use Rattle.text_resolve.specs.Types.{same_types, same_func, first_type, given, is_bare, use_at};
 
+use crate::{AsmRefusal, Space, index_in};
 use std::alloc::Allocator;
 use text_body::{Binding, Index, TypeUse};
-use text_names::{AsmRefusal, Space, index_in};
 use wtypes::{FuncType, ValType};
 
 fn same_type(a: ValType, b: ValType) -> bool

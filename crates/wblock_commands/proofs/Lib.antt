@@ -1,2 +1,3 @@
-mod Lines
 mod Asked
+mod Lines
+pub mod Numbers

@@ -4,12 +4,12 @@ use Rattle.wblock_io.specs.Holding.{Holding}
 use Rattle.wblock_line.specs.declared.answer.Answer.{Answer}
 use Rattle.wblock_line.specs.declared.perform.Status.{Status}
 use Rattle.wblock_line.specs.Answers.{status_of, IsPerformed, IsCut}
-use Rattle.wblock_stored.specs.Stored.{ShowsStored}
-use Rattle.wblock_asm.specs.Assembles.{Assembles}
-use Rattle.wblock_check.specs.Checks.{Checks}
-use Rattle.wblock_deploy.specs.Deploys.{Deploys}
-use Rattle.wblock_mine.specs.Mines.{Mines}
-use Rattle.wblock_validate.specs.Validates.{Validates}
+use Rattle.wblock_commands.specs.Stored.{ShowsStored}
+use Rattle.wblock_modules.specs.Assembles.{Assembles}
+use Rattle.wblock_modules.specs.Checks.{Checks}
+use Rattle.wblock_modules.specs.Deploys.{Deploys}
+use Rattle.wblock_blocks.specs.Mines.{Mines}
+use Rattle.wblock_blocks.specs.Validates.{Validates}
 use Rattle.wblock_debug.specs.Debugs.{Debugs, IsNotListed}
 use Rattle.wblock_commands.specs.declared.command.Command.{Command}
 use Rattle.wblock_commands.specs.declared.command.Command.TheVariants.{Stored, Asm, Check, Deploy, Mine, Validate, Debug}

@@ -1,3 +1,7 @@
-pub mod Options
-pub mod Words
+pub mod Answers
 pub mod Does
+pub mod Lines
+pub mod Options
+pub mod Runs
+pub mod Stored
+pub mod Words

@@ -5,10 +5,10 @@ use Rattle.wblock_line.specs.Words.{Line, Choice, split}
 use Rattle.wblock_commands.specs.declared.command.Command.{Command}
 use Rattle.wblock_commands.specs.declared.command.Command.TheVariants.{Stored, Asm, Check, Deploy, Mine, Validate, Debug}
 use Rattle.wblock_commands.specs.Options.{AsksFuel, AsksWorkers, AsksTries, HasOnlyMining, HasOnlyValidation}
-use Rattle.debug_asked.specs.Asks.{AsksDebug}
-use Rattle.debug_asked.specs.declared.Debugging.{Debugging}
-use Rattle.wblock_mine.specs.declared.Mining.{Mining}
-use Rattle.wblock_validate.specs.declared.Validation.{Validation}
+use Rattle.wblock_debug.specs.Asks.{AsksDebug}
+use Rattle.wblock_debug.specs.declared.asked.Debugging.{Debugging}
+use Rattle.wblock_blocks.specs.declared.mine.Mining.{Mining}
+use Rattle.wblock_blocks.specs.declared.validate.Validation.{Validation}
 
 abbrev pub texts : List (Bor (List ℕ)) → List (List ℕ)
 texts words = map (λ w. w.now) words

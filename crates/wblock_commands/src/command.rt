@@ -4,16 +4,15 @@ ghost use Rattle.std.specs.Prelude.{◌≡◌, ◌≢◌, ◌≤◌, ◌↔◌, 
 ghost use Rattle.wblock_line.specs.Words.{line_of};
 ghost use Rattle.wblock_commands.specs.Words.{AsksStored, AsksAsm, AsksHeap, IsSize, AsksCheck, AsksDeploy, AsksMine, AsksValidate, AsksNoTask, IsLineOf, texts, choices};
 ghost use Rattle.wblock_commands.specs.declared.command.Command.{Command as Asked};
-ghost use Rattle.wblock_mine.specs.declared.Mining.{Mining as TheMining};
-ghost use Rattle.wblock_validate.specs.declared.Validation.{Validation as TheValidation};
+ghost use Rattle.wblock_blocks.specs.declared.mine.Mining.{Mining as TheMining};
+ghost use Rattle.wblock_blocks.specs.declared.validate.Validation.{Validation as TheValidation};
 
 use crate::options::{fuel_in, has_only_mining, has_only_validation, tries_in, workers_in};
 use calls_text::number_of;
-use debug_asked::{Debugging, debugging_of};
 use std::alloc::{AllocError, Global};
+use wblock_blocks::{Mining, Validation};
+use wblock_debug::{Debugging, debugging_of};
 use wblock_line::Line;
-use wblock_mine::Mining;
-use wblock_validate::Validation;
 
 /// The least and the most bytes of the heap of `check`.
 const LEAST_HEAP: u64 = 1_024;

@@ -1,9 +1,15 @@
-//! One line of words as a command, and the run of it.
+//! One line of words as a command, the run of it, the stored run that no words ask for, and what is told of words that say none.
 #![tactic(auto)]
 
+mod answer;
 mod command;
 mod line;
 mod options;
+mod runs;
+mod stored;
+mod usage;
 
+pub use answer::show_stored;
 pub use command::{Command, command_of};
 pub use line::run_line;
+pub use usage::usage_text;

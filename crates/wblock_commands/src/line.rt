@@ -8,20 +8,16 @@ ghost use Rattle.wblock_commands.specs.Does.{Answers, AsksCall, Misses, Does, Cu
 ghost use Rattle.wblock_commands.specs.declared.command.Command.{Command as Asked};
 
 use crate::command::{Command, command_of};
+use crate::{show_stored, usage_text};
 use codec::{Sink, put_all};
 use std::alloc::{AllocError, Global};
 use std::sync::Wait;
 use std::thread::Threads;
-use wblock_asm::assemble_file;
-use wblock_check::check_module;
+use wblock_blocks::{mine_block, validate_block};
 use wblock_debug::debug_world;
-use wblock_deploy::deploy_modules;
 use wblock_io::Files;
 use wblock_line::{Answer, Fault, Status, carry_out, split_words, tell_fault};
-use wblock_mine::mine_block;
-use wblock_stored::show_stored;
-use wblock_usage::usage_text;
-use wblock_validate::validate_block;
+use wblock_modules::{assemble_file, check_module, deploy_modules};
 
 /// What a command comes to, or None where a call is asked for that is not there. No file is written yet.
 fn answer_of<'l, 'w, R: Threads + Wait + Sync, F: Files>(

@@ -1,0 +1,5 @@
+mod Colons
+mod Lists
+mod Options
+mod Printing
+mod Telling

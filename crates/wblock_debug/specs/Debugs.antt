@@ -1,14 +1,14 @@
 -- What `debug` answers.
 use Rattle.std.specs.Prelude.{◌≡◌, ℕ, ◌⊎◌, Bool, List, [], Some, None, slice_get, string_bytes, if◌then◌else◌}
 use Rattle.spec_block.specs.Worlds.{World, Call}
-use Rattle.debug_lines.specs.Prints.{IsDebugged}
+use Rattle.wblock_debug.specs.Prints.{IsDebugged}
 use Rattle.wblock_io.specs.Holding.{Holding}
 use Rattle.wblock_line.specs.declared.answer.Answer.{Answer}
 use Rattle.wblock_line.specs.declared.answer.Answer.TheVariants.{Done, Refused}
 use Rattle.wblock_line.specs.declared.perform.Status.TheVariants as status
 use Rattle.wblock_line.specs.Answers.{writes_of, text_of, status_of}
-use Rattle.wblock_inputs.specs.Inputs.{HoldsWorld, HoldsCalls, TellsRefusal}
-use Rattle.debug_asked.specs.declared.Debugging.{Debugging}
+use Rattle.wblock_blocks.specs.Inputs.{HoldsWorld, HoldsCalls, TellsRefusal}
+use Rattle.wblock_debug.specs.declared.asked.Debugging.{Debugging}
 
 -- the text is printed and no file is written
 pub record IsText (refused : Bool) (text : List ℕ) (a : Answer) : Type 0 where

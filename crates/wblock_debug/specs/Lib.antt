@@ -1,1 +1,5 @@
+pub mod Asks
 pub mod Debugs
+pub mod Lines
+pub mod Prints
+pub mod Words

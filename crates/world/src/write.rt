@@ -12,8 +12,8 @@ ghost use Rattle.world.specs.Views.{contract_view, world_view, is_of, is_cell_of
 use crate::value::World;
 use block::WriteRefusal;
 use codec::{Sink, put_all};
-use fields::{append_u32, append_u64};
 use link::deployed::Deployed;
+use records::{append_u32, append_u64};
 use sha2::{Digest, Sha256};
 use std::alloc::{AllocError, Allocator};
 use storage::{Cells, Kind, Lock};

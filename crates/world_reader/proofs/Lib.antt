@@ -1,3 +1,5 @@
+mod Exact
 mod Judging
 mod Parts
+mod Storing
 mod Worlds

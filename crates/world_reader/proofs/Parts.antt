@@ -8,12 +8,12 @@ use Rattle.std.proofs.lemmas.Grind.{flat_map-append}
 use Rattle.spec_binary.specs.Shortest.{shortest}
 use Rattle.spec_block.specs.Worlds.{Contract}
 use Rattle.spec_block.specs.Bytes.{contract_bytes, IsTree}
-use Rattle.fields.specs.declared.fault.Fault.{Fault}
-use Rattle.fields.specs.declared.fault.Fault.TheVariants.{Malformed, TooLarge, NoMemory}
-use Rattle.fields.specs.Reading.{Read, Fails, number_at}
-use Rattle.fields.specs.Exact.{AreBytes}
-use Rattle.fields.proofs.Steps.{bind_ok, guard_ok, ok_is}
-use Rattle.fields.proofs.Numbers.{u32_exact}
+use Rattle.records.specs.declared.fault.Fault.{Fault}
+use Rattle.records.specs.declared.fault.Fault.TheVariants.{Malformed, TooLarge, NoMemory}
+use Rattle.records.specs.Reading.{Read, Fails, number_at}
+use Rattle.records.specs.Exact.{AreBytes}
+use Rattle.records.proofs.Steps.{bind_ok, guard_ok, ok_is}
+use Rattle.records.proofs.Numbers.{u32_exact}
 use Rattle.world_reader.specs.Reading.{IsBody, IsNoBody, body_at, BeginsWith, BeginsWithNone, AreRead, IsFaultAmong}
 
 -- ---- a length and so many bytes

@@ -9,13 +9,13 @@ use Rattle.spec_ledger.specs.Cells.{Cells}
 use Rattle.spec_block.specs.Worlds.{Contract, World}
 use Rattle.spec_block.specs.Bytes.{contract_bytes, counted, cells_bytes, is_map, is_counter, world_bytes, IsTree, IsWorld, SpellsWorld, TreesAreUnique}
 use Rattle.spec_block.proofs.OneWorld.{contract_code}
-use Rattle.fields.specs.declared.fault.Fault.{Fault}
-use Rattle.fields.specs.declared.fault.Fault.TheVariants.{Malformed, TooLarge, NoMemory}
-use Rattle.fields.specs.Reading.{Read, ◌>>=◌, Fails, number_at, tag_at}
-use Rattle.fields.specs.Exact.{AreBytes}
-use Rattle.fields.proofs.Steps.{bind_ok, guard_ok, ok_is}
-use Rattle.fields.proofs.Numbers.{u32_exact, tag_takes, tag_again}
-use Rattle.cells_reader.specs.Cells.{AreStored, stored_bytes}
+use Rattle.records.specs.declared.fault.Fault.{Fault}
+use Rattle.records.specs.declared.fault.Fault.TheVariants.{Malformed, TooLarge, NoMemory}
+use Rattle.records.specs.Reading.{Read, ◌>>=◌, Fails, number_at, tag_at}
+use Rattle.records.specs.Exact.{AreBytes}
+use Rattle.records.proofs.Steps.{bind_ok, guard_ok, ok_is}
+use Rattle.records.proofs.Numbers.{u32_exact, tag_takes, tag_again}
+use Rattle.world_reader.specs.Cells.{AreStored, stored_bytes}
 use Rattle.world_reader.specs.Reading.{BeginsWithNone, AreRead, StandBehind, IsFaultAmong, IsNoWorld, head_at}
 
 abbrev magic : List ℕ

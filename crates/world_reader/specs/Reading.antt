@@ -6,10 +6,10 @@ use Rattle.std.specs.List.{flat_map, AllByRecursion}
 use Rattle.spec_binary.specs.Shortest.{shortest}
 use Rattle.spec_block.specs.Worlds.{Contract, World}
 use Rattle.spec_block.specs.Bytes.{contract_bytes, IsTree, SpellsWorld}
-use Rattle.fields.specs.declared.fault.Fault.{Fault}
-use Rattle.fields.specs.declared.fault.Fault.TheVariants.{Malformed, TooLarge, NoMemory}
-use Rattle.fields.specs.Reading.{Read, ◌>>=◌, Fails, number_at, tag_at}
-use Rattle.cells_reader.specs.Cells.{lists_at, AreStored, stored_bytes}
+use Rattle.records.specs.declared.fault.Fault.{Fault}
+use Rattle.records.specs.declared.fault.Fault.TheVariants.{Malformed, TooLarge, NoMemory}
+use Rattle.records.specs.Reading.{Read, ◌>>=◌, Fails, number_at, tag_at}
+use Rattle.world_reader.specs.Cells.{lists_at, AreStored, stored_bytes}
 use Rattle.spec_ledger.specs.Cells.{Cells}
 use Rattle.world_reader.specs.declared.read.ReadRefusal.{ReadRefusal}
 use Rattle.world_reader.specs.declared.read.ReadRefusal.TheVariants as refusal

@@ -1,13 +1,13 @@
 //! The contracts of a world.
 
 ghost use Rattle.std.specs.Prelude.{◌≡◌, ◌≢◌, ◌⊎◌, IfOk, IfErr, length, map, vec_len};
-ghost use Rattle.fields.specs.Reading.{Gives};
+ghost use Rattle.records.specs.Reading.{Gives};
 ghost use Rattle.world.specs.Views.{contract_view};
 ghost use Rattle.world_reader.specs.Reading.{body_at, BeginsWith, BeginsWithNone, AreRead, IsFaultAmong};
 
 use crate::judge::judge;
-use fields::{Fault, read_u32};
 use link::deployed::Deployed;
+use records::{Fault, read_u32};
 use std::alloc::{AllocError, Global};
 
 /// The bytes of a contract after their length. Where they end past the input, the length is at fault.

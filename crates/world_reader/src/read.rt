@@ -2,15 +2,15 @@
 
 ghost use Rattle.std.specs.Prelude.{◌≡◌, ◌≤◌, ◌⊎◌, IfOk, IfErr, map, vec_len};
 ghost use Rattle.spec_block.specs.Bytes.{SpellsWorld};
-ghost use Rattle.fields.specs.Reading.{Gives};
+ghost use Rattle.records.specs.Reading.{Gives};
 ghost use Rattle.world.specs.Views.{contract_view, world_view};
 ghost use Rattle.world_reader.specs.declared.read.ReadRefusal.TheVariants.{NoMemory};
 ghost use Rattle.world_reader.specs.Reading.{head_at, StandBehind, IsNoWorld, IsFirstFault, Refuses};
 
 use crate::contracts::contracts_of;
-use cells_reader::read_cells;
-use fields::{Fault, read_tag, read_u32};
+use crate::read_cells;
 use link::deployed::Deployed;
+use records::{Fault, read_tag, read_u32};
 use std::alloc::Global;
 use world::World;
 

@@ -5,7 +5,7 @@ use Rattle.module_tree.specs.Modules.{module_view}
 use Rattle.text_tree.specs.Views.{fields_of}
 use Rattle.text_resolve.specs.Views.{spaces_of}
 use Rattle.text_fields.proofs.Parting.{hand_on}
-use Rattle.text_parts.specs.PartsView.{parts_view, with_types}
+use Rattle.assembler.specs.PartsView.{parts_view, with_types}
 use Rattle.module_limits.specs.ListsView.{lists_view}
 use Rattle.assembler.proofs.Naming.{not_made}
 use Rattle.assembler.proofs.Sealing.{sealed_resolves, sealed_fits, not_sealed}

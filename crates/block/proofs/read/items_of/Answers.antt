@@ -2,8 +2,8 @@ use Rattle.std.proofs.Common.{◌≡◌, ◌-◌, ◌∙◌, None, Some, ap₂, 
 use Rattle.std.proofs.Math.Nat.{sub-zero}
 use Rattle.std.proofs.lemmas.Result.{err_from_is_err_and}
 use Rattle.spec_block.specs.Worlds.{Position}
-use Rattle.fields.specs.Reading.{Read, items_at}
-use Rattle.fields.proofs.Items.{with_front, begins, goes_on, ends, is_done}
+use Rattle.records.specs.Reading.{Read, items_at}
+use Rattle.records.proofs.Items.{with_front, begins, goes_on, ends, is_done}
 use Rattle.block.specs.Reading.{next_position_at}
 use Rattle.block.proofs.read.items_of.Goals as goal
 

@@ -1,7 +1,7 @@
 use Rattle.std.proofs.Common.{◌≡◌, ◌-◌, Option, None}
 use Rattle.spec_block.specs.Worlds.{Position}
-use Rattle.fields.specs.Reading.{items_at}
-use Rattle.fields.proofs.Items.{with_front}
+use Rattle.records.specs.Reading.{items_at}
+use Rattle.records.proofs.Items.{with_front}
 use Rattle.block.specs.Reading.{next_position_at}
 use Rattle.block.proofs.read.items_of.Given as goal
 

@@ -1,6 +1,6 @@
 use Rattle.std.proofs.Common.{arith}
 use Rattle.spec_block.specs.Bytes.{counted, position_bytes}
-use Rattle.fields.proofs.Steps.{is_spelled, ok_also}
+use Rattle.records.proofs.Steps.{is_spelled, ok_also}
 use Rattle.block.specs.Reading.{positions_at}
 use Rattle.block.proofs.Exact.{ArePositions, positions_exact}
 use Rattle.block.proofs.read.positions_of.Goals as goal

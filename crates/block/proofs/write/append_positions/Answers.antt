@@ -1,7 +1,7 @@
 use Rattle.std.proofs.Common.{length}
 use Rattle.std.specs.Int.{w32, to_le_bytes}
 use Rattle.spec_block.specs.Bytes.{position_bytes}
-use Rattle.fields.proofs.Items.{one_more}
+use Rattle.records.proofs.Items.{one_more}
 use Rattle.block.proofs.write.append_positions.Goals as goal
 
 pub loop-position-preserved : goal.loop-position-preserved

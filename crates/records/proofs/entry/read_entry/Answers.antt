@@ -1,6 +1,6 @@
 use Rattle.std.proofs.Common.{arith}
 use Rattle.spec_block.specs.Bytes.{entry_bytes}
-use Rattle.fields.proofs.Steps.{is_spelled, is_read}
+use Rattle.records.proofs.Steps.{is_spelled, is_read}
 use Rattle.records.specs.Profiles.{entry_at, IsEntryAfter}
 use Rattle.records.proofs.Profiles.{entry_exact}
 use Rattle.records.proofs.entry.read_entry.Goals as goal

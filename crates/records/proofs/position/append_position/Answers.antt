@@ -3,7 +3,7 @@ use Rattle.std.specs.Int.{w32, to_le_bytes}
 use Rattle.spec_ledger.specs.declared.Receipt.{Receipt}
 use Rattle.spec_ledger.specs.declared.Entry.{Entry}
 use Rattle.spec_block.specs.Bytes.{receipt_bytes}
-use Rattle.fields.proofs.Steps.{appended}
+use Rattle.records.proofs.Steps.{appended}
 use Rattle.records.specs.Profiles.{profile_bytes}
 use Rattle.records.proofs.position.append_position.Goals as goal
 

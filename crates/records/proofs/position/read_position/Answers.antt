@@ -1,6 +1,6 @@
 use Rattle.std.proofs.Common.{arith}
 use Rattle.spec_block.specs.Bytes.{position_bytes, IsPosition}
-use Rattle.fields.proofs.Steps.{is_spelled, is_read}
+use Rattle.records.proofs.Steps.{is_spelled, is_read}
 use Rattle.records.specs.Positions.{position_at}
 use Rattle.records.proofs.Positions.{position_exact}
 use Rattle.records.proofs.position.read_position.Goals as goal

@@ -1,4 +1,4 @@
-use Rattle.fields.proofs.Steps.{front_on}
+use Rattle.records.proofs.Steps.{front_on}
 use Rattle.records.proofs.profile.append_profile.Goals as goal
 
 pub returns-in_err-append_entry-clause-front : goal.returns-in_err-append_entry-clause-front

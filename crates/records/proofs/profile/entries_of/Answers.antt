@@ -1,7 +1,7 @@
 use Rattle.std.proofs.Common.{None}
 use Rattle.std.proofs.lemmas.Result.{err_from_is_err_and}
-use Rattle.fields.specs.Reading.{items_at}
-use Rattle.fields.proofs.Items.{goes_on, ends, is_done}
+use Rattle.records.specs.Reading.{items_at}
+use Rattle.records.proofs.Items.{goes_on, ends, is_done}
 use Rattle.records.specs.Profiles.{entry_at}
 use Rattle.records.proofs.profile.entries_of.Goals as goal
 

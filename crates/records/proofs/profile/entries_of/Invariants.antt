@@ -1,6 +1,6 @@
 use Rattle.std.proofs.Common.{◌≡◌, ◌-◌, None}
-use Rattle.fields.specs.Reading.{items_at}
-use Rattle.fields.proofs.Items.{with_front}
+use Rattle.records.specs.Reading.{items_at}
+use Rattle.records.proofs.Items.{with_front}
 use Rattle.records.specs.Profiles.{entry_at}
 use Rattle.records.proofs.profile.entries_of.Given as goal
 

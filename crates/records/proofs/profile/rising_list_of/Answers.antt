@@ -1,5 +1,5 @@
 use Rattle.std.proofs.Common.{arith}
-use Rattle.fields.proofs.Steps.{is_spelled, is_read, ok_also}
+use Rattle.records.proofs.Steps.{is_spelled, is_read, ok_also}
 use Rattle.records.specs.Profiles.{profile_at, profile_bytes, IsBlockProfile}
 use Rattle.records.proofs.Profiles.{profile_exact}
 use Rattle.records.proofs.Neighbours.{profile_from}

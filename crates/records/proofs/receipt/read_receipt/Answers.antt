@@ -1,6 +1,6 @@
 use Rattle.std.proofs.Common.{arith}
 use Rattle.spec_block.specs.Bytes.{IsReceipt, receipt_bytes}
-use Rattle.fields.proofs.Steps.{is_spelled, is_read}
+use Rattle.records.proofs.Steps.{is_spelled, is_read}
 use Rattle.records.specs.Values.{receipt_at}
 use Rattle.records.proofs.Values.{receipt_exact}
 use Rattle.records.proofs.receipt.read_receipt.Goals as goal

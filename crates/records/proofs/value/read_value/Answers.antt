@@ -1,6 +1,6 @@
 use Rattle.std.proofs.Common.{arith}
 use Rattle.spec_block.specs.Bytes.{IsValue, value_bytes}
-use Rattle.fields.proofs.Steps.{is_spelled, is_read}
+use Rattle.records.proofs.Steps.{is_spelled, is_read}
 use Rattle.records.specs.Values.{value_at}
 use Rattle.records.proofs.Values.{value_exact}
 use Rattle.records.proofs.value.read_value.Goals as goal

@@ -1,4 +1,4 @@
-use Rattle.text_names.proofs.Lookups.{each_below}
+use Rattle.text_resolve.proofs.Lookups.{each_below}
 use Rattle.text_fields.proofs.field.are_bytes.Goals as goal
 
 pub returns : goal.returns

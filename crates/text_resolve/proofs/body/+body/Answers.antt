@@ -10,7 +10,7 @@ use Rattle.text_body.specs.declared.flat.Flat.TheVariants as flat
 use Rattle.text_body.specs.declared.flat.Opener.TheVariants as opener
 use Rattle.spec_text.specs.Named as N
 use Rattle.spec_syntax.specs.Syntax as S
-use Rattle.text_names.proofs.Lookups.{hand_on}
+use Rattle.text_resolve.proofs.Lookups.{hand_on}
 use Rattle.text_resolve.specs.Views.{spaces_of, flats_from}
 use Rattle.text_resolve.specs.Bodies.{is_done, one_at, body_at, behind_end, behind_else}
 use Rattle.text_resolve.proofs.Turns.{front_none, body_opens, at_end, at_fault, at_more, flats_at, flats_left, fits_more, fits_If, numbered_Loop, was_not, was_done, too_deep, block_fails, loop_fails, else_fails, then_fails, then_is, others_fail, others_end_not, others_are, view_of_If}

@@ -1,7 +1,7 @@
 use Rattle.std.proofs.Common.{◌≡◌, map, drop}
 use Rattle.module_tree.specs.ModuleView.{func_type_view}
-use Rattle.text_names.specs.Lookup.{first_at}
-use Rattle.text_names.proofs.Lookups.{shifted}
+use Rattle.text_resolve.specs.Lookup.{first_at}
+use Rattle.text_resolve.proofs.Lookups.{shifted}
 use Rattle.text_resolve.specs.Types.{same_func, first_type}
 use Rattle.text_resolve.proofs.types.first_type.Given as goal
 

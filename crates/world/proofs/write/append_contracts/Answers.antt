@@ -4,7 +4,7 @@ use Rattle.std.specs.List.{flat_map}
 use Rattle.std.proofs.lemmas.List.{take_all, length-map}
 use Rattle.link.specs.declared.deployed.Deployed.{Deployed}
 use Rattle.spec_block.specs.Bytes.{contract_bytes}
-use Rattle.fields.proofs.Items.{one_more}
+use Rattle.records.proofs.Items.{one_more}
 use Rattle.world.specs.Views.{contract_view}
 use Rattle.world.proofs.Contracts.{by_views}
 use Rattle.world.proofs.write.append_contracts.Goals as goal

@@ -1,8 +1,0 @@
-use Rattle.std.proofs.Common.{◌≡◌, ◌-◌, None}
-use Rattle.fields.specs.Reading.{items_at}
-use Rattle.fields.proofs.Items.{with_front}
-use Rattle.cells_reader.specs.Cells.{cell_at}
-use Rattle.cells_reader.proofs.list.items_of.Given as goal
-
-abbrev pub invariant-loop : goal.invariant-loop
-invariant-loop l = with_front l.cells.items (items_at (cell_at l.kind) (l.count - l.counter) l.before l.rest) ≡ items_at (cell_at l.kind) l.count None l.bytes

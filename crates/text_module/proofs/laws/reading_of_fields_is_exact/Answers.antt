@@ -1,5 +1,0 @@
-use Rattle.text_module.proofs.Making.{reading_is_exact}
-use Rattle.text_module.proofs.laws.reading_of_fields_is_exact.Goals as goal
-
-pub returns : goal.returns
-returns c = reading_is_exact

@@ -1,3 +1,0 @@
-pub mod Outcome
-pub mod Lookup
-pub mod Firsts

@@ -1,2 +1,0 @@
-pub mod PartsView
-pub mod Counted

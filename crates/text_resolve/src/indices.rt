@@ -1,0 +1,64 @@
+//! What indices stand for.
+ghost use Rattle.std.specs.Prelude.{◌≡◌, map, true};
+ghost use Rattle.std.specs.List.{list_all};
+ghost use Rattle.spec_syntax.specs.Limits.{is_u32};
+ghost use Rattle.spec_text.specs.Resolve.{Names};
+ghost use Rattle.text_body.specs.Views.{index_of};
+ghost use Rattle.text_resolve.specs.Outcome.{Gives};
+ghost use Rattle.text_resolve.specs.Lookup.{find, u32_at, stands_at, all_stand_at};
+
+use crate::refusal::AsmRefusal;
+use std::alloc::Allocator;
+use text_body::Index;
+use text_words::{Piece, unsigned_32};
+
+/// Names, of which each stands for the index of its first place.
+pub trait Finds {
+    ghost names: { Self → Names };
+
+    /// The first index of a name.
+    fn find(&self, piece: Piece<'_>) -> Result<u32, AsmRefusal>
+        ensures { Gives (λ n. n) result (find piece.entry.text.now (names self.now)) };
+}
+
+/// The number of a `u32`.
+pub fn number(piece: Piece<'_>) -> Result<u32, AsmRefusal>
+    ensures { Gives (λ n. n) result (u32_at piece.entry.text.now) }
+{
+    match unsigned_32(piece.text) {
+        Some(n) => Ok(n),
+        None => Err(AsmRefusal::NumberRange(piece.at)),
+    }
+}
+
+/// The number that an index stands for among names.
+pub fn index_in<N: Finds>(names: &N, index: Index<'_>) -> Result<u32, AsmRefusal>
+    ensures { Gives (λ n. n) result (stands_at (N.names names.now) (index_of index.entry)) }
+{
+    match index {
+        Index::Numbered(piece) => number(piece),
+        Index::Named(piece) => names.find(piece),
+    }
+}
+
+/// The numbers that indices stand for among names.
+pub fn indices_in<'a, A: Allocator + Clone, N: Finds>(
+    alloc: &A,
+    names: &N,
+    indices: &Vec<Index<'a>, A>,
+) -> Result<Vec<u32, A>, AsmRefusal>
+    ensures { Gives (λ ns. ns.items) result (all_stand_at (stands_at (N.names names.now)) (map index_of indices.now.items)) }
+{
+    let mut numbers = Vec::new(alloc.clone()?);
+    for index in indices {
+        numbers.push(index_in(names, *index)?)?;
+    }
+    Ok(numbers)
+}
+
+/// The numbers of a list are in the range of their type.
+pub fn are_in_range<A: Allocator>(numbers: &Vec<u32, A>)
+    ensures { list_all is_u32 numbers.now.items ≡ true }
+{
+    let _len = numbers.len();
+}

@@ -1,5 +1,0 @@
-use Rattle.text_spaces.proofs.Listing.{spaces_are_one}
-use Rattle.text_spaces.proofs.spaces.no_text_has_two_lists_of_spaces.Goals as goal
-
-pub returns : goal.returns
-returns c = spaces_are_one

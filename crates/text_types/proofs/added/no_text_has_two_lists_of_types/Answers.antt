@@ -1,5 +1,0 @@
-use Rattle.text_types.proofs.Adding.{types_are_one}
-use Rattle.text_types.proofs.added.no_text_has_two_lists_of_types.Goals as goal
-
-pub returns : goal.returns
-returns c = types_are_one

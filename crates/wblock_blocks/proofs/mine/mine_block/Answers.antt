@@ -1,0 +1,25 @@
+use Rattle.std.proofs.Common.{inr, subst}
+use Rattle.spec_block.specs.Worlds.{order_of}
+use Rattle.spec_block.specs.Headline.{Headline, IsLeft}
+use Rattle.wblock_blocks.specs.Inputs.{HoldsWorld, HoldsCalls, Gives}
+use Rattle.world.specs.Views.{world_view}
+use Rattle.wblock_blocks.proofs.mine.mine_block.Goals as goal
+
+pub returns-in-Ok-done-clause-answers : goal.returns-in-Ok-done-clause-answers
+returns-in-Ok-done-clause-answers g c = λ t.
+    let holds = g.F.Files.holds c.args.files.now in
+    let world = world_view c.in-Read.world in
+    let mined = c.in-Ok.mined in
+    let held : HoldsWorld holds c.args.task.world.now world × HoldsCalls holds c.args.task.calls.now c.in-Read.calls.items =
+    subst (λ inputs. Gives holds c.args.task.world.now c.args.task.calls.now inputs) c.in-Read.is (c.in_ok-world.ensures.gives t) in inr (record {
+      world = world;
+      held_world = held.0;
+      calls = c.in-Read.calls.items;
+      held_calls = held.1;
+      block = mined.block;
+      next = world_view mined.world;
+      headline = subst (λ calls. Headline world calls c.args.task.fuel mined.block (world_view mined.world)) c.deref.ensures.value c.in-Ok.ensures.headline;
+      left = mined.left.items;
+      is_left = subst (λ calls. IsLeft calls (order_of mined.block) mined.left.items) c.deref.ensures.value c.in-Ok.ensures.left;
+      done = c.in-Ok-done.ensures;
+    })

@@ -1,0 +1,70 @@
+-- What the files of a world and of calls give, and why they give nothing.
+use Rattle.std.specs.Prelude.{◌≡◌, ℕ, ◌≤◌, ◌⊎◌, List, [], ◌∷◌, ◌++◌, Some, codes, decimal, vec_len, string_bytes}
+use Rattle.spec_block.specs.Worlds.{World, Call}
+use Rattle.spec_block.specs.Bytes.{SpellsWorld}
+use Rattle.world.specs.Views.{world_view}
+use Rattle.world_reader.specs.Reading.{IsNoWorld, Refuses}
+use Rattle.world_reader.specs.declared.read.ReadRefusal.{ReadRefusal}
+use Rattle.world_reader.specs.declared.read.ReadRefusal.TheVariants as world
+use Rattle.calls_text.specs.Texts.{SpellsCalls}
+use Rattle.calls_text.specs.Refusals.{Tells}
+use Rattle.calls_text.specs.declared.reader.CallsRefusal.{CallsRefusal}
+use Rattle.calls_text.specs.declared.reader.CallsRefusal.TheVariants as calls
+use Rattle.wblock_io.specs.Holding.{Holding}
+use Rattle.wblock_blocks.specs.declared.inputs.Inputs.{Inputs}
+use Rattle.wblock_blocks.specs.declared.inputs.Inputs.TheVariants.{Read, Refused}
+
+-- the file of a name holds bytes of which this is true
+pub record Holds (holds : Holding) (name : List ℕ) (Is : List ℕ → Type 0) : Type 0 where
+  pub bytes : List ℕ
+  pub held : holds name ≡ Some bytes
+  pub is : Is bytes
+
+-- the file of a name holds the bytes of the world
+abbrev pub HoldsWorld : Holding → List ℕ → World → Type 0
+HoldsWorld holds name world = Holds holds name (λ bytes. SpellsWorld bytes world)
+
+-- the file of a name holds the text of the calls
+abbrev pub HoldsCalls : Holding → List ℕ → List Call → Type 0
+HoldsCalls holds name calls = Holds holds name (λ text. SpellsCalls text calls)
+
+-- `refused world N P`
+abbrev pub IsWorldLine : ReadRefusal → List ℕ → Type 0
+IsWorldLine (world.Malformed at) line = line ≡ codes "refused world 1 " ++ decimal at ++ 10 ∷ []
+IsWorldLine world.TooLarge line = line ≡ codes "refused world 2 -" ++ 10 ∷ []
+IsWorldLine world.NoMemory line = ⊥
+
+-- `refused calls 1 LINE` or `refused calls 2`
+abbrev pub IsCallsLine : CallsRefusal → List ℕ → Type 0
+IsCallsLine (calls.Line n) line = line ≡ codes "refused calls 1 " ++ decimal n ++ 10 ∷ []
+IsCallsLine calls.TooMany line = line ≡ codes "refused calls 2" ++ 10 ∷ []
+IsCallsLine calls.NoMemory line = ⊥
+
+-- the bytes spell no world, and the line tells the first fault in them
+pub record TellsNoWorld (bytes line : List ℕ) : Type 0 where
+  pub none : IsNoWorld bytes
+  pub refusal : ReadRefusal
+  pub first : Refuses bytes refusal
+  pub line_is : IsWorldLine refusal line
+
+-- the line tells the first line of the text that spells no call, or that the calls are too many
+pub record TellsNoCalls (text line : List ℕ) : Type 0 where
+  pub refusal : CallsRefusal
+  pub why : Tells text refusal
+  pub line_is : IsCallsLine refusal line
+
+-- the line tells why the file of the world holds none, or, where it holds one, why the file of the calls holds none
+abbrev pub TellsRefusal : Holding → List ℕ → List ℕ → List ℕ → Type 0
+TellsRefusal holds world calls line =
+    Holds holds world (λ bytes. TellsNoWorld bytes line)
+    ⊎ ((w : World) × HoldsWorld holds world w × Holds holds calls (λ text. TellsNoCalls text line))
+
+-- a text has at most 65,535 calls
+abbrev pub HasFew : Inputs → Type 0
+HasFew (Read w cs) = vec_len cs ≤ 65535
+HasFew (Refused line) = Unit {0}
+
+-- what the files give
+abbrev pub Gives : Holding → List ℕ → List ℕ → Inputs → Type 0
+Gives holds world calls (Read w cs) = HoldsWorld holds world (world_view w) × HoldsCalls holds calls cs.items
+Gives holds world calls (Refused line) = TellsRefusal holds world calls (string_bytes line)

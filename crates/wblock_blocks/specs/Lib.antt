@@ -1,0 +1,4 @@
+pub mod Inputs
+pub mod Mines
+pub mod Texts
+pub mod Validates

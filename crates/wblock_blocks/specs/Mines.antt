@@ -1,0 +1,41 @@
+-- What `mine` answers.
+use Rattle.std.specs.Prelude.{◌≡◌, ℕ, ◌⊎◌, List, [], ◌∷◌, string_bytes}
+use Rattle.spec_block.specs.Worlds.{World, Call, Block, order_of}
+use Rattle.spec_block.specs.Bytes.{world_bytes, block_bytes}
+use Rattle.spec_block.specs.Headline.{Headline, IsLeft}
+use Rattle.wblock_io.specs.Holding.{Holding}
+use Rattle.wblock_line.specs.declared.answer.Answer.{Answer}
+use Rattle.wblock_line.specs.declared.answer.Answer.TheVariants.{Done, Refused}
+use Rattle.wblock_line.specs.declared.perform.Status.TheVariants as status
+use Rattle.wblock_line.specs.Answers.{writes_of, text_of, status_of}
+use Rattle.wblock_blocks.specs.Inputs.{HoldsWorld, HoldsCalls, TellsRefusal}
+use Rattle.wblock_blocks.specs.declared.mine.Mining.{Mining}
+use Rattle.wblock_blocks.specs.Texts.{block_text}
+
+-- the block and then the world after it are to be written, and the block's lines are to be printed
+pub record IsDone (task : Mining) (block : Block) (next : World) (left : List ℕ) (a : Answer) : Type 0 where
+  pub status : status_of a ≡ status.Done
+  pub writes : writes_of a ≡ (task.block.now, block_bytes block) ∷ (task.next.now, world_bytes next) ∷ []
+  pub text : text_of a ≡ block_text block left
+
+-- the block is one of the calls over the world that their files hold: the order is admissible, and what the block and the next world say is what the
+-- calls come to when they run one after another in that order
+pub record IsMined (holds : Holding) (task : Mining) (a : Answer) : Type 0 where
+  pub world : World
+  pub held_world : HoldsWorld holds task.world.now world
+  pub calls : List Call
+  pub held_calls : HoldsCalls holds task.calls.now calls
+  pub block : Block
+  pub next : World
+  pub headline : Headline world calls task.fuel block next
+  pub left : List ℕ
+  pub is_left : IsLeft calls (order_of block) left
+  pub done : IsDone task block next left a
+
+-- the answer tells why the world or the calls are refused
+abbrev pub IsRefused : Holding → Mining → Answer → Type 0
+IsRefused holds task (Done writes text) = ⊥
+IsRefused holds task (Refused line) = TellsRefusal holds task.world.now task.calls.now (string_bytes line)
+
+abbrev pub Mines : Holding → Mining → Answer → Type 0
+Mines holds task a = IsRefused holds task a ⊎ IsMined holds task a

@@ -1,0 +1,66 @@
+-- What `validate` answers.
+use Rattle.std.specs.Prelude.{◌≡◌, ℕ, ◌⊎◌, List, [], ◌∷◌, ◌++◌, Option, Some, None, codes, decimal, string_bytes}
+use Rattle.hex.specs.Hex.{encode_lower}
+use Rattle.sha2.specs.Sha256.{sha256}
+use Rattle.spec_block.specs.Worlds.{World, Call}
+use Rattle.spec_block.specs.Bytes.{world_bytes}
+use Rattle.spec_block.specs.Verdicts.{Verdict, Accept, Malformed, WrongWorld, WrongCalls, BadOrder, OverBudget, RoomLeft, BadTurns, Deviates, WrongEnd, place, IsVerdictOf}
+use Rattle.block_judge.specs.Judging.{place_in}
+use Rattle.wblock_io.specs.Holding.{Holding}
+use Rattle.wblock_line.specs.declared.answer.Answer.{Answer}
+use Rattle.wblock_line.specs.declared.answer.Answer.TheVariants.{Done, Refused}
+use Rattle.wblock_blocks.specs.Inputs.{HoldsWorld, HoldsCalls, TellsRefusal}
+use Rattle.wblock_blocks.specs.declared.validate.Validation.{Validation}
+
+-- `accept` and `after HEX`, a line each, where HEX is the digest of the world after the block
+abbrev pub accept_text : World → List ℕ
+accept_text next = codes "accept" ++ 10 ∷ codes "after " ++ encode_lower (sha256 (world_bytes next)) ++ 10 ∷ []
+
+abbrev pub place_text : Option ℕ → List ℕ
+place_text (Some p) = codes " " ++ decimal p
+place_text None = []
+
+-- `reject N`, with ` P` where the reason has a position or call
+abbrev pub reject_line : Verdict → List ℕ
+reject_line v = codes "reject " ++ decimal (place v) ++ place_text (place_in v) ++ 10 ∷ []
+
+-- the answer's text tells the verdict, and no file is to be written
+abbrev pub Accepts : World → Answer → Type 0
+Accepts next (Done writes text) = (writes.items ≡ []) × (string_bytes text ≡ accept_text next)
+Accepts next (Refused line) = ⊥
+
+abbrev pub Rejects : Verdict → Answer → Type 0
+Rejects v (Done writes text) = ⊥
+Rejects v (Refused line) = string_bytes line ≡ reject_line v
+
+abbrev pub TellsVerdict : Verdict → Answer → Type 0
+TellsVerdict (Accept next) a = Accepts next a
+TellsVerdict Malformed a = Rejects Malformed a
+TellsVerdict WrongWorld a = Rejects WrongWorld a
+TellsVerdict WrongCalls a = Rejects WrongCalls a
+TellsVerdict (BadOrder p) a = Rejects (BadOrder p) a
+TellsVerdict OverBudget a = Rejects OverBudget a
+TellsVerdict (RoomLeft c) a = Rejects (RoomLeft c) a
+TellsVerdict (BadTurns p) a = Rejects (BadTurns p) a
+TellsVerdict (Deviates p) a = Rejects (Deviates p) a
+TellsVerdict WrongEnd a = Rejects WrongEnd a
+
+-- the answer tells the verdict on the bytes that the file of the block holds, over the world and the calls that their files hold
+pub record IsJudged (holds : Holding) (task : Validation) (a : Answer) : Type 0 where
+  pub world : World
+  pub held_world : HoldsWorld holds task.world.now world
+  pub calls : List Call
+  pub held_calls : HoldsCalls holds task.calls.now calls
+  pub bytes : List ℕ
+  pub held_block : holds task.block.now ≡ Some bytes
+  pub verdict : Verdict
+  pub is : IsVerdictOf world calls task.fuel bytes verdict
+  pub tells : TellsVerdict verdict a
+
+-- the answer tells why the world or the calls are refused
+abbrev pub IsRefused : Holding → Validation → Answer → Type 0
+IsRefused holds task (Done writes text) = ⊥
+IsRefused holds task (Refused line) = TellsRefusal holds task.world.now task.calls.now (string_bytes line)
+
+abbrev pub Validates : Holding → Validation → Answer → Type 0
+Validates holds task a = IsRefused holds task a ⊎ IsJudged holds task a

@@ -1,0 +1,103 @@
+//! The files that the commands over a world share: a world and a text of calls, read and judged.
+
+ghost use Rattle.std.specs.Prelude.{◌≡◌, ◌≤◌, IsTrue, IfOk, IfErr, OnOk, MatchResult, vec_len, string_bytes};
+ghost use Rattle.spec_block.specs.Bytes.{SpellsWorld};
+ghost use Rattle.world.specs.Views.{world_view};
+ghost use Rattle.calls_text.specs.Texts.{SpellsCalls};
+ghost use Rattle.wblock_line.specs.Answers.{CountsFault};
+ghost use Rattle.wblock_blocks.specs.Inputs.{IsWorldLine, IsCallsLine, TellsNoWorld, TellsNoCalls, HasFew, Gives};
+
+use call::Call;
+use calls_text::{CallsRefusal, read_calls};
+use std::alloc::{AllocError, Global};
+use wblock_io::Files;
+use wblock_line::{Fault, read_file};
+use world::World;
+use world_reader::{ReadRefusal, read_world};
+
+/// What the files of a world and of calls give.
+#[derive(Drop)]
+pub enum Inputs {
+    /// The world and the calls, at most 65,535.
+    Read(World, Vec<Call>),
+    /// One of the files is refused, with this line: `refused world N P`, `refused calls 1 LINE` or `refused calls 2`.
+    Refused(String),
+}
+
+/// The line of a world that is refused.
+fn world_line(alloc: Global, refusal: ReadRefusal) -> Result<String, AllocError>
+    ensures { IfOk result (λ line. IsWorldLine refusal (string_bytes line)) }
+{
+    let line = match refusal {
+        ReadRefusal::Malformed(at) => format!(in alloc; "refused world 1 {at}\n")?,
+        ReadRefusal::TooLarge => "refused world 2 -\n".to_string(alloc)?,
+        ReadRefusal::NoMemory => return Err(AllocError),
+    };
+    Ok(line)
+}
+
+/// The line of calls that are refused.
+fn calls_line(alloc: Global, refusal: CallsRefusal) -> Result<String, AllocError>
+    ensures { IfOk result (λ line. IsCallsLine refusal (string_bytes line)) }
+{
+    let line = match refusal {
+        CallsRefusal::Line(number) => format!(in alloc; "refused calls 1 {number}\n")?,
+        CallsRefusal::TooMany => "refused calls 2\n".to_string(alloc)?,
+        CallsRefusal::NoMemory => return Err(AllocError),
+    };
+    Ok(line)
+}
+
+/// The world that bytes spell, or the line that says why they spell none.
+fn judge_world(alloc: Global, bytes: &[u8]) -> Result<Result<World, String>, AllocError>
+    ensures { IfOk result (λ read. MatchResult read (λ world. SpellsWorld bytes.now (world_view world)) (λ line. TellsNoWorld bytes.now (string_bytes line))) }
+{
+    match read_world(alloc, bytes) {
+        Ok(world) => Ok(Ok(world)),
+        Err(refusal) => {
+            let line = world_line(alloc, refusal)?;
+            Ok(Err(line))
+        }
+    }
+}
+
+/// The calls that a text spells, or the line that says why it spells none.
+fn judge_calls(alloc: Global, text: &[u8]) -> Result<Result<Vec<Call>, String>, AllocError>
+    ensures few { IfOk result (λ read. IfOk read (λ calls. vec_len calls ≤ 65535)) }
+    ensures judged { IfOk result (λ read. MatchResult read (λ calls. SpellsCalls text.now calls.items) (λ line. TellsNoCalls text.now (string_bytes line))) }
+{
+    match read_calls(alloc, text) {
+        Ok(calls) => Ok(Ok(calls)),
+        Err(refusal) => {
+            let line = calls_line(alloc, refusal)?;
+            Ok(Err(line))
+        }
+    }
+}
+
+/// Reads the file of a world and judges it, and then that of the calls. No file is written.
+pub fn read_inputs<'a, F: Files>(
+    alloc: Global,
+    files: &mut F,
+    world: &'a str,
+    calls: &'a str,
+) -> Result<Inputs, Fault<'a>>
+    ensures few { IfOk result HasFew }
+    ensures gives { IfOk result (λ inputs. IsTrue F.tells → Gives (F.holds files.old) world.entry.now calls.entry.now inputs) }
+    ensures kept { IsTrue F.tells → F.holds files.new ≡ F.holds files.old }
+    ensures calm { OnOk result (F.failures files.new ≡ F.failures files.old) }
+    ensures counted { IfErr result (λ f. CountsFault f (F.failures files.old) (F.failures files.new)) }
+{
+    let bytes = read_file(alloc, files, world)?;
+    let world = match judge_world(alloc, bytes.as_slice()) {
+        Ok(Ok(world)) => world,
+        Ok(Err(line)) => return Ok(Inputs::Refused(line)),
+        Err(AllocError) => return Err(Fault::NoMemory),
+    };
+    let text = read_file(alloc, files, calls)?;
+    match judge_calls(alloc, text.as_slice()) {
+        Ok(Ok(calls)) => Ok(Inputs::Read(world, calls)),
+        Ok(Err(line)) => Ok(Inputs::Refused(line)),
+        Err(AllocError) => Err(Fault::NoMemory),
+    }
+}

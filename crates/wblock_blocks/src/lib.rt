@@ -1,0 +1,11 @@
+//! The commands on blocks, `mine` and `validate`, and the world and the calls that they read.
+#![tactic(auto)]
+
+mod inputs;
+mod mine;
+mod text;
+mod validate;
+
+pub use inputs::{Inputs, read_inputs};
+pub use mine::{Mining, mine_block};
+pub use validate::{Validation, validate_block};

@@ -1,0 +1,128 @@
+//! The command `mine WORLD CALLS BLOCK NEXT --fuel N [--workers 4] [--tries 3]`: a block of calls over a world, and the world after it.
+
+ghost use Rattle.std.specs.Prelude.{◌≡◌, ◌≤◌, IsTrue, IfOk, IfErr, OnOk, length};
+ghost use Rattle.spec_block.specs.Worlds.{order_of};
+ghost use Rattle.spec_block.specs.Bytes.{block_bytes};
+ghost use Rattle.spec_block.specs.Headline.{Headline, IsLeft};
+ghost use Rattle.world.specs.Views.{world_view};
+ghost use Rattle.wblock_line.specs.Answers.{CountsFault};
+ghost use Rattle.wblock_blocks.specs.Mines.{IsDone, Mines};
+
+use crate::text::block_text_of;
+use crate::{Inputs, read_inputs};
+use block::{Block, write_block};
+use call::Call;
+use codec::{Failures, MemorySink};
+use mining::{Mined, mine};
+use pace::NoPace;
+use std::alloc::Global;
+use std::sync::Wait;
+use std::thread::Threads;
+use wblock_io::Files;
+use wblock_line::{Answer, Fault, Write};
+use world::{World, encode_world};
+use wtypes::NoMemory;
+
+/// What is to be mined.
+#[derive(Clone, Copy, Debug)]
+pub struct Mining<'a> {
+    /// The name of the file of the world.
+    pub world: &'a str,
+    /// The name of the file of the calls.
+    pub calls: &'a str,
+    /// The name of the file that is to hold the block.
+    pub block: &'a str,
+    /// The name of the file that is to hold the world after the block.
+    pub next: &'a str,
+    /// The block's fuel.
+    pub fuel: u64,
+    /// How many workers run the calls, 1 to 64.
+    pub workers: u32,
+    /// How often a worker tries a call at most, 1 to 16.
+    pub tries: u32,
+}
+
+/// What is mined of calls over a world.
+fn mine_calls<R: Threads + Wait + Sync>(
+    rt: &R,
+    alloc: Global,
+    world: &World,
+    calls: &[Call],
+    task: Mining,
+) -> Result<Mined, NoMemory>
+    requires calls { length calls.now ≤ 65535 }
+    requires workers { (1 ≤ task.workers) × (task.workers ≤ 64) }
+    requires tries { (1 ≤ task.tries) × (task.tries ≤ 16) }
+    ensures headline { IfOk result (λ mined. Headline (world_view world.now) calls.now task.entry.fuel mined.block (world_view mined.world)) }
+    ensures left { IfOk result (λ mined. IsLeft calls.now (order_of mined.block) mined.left.items) }
+{
+    mine(
+        rt,
+        alloc,
+        world,
+        calls,
+        task.fuel,
+        task.workers,
+        task.tries,
+        &NoPace,
+    )
+}
+
+/// The bytes of a block. A sink in memory fails only where memory is refused.
+fn encode_block(alloc: Global, block: &Block) -> Result<Vec<u8>, NoMemory>
+    ensures { IfOk result (λ bytes. bytes.items ≡ block_bytes block.now) }
+{
+    let mut sink = MemorySink::new(alloc, usize::MAX, Failures::none());
+    if write_block(alloc, block, &mut sink).is_err() {
+        return Err(NoMemory);
+    }
+    let bytes = sink.bytes().to_vec(alloc)?;
+    Ok(bytes)
+}
+
+/// The answer that writes a block and the world after it, and prints the block's lines.
+fn done<'a>(alloc: Global, task: Mining<'a>, mined: &Mined) -> Result<Answer<'a>, NoMemory>
+    ensures { IfOk result (IsDone task.entry mined.now.block (world_view mined.now.world) mined.now.left.items) }
+{
+    let block = encode_block(alloc, &mined.block)?;
+    let next = encode_world(alloc, &mined.world)?;
+    let text = block_text_of(alloc, &mined.block, &mined.left)?;
+    let mut writes = Vec::new(alloc);
+    writes.push(Write {
+        name: task.block,
+        bytes: block,
+    })?;
+    writes.push(Write {
+        name: task.next,
+        bytes: next,
+    })?;
+    Ok(Answer::Done(writes, text))
+}
+
+/// What `mine` comes to: a block of the calls over the world is to be written, and then the world after it, and the block's lines are to be
+/// printed; or the line that says why the world or the calls are refused. No file is written yet.
+pub fn mine_block<'a, R: Threads + Wait + Sync, F: Files>(
+    rt: &R,
+    alloc: Global,
+    files: &mut F,
+    task: Mining<'a>,
+) -> Result<Answer<'a>, Fault<'a>>
+    requires workers { (1 ≤ task.workers) × (task.workers ≤ 64) }
+    requires tries { (1 ≤ task.tries) × (task.tries ≤ 16) }
+    ensures answers { IfOk result (λ a. IsTrue F.tells → Mines (F.holds files.old) task.entry a) }
+    ensures kept { IsTrue F.tells → F.holds files.new ≡ F.holds files.old }
+    ensures calm { OnOk result (F.failures files.new ≡ F.failures files.old) }
+    ensures counted { IfErr result (λ f. CountsFault f (F.failures files.old) (F.failures files.new)) }
+{
+    let (world, calls) = match read_inputs(alloc, files, task.world, task.calls)? {
+        Inputs::Read(world, calls) => (world, calls),
+        Inputs::Refused(line) => return Ok(Answer::Refused(line)),
+    };
+    let Ok(mined) = mine_calls(rt, alloc, &world, &calls, task) else {
+        return Err(Fault::NoMemory);
+    };
+    match done(alloc, task, &mined) {
+        Ok(answer) => Ok(answer),
+        Err(NoMemory) => Err(Fault::NoMemory),
+    }
+}

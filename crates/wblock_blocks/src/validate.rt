@@ -1,0 +1,128 @@
+//! The command `validate WORLD CALLS BLOCK --fuel N [--workers 4]`: the verdict on a block of calls over a world.
+
+ghost use Rattle.std.specs.Prelude.{◌≡◌, ◌≤◌, IsTrue, IfOk, IfErr, OnOk, length, string_bytes};
+ghost use Rattle.spec_block.specs.Verdicts.{IsVerdictOf};
+ghost use Rattle.block_judge.specs.Judging.{told};
+ghost use Rattle.validator.specs.Judged.{told_by};
+ghost use Rattle.world.specs.Views.{world_view};
+ghost use Rattle.wblock_line.specs.Answers.{CountsFault};
+ghost use Rattle.wblock_blocks.specs.Validates.{accept_text, reject_line, TellsVerdict, Validates};
+
+use crate::{Inputs, read_inputs};
+use block_judge::Reason;
+use call::Call;
+use pace::NoPace;
+use std::alloc::{AllocError, Global};
+use std::sync::Wait;
+use std::thread::Threads;
+use validator::{Verdict, validate};
+use wblock_io::Files;
+use wblock_line::{Answer, Fault, read_file};
+use world::{World, digest_world};
+use wtypes::NoMemory;
+
+/// What is to be validated.
+#[derive(Clone, Copy, Debug)]
+pub struct Validation<'a> {
+    /// The name of the file of the world.
+    pub world: &'a str,
+    /// The name of the file of the calls.
+    pub calls: &'a str,
+    /// The name of the file of the block.
+    pub block: &'a str,
+    /// The block's fuel.
+    pub fuel: u64,
+    /// How many workers run the calls, 1 to 64.
+    pub workers: u32,
+}
+
+/// The verdict on the bytes of a block.
+fn judge<R: Threads + Wait + Sync>(
+    rt: &R,
+    alloc: Global,
+    world: &World,
+    calls: &[Call],
+    task: Validation,
+    bytes: &[u8],
+) -> Result<Verdict, NoMemory>
+    requires calls { length calls.now ≤ 65535 }
+    requires workers { (1 ≤ task.workers) × (task.workers ≤ 64) }
+    ensures { IfOk result (λ verdict. IsVerdictOf (world_view world.now) calls.now task.entry.fuel bytes.now (told_by verdict)) }
+{
+    validate(
+        rt,
+        alloc,
+        world,
+        calls,
+        task.fuel,
+        bytes,
+        task.workers,
+        &NoPace,
+    )
+}
+
+/// `accept`, and the digest of the world after the block.
+fn accept_text_of(alloc: Global, next: &World) -> Result<String, NoMemory>
+    ensures { IfOk result (λ text. string_bytes text ≡ accept_text (world_view next.now)) }
+{
+    let digest = digest_world(alloc, next)?;
+    let after = hex::encode(alloc, digest)?;
+    let text = format!(in alloc; "accept\nafter {after}\n")?;
+    Ok(text)
+}
+
+/// `reject N`, and behind it the position or the call that the reason speaks of, where it speaks of one.
+fn reject_line_of(alloc: Global, reason: Reason) -> Result<String, AllocError>
+    ensures { IfOk result (λ line. string_bytes line ≡ reject_line (told reason)) }
+{
+    let number = reason.number();
+    let line = match reason.place() {
+        Some(place) => format!(in alloc; "reject {number} {place}\n")?,
+        None => format!(in alloc; "reject {number}\n")?,
+    };
+    Ok(line)
+}
+
+/// The answer that tells a verdict.
+fn tell<'a>(alloc: Global, verdict: &Verdict) -> Result<Answer<'a>, NoMemory>
+    ensures { IfOk result (TellsVerdict (told_by verdict.now)) }
+{
+    match verdict {
+        Verdict::Accept(next) => {
+            let text = accept_text_of(alloc, next)?;
+            Ok(Answer::Done(Vec::new(alloc), text))
+        }
+        Verdict::Reject(reason) => {
+            let line = reject_line_of(alloc, *reason)?;
+            Ok(Answer::Refused(line))
+        }
+    }
+}
+
+/// What `validate` comes to: `accept` and the digest of the world after the block, or `reject` with the first of the nine reasons that holds; or
+/// the line that says why the world or the calls are refused. No file is written.
+pub fn validate_block<'a, R: Threads + Wait + Sync, F: Files>(
+    rt: &R,
+    alloc: Global,
+    files: &mut F,
+    task: Validation<'a>,
+) -> Result<Answer<'a>, Fault<'a>>
+    requires workers { (1 ≤ task.workers) × (task.workers ≤ 64) }
+    ensures answers { IfOk result (λ a. IsTrue F.tells → Validates (F.holds files.old) task.entry a) }
+    ensures kept { IsTrue F.tells → F.holds files.new ≡ F.holds files.old }
+    ensures calm { OnOk result (F.failures files.new ≡ F.failures files.old) }
+    ensures counted { IfErr result (λ f. CountsFault f (F.failures files.old) (F.failures files.new)) }
+{
+    let (world, calls) = match read_inputs(alloc, files, task.world, task.calls)? {
+        Inputs::Read(world, calls) => (world, calls),
+        Inputs::Refused(line) => return Ok(Answer::Refused(line)),
+    };
+    let bytes = read_file(alloc, files, task.block)?;
+    let Ok(verdict) = judge(rt, alloc, &world, &calls, task, &bytes) else {
+        return Err(Fault::NoMemory);
+    };
+    match tell(alloc, &verdict) {
+        Ok(answer) => Ok(answer),
+        Err(NoMemory) => Err(Fault::NoMemory),
+    }
+}

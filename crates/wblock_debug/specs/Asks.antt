@@ -1,0 +1,23 @@
+-- What the words of a line ask to debug.
+use Rattle.std.specs.Prelude.{◌≡◌, ℕ, ◌<◌, ◌^◌, List, [], ◌∷◌, codes, decimal, length}
+use Rattle.wblock_line.specs.Words.{Line}
+use Rattle.wblock_debug.specs.Words.{Spell}
+use Rattle.wblock_debug.specs.declared.asked.Debugging.{Debugging}
+
+-- the words are `debug`, these three and the words of commands, at least one
+pub record IsSplit (words : List (List ℕ)) (world calls call : List ℕ) (commands : List (List ℕ)) : Type 0 where
+  pub words_are : words ≡ codes "debug" ∷ world ∷ calls ∷ call ∷ commands
+  pub some : 0 < length commands
+
+-- `debug WORLD CALLS CALL CMD...`
+pub record AsksWords (words : List (List ℕ)) (d : Debugging) : Type 0 where
+  -- the words of the commands
+  pub spelling : List (List ℕ)
+  pub split : IsSplit words d.world.now d.calls.now (decimal d.call) spelling
+  pub in_range : d.call < 2 ^ 64
+  pub spelled : Spell spelling d.commands.items
+
+-- and there is no option
+pub record AsksDebug (line : Line) (d : Debugging) : Type 0 where
+  pub words : AsksWords line.words d
+  pub options : line.options ≡ []

@@ -1,0 +1,68 @@
+//! The lines that tell what a session shows.
+
+ghost use Rattle.std.specs.Prelude.{◌≡◌, IfOk, string_bytes};
+ghost use Rattle.wblock_debug.specs.Lines.{state_line, values_text, values_line, bytes_line};
+
+use calls_text::{ReceiptText, ValueText};
+use debugger::session::Session;
+use spec_ledger::Receipt;
+use std::alloc::{AllocError, Allocator};
+use wtypes::Value;
+
+/// `K at F O`, or `K done RECEIPT`.
+pub(crate) fn state_line_of<A: Allocator + Copy>(
+    alloc: A,
+    session: &Session<'_, A>,
+) -> Result<String<A>, AllocError>
+    ensures { IfOk result (λ line. string_bytes line ≡ state_line session.now) }
+{
+    let used = session.turns();
+    if let Some(outcome) = session.ending() {
+        let receipt = ReceiptText(Receipt { outcome, used });
+        let line = format!(in alloc; "{used} done {receipt}\n")?;
+        return Ok(line);
+    }
+    let line = match session.place() {
+        Some((func, ordinal)) => format!(in alloc; "{used} at {func} {ordinal}\n")?,
+        None => format!(in alloc; "{used}\n")?,
+    };
+    Ok(line)
+}
+
+/// ` VALUE` for each value.
+fn values_text_of<A: Allocator + Copy>(alloc: A, values: &[Value]) -> Result<String<A>, AllocError>
+    ensures { IfOk result (λ text. string_bytes text ≡ values_text values.now) }
+{
+    let mut text = String::new(alloc);
+    for value in values {
+        let value = ValueText(*value);
+        let word = format!(in alloc; " {value}")?;
+        text.push_str(word.as_str())?;
+    }
+    Ok(text)
+}
+
+/// A name and ` VALUE` for each value.
+pub(crate) fn values_line_of<A: Allocator + Copy>(
+    alloc: A,
+    name: &str,
+    values: &[Value],
+) -> Result<String<A>, AllocError>
+    ensures { IfOk result (λ line. string_bytes line ≡ values_line name.now values.now) }
+{
+    let values = values_text_of(alloc, values)?;
+    let line = format!(in alloc; "{name}{values}\n")?;
+    Ok(line)
+}
+
+/// `bytes HEX`.
+pub(crate) fn bytes_line_of<A: Allocator + Copy>(
+    alloc: A,
+    bytes: &[u8],
+) -> Result<String<A>, AllocError>
+    ensures { IfOk result (λ line. string_bytes line ≡ bytes_line bytes.now) }
+{
+    let digits = hex::encode(alloc, bytes)?;
+    let line = format!(in alloc; "bytes {digits}\n")?;
+    Ok(line)
+}

@@ -1,0 +1,93 @@
+-- What `asm` answers.
+use Rattle.std.specs.Prelude.{◌≡◌, ℕ, ◌⊎◌, List, [], ◌∷◌, ◌++◌, Option, Some, None, codes, decimal, length, string_bytes}
+use Rattle.std.specs.Str.{IsUtf8}
+use Rattle.spec_syntax.specs.Syntax.{Module}
+use Rattle.spec_binary.specs.Shortest.{shortest}
+use Rattle.spec_binary.specs.Spells.{Spells}
+use Rattle.spec_text.specs.Names.{Names}
+use Rattle.lexer.specs.declared.LexRefusal.TheVariants as lexical
+use Rattle.text_resolve.specs.declared.refusal.AsmRefusal.{AsmRefusal}
+use Rattle.text_resolve.specs.declared.refusal.AsmRefusal.TheVariants.{Lex, Unexpected, UnknownName, RepeatedName, NumberRange, TooLarge, NoMemory}
+use Rattle.assembler.specs.Named.{NamesNothing}
+use Rattle.wblock_io.specs.Holding.{Holding}
+use Rattle.wblock_line.specs.declared.answer.Answer.{Answer}
+use Rattle.wblock_line.specs.declared.answer.Answer.TheVariants.{Done, Refused}
+use Rattle.wblock_line.specs.declared.perform.Status.TheVariants as status
+use Rattle.wblock_line.specs.Answers.{writes_of, text_of, status_of}
+
+-- ---- refusals
+
+-- the number of a refusal, and its place or the number of the limit that is passed; none for want of memory
+abbrev pub told : AsmRefusal → Option (ℕ × ℕ)
+told (Lex (lexical.BadToken at)) = Some (1, at)
+told (Lex (lexical.Unclosed at)) = Some (1, at)
+told (Lex lexical.NoMemory) = None
+told (Unexpected at) = Some (2, at)
+told (UnknownName at) = Some (3, at)
+told (RepeatedName at) = Some (4, at)
+told (NumberRange at) = Some (5, at)
+told (TooLarge limit) = Some (6, limit)
+told NoMemory = None
+
+-- `refused assemble N P`
+abbrev pub refusal_line : ℕ → ℕ → List ℕ
+refusal_line number place = codes "refused assemble " ++ (decimal number ++ (codes " " ++ (decimal place ++ 10 ∷ [])))
+
+-- the line is that of a refusal
+pub record IsLineOf (refusal : AsmRefusal) (line : List ℕ) : Type 0 where
+  pub number : ℕ
+  pub place : ℕ
+  pub told_as : told refusal ≡ Some (number, place)
+  pub line_is : line ≡ refusal_line number place
+
+abbrev pub IsRefusalOf : AsmRefusal → Answer → Type 0
+IsRefusalOf refusal (Done writes text) = ⊥
+IsRefusalOf refusal (Refused line) = IsLineOf refusal (string_bytes line)
+
+abbrev pub IsBadToken : AsmRefusal → Type 0
+IsBadToken (Lex (lexical.BadToken at)) = Unit {0}
+IsBadToken _ = ⊥
+
+-- the bytes are a text that names no module; or they are no text, which is told as a bad token
+abbrev pub IsWhy : List ℕ → AsmRefusal → Type 0
+IsWhy bytes refusal = (IsUtf8 bytes × NamesNothing bytes) ⊎ ((¬ IsUtf8 bytes) × IsBadToken refusal)
+
+-- the line says why the bytes give no module
+pub record TellsRefusal (bytes line : List ℕ) : Type 0 where
+  pub refusal : AsmRefusal
+  pub why : IsWhy bytes refusal
+  pub is_line : IsLineOf refusal line
+
+-- ---- modules
+
+-- the bytes are the shortest spelling of the module that the text names
+pub record IsSpelled (text bytes : List ℕ) : Type 0 where
+  pub tree : Module
+  pub names : Names text tree
+  pub spells : Spells bytes tree
+  pub is_shortest : bytes ≡ shortest tree
+
+-- a file is to hold these bytes, and `assembled N bytes` is to be printed
+pub record IsDone (target bytes : List ℕ) (a : Answer) : Type 0 where
+  pub status : status_of a ≡ status.Done
+  pub writes : writes_of a ≡ (target, bytes) ∷ []
+  pub text : text_of a ≡ codes "assembled " ++ decimal (length bytes) ++ codes " bytes" ++ 10 ∷ []
+
+-- the file is to hold the module that the text names
+pub record TellsModule (text target : List ℕ) (a : Answer) : Type 0 where
+  pub bytes : List ℕ
+  pub utf8 : IsUtf8 text
+  pub spelled : IsSpelled text bytes
+  pub is_done : IsDone target bytes a
+
+-- ---- answers
+
+abbrev pub IsAnswer : List ℕ → List ℕ → Answer → Type 0
+IsAnswer text target (Done writes line) = TellsModule text target (Done writes line)
+IsAnswer text target (Refused line) = TellsRefusal text (string_bytes line)
+
+-- what is answered to the text in the file of a name
+pub record Assembles (holds : Holding) (text target : List ℕ) (answer : Answer) : Type 0 where
+  pub bytes : List ℕ
+  pub held : holds text ≡ Some bytes
+  pub answers : IsAnswer bytes target answer

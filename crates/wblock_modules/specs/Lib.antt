@@ -1,0 +1,3 @@
+pub mod Assembles
+pub mod Checks
+pub mod Deploys

@@ -1,0 +1,119 @@
+//! The command `asm TEXT MODULE`: the module that a text names, in its shortest spelling.
+
+ghost use Rattle.std.specs.Prelude.{◌≡◌, IsTrue, IfOk, IfErr, OnOk, string_bytes};
+ghost use Rattle.text_resolve.specs.Outcome.{Unless};
+ghost use Rattle.assembler.specs.Named.{NamesNothing};
+ghost use Rattle.wblock_line.specs.Answers.{CountsFault};
+ghost use Rattle.wblock_modules.specs.Assembles.{told, refusal_line, IsSpelled, IsRefusalOf, IsDone, IsAnswer, Assembles};
+
+use crate::places::place_of_fault;
+use assembler::{AsmRefusal, assemble};
+use encoder::encode;
+use lexer::LexRefusal;
+use std::alloc::{AllocError, Global};
+use std::str::from_utf8;
+use wblock_io::Files;
+use wblock_line::{Answer, Fault, Write, read_file};
+
+/// The shortest spelling of the module that a text names.
+fn spell(alloc: Global, text: &str) -> Result<Vec<u8>, AsmRefusal>
+    ensures spelled { IfOk result (λ v. IsSpelled text.now v.items) }
+    ensures refused { IfErr result (Unless (NamesNothing text.now)) }
+{
+    let tree = assemble(alloc, text)?;
+    let mut bytes = Vec::new(alloc);
+    match encode(&tree, &mut bytes) {
+        Ok(()) => Ok(bytes),
+        Err(_) => Err(AsmRefusal::NoMemory),
+    }
+}
+
+/// The number of a refusal, and its place or the number of the limit that is passed; or None for want of memory.
+fn numbered(refusal: AsmRefusal) -> Option<(u8, usize)>
+    ensures { result ≡ told refusal }
+{
+    match refusal {
+        AsmRefusal::Lex(LexRefusal::BadToken(at)) => Some((1, at)),
+        AsmRefusal::Lex(LexRefusal::Unclosed(at)) => Some((1, at)),
+        AsmRefusal::Lex(LexRefusal::NoMemory) => None,
+        AsmRefusal::Unexpected(at) => Some((2, at)),
+        AsmRefusal::UnknownName(at) => Some((3, at)),
+        AsmRefusal::RepeatedName(at) => Some((4, at)),
+        AsmRefusal::NumberRange(at) => Some((5, at)),
+        AsmRefusal::TooLarge(limit) => Some((6, limit as usize)),
+        AsmRefusal::NoMemory => None,
+    }
+}
+
+/// The line `refused assemble N P`.
+fn refusal_text(alloc: Global, number: u8, place: usize) -> Result<String, AllocError>
+    ensures { IfOk result (λ text. string_bytes text ≡ refusal_line number place) }
+{
+    let text = format!(in alloc; "refused assemble {number} {place}\n")?;
+    Ok(text)
+}
+
+/// The answer to a text that is refused.
+fn refuse<'a>(alloc: Global, refusal: AsmRefusal) -> Result<Answer<'a>, Fault<'a>>
+    ensures line { IfOk result (IsRefusalOf refusal) }
+    ensures fault { IfErr result (λ f. f ≡ Fault.NoMemory) }
+{
+    let Some((number, place)) = numbered(refusal) else {
+        return Err(Fault::NoMemory);
+    };
+    match refusal_text(alloc, number, place) {
+        Ok(line) => Ok(Answer::Refused(line)),
+        Err(AllocError) => Err(Fault::NoMemory),
+    }
+}
+
+/// The answer of a module's bytes, which are to be written to a file.
+fn done<'a>(alloc: Global, target: &'a str, bytes: Vec<u8>) -> Result<Answer<'a>, AllocError>
+    ensures { IfOk result (λ a. IsDone target.entry.now bytes.items a) }
+{
+    let count = bytes.len();
+    let text = format!(in alloc; "assembled {count} bytes\n")?;
+    let mut writes = Vec::new(alloc);
+    writes.push(Write {
+        name: target,
+        bytes,
+    })?;
+    Ok(Answer::Done(writes, text))
+}
+
+/// What the bytes of a text come to.
+fn answer_bytes<'a>(alloc: Global, target: &'a str, bytes: &[u8]) -> Result<Answer<'a>, Fault<'a>>
+    ensures answer { IfOk result (IsAnswer bytes.now target.entry.now) }
+    ensures fault { IfErr result (λ f. f ≡ Fault.NoMemory) }
+{
+    match from_utf8(bytes) {
+        Ok(text) => match spell(alloc, text) {
+            Ok(spelled) => match done(alloc, target, spelled) {
+                Ok(answer) => Ok(answer),
+                Err(AllocError) => Err(Fault::NoMemory),
+            },
+            Err(refusal) => refuse(alloc, refusal),
+        },
+        Err(error) => match place_of_fault(alloc, bytes, error.valid_up_to()) {
+            Ok(at) => refuse(alloc, AsmRefusal::Lex(LexRefusal::BadToken(at))),
+            Err(AllocError) => Err(Fault::NoMemory),
+        },
+    }
+}
+
+/// What `asm` comes to: the shortest spelling of the module that the text of a file names is to be written to the file
+/// `target`, or the text is refused because it names no module. No file is written yet.
+pub fn assemble_file<'a, F: Files>(
+    alloc: Global,
+    files: &mut F,
+    text: &'a str,
+    target: &'a str,
+) -> Result<Answer<'a>, Fault<'a>>
+    ensures answers { IfOk result (λ a. IsTrue F.tells → Assembles (F.holds files.old) text.entry.now target.entry.now a) }
+    ensures kept { IsTrue F.tells → F.holds files.new ≡ F.holds files.old }
+    ensures calm { OnOk result (F.failures files.new ≡ F.failures files.old) }
+    ensures counted { IfErr result (λ f. CountsFault f (F.failures files.old) (F.failures files.new)) }
+{
+    let bytes = read_file(alloc, files, text)?;
+    answer_bytes(alloc, target, bytes.as_slice())
+}
