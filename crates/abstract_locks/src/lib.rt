@@ -17,6 +17,7 @@ use std::alloc::{Allocator, Global};
 use std::marker::Model;
 use std::mem;
 use storage::{Lock, NoMemory};
+use thiserror::Error;
 
 /// The mode that covers both: equal modes give that mode, different ones `Excl`.
 pub fn join(a: Mode, b: Mode) -> Mode
@@ -79,11 +80,13 @@ fn may_join(shared: Option<Shared>, others: u64, joined: Mode) -> bool
 }
 
 /// Why a lock is not taken.
-#[derive(Clone, Copy, Debug, PartialEq, Eq)]
+#[derive(Clone, Copy, Debug, PartialEq, Eq, Error)]
 pub enum LockRefusal {
     /// Another call holds the lock in a mode that does not go with the one asked for, joined to the one held.
+    #[error("another call holds the lock in a mode that does not go with the one asked for")]
     Conflict,
     /// Memory was refused.
+    #[error("memory was refused")]
     NoMemory,
 }
 

@@ -8,3 +8,4 @@ pub mod OneModule
 pub mod Ordered
 pub mod Sealing
 pub mod Turned
+pub mod Unplaced

@@ -7,8 +7,11 @@ use Rattle.std.proofs.lemmas.List.Elements.{All-head, All-tail, All-cons}
 use Rattle.spec_syntax.specs.Syntax as S
 use Rattle.spec_binary.specs.Spells.{ExpressionFits}
 use Rattle.spec_text.specs.Named as N
-use Rattle.spec_text.specs.Resolve.{Names, Spaces, names_of, types_of, Uses, inline, alone, again, AreDistinct, Body, IsLimits, from_minimum, between, IsDesc, IsExport, Makes, written_type}
-use Rattle.spec_text.specs.Resolve as R
+use Rattle.spec_text.specs.Spaces.{Names, Spaces, AreDistinct}
+use Rattle.spec_text.specs.TypeUses.{names_of, types_of, Uses, inline, alone, again, written_type}
+use Rattle.spec_text.specs.Instructions.{Body}
+use Rattle.spec_text.specs.Fields.{IsLimits, from_minimum, between, IsDesc, IsExport, Makes}
+use Rattle.spec_text.specs.Fields as F
 use Rattle.wtypes.specs.declared.ValType.{ValType}
 use Rattle.text_resolve.specs.Lookup.{u32_at, stands_at, all_stand_at}
 use Rattle.text_resolve.proofs.Lookups.{mapped, u32_found, u32_is_found}
@@ -40,16 +43,16 @@ limits_are_read (from_minimum {min} {m} u) = ap (option_and_then (λ (k : ℕ). 
 limits_are_read (between {min} {max} {m} {n} u v) = ap (option_and_then (λ (k : ℕ). to_maximum k (Some max))) (u32_found min m u) ∙ ap (option_map (λ (k : ℕ). limits m (Some k))) (u32_found max n v)
 
 desc_is_read : {s : Spaces} {d : N.Desc} {e : S.ImportDesc} → IsDesc s d e → desc_at s d ≡ Some e
-desc_is_read (R.IsDesc.func u) = ap (option_map (λ (i : ℕ). S.ImportFunc i)) (use_is_read u)
-desc_is_read (R.IsDesc.table l) = ap (option_map (λ (l : S.Limits). S.ImportTable l)) (limits_are_read l)
-desc_is_read (R.IsDesc.memory l) = ap (option_map (λ (l : S.Limits). S.ImportMemory l)) (limits_are_read l)
-desc_is_read R.IsDesc.global = refl
+desc_is_read (F.IsDesc.func u) = ap (option_map (λ (i : ℕ). S.ImportFunc i)) (use_is_read u)
+desc_is_read (F.IsDesc.table l) = ap (option_map (λ (l : S.Limits). S.ImportTable l)) (limits_are_read l)
+desc_is_read (F.IsDesc.memory l) = ap (option_map (λ (l : S.Limits). S.ImportMemory l)) (limits_are_read l)
+desc_is_read F.IsDesc.global = refl
 
 kind_is_read : {s : Spaces} {k : N.Kind} {i : N.Index} {e : S.ExportDesc} → IsExport s k i e → kind_at s k i ≡ Some e
-kind_is_read (R.IsExport.func st) = ap (option_map (λ (n : ℕ). S.ExportFunc n)) (stands_is_read st)
-kind_is_read (R.IsExport.table st) = ap (option_map (λ (n : ℕ). S.ExportTable n)) (stands_is_read st)
-kind_is_read (R.IsExport.memory st) = ap (option_map (λ (n : ℕ). S.ExportMemory n)) (stands_is_read st)
-kind_is_read (R.IsExport.global st) = ap (option_map (λ (n : ℕ). S.ExportGlobal n)) (stands_is_read st)
+kind_is_read (F.IsExport.func st) = ap (option_map (λ (n : ℕ). S.ExportFunc n)) (stands_is_read st)
+kind_is_read (F.IsExport.table st) = ap (option_map (λ (n : ℕ). S.ExportTable n)) (stands_is_read st)
+kind_is_read (F.IsExport.memory st) = ap (option_map (λ (n : ℕ). S.ExportMemory n)) (stands_is_read st)
+kind_is_read (F.IsExport.global st) = ap (option_map (λ (n : ℕ). S.ExportGlobal n)) (stands_is_read st)
 
 names_again : (types : List S.FuncType) (index : N.Index) (ps : List N.Binding) (rs : List ValType) (i : ℕ) → slice_get types i ≡ Some (written_type (record { index = Some index; params = ps; results = rs }))
     → names_of ps ≡ names_at types (record { index = Some index; params = ps; results = rs }) i
@@ -135,16 +138,16 @@ read_desc : (s : Spaces) (d : N.Desc) (e : S.ImportDesc) → desc_at s d ≡ Som
 read_desc s (N.FuncDesc w) e h =
     let q = mapped (λ (i : ℕ). S.ImportFunc i) (use_at s.type_names s.types w) e h in
     let u = read_use s.type_names s.types w.index w.params w.results q.0 q.1 in
-    subst (IsDesc s (N.FuncDesc w)) q.2 (R.IsDesc.func u.1)
-read_desc s (N.TableDesc b) e h = let q = mapped (λ (l : S.Limits). S.ImportTable l) (bounds_at b) e h in subst (IsDesc s (N.TableDesc b)) q.2 (R.IsDesc.table (read_limits b q.0 q.1))
-read_desc s (N.MemoryDesc b) e h = let q = mapped (λ (l : S.Limits). S.ImportMemory l) (bounds_at b) e h in subst (IsDesc s (N.MemoryDesc b)) q.2 (R.IsDesc.memory (read_limits b q.0 q.1))
-read_desc s (N.GlobalDesc t) e h = subst (IsDesc s (N.GlobalDesc t)) (same_Some (S.ImportGlobal t) e h) R.IsDesc.global
+    subst (IsDesc s (N.FuncDesc w)) q.2 (F.IsDesc.func u.1)
+read_desc s (N.TableDesc b) e h = let q = mapped (λ (l : S.Limits). S.ImportTable l) (bounds_at b) e h in subst (IsDesc s (N.TableDesc b)) q.2 (F.IsDesc.table (read_limits b q.0 q.1))
+read_desc s (N.MemoryDesc b) e h = let q = mapped (λ (l : S.Limits). S.ImportMemory l) (bounds_at b) e h in subst (IsDesc s (N.MemoryDesc b)) q.2 (F.IsDesc.memory (read_limits b q.0 q.1))
+read_desc s (N.GlobalDesc t) e h = subst (IsDesc s (N.GlobalDesc t)) (same_Some (S.ImportGlobal t) e h) F.IsDesc.global
 
 read_kind : (s : Spaces) (k : N.Kind) (i : N.Index) (e : S.ExportDesc) → kind_at s k i ≡ Some e → IsExport s k i e
-read_kind s N.OfFunc i e h = let q = mapped (λ (n : ℕ). S.ExportFunc n) (stands_at s.funcs i) e h in subst (IsExport s N.OfFunc i) q.2 (R.IsExport.func (read_stands s.funcs i q.0 q.1))
-read_kind s N.OfTable i e h = let q = mapped (λ (n : ℕ). S.ExportTable n) (stands_at s.tables i) e h in subst (IsExport s N.OfTable i) q.2 (R.IsExport.table (read_stands s.tables i q.0 q.1))
-read_kind s N.OfMemory i e h = let q = mapped (λ (n : ℕ). S.ExportMemory n) (stands_at s.memories i) e h in subst (IsExport s N.OfMemory i) q.2 (R.IsExport.memory (read_stands s.memories i q.0 q.1))
-read_kind s N.OfGlobal i e h = let q = mapped (λ (n : ℕ). S.ExportGlobal n) (stands_at s.globals i) e h in subst (IsExport s N.OfGlobal i) q.2 (R.IsExport.global (read_stands s.globals i q.0 q.1))
+read_kind s N.OfFunc i e h = let q = mapped (λ (n : ℕ). S.ExportFunc n) (stands_at s.funcs i) e h in subst (IsExport s N.OfFunc i) q.2 (F.IsExport.func (read_stands s.funcs i q.0 q.1))
+read_kind s N.OfTable i e h = let q = mapped (λ (n : ℕ). S.ExportTable n) (stands_at s.tables i) e h in subst (IsExport s N.OfTable i) q.2 (F.IsExport.table (read_stands s.tables i q.0 q.1))
+read_kind s N.OfMemory i e h = let q = mapped (λ (n : ℕ). S.ExportMemory n) (stands_at s.memories i) e h in subst (IsExport s N.OfMemory i) q.2 (F.IsExport.memory (read_stands s.memories i q.0 q.1))
+read_kind s N.OfGlobal i e h = let q = mapped (λ (n : ℕ). S.ExportGlobal n) (stands_at s.globals i) e h in subst (IsExport s N.OfGlobal i) q.2 (F.IsExport.global (read_stands s.globals i q.0 q.1))
 
 abbrev Fitting : Spaces → List N.Field → ℕ → S.Module → Type 0
 Fitting s fs f m = Makes s fs f m × ExpressionsFit m

@@ -6,15 +6,21 @@ use Rattle.spec_syntax.specs.Profile.{byte_limit}
 use Rattle.spec_binary.specs.Spells.{ModuleFits}
 use Rattle.spec_text.specs.Lexical.{Token, Lexes, LexesToOne}
 use Rattle.spec_text.specs.Named as N
-use Rattle.spec_text.specs.Resolve.{Spaces, AreSpaces, Resolves, count_imported}
+use Rattle.spec_text.specs.Placed as P
+use Rattle.spec_text.specs.Spaces.{Spaces}
+use Rattle.spec_text.specs.Fields.{AreSpaces, Resolves, count_imported}
 use Rattle.spec_text.specs.Names.{Names}
-use Rattle.text_resolve.specs.Outcome.{Unless}
+use Rattle.text_resolve.specs.Outcome as inner
+use Rattle.text_resolve.specs.Refused.{Unless}
+use Rattle.text_resolve.specs.declared.refusal.Unresolved.{Unresolved}
+use Rattle.text_resolve.specs.declared.refusal.Unresolved.TheVariants as unresolved
 use Rattle.text_resolve.specs.declared.refusal.AsmRefusal.{AsmRefusal}
 use Rattle.text_resolve.specs.declared.refusal.AsmRefusal.TheVariants.{Lex, Unexpected, UnknownName, RepeatedName, NumberRange, TooLarge, NoMemory}
 use Rattle.text_tree.specs.Texts.{IsText, NoText, TextsAreOne}
 use Rattle.text_fields.specs.Listed.{NoSpaces, SpacesAreOne}
 use Rattle.assembler.specs.Made.{make_at, ExpressionsFit, ReadingIsExact}
 use Rattle.assembler.proofs.Ordered.{made_in_order}
+use Rattle.assembler.proofs.Unplaced.{order_kept}
 use Rattle.assembler.specs.Named.{HasFields, NamesNothing, LexesToNothing, ResolveToNothing}
 
 -- ---- tokens and fields
@@ -25,21 +31,21 @@ no_tokens text none m n = none n.spelled.tokens n.spelled.lexes
 own_text : (text : List ℕ) (ts : List Token) (m : S.Module) → LexesToOne → Lexes text ts → (n : Names text m) → IsText ts n.spelled.fields
 own_text text ts m lexed lexes n =
     let p = n.spelled in
-    let own : IsText p.tokens p.fields = (p.words, p.are_words, (p.grammar, made_in_order p.resolves.2)) in
+    let own : IsText p.tokens p.fields = (p.words, p.are_words, (p.grammar, sym (order_kept p.fields) ∙ made_in_order p.resolves.2)) in
     subst (λ (us : List Token). IsText us p.fields) (lexed text p.tokens ts p.lexes lexes) own
 
 pub no_fields : (text : List ℕ) (ts : List Token) → LexesToOne → Lexes text ts → NoText ts → NamesNothing text
 no_fields text ts lexed lexes none m n = none n.spelled.fields (own_text text ts m lexed lexes n)
 
-pub has_fields : (text : List ℕ) (ts : List Token) (fields : List N.Field) → LexesToOne → TextsAreOne → Lexes text ts → IsText ts fields → HasFields text fields
+pub has_fields : (text : List ℕ) (ts : List Token) (fields : List P.Field) → LexesToOne → TextsAreOne → Lexes text ts → IsText ts fields → HasFields text fields
 has_fields text ts fields lexed texts lexes is_text = record {
   tokens = ts;
   lexes = lexes;
   is_text = is_text;
-  only = λ m n. subst (λ (fs : List N.Field). Resolves fs m) (texts ts n.spelled.fields fields (own_text text ts m lexed lexes n) is_text) n.spelled.resolves;
+  only = λ m n. subst (λ (fs : List P.Field). Resolves (P.without_places fs) m) (texts ts n.spelled.fields fields (own_text text ts m lexed lexes n) is_text) n.spelled.resolves;
 }
 
-pub named : (text : List ℕ) (fields : List N.Field) (m : S.Module) → length text ≤ byte_limit → HasFields text fields → Resolves fields m → ModuleFits m → Names text m
+pub named : (text : List ℕ) (fields : List P.Field) (m : S.Module) → length text ≤ byte_limit → HasFields text fields → Resolves (P.without_places fields) m → ModuleFits m → Names text m
 named text fields m few has resolves fits = record {
   text_fits = few;
   spelled = record {
@@ -54,7 +60,7 @@ named text fields m few has resolves fits = record {
   tree_fits = fits;
 }
 
-pub not_named : (text : List ℕ) (fields : List N.Field) → HasFields text fields → ResolveToNothing fields → NamesNothing text
+pub not_named : (text : List ℕ) (fields : List P.Field) → HasFields text fields → ResolveToNothing (P.without_places fields) → NamesNothing text
 not_named text fields has none m n = none m (has.only m n) n.tree_fits
 
 -- any refusal is right where the text names no module
@@ -68,14 +74,13 @@ rightly (NumberRange at) p = p
 rightly (TooLarge limit) p = p
 
 -- one refusal in place of another
-pub told : {P Q : Type 0} (e r : AsmRefusal) → (e ≡ NoMemory → r ≡ NoMemory) → (P → Q) → Unless P e → Unless Q r
-told NoMemory r same f p = rw (same refl) tt
-told (Lex refusal) r same f p = rightly r (f p)
-told (Unexpected at) r same f p = rightly r (f p)
-told (UnknownName at) r same f p = rightly r (f p)
-told (RepeatedName at) r same f p = rightly r (f p)
-told (NumberRange at) r same f p = rightly r (f p)
-told (TooLarge limit) r same f p = rightly r (f p)
+pub told : {P Q : Type 0} (e : Unresolved) (r : AsmRefusal) → (e ≡ unresolved.NoMemory → r ≡ NoMemory) → (P → Q) → inner.Unless P e → Unless Q r
+told unresolved.NoMemory r same f p = rw (same refl) tt
+told unresolved.Broken r same f p = rightly r (f p)
+told (unresolved.UnknownName at) r same f p = rightly r (f p)
+told (unresolved.RepeatedName at) r same f p = rightly r (f p)
+told (unresolved.NumberRange at) r same f p = rightly r (f p)
+told (unresolved.TooLarge limit) r same f p = rightly r (f p)
 
 -- ---- modules
 

@@ -1,15 +1,17 @@
 -- No text names two modules.
-use Rattle.std.proofs.Common.{◌≡◌, List, subst}
+use Rattle.std.proofs.Common.{◌≡◌, List, sym, ◌∙◌, subst}
 use Rattle.spec_syntax.specs.Syntax as S
 use Rattle.spec_binary.specs.Spells.{ModuleFits}
 use Rattle.spec_text.specs.Lexical.{LexesToOne}
-use Rattle.spec_text.specs.Named as N
-use Rattle.spec_text.specs.Resolve.{Spaces, AreSpaces, Makes, count_imported}
+use Rattle.spec_text.specs.Placed as P
+use Rattle.spec_text.specs.Spaces.{Spaces}
+use Rattle.spec_text.specs.Fields.{AreSpaces, Makes, count_imported}
 use Rattle.spec_text.specs.Names.{NamesOne}
 use Rattle.text_tree.specs.Texts.{IsText, TextsAreOne}
 use Rattle.text_fields.specs.Listed.{SpacesAreOne}
 use Rattle.assembler.specs.Made.{ExpressionsFit, ModulesAreOne}
 use Rattle.assembler.proofs.Ordered.{made_in_order}
+use Rattle.assembler.proofs.Unplaced.{order_kept}
 
 expressions_fit : {m : S.Module} → ModuleFits m → ExpressionsFit m
 expressions_fit {m} fit = record { bodies = λ k d l. (fit.bodies k d l).body; globals = fit.globals; elements = fit.elements; datas = fit.datas }
@@ -18,13 +20,14 @@ pub names_one : LexesToOne → TextsAreOne → SpacesAreOne → ModulesAreOne �
 names_one lexed texts spaces modules text m n a b =
     let p = a.spelled in
     let q = b.spelled in
+    let fields = P.without_places q.fields in
     let s = p.resolves.0 in
     let t = q.resolves.0 in
     let same_tokens : p.tokens ≡ q.tokens = lexed text p.tokens q.tokens p.lexes q.lexes in
-    let one : IsText p.tokens p.fields = (p.words, p.are_words, (p.grammar, made_in_order p.resolves.2)) in
-    let other : IsText q.tokens q.fields = (q.words, q.are_words, (q.grammar, made_in_order q.resolves.2)) in
+    let one : IsText p.tokens p.fields = (p.words, p.are_words, (p.grammar, sym (order_kept p.fields) ∙ made_in_order p.resolves.2)) in
+    let other : IsText q.tokens q.fields = (q.words, q.are_words, (q.grammar, sym (order_kept q.fields) ∙ made_in_order q.resolves.2)) in
     let same_fields : p.fields ≡ q.fields = texts q.tokens p.fields q.fields (subst (λ ts. IsText ts p.fields) same_tokens one) other in
-    let same_spaces : s ≡ t = spaces q.fields s t (subst (λ (fs : List N.Field). AreSpaces fs s) same_fields p.resolves.1) q.resolves.1 in
-    let moved = subst (λ (fs : List N.Field). Makes s fs (count_imported fs) m) same_fields p.resolves.2 in
-    let made = subst (λ (u : Spaces). Makes u q.fields (count_imported q.fields) m) same_spaces moved in
-    modules t q.fields (count_imported q.fields) m n made (expressions_fit a.tree_fits) q.resolves.2 (expressions_fit b.tree_fits)
+    let same_spaces : s ≡ t = spaces fields s t (subst (λ (fs : List P.Field). AreSpaces (P.without_places fs) s) same_fields p.resolves.1) q.resolves.1 in
+    let moved = subst (λ (fs : List P.Field). Makes s (P.without_places fs) (count_imported (P.without_places fs)) m) same_fields p.resolves.2 in
+    let made = subst (λ (u : Spaces). Makes u fields (count_imported fields) m) same_spaces moved in
+    modules t fields (count_imported fields) m n made (expressions_fit a.tree_fits) q.resolves.2 (expressions_fit b.tree_fits)

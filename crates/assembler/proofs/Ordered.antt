@@ -4,7 +4,8 @@ use Rattle.std.proofs.lemmas.Option.{none-some}
 use Rattle.spec_syntax.specs.Syntax as S
 use Rattle.spec_syntax.specs.Limits.{both}
 use Rattle.spec_text.specs.Named as N
-use Rattle.spec_text.specs.Resolve.{Spaces, Makes}
+use Rattle.spec_text.specs.Spaces.{Spaces}
+use Rattle.spec_text.specs.Fields.{Makes}
 use Rattle.text_tree.specs.Order.{is_import, is_start, none, imports_first, one_start, in_order}
 
 no_import_behind : {s : Spaces} {fs : List N.Field} {f : ℕ} {m : S.Module} → Makes s fs f m → m.imports ≡ [] → none is_import fs ≡ true

@@ -7,7 +7,8 @@ use Rattle.spec_syntax.specs.Limits.{module_fits}
 use Rattle.spec_binary.specs.Shortest.{shortest}
 use Rattle.spec_binary.specs.Spells.{ModuleFits}
 use Rattle.spec_text.specs.Named as N
-use Rattle.spec_text.specs.Resolve.{Spaces, AreSpaces, Resolves, count_imported}
+use Rattle.spec_text.specs.Spaces.{Spaces}
+use Rattle.spec_text.specs.Fields.{AreSpaces, Resolves, count_imported}
 use Rattle.text_fields.specs.Listed.{SpacesAreOne}
 use Rattle.assembler.specs.Made.{make_at, ExpressionsFit, ReadingIsExact}
 use Rattle.assembler.specs.PartsView.{with_types, AreInRange}

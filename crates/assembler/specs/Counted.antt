@@ -1,7 +1,7 @@
 -- The functions of fields.
 use Rattle.std.specs.Prelude.{ℕ, ◌+◌, List, [], ◌∷◌}
 use Rattle.spec_text.specs.Named as N
-use Rattle.spec_text.specs.Resolve.{imported_funcs}
+use Rattle.spec_text.specs.Fields.{imported_funcs}
 
 -- 1 for a field that defines a function
 abbrev pub defined_funcs : N.Field → ℕ

@@ -4,7 +4,8 @@ use Rattle.std.specs.List.{All}
 use Rattle.spec_syntax.specs.Syntax as S
 use Rattle.spec_binary.specs.Spells.{ExpressionFits}
 use Rattle.spec_text.specs.Named as N
-use Rattle.spec_text.specs.Resolve.{Spaces, Makes}
+use Rattle.spec_text.specs.Spaces.{Spaces}
+use Rattle.spec_text.specs.Fields.{Makes}
 use Rattle.text_resolve.specs.Types.{is_empty}
 use Rattle.text_fields.specs.Parts.{FieldPart, NoPart, ImportPart, FuncPart, TablePart, MemoryPart, GlobalPart, ExportPart, StartPart, ElementPart, DataPart, part_at}
 

@@ -4,7 +4,8 @@ use Rattle.spec_syntax.specs.Syntax.{Module}
 use Rattle.spec_binary.specs.Spells.{ModuleFits}
 use Rattle.spec_text.specs.Lexical.{Token, Lexes}
 use Rattle.spec_text.specs.Named.{Field}
-use Rattle.spec_text.specs.Resolve.{Resolves}
+use Rattle.spec_text.specs.Placed as P
+use Rattle.spec_text.specs.Fields.{Resolves}
 use Rattle.spec_text.specs.Names.{Names}
 use Rattle.text_tree.specs.Texts.{IsText}
 
@@ -15,11 +16,11 @@ abbrev pub LexesToNothing : List ℕ → Type 0
 LexesToNothing text = (tokens : List Token) → Lexes text tokens → ⊥
 
 -- the text lexes to tokens that are these fields, and it names what they make
-pub record HasFields (text : List ℕ) (fields : List Field) : Type 0 where
+pub record HasFields (text : List ℕ) (fields : List P.Field) : Type 0 where
   pub tokens : List Token
   pub lexes : Lexes text tokens
   pub is_text : IsText tokens fields
-  pub only : (m : Module) → Names text m → Resolves fields m
+  pub only : (m : Module) → Names text m → Resolves (P.without_places fields) m
 
 -- the fields make no module within the limits
 abbrev pub ResolveToNothing : List Field → Type 0

@@ -5,8 +5,9 @@
 ghost use Rattle.std.specs.Prelude.{◌≡◌, IfOk, IfErr};
 ghost use Rattle.module_tree.specs.Modules.{module_view};
 ghost use Rattle.spec_text.specs.Names.{Names};
-ghost use Rattle.text_resolve.specs.Outcome.{Unless};
-ghost use Rattle.text_resolve.specs.declared.refusal.AsmRefusal.TheVariants.{NoMemory};
+ghost use Rattle.text_resolve.specs.Refused.{Unless};
+ghost use Rattle.text_resolve.specs.declared.refusal.AsmRefusal.TheVariants as refusal;
+ghost use Rattle.text_resolve.specs.declared.refusal.Unresolved.TheVariants as unresolved;
 ghost use Rattle.assembler.specs.Named.{NamesNothing};
 
 mod collect;
@@ -19,30 +20,31 @@ mod whole;
 pub use collect::parts_of_text;
 use fields::tree_of;
 pub use laws::{no_fields_make_two_modules, no_text_names_two_modules, reading_of_fields_is_exact};
+use module_tree::limit::BYTE_LIMIT;
 use module_tree::module::Module;
 pub use parts::{Parts, put};
 use std::alloc::Allocator;
 use text_faults::first_fault;
-pub use text_resolve::AsmRefusal;
+use text_resolve::Unresolved;
+pub use text_resolve::{AsmRefusal, Limit};
 use text_tree::Text;
 use whole::module_of;
-
-// Bytes of a text or a module.
-const BYTE_LIMIT: usize = 1_048_576;
 
 // The refusal of a text whose fields make no module within the limits, which is `met` where that is of memory.
 fn fault_of<A: Allocator + Clone>(
     alloc: &A,
     text: &str,
     tree: &Text<'_, A>,
-    met: AsmRefusal,
+    met: Unresolved,
 ) -> AsmRefusal
-    ensures memory { met ≡ NoMemory → result ≡ NoMemory }
+    ensures memory { met ≡ unresolved.NoMemory → result ≡ refusal.NoMemory }
 {
     match met {
-        AsmRefusal::NoMemory => AsmRefusal::NoMemory,
+        Unresolved::NoMemory => AsmRefusal::NoMemory,
         _ => match first_fault(alloc, tree) {
-            AsmRefusal::TooLarge(_) if text.len() > BYTE_LIMIT => AsmRefusal::TooLarge(1),
+            AsmRefusal::TooLarge(_) if text.len() > BYTE_LIMIT => {
+                AsmRefusal::TooLarge(Limit::Bytes)
+            },
             fault => fault,
         },
     }
@@ -67,7 +69,7 @@ pub fn assemble<A: Allocator + Clone>(alloc: A, text: &str) -> Result<Module<A>,
         Err(met) => return Err(fault_of(&alloc, text, &tree, met)),
     };
     if text.len() > BYTE_LIMIT {
-        return Err(AsmRefusal::TooLarge(1));
+        return Err(AsmRefusal::TooLarge(Limit::Bytes));
     }
     Ok(module)
 }

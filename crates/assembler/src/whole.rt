@@ -2,7 +2,7 @@
 ghost use Rattle.std.specs.Prelude.{◌≡◌, IfOk, IfErr};
 ghost use Rattle.module_tree.specs.Modules.{module_view};
 ghost use Rattle.spec_binary.specs.Spells.{ModuleFits};
-ghost use Rattle.spec_text.specs.Resolve.{Resolves};
+ghost use Rattle.spec_text.specs.Fields.{Resolves};
 ghost use Rattle.text_resolve.specs.Outcome.{Unless};
 ghost use Rattle.text_tree.specs.Views.{fields_of};
 ghost use Rattle.assembler.specs.Named.{ResolveToNothing};
@@ -13,7 +13,7 @@ use module_limits::{Unsealed, seal};
 use module_tree::module::Module;
 use std::alloc::Allocator;
 use text_fields::{no_text_has_two_lists_of_spaces, spaces_of_text};
-use text_resolve::AsmRefusal;
+use text_resolve::Unresolved;
 use text_tree::Text;
 
 /// The module that fields make, within its limits. They are refused for another cause than memory only where they make no
@@ -21,7 +21,7 @@ use text_tree::Text;
 pub fn module_of<A: Allocator + Clone>(
     alloc: &A,
     tree: &Text<'_, A>,
-) -> Result<Module<A>, AsmRefusal>
+) -> Result<Module<A>, Unresolved>
     ensures resolves { IfOk result (λ m. Resolves (fields_of tree.now) (module_view m)) }
     ensures fits { IfOk result (λ m. ModuleFits (module_view m)) }
     ensures refused { IfErr result (Unless (ResolveToNothing (fields_of tree.now))) }
@@ -32,7 +32,7 @@ pub fn module_of<A: Allocator + Clone>(
     let parts = parts_of_text(alloc, &spaces, tree)?;
     match seal(lists_of(spaces.types, parts)) {
         Ok(module) => Ok(module),
-        Err(Unsealed::NoMemory) => Err(AsmRefusal::NoMemory),
-        Err(Unsealed::TooLarge) => Err(AsmRefusal::TooLarge(1)),
+        Err(Unsealed::NoMemory) => Err(Unresolved::NoMemory),
+        Err(Unsealed::TooLarge) => Err(Unresolved::Broken),
     }
 }

@@ -3,25 +3,31 @@
 ghost use Rattle.std.specs.Prelude.{◌≡◌};
 
 use std::alloc::AllocError;
+use thiserror::Error;
 
 /// Why bytes gave no block. Reading goes from front to back, and the first fault is answered.
-#[derive(Clone, Copy, Debug, PartialEq, Eq)]
+#[derive(Clone, Copy, Debug, PartialEq, Eq, Error)]
 pub enum BlockRefusal {
     /// A field that begins at this byte cannot be, or ends past the input; or a count whose smallest items exceed the rest stands there; or
     /// it is the first byte that is left over.
+    #[error("what begins at byte {0} spells no block")]
     Malformed(usize),
     /// There are more than 65,535 positions.
+    #[error("there are more than 65,535 positions")]
     TooLarge,
     /// Memory was refused.
+    #[error("memory was refused")]
     NoMemory,
 }
 
 /// Why bytes were not written.
-#[derive(Clone, Copy, Debug, PartialEq, Eq)]
+#[derive(Clone, Copy, Debug, PartialEq, Eq, Error)]
 pub enum WriteRefusal {
     /// Memory was refused. Nothing was put.
+    #[error("memory was refused")]
     NoMemory,
     /// The sink failed. What was put is a beginning of the bytes that is not all.
+    #[error("the sink failed")]
     Write,
 }
 

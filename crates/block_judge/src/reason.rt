@@ -5,28 +5,38 @@ ghost use Rattle.spec_block.specs.Verdicts.{place};
 ghost use Rattle.block_judge.specs.Judging.{told, place_in};
 
 use std::alloc::{AllocError, AllocFailed};
+use thiserror::Error;
 use wtypes::NoMemory;
 
 /// Why a block is rejected, in the order in which the reasons are looked for. Positions and calls count from 0.
-#[derive(Clone, Copy, Debug, PartialEq, Eq)]
+#[derive(Clone, Copy, Debug, PartialEq, Eq, Error)]
 pub enum Reason {
     /// The bytes spell no block within the limits.
+    #[error("the bytes spell no block within the limits")]
     Malformed,
     /// The digest before is not the world's.
+    #[error("the digest before is not the world's")]
     WrongWorld,
     /// The digest of the calls is not that of the calls.
+    #[error("the digest of the calls is not that of the calls")]
     WrongCalls,
     /// The least position whose number is not below the number of calls, or stood before.
+    #[error("position {0} has a number that is no call's or stood before")]
     BadOrder(u32),
     /// The limits of the ordered calls exceed the block's fuel.
+    #[error("the limits of the ordered calls exceed the block's fuel")]
     OverBudget,
     /// The least call left out whose limit is not above what remains.
+    #[error("call {0} is left out though there was room for it")]
     RoomLeft(u32),
     /// The least position whose turns are not those of the published modes in the published order.
+    #[error("position {0} has turns other than those of its modes in the order")]
     BadTurns(u32),
     /// The least position whose receipt, or whose locks and modes, are not the serial execution's.
+    #[error("position {0} has another receipt, or other locks or modes, than the serial execution")]
     Deviates(u32),
     /// The total fuel or the digest after is not the serial execution's.
+    #[error("the total fuel or the digest after is not the serial execution's")]
     WrongEnd,
 }
 
@@ -66,11 +76,13 @@ impl Reason {
 }
 
 /// Why a judgement ends.
-#[derive(Clone, Copy, Debug, PartialEq, Eq)]
+#[derive(Clone, Copy, Debug, PartialEq, Eq, Error)]
 pub enum Unfit {
     /// The block is rejected.
+    #[error("the block is rejected: {0}")]
     Rejected(Reason),
     /// Memory was refused, and nothing is said of the block.
+    #[error("memory was refused")]
     NoMemory,
 }
 

@@ -12,6 +12,7 @@ ghost use Rattle.body_typing.specs.Checked.{IsBodyTyped, spaces_view, context_at
 
 use crate::operands::Operands;
 use crate::plain::{Place, check_plain, check_table, refused};
+use crate::rule::Rule;
 use crate::scope::{Scope, TypeRefusal};
 use crate::spaces::Spaces;
 use module_tree::instr::Instr;
@@ -39,7 +40,7 @@ fn end_block<W: Allocator>(
     ensures { Meets result ops.new (option_and_then (λ _. arrow [] (of block) ops.old) (guard (ends block (Some left)) ops.old)) }
 {
     if !left.is_result(block) {
-        return Err(refused(place, 18));
+        return Err(refused(place, Rule::EndOperands));
     }
     ops.put_result(block)?;
     Ok(())
@@ -100,16 +101,16 @@ fn check_instr<A: Allocator, W: Allocator + Clone>(
         },
         Instr::If(_, block, then_body, else_body) => {
             if !ops.pop_type(ValType::I32) {
-                return Err(refused(place, 17));
+                return Err(refused(place, Rule::Operand));
             }
             if lacks_else(*block, else_body) {
-                return Err(refused(place, 19));
+                return Err(refused(place, Rule::EmptyElse));
             }
             match check_all(alloc, scope, labels, *block, then_body, next) {
                 Err(refusal) => Err(refusal),
                 Ok(left) => {
                     if !left.is_result(*block) {
-                        return Err(refused(place, 18));
+                        return Err(refused(place, Rule::EndOperands));
                     }
                     match check_all(alloc, scope, labels, *block, else_body, next) {
                         Err(refusal) => Err(refusal),
@@ -168,7 +169,7 @@ pub fn check_func<A: Allocator, W: Allocator + Clone>(
                     func: number,
                     ordinal: next,
                 };
-                Err(refused(end, 18))
+                Err(refused(end, Rule::EndOperands))
             }
         }
     }

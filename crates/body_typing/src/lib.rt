@@ -3,7 +3,8 @@
 
 pub mod check;
 mod operands;
-mod operators;
+pub mod operators;
 mod plain;
+pub mod rule;
 pub mod scope;
 pub mod spaces;

@@ -2,8 +2,9 @@
 
 ghost use Rattle.std.specs.Prelude.{◌≡◌, ◌∷◌, ◌++◌, [], reverse, map, Some, OnOk, IfErr, option_map, MatchOption};
 ghost use Rattle.spec_typing.specs.Typing.{of};
-ghost use Rattle.spec_typing.specs.Principal.{Stack, Operand, empty, anything, same_type, may_be, guard, pop, pop_type, arrow, ends};
+ghost use Rattle.spec_typing.specs.Principal.{Stack, Operand, empty, anything, may_be, guard, pop, pop_type, arrow, ends};
 
+use crate::operators::same;
 use std::alloc::{AllocError, Allocator};
 use std::marker::Model;
 use wtypes::ValType;
@@ -22,16 +23,6 @@ impl<W: Allocator> Model for Operands<W> {
     ghost Value = { Stack };
 
     ghost view = { λ s. record { any_below = s.any_below; top = reverse s.known.items } };
-}
-
-pub fn same(a: ValType, b: ValType) -> bool
-    ensures { result ≡ same_type a b }
-{
-    match (a, b) {
-        (ValType::I32, ValType::I32) => true,
-        (ValType::I64, ValType::I64) => true,
-        _ => false,
-    }
 }
 
 impl<W: Allocator> Operands<W> {

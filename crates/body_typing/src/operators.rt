@@ -1,11 +1,24 @@
-// The types and widths of operators.
+// The types of operators.
 
 ghost use Rattle.std.specs.Prelude.{◌≡◌};
 ghost use Rattle.spec_numeric.specs.Operators;
 ghost use Rattle.spec_numeric.specs.Storage;
+ghost use Rattle.spec_typing.specs.Principal.{same_type};
 
 use wtypes::{BinOp, CvtOp, LoadOp, RelOp, StoreOp, TestOp, UnOp, ValType, Value};
 
+/// Whether these are one type.
+pub fn same(a: ValType, b: ValType) -> bool
+    ensures { result ≡ same_type a b }
+{
+    match (a, b) {
+        (ValType::I32, ValType::I32) => true,
+        (ValType::I64, ValType::I64) => true,
+        _ => false,
+    }
+}
+
+/// The type of a value.
 pub fn type_of(v: Value) -> ValType
     ensures { result ≡ Operators.type_of v }
 {
@@ -15,6 +28,7 @@ pub fn type_of(v: Value) -> ValType
     }
 }
 
+/// The type of the operand and of the result.
 pub fn unary_type(op: UnOp) -> ValType
     ensures { result ≡ Operators.unary_type op }
 {
@@ -23,6 +37,7 @@ pub fn unary_type(op: UnOp) -> ValType
     }
 }
 
+/// The type of both operands and of the result.
 pub fn binary_type(op: BinOp) -> ValType
     ensures { result ≡ Operators.binary_type op }
 {
@@ -45,6 +60,7 @@ pub fn binary_type(op: BinOp) -> ValType
     }
 }
 
+/// The type of the operand.
 pub fn test_type(op: TestOp) -> ValType
     ensures { result ≡ Operators.test_type op }
 {
@@ -53,6 +69,7 @@ pub fn test_type(op: TestOp) -> ValType
     }
 }
 
+/// The type of both operands.
 pub fn compare_type(op: RelOp) -> ValType
     ensures { result ≡ Operators.compare_type op }
 {
@@ -70,6 +87,7 @@ pub fn compare_type(op: RelOp) -> ValType
     }
 }
 
+/// The type of the operand.
 pub fn convert_from(op: CvtOp) -> ValType
     ensures { result ≡ Operators.convert_from op }
 {
@@ -77,9 +95,15 @@ pub fn convert_from(op: CvtOp) -> ValType
         CvtOp::I32WrapI64 => ValType::I64,
         CvtOp::I64ExtendI32S => ValType::I32,
         CvtOp::I64ExtendI32U => ValType::I32,
+        CvtOp::I32Extend8S => ValType::I32,
+        CvtOp::I32Extend16S => ValType::I32,
+        CvtOp::I64Extend8S => ValType::I64,
+        CvtOp::I64Extend16S => ValType::I64,
+        CvtOp::I64Extend32S => ValType::I64,
     }
 }
 
+/// The type of the result.
 pub fn convert_to(op: CvtOp) -> ValType
     ensures { result ≡ Operators.convert_to op }
 {
@@ -87,9 +111,15 @@ pub fn convert_to(op: CvtOp) -> ValType
         CvtOp::I32WrapI64 => ValType::I32,
         CvtOp::I64ExtendI32S => ValType::I64,
         CvtOp::I64ExtendI32U => ValType::I64,
+        CvtOp::I32Extend8S => ValType::I32,
+        CvtOp::I32Extend16S => ValType::I32,
+        CvtOp::I64Extend8S => ValType::I64,
+        CvtOp::I64Extend16S => ValType::I64,
+        CvtOp::I64Extend32S => ValType::I64,
     }
 }
 
+/// The type of the value that a load gives.
 pub fn load_type(op: LoadOp) -> ValType
     ensures { result ≡ Storage.load_type op }
 {
@@ -109,25 +139,7 @@ pub fn load_type(op: LoadOp) -> ValType
     }
 }
 
-pub fn load_width(op: LoadOp) -> u32
-    ensures { result ≡ Storage.load_width op }
-{
-    match op {
-        LoadOp::I32Load => 4,
-        LoadOp::I64Load => 8,
-        LoadOp::I32Load8S => 1,
-        LoadOp::I32Load8U => 1,
-        LoadOp::I32Load16S => 2,
-        LoadOp::I32Load16U => 2,
-        LoadOp::I64Load8S => 1,
-        LoadOp::I64Load8U => 1,
-        LoadOp::I64Load16S => 2,
-        LoadOp::I64Load16U => 2,
-        LoadOp::I64Load32S => 4,
-        LoadOp::I64Load32U => 4,
-    }
-}
-
+/// The type of the value that a store takes.
 pub fn store_type(op: StoreOp) -> ValType
     ensures { result ≡ Storage.store_type op }
 {
@@ -139,19 +151,5 @@ pub fn store_type(op: StoreOp) -> ValType
         StoreOp::I64Store8 => ValType::I64,
         StoreOp::I64Store16 => ValType::I64,
         StoreOp::I64Store32 => ValType::I64,
-    }
-}
-
-pub fn store_width(op: StoreOp) -> u32
-    ensures { result ≡ Storage.store_width op }
-{
-    match op {
-        StoreOp::I32Store => 4,
-        StoreOp::I64Store => 8,
-        StoreOp::I32Store8 => 1,
-        StoreOp::I32Store16 => 2,
-        StoreOp::I64Store8 => 1,
-        StoreOp::I64Store16 => 2,
-        StoreOp::I64Store32 => 4,
     }
 }

@@ -10,7 +10,9 @@ ghost use Rattle.body_typing.specs.Checked.{context_at, Meets};
 
 use crate::operands::Operands;
 use crate::operators;
+use crate::rule::Rule;
 use crate::scope::{Scope, TypeRefusal};
+use module_tree::width::{load_width, store_width};
 use std::alloc::Allocator;
 use wtypes::{FuncType, LoadOp, PlainInstr, StoreOp, ValType};
 
@@ -21,7 +23,7 @@ pub struct Place {
     pub ordinal: u32,
 }
 
-pub fn refused(place: Place, rule: u8) -> TypeRefusal
+pub fn refused(place: Place, rule: Rule) -> TypeRefusal
     ensures { result ≡ TypeRefusal.At (Some place.func) place.ordinal rule }
 {
     TypeRefusal::At {
@@ -40,7 +42,7 @@ fn apply<W: Allocator>(
     ensures { Meets result ops.new (arrow (reverse operands.now) (reverse results.now) ops.old) }
 {
     if !ops.take(operands) {
-        return Err(refused(place, 17));
+        return Err(refused(place, Rule::Operand));
     }
     ops.put(results)?;
     Ok(())
@@ -54,7 +56,7 @@ fn go<W: Allocator>(
     ensures { Meets result ops.new (leave (of block) ops.old) }
 {
     if !ops.take_result(block) {
-        return Err(refused(place, 17));
+        return Err(refused(place, Rule::Operand));
     }
     ops.forget();
     Ok(())
@@ -68,10 +70,10 @@ fn go_if<W: Allocator>(
     ensures { Meets result ops.new (arrow (I32 ∷ of block) (of block) ops.old) }
 {
     if !ops.pop_type(ValType::I32) {
-        return Err(refused(place, 17));
+        return Err(refused(place, Rule::Operand));
     }
     if !ops.take_result(block) {
-        return Err(refused(place, 17));
+        return Err(refused(place, Rule::Operand));
     }
     ops.put_result(block)?;
     Ok(())
@@ -81,20 +83,20 @@ fn choose<W: Allocator>(ops: &mut Operands<W>, place: Place) -> Result<(), TypeR
     ensures { Meets result ops.new (select ops.old) }
 {
     if !ops.pop_type(ValType::I32) {
-        return Err(refused(place, 17));
+        return Err(refused(place, Rule::Operand));
     }
     let Some(first) = ops.pop() else {
-        return Err(refused(place, 17));
+        return Err(refused(place, Rule::Operand));
     };
     let Some(second) = ops.pop() else {
-        return Err(refused(place, 17));
+        return Err(refused(place, Rule::Operand));
     };
     match (first, second) {
         (None, _) => ops.push(second)?,
         (Some(_), None) => ops.push(first)?,
         (Some(t), Some(u)) => {
-            if !crate::operands::same(t, u) {
-                return Err(refused(place, 17));
+            if !operators::same(t, u) {
+                return Err(refused(place, Rule::Operand));
             }
             ops.push(first)?
         }
@@ -140,7 +142,7 @@ fn call<A: Allocator, W: Allocator>(
     ensures { Meets result ops.new (plain_step (context_at scope.now []) (plain.Call func) ops.old) }
 {
     let Some(index) = type_index(scope, func) else {
-        return Err(refused(place, 13));
+        return Err(refused(place, Rule::CallIndex));
     };
     match type_at(scope, index) {
         Some(t) => apply(ops, &t.params, &t.results, place),
@@ -157,13 +159,13 @@ fn call_indirect<A: Allocator, W: Allocator>(
     ensures { Meets result ops.new (plain_step (context_at scope.now []) (plain.CallIndirect index) ops.old) }
 {
     let Some(t) = scope.types.get(index as usize) else {
-        return Err(refused(place, 1));
+        return Err(refused(place, Rule::TypeIndex));
     };
     if !scope.spaces.has_table() {
-        return Err(refused(place, 15));
+        return Err(refused(place, Rule::NothingThere));
     }
     if !ops.pop_type(ValType::I32) {
-        return Err(refused(place, 17));
+        return Err(refused(place, Rule::Operand));
     }
     apply(ops, &t.params, &t.results, place)
 }
@@ -177,7 +179,7 @@ fn local_get<A: Allocator, W: Allocator>(
     ensures { Meets result ops.new (plain_step (context_at scope.now []) (plain.LocalGet local) ops.old) }
 {
     match scope.local(local) {
-        None => Err(refused(place, 11)),
+        None => Err(refused(place, Rule::LocalIndex)),
         Some(t) => apply(ops, &[], &[t], place),
     }
 }
@@ -191,7 +193,7 @@ fn local_set<A: Allocator, W: Allocator>(
     ensures { Meets result ops.new (plain_step (context_at scope.now []) (plain.LocalSet local) ops.old) }
 {
     match scope.local(local) {
-        None => Err(refused(place, 11)),
+        None => Err(refused(place, Rule::LocalIndex)),
         Some(t) => apply(ops, &[t], &[], place),
     }
 }
@@ -205,7 +207,7 @@ fn local_tee<A: Allocator, W: Allocator>(
     ensures { Meets result ops.new (plain_step (context_at scope.now []) (plain.LocalTee local) ops.old) }
 {
     match scope.local(local) {
-        None => Err(refused(place, 11)),
+        None => Err(refused(place, Rule::LocalIndex)),
         Some(t) => apply(ops, &[t], &[t], place),
     }
 }
@@ -219,7 +221,7 @@ fn global_get<A: Allocator, W: Allocator>(
     ensures { Meets result ops.new (plain_step (context_at scope.now []) (plain.GlobalGet global) ops.old) }
 {
     match scope.spaces.globals.get(global as usize) {
-        None => Err(refused(place, 12)),
+        None => Err(refused(place, Rule::GlobalIndex)),
         Some(g) => apply(ops, &[], &[g.value_type], place),
     }
 }
@@ -233,10 +235,10 @@ fn global_set<A: Allocator, W: Allocator>(
     ensures { Meets result ops.new (plain_step (context_at scope.now []) (plain.GlobalSet global) ops.old) }
 {
     match scope.spaces.globals.get(global as usize) {
-        None => Err(refused(place, 12)),
+        None => Err(refused(place, Rule::GlobalIndex)),
         Some(g) => {
             if !g.is_mutable {
-                return Err(refused(place, 12));
+                return Err(refused(place, Rule::GlobalIndex));
             }
             apply(ops, &[g.value_type], &[], place)
         }
@@ -262,10 +264,10 @@ fn load<A: Allocator, W: Allocator>(
     ensures { Meets result ops.new (plain_step (context_at scope.now []) (plain.Load op align offset) ops.old) }
 {
     if !scope.spaces.has_memory() {
-        return Err(refused(place, 15));
+        return Err(refused(place, Rule::NothingThere));
     }
-    if !is_aligned(align, operators::load_width(op)) {
-        return Err(refused(place, 16));
+    if !is_aligned(align, load_width(op)) {
+        return Err(refused(place, Rule::Alignment));
     }
     apply(ops, &[ValType::I32], &[operators::load_type(op)], place)
 }
@@ -281,10 +283,10 @@ fn store<A: Allocator, W: Allocator>(
     ensures { Meets result ops.new (plain_step (context_at scope.now []) (plain.Store op align offset) ops.old) }
 {
     if !scope.spaces.has_memory() {
-        return Err(refused(place, 15));
+        return Err(refused(place, Rule::NothingThere));
     }
-    if !is_aligned(align, operators::store_width(op)) {
-        return Err(refused(place, 16));
+    if !is_aligned(align, store_width(op)) {
+        return Err(refused(place, Rule::Alignment));
     }
     apply(ops, &[ValType::I32, operators::store_type(op)], &[], place)
 }
@@ -297,7 +299,7 @@ fn memory_size<A: Allocator, W: Allocator>(
     ensures { Meets result ops.new (plain_step (context_at scope.now []) plain.MemorySize ops.old) }
 {
     if !scope.spaces.has_memory() {
-        return Err(refused(place, 15));
+        return Err(refused(place, Rule::NothingThere));
     }
     apply(ops, &[], &[ValType::I32], place)
 }
@@ -310,7 +312,7 @@ fn memory_grow<A: Allocator, W: Allocator>(
     ensures { Meets result ops.new (plain_step (context_at scope.now []) plain.MemoryGrow ops.old) }
 {
     if !scope.spaces.has_memory() {
-        return Err(refused(place, 15));
+        return Err(refused(place, Rule::NothingThere));
     }
     apply(ops, &[ValType::I32], &[ValType::I32], place)
 }
@@ -332,18 +334,18 @@ pub fn check_plain<A: Allocator, W: Allocator>(
         }
         PlainInstr::Nop => Ok(()),
         PlainInstr::Br(label) => match label_at(labels, label) {
-            None => Err(refused(place, 14)),
+            None => Err(refused(place, Rule::LabelIndex)),
             Some(block) => go(ops, block, place),
         },
         PlainInstr::BrIf(label) => match label_at(labels, label) {
-            None => Err(refused(place, 14)),
+            None => Err(refused(place, Rule::LabelIndex)),
             Some(block) => go_if(ops, block, place),
         },
         PlainInstr::Return => go(ops, scope.result, place),
         PlainInstr::Call(func) => call(ops, scope, func, place),
         PlainInstr::CallIndirect(index) => call_indirect(ops, scope, index, place),
         PlainInstr::Drop => match ops.pop() {
-            None => Err(refused(place, 17)),
+            None => Err(refused(place, Rule::Operand)),
             Some(_) => Ok(()),
         },
         PlainInstr::Select => choose(ops, place),
@@ -384,7 +386,7 @@ fn same_block(a: Option<ValType>, b: Option<ValType>) -> bool
 {
     match (a, b) {
         (None, None) => true,
-        (Some(t), Some(u)) => crate::operands::same(t, u),
+        (Some(t), Some(u)) => operators::same(t, u),
         _ => false,
     }
 }
@@ -441,19 +443,19 @@ pub fn check_table<W: Allocator>(
     ensures { Meets result ops.new (option_and_then (λ block. option_and_then (λ _. leave (I32 ∷ of block) ops.old) (guard (all_lead (reverse labels.now.items) block targets.now) ops.old)) (slice_get (reverse labels.now.items) fallback)) }
 {
     let Some(block) = label_at(labels, fallback) else {
-        return Err(refused(place, 14));
+        return Err(refused(place, Rule::LabelIndex));
     };
     if one_is_unknown(labels, targets) {
-        return Err(refused(place, 14));
+        return Err(refused(place, Rule::LabelIndex));
     }
     if !ops.pop_type(ValType::I32) {
-        return Err(refused(place, 17));
+        return Err(refused(place, Rule::Operand));
     }
     if !ops.take_result(block) {
-        return Err(refused(place, 17));
+        return Err(refused(place, Rule::Operand));
     }
     if !all_lead_to(labels, block, targets) {
-        return Err(refused(place, 20));
+        return Err(refused(place, Rule::TableLabels));
     }
     ops.forget();
     Ok(())

@@ -1,7 +1,10 @@
 // What the check of a body is given, and how it refuses.
 
+use crate::rule::Rule;
 use crate::spaces::Spaces;
 use std::alloc::{AllocError, Allocator};
+use std::error::Error;
+use std::fmt;
 use wtypes::{FuncType, ValType};
 
 /// What one body may name.
@@ -38,29 +41,6 @@ impl<'a, A: Allocator, W: Allocator> Scope<'a, A, W> {
 
 /// Why a module is not valid: the first fault that the check meets, or that memory was refused.
 ///
-/// | rule | fault |
-/// |---|---|
-/// | 1 | type index out of range |
-/// | 2 | function type with more than one result |
-/// | 3 | more than one table or memory |
-/// | 4 | limits: minimum above maximum, or memory above 65,536 pages |
-/// | 5 | global's expression not constant or of another type |
-/// | 6 | export name repeated |
-/// | 7 | export index out of range |
-/// | 8 | start function out of range or not of type `[] -> []` |
-/// | 9 | element segment: no such table, offset not a constant i32, function out of range |
-/// | 10 | data segment: no such memory, offset not a constant i32 |
-/// | 11 | local index out of range |
-/// | 12 | global index out of range, or set of a constant one |
-/// | 13 | function index of a call out of range |
-/// | 14 | label out of range |
-/// | 15 | no memory or no table for this instruction |
-/// | 16 | `2^align` above the width in bytes |
-/// | 17 | operand missing or of another type |
-/// | 18 | operands at the end not exactly the result |
-/// | 19 | `if` with a result and an empty `else` |
-/// | 20 | labels of a `br_table` of different types |
-///
 /// Types, imports, functions' types, tables, memories, globals, element segments, data segments, the start function and
 /// exports are judged in this order, each list from its front, then the bodies from the first. In a body the
 /// instructions are judged in preorder, the end of a block after its children, and at one instruction the least rule
@@ -74,12 +54,38 @@ pub enum TypeRefusal {
         /// The ordinal of the instruction at fault, that of the block at its end, or the one after the last at the end
         /// of the body. Outside bodies the place in the module's own list, and 0 for the start function.
         ordinal: u32,
-        /// The number of the rule.
-        rule: u8,
+        /// The rule that is broken.
+        rule: Rule,
     },
     /// Memory was refused.
     NoMemory,
 }
+
+impl fmt::Display for TypeRefusal {
+    fn fmt<W: fmt::Write>(&self, f: &mut fmt::Formatter<W>) -> fmt::Result {
+        match self {
+            TypeRefusal::At {
+                func: None,
+                ordinal,
+                rule,
+            } => write!(f, "rule {}, at {ordinal}: {rule}", rule.number()),
+            TypeRefusal::At {
+                func: Some(func),
+                ordinal,
+                rule,
+            } => {
+                write!(
+                    f,
+                    "rule {}, at instruction {ordinal} of function {func}: {rule}",
+                    rule.number(),
+                )
+            }
+            TypeRefusal::NoMemory => write!(f, "memory was refused"),
+        }
+    }
+}
+
+impl Error for TypeRefusal {}
 
 impl From<AllocError> for TypeRefusal {
     ghost use Rattle.std.specs.Prelude.{◌≡◌};

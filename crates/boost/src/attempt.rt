@@ -1,17 +1,19 @@
 // What the book keeps of a call: its live attempt, or its committed entry.
-ghost use Rattle.std.specs.Prelude.{◌≡◌, ◌+◌, ◌<◌, ◌≤◌, ℕ, ◌∷◌, [], ◌++◌, IfOk, OnOk, OnErr, IsTrue, ◌↔◌, if◌then◌else◌, length, slice_set};
+ghost use Rattle.std.specs.Prelude.{◌≡◌, ◌+◌, ◌<◌, ◌≤◌, ℕ, ◌∷◌, [], ◌++◌, IfOk, OnOk, OnErr, IsTrue, ◌↔◌, Some, if◌then◌else◌, length, slice_set};
 ghost use Rattle.spec_ledger.specs.Cells.{reply_to, cells_after, inverse_to};
-ghost use Rattle.spec_ledger.specs.Book.{back_all, extended, entry_of, has_returned, fresh as fresh_of};
-ghost use Rattle.storage.specs.Counts.{opened};
-ghost use Rattle.spec_ledger.specs.Cells.{lock_of};
-ghost use Rattle.spec_ledger.specs.Modes.{mode_of};
+ghost use Rattle.spec_ledger.specs.Book.{extended, entry_of, fresh as fresh_of};
+ghost use Rattle.storage.specs.Counts.{AreCounts, opened};
+ghost use Rattle.spec_ledger.specs.Cells.{lock_cmp, lock_of};
+ghost use Rattle.spec_ledger.specs.Modes.{join_held, mode_of};
+ghost use Rattle.std.specs.FinMap as finite;
+ghost use Rattle.std.specs.Ordering.{eq_by_cmp};
 ghost use Rattle.abstract_locks.specs.Table.{asked, row_at};
-ghost use Rattle.boost.specs.Counted.{closed_all, AreUnsettled, AreCounts};
 
 use crate::trace::same_trace;
-use abstract_locks::Table;
-use spec_ledger::{Inverse, Mode, Op, Outcome, Reply, Step};
+use abstract_locks::{Table, join_to};
+use spec_ledger::{Inverse, Lock, Mode, Op, Outcome, Reply, Step};
 use std::alloc::{Allocator, Global};
+use std::cmp::Ordering;
 use std::marker::Model;
 use storage::{Cells, NoMemory, lock};
 
@@ -43,11 +45,46 @@ impl<A: Allocator> Entry<A> {
         self.call
     }
 
+    /// The operations that the call did, with their replies, in order.
+    pub fn trace(&self) -> &[Step]
+        ensures { result.now ≡ self.now.trace }
+    {
+        &self.trace
+    }
+
     /// How the run ended.
     pub fn outcome(&self) -> Outcome
         ensures { result ≡ self.now.outcome }
     {
         self.outcome
+    }
+
+    /// The join of the modes in which the call asked for a lock, or None where it did not ask for it.
+    pub fn mode(&self, lock: Lock) -> Option<Mode>
+        ensures { result ≡ finite.get self.now.modes lock }
+    {
+        let mut held = None;
+        for step in &self.trace {
+            held = asked_at(lock, *step, held);
+        }
+        held
+    }
+}
+
+fn is_same_lock(a: Lock, b: Lock) -> bool
+    ensures { result ≡ eq_by_cmp lock_cmp a b }
+{
+    matches!(a.cmp(&b), Ordering::Equal)
+}
+
+/// What is held of a lock once an operation of a trace has asked for its own.
+fn asked_at(at: Lock, step: Step, held: Option<Mode>) -> Option<Mode>
+    ensures { result ≡ (if eq_by_cmp lock_cmp at (lock_of step.op) then Some (join_held (mode_of step.op) held) else held) }
+{
+    if is_same_lock(at, lock(step.op)) {
+        Some(join_to(mode(step.op), held))
+    } else {
+        held
     }
 }
 
@@ -70,31 +107,6 @@ impl<A: Allocator> Model for Attempt<A> {
     ghost coded = { coded_attempt };
 
     ghost view = { λ a. record { call = a.call; number = a.number; trace = a.trace.items; modes = touched a.trace.items; inverses = a.inverses.items } };
-}
-
-/// Takes inverses back, last first.
-pub(crate) fn take_all_back<A: Allocator + Copy>(
-    cells: &mut Cells<A>,
-    mut inverses: Vec<Inverse, A>,
-)
-    requires { AreUnsettled inverses.items cells.old.unsettled }
-    ensures cells { cells.new.cells ≡ back_all inverses.items cells.old.cells }
-    ensures unsettled { cells.new.unsettled ≡ closed_all inverses.items cells.old.unsettled }
-{
-    while let Some(inverse) = inverses.pop() {
-        cells.take_back(inverse);
-    }
-}
-
-/// Lets changes stand.
-pub(crate) fn settle_all<A: Allocator + Copy>(cells: &mut Cells<A>, mut inverses: Vec<Inverse, A>)
-    requires { AreUnsettled inverses.items cells.old.unsettled }
-    ensures cells { cells.new.cells ≡ cells.old.cells }
-    ensures unsettled { cells.new.unsettled ≡ closed_all inverses.items cells.old.unsettled }
-{
-    while let Some(inverse) = inverses.pop() {
-        cells.settle(inverse);
-    }
 }
 
 /// The mode that an operation asks for.
@@ -144,33 +156,6 @@ impl<A: Allocator + Copy> Attempt<A> {
             Err(_) => unreachable!(),
         }
         Ok(reply)
-    }
-}
-
-/// Whether a run returned.
-pub(crate) fn returned(outcome: Outcome) -> bool
-    ensures { result ≡ has_returned outcome }
-{
-    match outcome {
-        Outcome::Returned(_) => true,
-        Outcome::Trapped(_) | Outcome::OutOfFuel | Outcome::Rejected(_) => false,
-    }
-}
-
-/// Ends the changes of a call: they stand if it returned, and else are taken back.
-pub(crate) fn end_all<A: Allocator + Copy>(
-    cells: &mut Cells<A>,
-    inverses: Vec<Inverse, A>,
-    stands: bool,
-)
-    requires { AreUnsettled inverses.items cells.old.unsettled }
-    ensures cells { cells.new.cells ≡ (if stands then cells.old.cells else back_all inverses.items cells.old.cells) }
-    ensures unsettled { cells.new.unsettled ≡ closed_all inverses.items cells.old.unsettled }
-{
-    if stands {
-        settle_all(cells, inverses);
-    } else {
-        take_all_back(cells, inverses);
     }
 }
 

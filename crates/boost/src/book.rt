@@ -7,13 +7,14 @@ ghost use Rattle.spec_ledger.specs.Events.{IsStale, BeginDone, HasNoAttempt, OpD
 ghost use Rattle.boost.specs.Kept.{AreStanding, IsBook, IsPlace};
 ghost use Rattle.std.specs.FinMap as finite;
 
-use crate::attempt::{Attempt, Entry, end_all, mode, returned, take_all_back};
+use crate::attempt::{Attempt, Entry, mode};
 use crate::standing::{Standing, note_places, place_of};
 use abstract_locks::Table;
 use spec_ledger::{Lock, Op, Outcome, Reply, Step};
 use std::alloc::{Allocator, Global};
 use std::marker::Model;
-use storage::{Cells, NoMemory, lock};
+use storage::{Cells, NoMemory, end_all, lock, returned, take_all_back};
+use thiserror::Error;
 
 /// The right to act for an attempt.
 #[derive(Debug, Drop)]
@@ -32,37 +33,47 @@ pub struct Run<'a> {
 }
 
 /// Why an operation is not done.
-#[derive(Clone, Copy, Debug, PartialEq, Eq)]
+#[derive(Clone, Copy, Debug, PartialEq, Eq, Error)]
 pub enum OpRefusal {
     /// Another live attempt holds the lock in a mode that does not go with the one asked for, joined to the one held.
+    #[error("another attempt holds the lock in a mode that does not go with the one asked for")]
     Conflict,
     /// The attempt of the ticket lives no more.
+    #[error("the attempt of the ticket lives no more")]
     Stale,
     /// Memory was refused, or a counter of unsettled changes is full.
+    #[error("memory was refused, or a counter of unsettled changes is full")]
     NoMemory,
 }
 
 /// Why an attempt is not committed.
-#[derive(Clone, Copy, Debug, PartialEq, Eq)]
+#[derive(Clone, Copy, Debug, PartialEq, Eq, Error)]
 pub enum CommitRefusal {
     /// The attempt of the ticket lives no more.
+    #[error("the attempt of the ticket lives no more")]
     Stale,
     /// The run's trace is not the one that the book kept.
+    #[error("the run's trace is not the one that the book kept")]
     Differs,
     /// Memory was refused.
+    #[error("memory was refused")]
     NoMemory,
 }
 
 /// Why no attempt of a call is begun.
-#[derive(Clone, Copy, Debug, PartialEq, Eq)]
+#[derive(Clone, Copy, Debug, PartialEq, Eq, Error)]
 pub enum BeginRefusal {
     /// The book has no call of this number.
+    #[error("the book has no call of this number")]
     NoSuchCall,
     /// The call has a live attempt.
+    #[error("the call has a live attempt")]
     Live,
     /// The call has an entry.
+    #[error("the call has an entry")]
     Committed,
     /// Memory was refused, or the counter of the call's attempts is full.
+    #[error("memory was refused, or the counter of the call's attempts is full")]
     NoMemory,
 }
 
@@ -71,7 +82,7 @@ pub enum BeginRefusal {
 pub struct Closed<A: Allocator = Global> {
     /// The cells that the book was opened with.
     pub opening: Cells<A>,
-    /// The cells after every live call is undone.
+    /// The cells after every live call is undone, in which nothing is unsettled.
     pub cells: Cells<A>,
     /// The committed calls in their order.
     pub entries: Vec<Entry<A>, A>,
@@ -231,11 +242,12 @@ impl<A: Allocator + Copy> Book<A> {
         true
     }
 
-    /// The opening cells, the entries, and the cells after every live call is undone.
+    /// The opening cells, the entries, and the cells after every live call is undone, in which nothing is unsettled.
     pub fn close(mut self) -> Closed<A>
         ensures opening { result.opening.cells ≡ self.opening }
         ensures entries { result.entries.items ≡ self.entries }
         ensures cells { result.cells.cells ≡ settled self.opening self.entries }
+        ensures settled { result.cells.unsettled ≡ finite.empty }
     {
         while self.undo_last() {}
         let Book {

@@ -7,18 +7,22 @@ ghost use Rattle.calls_text.specs.Refusals.{Tells};
 use crate::line::call_of;
 use call::Call;
 use std::alloc::{AllocError, AllocFailed, Global};
+use thiserror::Error;
 
 /// The most calls of a text.
 pub const MOST_CALLS: usize = 65_535;
 
 /// Why a text gives no calls.
-#[derive(Clone, Copy, Debug, PartialEq, Eq)]
+#[derive(Clone, Copy, Debug, PartialEq, Eq, Error)]
 pub enum CallsRefusal {
     /// The first line that spells no call or is not ended, counted from 1.
+    #[error("line {0} spells no call")]
     Line(usize),
     /// Each line spells a call, and they are more than 65,535.
+    #[error("the calls are more than 65,535")]
     TooMany,
     /// Memory was refused.
+    #[error("memory was refused")]
     NoMemory,
 }
 
@@ -55,7 +59,7 @@ fn split_lines<'a>(alloc: Global, text: &'a [u8]) -> Result<Vec<&'a [u8]>, Alloc
 /// fault.
 pub fn read_calls(alloc: Global, text: &[u8]) -> Result<Vec<Call>, CallsRefusal>
     ensures spelled { IfOk result (λ calls. SpellsCalls text.now calls.items) }
-    ensures few { IfOk result (λ calls. vec_len calls ≤ MOST_CALLS) }
+    ensures few { IfOk result (λ calls. vec_len calls ≤ 65535) }
     ensures refused { IfErr result (Tells text.now) }
 {
     let lines = split_lines(alloc, text)?;

@@ -1,9 +1,9 @@
 -- What a sink has taken.
-use Rattle.std.specs.Prelude.{◌≡◌, ℕ, ◌-◌, ◌^◌, ◌<◌, ◌≤◌, ◌⊎◌, List, ◌++◌, take, length, Bool, true, false, IsTrue}
+use Rattle.std.specs.Prelude.{◌≡◌, ℕ, ◌+◌, ◌<◌, ◌≤◌, List, ◌++◌, take, length, Bool, true, false, IsTrue}
 
--- a count of 64 bits has risen, or it was full and stays so
+-- one failure more is counted
 abbrev pub IsRaised : ℕ → ℕ → Type 0
-IsRaised old new = (old < new) ⊎ ((old ≡ 2 ^ 64 - 1) × (new ≡ old))
+IsRaised old new = new ≡ old + 1
 
 -- a failure is counted where there was one
 abbrev pub CountsIf : Bool → ℕ → ℕ → Type 0

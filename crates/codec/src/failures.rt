@@ -1,21 +1,40 @@
 //! Failures that are planned and counted.
 
-ghost use Rattle.std.specs.Prelude.{◌≡◌, ℕ};
+ghost use Rattle.std.specs.Prelude.{◌≡◌, ℕ, ◌∷◌, length};
 ghost use Rattle.codec.specs.Putting.{IsRaised, CountsIf};
 
+use boxcar::tag::{Names, Tag};
+use std::fmt;
+use std::fmt::{Debug, Formatter, Write};
 use std::marker::Model;
 
-/// Counts the calls down to the one that is to fail, and how many have failed.
-#[derive(Debug, Drop)]
+/// Counts the calls down to the one that is to fail, and how many have failed. The second is a number that only contracts
+/// see: it has no bound, and takes no memory.
+#[derive(Drop)]
 pub struct Failures {
     left: Option<u64>,
-    failed: u64,
+    failed: Tag,
 }
 
 impl Model for Failures {
+    ghost use Rattle.std.specs.Prelude.{ℕ, length};
+
     ghost Value = { ℕ };
 
-    ghost view = { λ f. f.failed };
+    ghost view = { λ f. length f.failed.numbers };
+}
+
+impl Debug for Failures {
+    fn fmt<W: Write>(&self, f: &mut Formatter<W>) -> Result<(), fmt::Error> {
+        write!(f, "Failures {{ left: {:?} }}", self.left)
+    }
+}
+
+/// A tag with one number more.
+enum OneMore {}
+
+impl Names<Tag> for OneMore {
+    ghost numbers = { λ tag. 0 ∷ tag.numbers };
 }
 
 impl Failures {
@@ -25,7 +44,7 @@ impl Failures {
     {
         Failures {
             left: None,
-            failed: 0,
+            failed: Tag::empty(),
         }
     }
 
@@ -35,7 +54,7 @@ impl Failures {
     {
         Failures {
             left: Some(n),
-            failed: 0,
+            failed: Tag::empty(),
         }
     }
 
@@ -61,6 +80,6 @@ impl Failures {
     pub fn count(&mut self)
         ensures { IsRaised self.old self.new }
     {
-        self.failed = self.failed.saturating_add(1);
+        self.failed = Tag::of::<Tag, OneMore>(&self.failed);
     }
 }

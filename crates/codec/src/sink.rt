@@ -3,8 +3,11 @@
 ghost use Rattle.std.specs.Prelude.{◌≡◌, ℕ, List, ◌++◌, Bool, IsTrue, IfOk, OnOk, OnErr};
 ghost use Rattle.codec.specs.Putting.{PutsSome, IsCutShort, IsRaised};
 
+use thiserror::Error;
+
 /// A sink did not take bytes.
-#[derive(Clone, Copy, Debug, PartialEq, Eq)]
+#[derive(Clone, Copy, Debug, PartialEq, Eq, Error)]
+#[error("the sink did not take the bytes")]
 pub struct SinkFault;
 
 /// Takes bytes in pieces. Each failure is counted, and a call that fails puts nothing.
@@ -15,7 +18,7 @@ pub trait Sink {
     /// The bytes put so far.
     ghost told: { Self → List ℕ };
 
-    /// How many calls have failed, as a number of 64 bits.
+    /// How many calls have failed: a whole number without bound.
     ghost failures: { Self → ℕ };
 
     /// Puts the first bytes, at least one of a list that is not empty, and says how many; or fails and puts none.
@@ -26,7 +29,7 @@ pub trait Sink {
         ensures kept { OnErr result (IsTrue tells → told self.new ≡ told self.old) };
 }
 
-/// Puts all of the bytes; or, where a call fails, a beginning of them that is not all.
+/// Puts all of the bytes; or, where a call fails, a beginning of them that is not all, and one failure is counted.
 pub fn put_all<S: Sink>(sink: &mut S, bytes: &[u8]) -> Result<(), SinkFault>
     ensures put { OnOk result (IsTrue S.tells → S.told sink.new ≡ S.told sink.old ++ bytes.now) }
     ensures calm { OnOk result (S.failures sink.new ≡ S.failures sink.old) }

@@ -14,7 +14,7 @@ use Rattle.spec_execution.specs.Turns.{Frees, IsAtRest, IsTurn, IsAnswered, aske
 use Rattle.interp.specs.declared.turns.Status.{Status}
 use Rattle.interp.specs.declared.turns.Status.TheVariants as status
 use Rattle.interp.specs.Progress.{Progress, GoesOn, IsProgress, IsProgressAt, IsOnRun, IsSameCall, IsStartOf, HasStepped, HasAsked, HasAnswered, AnsweredAt, HasReplied, IsDone, IsFree}
-use Rattle.interp.specs.Shown.{IsOpen, ending}
+use Rattle.interp.specs.Shown.{IsShown, ending}
 use Rattle.interp.specs.Starting.{IsOpened}
 use Rattle.debugger.specs.Cursors.{HasTurned}
 use Rattle.debugger.specs.Sight.{IsSight, sight_of}
@@ -34,12 +34,12 @@ is_free (status.Asking op) g = absurd g
 is_free (status.Ended o) g = absurd g
 is_free status.NoMemory g = absurd g
 
-pub is_open : (x : Status) → GoesOn x → IsOpen x
-is_open status.Running g = tt
-is_open (status.Fallen t) g = tt
-is_open (status.Asking op) g = absurd g
-is_open (status.Ended o) g = absurd g
-is_open status.NoMemory g = absurd g
+pub is_shown : (x : Status) → GoesOn x → IsShown x
+is_shown status.Running g = tt
+is_shown (status.Fallen t) g = tt
+is_shown (status.Asking op) g = absurd g
+is_shown (status.Ended o) g = absurd g
+is_shown status.NoMemory g = absurd g
 
 -- ---- the first state
 

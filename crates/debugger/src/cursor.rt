@@ -5,7 +5,7 @@ ghost use Rattle.spec_ledger.specs.Cells.{cells_after, reply_to};
 ghost use Rattle.interp.specs.Lent.{contracts_view};
 ghost use Rattle.interp.specs.Progress.{IsSameCall};
 ghost use Rattle.interp.specs.Shown.{ending};
-ghost use Rattle.interp.specs.Starting.{IsRefusedFor};
+ghost use Rattle.interp.specs.Starting.{IsRefusedFor, HasPlace, wrong_in};
 ghost use Rattle.debugger.specs.Cursors.{IsAt, IsOpened, IsSameRun, IsCopy};
 
 use crate::Contract;
@@ -42,6 +42,7 @@ pub fn open<'a, A: Allocator + Copy>(
     ensures opened { IfOk result (λ cursor. IsOpened (contracts_view contracts.now) call.now start.now.cells cursor) }
     ensures at { IfOk result (λ cursor. IsAt cursor) }
     ensures refused { IfErr result (λ refusal. IsRefusedFor refusal (opening (contracts_view contracts.now) call.now)) }
+    ensures place { IfErr result (λ refusal. HasPlace (wrong_in (contracts_view contracts.now) call.now) refusal) }
 {
     let machine = Machine::start(alloc, contracts, call)?;
     match start.copy(alloc) {

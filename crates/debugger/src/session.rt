@@ -17,18 +17,23 @@ use spec_ledger::{NoMemory, Outcome};
 use std::alloc::Allocator;
 use std::marker::Model;
 use storage::Cells;
+use thiserror::Error;
 use wtypes::Value;
 
 /// Why a session refuses a command.
-#[derive(Clone, Copy, Debug, PartialEq, Eq)]
+#[derive(Clone, Copy, Debug, PartialEq, Eq, Error)]
 pub enum Refusal {
     /// No turn was made so long ago.
+    #[error("no turn was made so long ago")]
     BeforeStart,
     /// There is no instruction at the place.
+    #[error("there is no instruction at the place")]
     NoSuchPlace,
     /// The bytes do not all lie in memory.
+    #[error("the bytes do not all lie in memory")]
     OutOfRange,
     /// Memory was refused.
+    #[error("memory was refused")]
     NoMemory,
 }
 
@@ -175,7 +180,7 @@ impl<'a, A: Allocator + Copy> Session<'a, A> {
     ghost use Rattle.std.specs.Prelude.{◌≡◌, IfOk, IfErr};
     ghost use Rattle.spec_execution.specs.Run.{opening};
     ghost use Rattle.interp.specs.Lent.{contracts_view};
-    ghost use Rattle.interp.specs.Starting.{IsRefusedFor};
+    ghost use Rattle.interp.specs.Starting.{IsRefusedFor, HasPlace, wrong_in};
     ghost use Rattle.debugger.specs.Sight.{IsSight, ending_at, place_at, stack_at, locals_at, globals_at};
     ghost use Rattle.debugger.specs.Commands.{IsOpened, Steps, GoesBack, Continues, Breaks, Clears, Reads};
 
@@ -192,6 +197,7 @@ impl<'a, A: Allocator + Copy> Session<'a, A> {
     ) -> Result<Session<'a, A>, StartRefusal>
         ensures opened { IfOk result (λ session. IsOpened (contracts_view contracts.now) call.now cells.now.cells session) }
         ensures refused { IfErr result (λ refusal. IsRefusedFor refusal (opening (contracts_view contracts.now) call.now)) }
+        ensures place { IfErr result (λ refusal. HasPlace (wrong_in (contracts_view contracts.now) call.now) refusal) }
     {
         let origin = open(alloc, contracts, cells, call)?;
         match copy(alloc, &origin) {
@@ -295,10 +301,16 @@ impl<'a, A: Allocator + Copy> Session<'a, A> {
 
     /// How many turns were made, which is the fuel that they used. What the session shows is the state after them.
     pub fn turns(&self) -> u64
-        ensures turns { result ≡ self.now.turns }
-        ensures state { IsSight self.now }
+        ensures { result ≡ self.now.turns }
     {
         self.here.machine.used()
+    }
+
+    /// What the session shows is the state after its turns, of the contract that the call opens with.
+    pub fn is_sight(&self)
+        ensures { IsSight self.now }
+    {
+        let _ = &self.here;
     }
 
     /// How the run has ended, if it has.

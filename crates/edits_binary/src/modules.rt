@@ -7,6 +7,7 @@ ghost use Rattle.module_tree.specs.ModuleView.{module_of};
 ghost use Rattle.module_tree.specs.Modules.{module_view};
 ghost use Rattle.expr_reader.specs.Outcome.{Unless};
 ghost use Rattle.expr_reader.specs.declared.LoadRefusal.TheVariants.{TooLarge};
+ghost use Rattle.module_tree.specs.declared.limit.Limit.TheVariants as limit;
 ghost use Rattle.loader.specs.Refusals.{NoModule, IsWithin};
 
 use encoder::ModuleLists;
@@ -20,7 +21,7 @@ pub fn load<A: Allocator + Clone>(alloc: A, bytes: &[u8]) -> Result<Module<A>, L
     ensures spelled { IfOk result (λ m. Spells bytes.now (module_view m)) }
     ensures only { IfErr result (Unless (NoModule bytes.now)) }
     ensures place { IfErr result (IsWithin (length bytes.now)) }
-    ensures large { byte_limit < length bytes.now → result ≡ Err (TooLarge 1) }
+    ensures large { byte_limit < length bytes.now → result ≡ Err (TooLarge limit.Bytes) }
 {
     loader::load(alloc, bytes)
 }

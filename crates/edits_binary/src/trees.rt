@@ -1,7 +1,8 @@
 //! Modules as trees.
-ghost use Rattle.std.specs.Prelude.{◌≡◌, true, option_map, option_and_then, IfOk, IfErr};
+ghost use Rattle.std.specs.Prelude.{◌≡◌, ◌≤◌, true, IfSome, option_map, option_and_then, IfOk, IfErr};
 ghost use Rattle.spec_syntax.specs.Shape.{instr_at};
-ghost use Rattle.module_tree.specs.View.{instr_view};
+ghost use Rattle.module_tree.specs.View.{instr_view, ordinal_of};
+ghost use Rattle.module_tree.specs.LimitNumbers.{number_of};
 ghost use Rattle.module_tree.specs.ModuleView.{are_numbered};
 ghost use Rattle.module_tree.specs.Modules.{module_view};
 ghost use Rattle.module_tree.specs.Readers.{deepest, defined_func};
@@ -10,6 +11,7 @@ ghost use Rattle.module_limits.specs.declared.judge.Unsealed.TheVariants as unse
 
 use module_limits::{Lists, Unsealed};
 use module_tree::instr::Instr;
+use module_tree::limit::Limit;
 use module_tree::module::Module;
 use std::alloc::Allocator;
 use wtypes::NoMemory;
@@ -23,7 +25,8 @@ pub fn depth<A: Allocator>(tree: &Module<A>) -> u32
 
 /// As [`Module::instr_at`].
 pub fn instr_at<A: Allocator>(tree: &Module<A>, func: u32, ordinal: u32) -> Option<&Instr<A>>
-    ensures { option_map (λ i. instr_view i.now) result
+    ensures node { IfSome result (λ i. ordinal_of i.now ≡ ordinal) }
+    ensures view { option_map (λ i. instr_view i.now) result
         ≡ option_and_then (λ f. instr_at f.body ordinal) (defined_func (module_view tree.now) func) }
 {
     tree.instr_at(func, ordinal)
@@ -46,4 +49,12 @@ pub fn seal<A: Allocator + Clone>(lists: Lists<A>) -> Result<Module<A>, Unsealed
     ensures refused { IfErr result (λ e. e ≡ unsealed.TooLarge → IsTooLarge (lists_view lists)) }
 {
     module_limits::seal(lists)
+}
+
+/// As [`Limit::number`].
+pub fn limit_number(limit: Limit) -> u8
+    ensures value { result ≡ number_of limit }
+    ensures range { (1 ≤ result) × (result ≤ 5) }
+{
+    limit.number()
 }

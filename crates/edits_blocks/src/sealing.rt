@@ -4,7 +4,7 @@ ghost use Rattle.std.specs.Prelude.{◌≡◌, ◌<◌, ◌^◌, IfOk, length, �
 ghost use Rattle.spec_block.specs.Blocks.{positions, block_of, world_after};
 ghost use Rattle.serial.specs.Positions.{positions as ran_of};
 ghost use Rattle.world.specs.Views.{world_view};
-ghost use Rattle.serial_block.specs.Ordered.{used_by};
+ghost use Rattle.serial_block.specs.Ordered.{ArePossible, used_by};
 
 use block::{Block, Position};
 use call::Call;
@@ -25,6 +25,7 @@ pub fn positions_of<A: Allocator + Copy>(
     requires few { length order.now < 2 ^ 16 }
     requires receipts { length receipts.now ≡ length order.now }
     requires touched { length touched.now ≡ length order.now }
+    requires possible { ArePossible receipts.now }
     ensures { IfOk result (λ made. made.items ≡ positions order.now (ran_of receipts.now touched.now)) }
 {
     serial_block::positions_of(alloc, order, receipts, touched)
@@ -42,6 +43,7 @@ pub fn seal<A: Allocator + Copy>(
     requires order { length order.now ≤ Block.MOST_POSITIONS }
     requires receipts { length core.receipts.items ≡ length order.now }
     requires touched { length core.touched.items ≡ length order.now }
+    requires possible { ArePossible core.receipts.items }
     requires fuel { used_by core.receipts.items < 2 ^ 64 }
     ensures block { IfOk result (λ r. r.0 ≡ block_of (world_view world.now) calls.now order.now (ran_of core.receipts.items core.touched.items) core.cells.cells) }
     ensures world { IfOk result (λ r. world_view r.1 ≡ world_after (world_view world.now) core.cells.cells) }

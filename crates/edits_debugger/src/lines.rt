@@ -3,7 +3,8 @@
 ghost use Rattle.std.specs.Prelude.{◌≡◌, IsTrue, IfOk, IfErr, OnOk, MatchOption, string_bytes};
 ghost use Rattle.interp.specs.Lent.{contracts_view};
 ghost use Rattle.wblock_debug.specs.Prints.{IsDebugged};
-ghost use Rattle.wblock_line.specs.Answers.{CountsFault};
+ghost use Rattle.wblock_line.specs.Answers.{CountsFault, IsOfFile};
+ghost use Rattle.wblock_blocks.specs.Inputs.{IsNextInput};
 ghost use Rattle.wblock_debug.specs.Debugs.{IsNotListed, Debugs};
 
 use call::Call;
@@ -38,6 +39,7 @@ pub fn debug_world<'a, F: Files>(
     ensures kept { IsTrue F.tells → F.holds files.new ≡ F.holds files.old }
     ensures calm { OnOk result (F.failures files.new ≡ F.failures files.old) }
     ensures counted { IfErr result (λ f. CountsFault f (F.failures files.old) (F.failures files.new)) }
+    ensures next { IfErr result (IsOfFile (λ name. IsTrue F.tells → IsNextInput (F.holds files.old) task.now.world.now task.now.calls.now name)) }
 {
     wblock_debug::debug_world(alloc, files, task)
 }

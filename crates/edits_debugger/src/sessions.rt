@@ -1,12 +1,33 @@
 //! Sessions of the debugger.
 
-ghost use Rattle.std.specs.Prelude.{◌≡◌};
+ghost use Rattle.std.specs.Prelude.{◌≡◌, IfOk, IfErr};
+ghost use Rattle.spec_execution.specs.Run.{opening};
+ghost use Rattle.interp.specs.Lent.{contracts_view};
+ghost use Rattle.interp.specs.Starting.{IsRefusedFor, HasPlace, wrong_in};
 ghost use Rattle.debugger.specs.Sight.{place_at, globals_at};
-ghost use Rattle.debugger.specs.Commands.{Steps, GoesBack, Continues, Breaks};
+ghost use Rattle.debugger.specs.Commands.{IsOpened, Steps, GoesBack, Continues, Breaks};
 
+use call::Call;
+use debugger::Contract;
 use debugger::session::{Refusal, Session};
+use interp::start::StartRefusal;
 use std::alloc::Allocator;
+use storage::Cells;
 use wtypes::Value;
+
+/// As [`debugger::session::Session::open`].
+pub fn open<'a, A: Allocator + Copy>(
+    alloc: A,
+    contracts: &'a [Contract<A>],
+    cells: &'a Cells<A>,
+    call: &'a Call,
+) -> Result<Session<'a, A>, StartRefusal>
+    ensures opened { IfOk result (λ session. IsOpened (contracts_view contracts.now) call.now cells.now.cells session) }
+    ensures refused { IfErr result (λ refusal. IsRefusedFor refusal (opening (contracts_view contracts.now) call.now)) }
+    ensures place { IfErr result (λ refusal. HasPlace (wrong_in (contracts_view contracts.now) call.now) refusal) }
+{
+    Session::open(alloc, contracts, cells, call)
+}
 
 /// As [`debugger::session::Session::step`].
 pub fn step<'a, A: Allocator + Copy>(

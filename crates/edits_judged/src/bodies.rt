@@ -1,12 +1,14 @@
 //! The check of bodies.
 
-ghost use Rattle.std.specs.Prelude.{◌<◌, ◌≤◌, All, length};
+ghost use Rattle.std.specs.Prelude.{◌≡◌, ◌<◌, ◌≤◌, All, length};
 ghost use Rattle.spec_typing.specs.Modules.{BodyTyped, imported_funcs, func_type_indices};
 ghost use Rattle.module_tree.specs.ModuleView.{func_view};
 ghost use Rattle.module_tree.specs.Modules.{module_view};
+ghost use Rattle.body_typing.specs.RuleNumbers.{number_of};
 ghost use Rattle.body_typing.specs.Checked.{IsBodyTyped, spaces_view, Tells};
 
 use body_typing::check;
+use body_typing::rule::Rule;
 use body_typing::scope::TypeRefusal;
 use body_typing::spaces::Spaces;
 use module_tree::module::{Func, Module};
@@ -39,4 +41,12 @@ pub fn check_body<A: Allocator, W: Allocator + Clone>(
     ensures { Tells result (IsBodyTyped (module_view tree.now) func) }
 {
     check::check_body(alloc, tree, func)
+}
+
+/// As [`Rule::number`].
+pub fn rule_number(rule: Rule) -> u8
+    ensures value { result ≡ number_of rule }
+    ensures range { (1 ≤ result) × (result ≤ 20) }
+{
+    rule.number()
 }

@@ -6,3 +6,4 @@ pub mod instances;
 pub mod readers;
 pub mod runs;
 pub mod steps;
+pub mod tells;

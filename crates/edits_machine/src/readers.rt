@@ -1,7 +1,7 @@
 //! What is read off machines.
 
 ghost use Rattle.std.specs.Prelude.{◌≡◌};
-ghost use Rattle.interp.specs.Shown.{ending, stack_shown, locals_shown, place_shown, IsOpen};
+ghost use Rattle.interp.specs.Shown.{ending, stack_shown, locals_shown, place_shown, IsShown};
 
 use interp::machine::Machine;
 use spec_ledger::Outcome;
@@ -17,28 +17,28 @@ pub fn used<'a, A: Allocator + Copy>(machine: &Machine<'a, A>) -> u64
 
 /// As [`interp::machine::Machine::ending`].
 pub fn ending<'a, A: Allocator + Copy>(machine: &Machine<'a, A>) -> Option<Outcome>
-    ensures { IsOpen machine.now.status → result ≡ ending machine.now }
+    ensures { IsShown machine.now.status → result ≡ ending machine.now }
 {
     machine.ending()
 }
 
 /// As [`interp::machine::Machine::place`].
 pub fn place<'a, A: Allocator + Copy>(machine: &Machine<'a, A>) -> Option<(u32, u32)>
-    ensures { IsOpen machine.now.status → result ≡ place_shown machine.now }
+    ensures { IsShown machine.now.status → result ≡ place_shown machine.now }
 {
     machine.place()
 }
 
 /// As [`interp::machine::Machine::stack`].
 pub fn stack<'b, 'a, A: Allocator + Copy>(machine: &'b Machine<'a, A>) -> &'b [Value]
-    ensures { IsOpen machine.now.status → result.now ≡ stack_shown machine.now }
+    ensures { IsShown machine.now.status → result.now ≡ stack_shown machine.now }
 {
     machine.stack()
 }
 
 /// As [`interp::machine::Machine::locals`].
 pub fn locals<'b, 'a, A: Allocator + Copy>(machine: &'b Machine<'a, A>) -> &'b [Value]
-    ensures { IsOpen machine.now.status → result.now ≡ locals_shown machine.now }
+    ensures { IsShown machine.now.status → result.now ≡ locals_shown machine.now }
 {
     machine.locals()
 }

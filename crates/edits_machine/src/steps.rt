@@ -5,7 +5,8 @@ ghost use Rattle.operands.specs.Lent.{contract_of};
 ghost use Rattle.operands.specs.Elements.{element_called};
 ghost use Rattle.frames.specs.Steps.{IsOrderedParts, IsCounted};
 ghost use Rattle.frames.specs.Calls.{CanEnter, Enters};
-ghost use Rattle.execute.specs.Steps.{IsReadyToRun, Led};
+ghost use Rattle.execute.specs.Steps.{IsReadyToRun, Led, MayTake, Wants};
+ghost use Rattle.frames.specs.Views.{items_of};
 
 use frames::parts::Parts;
 use module_tree::instr::Instr;
@@ -24,6 +25,7 @@ pub fn execute<'a, A: Allocator + Copy>(
     ensures led { IfOk result (λ a. Led lent.now parts.old a parts.new) }
     ensures counted { IfOk result (λ a. IsCounted parts.new) }
     ensures max { parts.new.instance.memory.max ≡ parts.old.instance.memory.max }
+    ensures takes { Wants result → MayTake (items_of parts.old.code.now) }
 {
     execute::steps::execute(lent, parts)
 }

@@ -1,6 +1,7 @@
 //! Linear memory.
 
-ghost use Rattle.std.specs.Prelude.{◌≡◌, ◌+◌, ◌<◌, ◌≤◌, ◌^◌, IfOk};
+ghost use Rattle.std.specs.Prelude.{◌≡◌, ◌+◌, ◌*◌, ◌<◌, ◌≤◌, ◌^◌, length, replicate, IfOk, IsErrOf};
+ghost use Rattle.spec_syntax.specs.Profile.{page_size, page_limit};
 ghost use Rattle.spec_numeric.specs.Storage.{bytes_of_number};
 ghost use Rattle.spec_numeric.specs.Memory.{load};
 ghost use Rattle.memory.specs.Linear.{Stored, Grown};
@@ -8,6 +9,19 @@ ghost use Rattle.memory.specs.Linear.{Stored, Grown};
 use memory::{Linear, NoMemory, StoreRefusal};
 use std::alloc::Allocator;
 use wtypes::TrapCode;
+
+/// As [`memory::Linear::new`].
+pub fn new<A: Allocator + Clone + Drop>(
+    alloc: A,
+    pages: u32,
+    max: u32,
+) -> Result<Linear<A>, NoMemory>
+    requires fits { pages ≤ max }
+    requires limit { max ≤ page_limit }
+    ensures { IfOk result (λ m. m ≡ record { bytes = replicate (page_size * pages) 0; max = max }) }
+{
+    Linear::new(alloc, pages, max)
+}
 
 /// As [`memory::Linear::grow`].
 pub fn grow<A: Allocator + Clone + Drop>(
@@ -52,4 +66,16 @@ pub fn store<A: Allocator + Clone + Drop>(
     ensures { Stored result memory.old (at + offset) (bytes_of_number width value) memory.new }
 {
     memory.store(at, offset, width, value)
+}
+
+/// As [`memory::Linear::write_all`].
+pub fn write_all<A: Allocator + Clone + Drop>(
+    memory: &mut Linear<A>,
+    at: u32,
+    bytes: &[u8],
+) -> Result<(), StoreRefusal>
+    ensures stored { Stored result memory.old at bytes.now memory.new }
+    ensures some { IsErrOf result StoreRefusal.NoMemory → 0 < length bytes.now }
+{
+    memory.write_all(at, bytes)
 }

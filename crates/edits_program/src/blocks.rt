@@ -2,13 +2,14 @@
 ghost use Rattle.std.specs.Prelude.{◌≡◌, ◌≤◌, IsTrue, IfOk, IfErr, OnOk, vec_len};
 ghost use Rattle.calls_text.specs.Texts.{SpellsCalls};
 ghost use Rattle.calls_text.specs.Refusals.{Tells};
-ghost use Rattle.wblock_line.specs.Answers.{CountsFault};
-ghost use Rattle.wblock_blocks.specs.Inputs.{HasFew, Gives};
+ghost use Rattle.wblock_line.specs.Answers.{CountsFault, IsOfFile};
+ghost use Rattle.wblock_blocks.specs.Inputs.{HasFew, Gives, IsNextInput};
 ghost use Rattle.wblock_blocks.specs.Mines.{Mines};
-ghost use Rattle.wblock_blocks.specs.Validates.{Validates};
+ghost use Rattle.wblock_blocks.specs.Validates.{Validates, IsNextFile};
 
 use call::Call;
-use calls_text::{CallsRefusal, MOST_CALLS};
+use calls_text::CallsRefusal;
+use pace::Pace;
 use std::alloc::Global;
 use std::sync::Wait;
 use std::thread::Threads;
@@ -19,7 +20,7 @@ use wblock_line::{Answer, Fault};
 /// As [`calls_text::read_calls`].
 pub fn read_calls(alloc: Global, text: &[u8]) -> Result<Vec<Call>, CallsRefusal>
     ensures spelled { IfOk result (λ calls. SpellsCalls text.now calls.items) }
-    ensures few { IfOk result (λ calls. vec_len calls ≤ MOST_CALLS) }
+    ensures few { IfOk result (λ calls. vec_len calls ≤ 65535) }
     ensures refused { IfErr result (Tells text.now) }
 {
     calls_text::read_calls(alloc, text)
@@ -37,16 +38,18 @@ pub fn read_inputs<'a, F: Files>(
     ensures kept { IsTrue F.tells → F.holds files.new ≡ F.holds files.old }
     ensures calm { OnOk result (F.failures files.new ≡ F.failures files.old) }
     ensures counted { IfErr result (λ f. CountsFault f (F.failures files.old) (F.failures files.new)) }
+    ensures next { IfErr result (IsOfFile (λ name. IsTrue F.tells → IsNextInput (F.holds files.old) world.entry.now calls.entry.now name)) }
 {
     wblock_blocks::read_inputs(alloc, files, world, calls)
 }
 
 /// As [`wblock_blocks::mine_block`].
-pub fn mine_block<'a, R: Threads + Wait + Sync, F: Files>(
+pub fn mine_block<'a, R: Threads + Wait + Sync, F: Files, P: Pace>(
     rt: &R,
     alloc: Global,
     files: &mut F,
     task: Mining<'a>,
+    pace: &P,
 ) -> Result<Answer<'a>, Fault<'a>>
     requires workers { (1 ≤ task.workers) × (task.workers ≤ 64) }
     requires tries { (1 ≤ task.tries) × (task.tries ≤ 16) }
@@ -54,22 +57,25 @@ pub fn mine_block<'a, R: Threads + Wait + Sync, F: Files>(
     ensures kept { IsTrue F.tells → F.holds files.new ≡ F.holds files.old }
     ensures calm { OnOk result (F.failures files.new ≡ F.failures files.old) }
     ensures counted { IfErr result (λ f. CountsFault f (F.failures files.old) (F.failures files.new)) }
+    ensures next { IfErr result (IsOfFile (λ name. IsTrue F.tells → IsNextInput (F.holds files.old) task.entry.world.now task.entry.calls.now name)) }
 {
-    wblock_blocks::mine_block(rt, alloc, files, task)
+    wblock_blocks::mine_block(rt, alloc, files, task, pace)
 }
 
 /// As [`wblock_blocks::validate_block`].
-pub fn validate_block<'a, R: Threads + Wait + Sync, F: Files>(
+pub fn validate_block<'a, R: Threads + Wait + Sync, F: Files, P: Pace>(
     rt: &R,
     alloc: Global,
     files: &mut F,
     task: Validation<'a>,
+    pace: &P,
 ) -> Result<Answer<'a>, Fault<'a>>
     requires workers { (1 ≤ task.workers) × (task.workers ≤ 64) }
     ensures answers { IfOk result (λ a. IsTrue F.tells → Validates (F.holds files.old) task.entry a) }
     ensures kept { IsTrue F.tells → F.holds files.new ≡ F.holds files.old }
     ensures calm { OnOk result (F.failures files.new ≡ F.failures files.old) }
     ensures counted { IfErr result (λ f. CountsFault f (F.failures files.old) (F.failures files.new)) }
+    ensures next { IfErr result (IsOfFile (λ name. IsTrue F.tells → IsNextFile (F.holds files.old) task.entry name)) }
 {
-    wblock_blocks::validate_block(rt, alloc, files, task)
+    wblock_blocks::validate_block(rt, alloc, files, task, pace)
 }

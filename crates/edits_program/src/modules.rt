@@ -1,14 +1,13 @@
 //! The commands on modules.
 ghost use Rattle.std.specs.Prelude.{◌≡◌, ◌≤◌, IsTrue, IfOk, IfErr, OnOk, length, map};
-ghost use Rattle.wblock_line.specs.Answers.{CountsFault};
+ghost use Rattle.wblock_line.specs.Answers.{CountsFault, IsOfFile};
 ghost use Rattle.wblock_modules.specs.Assembles.{Assembles};
 ghost use Rattle.wblock_modules.specs.Checks.{Checks};
-ghost use Rattle.wblock_modules.specs.Deploys.{Deploys};
+ghost use Rattle.wblock_modules.specs.Deploys.{Deploys, IsNextModule};
 
 use std::alloc::Global;
 use wblock_io::Files;
 use wblock_line::{Answer, Fault};
-use world::World;
 
 /// As [`wblock_modules::assemble_file`].
 pub fn assemble_file<'a, F: Files>(
@@ -21,6 +20,7 @@ pub fn assemble_file<'a, F: Files>(
     ensures kept { IsTrue F.tells → F.holds files.new ≡ F.holds files.old }
     ensures calm { OnOk result (F.failures files.new ≡ F.failures files.old) }
     ensures counted { IfErr result (λ f. CountsFault f (F.failures files.old) (F.failures files.new)) }
+    ensures named { IfErr result (IsOfFile (λ name. name ≡ text.entry.now)) }
 {
     wblock_modules::assemble_file(alloc, files, text, target)
 }
@@ -36,6 +36,7 @@ pub fn check_module<'a, F: Files>(
     ensures kept { IsTrue F.tells → F.holds files.new ≡ F.holds files.old }
     ensures calm { OnOk result (F.failures files.new ≡ F.failures files.old) }
     ensures counted { IfErr result (λ f. CountsFault f (F.failures files.old) (F.failures files.new)) }
+    ensures named { IfErr result (IsOfFile (λ name. name ≡ target.entry.now)) }
 {
     wblock_modules::check_module(alloc, files, target, heap)
 }
@@ -47,11 +48,12 @@ pub fn deploy_modules<'a, F: Files>(
     world: &'a str,
     modules: &[&'a str],
 ) -> Result<Answer<'a>, Fault<'a>>
-    requires { length modules.now ≤ World.MOST_CONTRACTS }
+    requires { length modules.now ≤ 1024 }
     ensures answers { IfOk result (λ a. IsTrue F.tells → Deploys (F.holds files.old) world.entry.now (map (λ w. w.now) modules.now) a) }
     ensures kept { IsTrue F.tells → F.holds files.new ≡ F.holds files.old }
     ensures calm { OnOk result (F.failures files.new ≡ F.failures files.old) }
     ensures counted { IfErr result (λ f. CountsFault f (F.failures files.old) (F.failures files.new)) }
+    ensures next { IfErr result (IsOfFile (λ name. IsTrue F.tells → IsNextModule (F.holds files.old) (map (λ w. w.now) modules.now) name)) }
 {
     wblock_modules::deploy_modules(alloc, files, world, modules)
 }

@@ -1,9 +1,10 @@
 //! Cells.
 
-ghost use Rattle.std.specs.Prelude.{◌≡◌, IfOk, OnOk, OnErr};
+ghost use Rattle.std.specs.Prelude.{◌≡◌, ◌↔◌, IfOk, IsTrue, OnOk, OnErr, if◌then◌else◌};
+ghost use Rattle.spec_ledger.specs.Book.{back_all};
 ghost use Rattle.std.specs.FinMap as finite;
 ghost use Rattle.spec_ledger.specs.Cells.{cells_after, reply_to, inverse_to, back};
-ghost use Rattle.storage.specs.Counts.{opened, IsUnsettled, closed};
+ghost use Rattle.storage.specs.Counts.{AreUnsettled, IsUnsettled, closed, closed_all, opened};
 
 use std::alloc::Allocator;
 use storage::{Cells, Inverse, Lock, NoMemory, Op, Reply};
@@ -46,4 +47,20 @@ pub fn settle<A: Allocator + Copy>(cells: &mut Cells<A>, inverse: Inverse)
     ensures unsettled { cells.new.unsettled ≡ closed inverse cells.old.unsettled }
 {
     cells.settle(inverse);
+}
+
+/// As [`storage::end_all`].
+pub fn end_all<A: Allocator + Copy>(cells: &mut Cells<A>, inverses: Vec<Inverse, A>, stand: bool)
+    requires { AreUnsettled inverses.items cells.old.unsettled }
+    ensures cells { cells.new.cells ≡ (if stand then cells.old.cells else back_all inverses.items cells.old.cells) }
+    ensures unsettled { cells.new.unsettled ≡ closed_all inverses.items cells.old.unsettled }
+{
+    storage::end_all(cells, inverses, stand);
+}
+
+/// As [`storage::Cells::has_cells_of`].
+pub fn has_cells_of<A: Allocator + Copy>(cells: &Cells<A>, other: &Cells<A>) -> bool
+    ensures { IsTrue result ↔ (cells.now.cells ≡ other.now.cells) }
+{
+    cells.has_cells_of(other)
 }

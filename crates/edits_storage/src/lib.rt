@@ -3,6 +3,7 @@
 
 pub mod book;
 pub mod cells;
+pub mod closing;
 pub mod locks;
 pub mod profiles;
 pub mod runs;

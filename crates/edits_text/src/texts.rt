@@ -4,14 +4,15 @@ ghost use Rattle.spec_text.specs.Lexical.{Lexes};
 ghost use Rattle.lexer.specs.Views as listed;
 ghost use Rattle.text_words.specs.Views.{views};
 ghost use Rattle.text_body.specs.Bodies.{IsBody, NoBody};
-ghost use Rattle.text_body.specs.Outcome.{Unless};
-ghost use Rattle.text_body.specs.Views.{flats_of};
+ghost use Rattle.text_body.specs.Outcome as body_outcome;
+ghost use Rattle.text_words.specs.Refused.{Unless};
+ghost use Rattle.text_body.specs.Places.{flats_of};
 ghost use Rattle.text_tree.specs.Texts.{IsText, NoText};
-ghost use Rattle.text_tree.specs.Views.{fields_of};
+ghost use Rattle.text_tree.specs.Places.{fields_of};
 
 use lexer::Tokens;
 use std::alloc::Allocator;
-use text_body::Flat;
+use text_body::{Flat, Unread};
 use text_tree::Text;
 use text_words::{TextRefusal, Word};
 
@@ -19,9 +20,9 @@ use text_words::{TextRefusal, Word};
 pub fn body<'w, 'a, A: Allocator + Clone>(
     alloc: &A,
     rest: &mut &'w [Word<'a>],
-) -> Result<Vec<Flat<'a, A>, A>, TextRefusal>
+) -> Result<Vec<Flat<'a, A>, A>, Unread>
     ensures grammar { IfOk result (λ found. IsBody (views rest.old.now) (views rest.new.now) (flats_of found.items)) }
-    ensures refused { IfErr result (Unless (NoBody (views rest.old.now))) }
+    ensures refused { IfErr result (body_outcome.Unless (NoBody (views rest.old.now))) }
     ensures shorter { IfOk result (λ _. length rest.new.now < length rest.old.now) }
 {
     text_body::body(alloc, rest)

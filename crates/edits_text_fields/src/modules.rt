@@ -2,7 +2,7 @@
 ghost use Rattle.std.specs.Prelude.{IfOk, IfErr};
 ghost use Rattle.spec_text.specs.Names.{Names};
 ghost use Rattle.module_tree.specs.Modules.{module_view};
-ghost use Rattle.text_resolve.specs.Outcome.{Unless};
+ghost use Rattle.text_resolve.specs.Refused.{Unless};
 ghost use Rattle.assembler.specs.Named.{NamesNothing};
 
 use module_tree::module::Module;

@@ -1,19 +1,22 @@
 //! The shared book.
 
 ghost use Rattle.std.specs.Prelude.{◌≡◌, ◌≤◌, Err, IfOk, length, IfErr};
-ghost use Rattle.spec_ledger.specs.Book.{call_is_new};
+ghost use Rattle.std.specs.FinMap as finite;
+ghost use Rattle.std.specs.List.{AllByRecursion};
+ghost use Rattle.spec_ledger.specs.Book.{AreDistinct, IsDefined, call_is_new, settled};
 ghost use Rattle.spec_ledger.specs.Events.{BeginDone, HasNoAttempt, IsConflict, IsStale, OpDone, CommitDone, IsOther};
+ghost use Rattle.spec_ledger.specs.Modes.{touched};
 ghost use Rattle.shared_book.specs.Taking.{Happened, HoldsOfTheBook};
 
-use boost::book::{BeginRefusal, CommitRefusal, OpRefusal, Run, Ticket};
-use shared_book::SharedBook;
+use boost::book::{BeginRefusal, Closed, CommitRefusal, OpRefusal, Run, Ticket};
+use shared_book::{OtherBook, SharedBook};
 use spec_ledger::{Op, Reply};
 use std::alloc::Allocator;
 use std::sync::Wait;
 
 /// As [`shared_book::SharedBook::begin`].
 pub fn begin<A: Allocator + Copy>(
-    book: &SharedBook<A>,
+    book: &SharedBook<'_, A>,
     rt: &impl Wait,
     call: u32,
 ) -> Result<Ticket, BeginRefusal>
@@ -28,7 +31,7 @@ pub fn begin<A: Allocator + Copy>(
 
 /// As [`shared_book::SharedBook::op`].
 pub fn op<A: Allocator + Copy>(
-    book: &SharedBook<A>,
+    book: &SharedBook<'_, A>,
     rt: &impl Wait,
     ticket: &Ticket,
     op: Op,
@@ -42,7 +45,7 @@ pub fn op<A: Allocator + Copy>(
 
 /// As [`shared_book::SharedBook::commit`].
 pub fn commit<A: Allocator + Copy>(
-    book: &SharedBook<A>,
+    book: &SharedBook<'_, A>,
     rt: &impl Wait,
     ticket: Ticket,
     run: &Run<'_>,
@@ -53,4 +56,16 @@ pub fn commit<A: Allocator + Copy>(
     ensures ticket { IfErr result (λ e. e.0 ≡ ticket) }
 {
     book.commit(rt, ticket, run)
+}
+
+/// As [`shared_book::SharedBook::close`].
+pub fn close<A: Allocator + Copy>(book: SharedBook<'_, A>) -> Result<Closed<A>, OtherBook>
+    ensures opening { IfOk result (λ closed. closed.opening.cells ≡ book.entry) }
+    ensures replies { IfOk result (λ closed. IsDefined closed.opening.cells closed.entries.items) }
+    ensures distinct { IfOk result (λ closed. AreDistinct closed.entries.items) }
+    ensures modes { IfOk result (λ closed. AllByRecursion (λ e. e.modes ≡ touched e.trace) closed.entries.items) }
+    ensures cells { IfOk result (λ closed. closed.cells.cells ≡ settled closed.opening.cells closed.entries.items) }
+    ensures settled { IfOk result (λ closed. closed.cells.unsettled ≡ finite.empty) }
+{
+    book.close()
 }

@@ -96,6 +96,11 @@ fn convert_code(op: CvtOp) -> u8
         CvtOp::I32WrapI64 => 0xA7,
         CvtOp::I64ExtendI32S => 0xAC,
         CvtOp::I64ExtendI32U => 0xAD,
+        CvtOp::I32Extend8S => 0xC0,
+        CvtOp::I32Extend16S => 0xC1,
+        CvtOp::I64Extend8S => 0xC2,
+        CvtOp::I64Extend16S => 0xC3,
+        CvtOp::I64Extend32S => 0xC4,
     }
 }
 

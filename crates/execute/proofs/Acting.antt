@@ -1,5 +1,5 @@
 -- What the steps of the code do to the parts.
-use Rattle.std.proofs.Common.{true≢false, false, ◌≡◌, ℕ, ◌+◌, ◌≤◌, List, [], ◌∷◌, ◌++◌, length, drop, refl, sym, ap, ◌∙◌, subst, Vec, Result, Ok, Err, IfOk, true, arith, length-append}
+use Rattle.std.proofs.Common.{true≢false, false, ◌≡◌, ℕ, ◌+◌, ◌≤◌, List, [], ◌∷◌, ◌++◌, length, drop, refl, sym, ap, ◌∙◌, subst, Vec, Result, Ok, Err, IfOk, IfErr, true, arith, length-append}
 use Rattle.wtypes.specs.declared.Value.{Value}
 use Rattle.wtypes.specs.declared.PlainInstr.{PlainInstr}
 use Rattle.wtypes.specs.declared.LoadOp.{LoadOp}
@@ -21,11 +21,12 @@ use Rattle.sequences.specs.Finding.{ready_for}
 use Rattle.operands.specs.Lent.{contract_of}
 use Rattle.sequences.specs.Plain.{onto, at_once, by_two}
 use Rattle.operands.specs.Plain.{Did}
+use Rattle.operands.specs.Taking.{plain_takes_memory}
 use Rattle.spec_execution.specs.Turns.{Frees, none}
 use Rattle.instance.specs.declared.Instance.{Instance}
 use Rattle.instance.specs.States.{based}
 use Rattle.frames.specs.Views.{items_of, opens_of, view}
-use Rattle.execute.specs.Steps.{IsReadyToRun, Led, LedView}
+use Rattle.execute.specs.Steps.{IsReadyToRun, Led, LedView, Wants}
 use Rattle.frames.specs.Steps.{IsOrderedParts, IsCounted, AreNumbered, EachNumbered}
 use Rattle.sequences.specs.Context.{values_onto}
 use Rattle.sequences.specs.Charging.{mk, local, fine_at, fine_after_at, charged_ran, charged_fell, charged_teed, between, Stands_at}
@@ -123,3 +124,10 @@ not_on_instance (Store o align offset) e f g h i j = absurd (h o align offset re
 not_on_instance MemorySize e f g h i j = absurd (i refl)
 not_on_instance MemoryGrow e f g h i j = absurd (j refl)
 not_on_instance op e f g h i j = refl
+
+-- an operator that memory was refused for, or that calls, may take memory
+pub wanted : {E : Type 0} (op : PlainInstr) (stack locals stack' locals' : List Value) (r : Result After E) → IfOk r (λ a. Did op stack locals a stack' locals') → IfErr r (λ _. plain_takes_memory op ≡ true) → Wants r → plain_takes_memory op ≡ true
+wanted op stack locals stack' locals' (Err e) did takes w = takes
+wanted op stack locals stack' locals' (Ok after.Ran) did takes w = absurd w
+wanted op stack locals stack' locals' (Ok (after.Fell t)) did takes w = absurd w
+wanted op stack locals stack' locals' (Ok (after.Calls f)) did takes w = ap plain_takes_memory did.call

@@ -1,6 +1,6 @@
 -- What the instructions do that read or write memory.
 use Rattle.std.proofs.Common.{◌≡◌, ℕ, ◌+◌, ◌≤◌, ◌<◌, Bool, true, false, nat_le, List, [], ◌∷◌, ◌++◌, length, take, drop, refl, sym, ap, ◌∙◌, subst, arith, length-append, Ok, Err}
-use Rattle.std.specs.Prelude.{if◌then◌else◌, replicate, ◌*◌, ◌-◌, ◌^◌}
+use Rattle.std.specs.Prelude.{if◌then◌else◌, replicate, Result, ◌*◌, ◌-◌, ◌^◌}
 use Rattle.std.proofs.lemmas.Bool.{le-leb, leb-true}
 use Rattle.wtypes.specs.declared.ValType.{ValType}
 use Rattle.wtypes.specs.declared.ValType.TheVariants.{I32}
@@ -14,8 +14,8 @@ use Rattle.spec_syntax.specs.Syntax.{Plain}
 use Rattle.spec_numeric.specs.Operators.{type_of, bits_of, value_of}
 use Rattle.spec_numeric.specs.Storage.{load_type, load_width, extended, store_type, store_width, number_of_bytes, bytes_of_number}
 use Rattle.spec_numeric.specs.Memory.{load, written}
-use Rattle.spec_execution.specs.Configuration.{Contract, Seq, Val, End, State, Trap, values, in_place}
-use Rattle.spec_execution.specs.Reduction.{Next, Goes, Traps, reduce, execute, execute_plain, with_number, loaded, stored, grown, with_memory, pages, most_pages}
+use Rattle.spec_execution.specs.Configuration.{Contract, Seq, Val, End, State, Trap, values}
+use Rattle.spec_execution.specs.Reduction.{Next, Goes, Traps, reduce, execute, execute_plain, with_number, answered, loaded, stored, grown, with_memory, pages, most_pages}
 use Rattle.spec_execution.specs.Run.{Reduces}
 use Rattle.spec_execution.specs.Turns.{none}
 use Rattle.sequences.specs.Forms.{HasOne}
@@ -35,47 +35,27 @@ use Rattle.execute.proofs.Controlling.{popped, choice_there, view_is}
 
 loaded_ok : (s : State) (t : ValType) (n : ℕ) (extend : ℕ → ℕ) (at : ℕ) (vs : List Value) (rest : Seq) (x : ℕ) → load s.memory at n ≡ Ok x → loaded 1 s t n extend at vs rest ≡ Goes 1 s (values vs (Val (value_of t (extend x)) rest))
 unfolding loaded
-loaded_ok s t n extend at vs rest x e = by_test (nat_le (at + n) (length s.memory)) refl
-  where
-    here : ℕ
-    here = number_of_bytes (take n (drop at s.memory))
-
-    by_test : (b : Bool) → nat_le (at + n) (length s.memory) ≡ b → loaded 1 s t n extend at vs rest ≡ Goes 1 s (values vs (Val (value_of t (extend x)) rest))
-    by_test true b =
-        let ok : Ok here ≡ Ok x = sym (ap (λ (b : Bool). if b then Ok here else Err MemoryOutOfBounds) b) ∙ e in
-        let same : here ≡ x = cc in
-        ap (λ b. if b then Goes 1 s (values vs (Val (value_of t (extend here)) rest)) else Traps 1 MemoryOutOfBounds) b ∙ ap (λ y. Goes 1 s (values vs (Val (value_of t (extend y)) rest))) same
-    by_test false b =
-        let bad : Err MemoryOutOfBounds ≡ Ok x = sym (ap (λ (b : Bool). if b then Ok here else Err MemoryOutOfBounds) b) ∙ e in
-        absurd (cc)
+loaded_ok s t n extend at vs rest x e = ap (λ (r : Result ℕ TrapCode). answered 1 r (λ y. Goes 1 s (values vs (Val (value_of t (extend y)) rest)))) e
 
 loaded_err : (s : State) (t : ValType) (n : ℕ) (extend : ℕ → ℕ) (at : ℕ) (vs : List Value) (rest : Seq) (code : TrapCode) → load s.memory at n ≡ Err code → loaded 1 s t n extend at vs rest ≡ Traps 1 code
 unfolding loaded
-loaded_err s t n extend at vs rest code e = by_test (nat_le (at + n) (length s.memory)) refl
-  where
-    here : ℕ
-    here = number_of_bytes (take n (drop at s.memory))
+loaded_err s t n extend at vs rest code e = ap (λ (r : Result ℕ TrapCode). answered 1 r (λ y. Goes 1 s (values vs (Val (value_of t (extend y)) rest)))) e
 
-    by_test : (b : Bool) → nat_le (at + n) (length s.memory) ≡ b → loaded 1 s t n extend at vs rest ≡ Traps 1 code
-    by_test true b =
-        let bad : Ok here ≡ Err code = sym (ap (λ (b : Bool). if b then Ok here else Err MemoryOutOfBounds) b) ∙ e in
-        absurd (cc)
-    by_test false b =
-        let out : Err MemoryOutOfBounds ≡ Err code = sym (ap (λ (b : Bool). if b then Ok here else Err MemoryOutOfBounds) b) ∙ e in
-        let same : MemoryOutOfBounds ≡ code = cc in
-        ap (λ b. if b then Goes 1 s (values vs (Val (value_of t (extend here)) rest)) else Traps 1 MemoryOutOfBounds) b ∙ ap (Traps 1) same
+-- what a store comes to, by whether its bytes lie in memory
+store_goes_on : (s : State) (n at x : ℕ) (vs : List Value) (rest : Seq) → Bool → Next
+store_goes_on s n at x vs rest b = answered 1 (if b then Ok (written at (bytes_of_number n x) s.memory) else Err MemoryOutOfBounds) (λ memory. Goes 1 (with_memory s memory) (values vs rest))
 
-stored_ok : (s : State) (n at x : ℕ) (vs : List Value) (rest : Seq) → at + n ≤ length s.memory → stored 1 s n at x vs rest ≡ Goes 1 (with_memory s (in_place at (bytes_of_number n x) s.memory)) (values vs rest)
-unfolding stored
-stored_ok s n at x vs rest le = ap (λ b. if b then Goes 1 (with_memory s (in_place at (bytes_of_number n x) s.memory)) (values vs rest) else Traps 1 MemoryOutOfBounds) (le-leb (at + n) (length s.memory) le)
+stored_ok : (s : State) (n at x : ℕ) (vs : List Value) (rest : Seq) → at + n ≤ length s.memory → stored 1 s n at x vs rest ≡ Goes 1 (with_memory s (written at (bytes_of_number n x) s.memory)) (values vs rest)
+unfolding stored store_goes_on
+stored_ok s n at x vs rest le = ap (store_goes_on s n at x vs rest) (le-leb (at + n) (length s.memory) le)
 
 stored_out : (s : State) (n at x : ℕ) (vs : List Value) (rest : Seq) → length s.memory < at + n → stored 1 s n at x vs rest ≡ Traps 1 MemoryOutOfBounds
-unfolding stored
+unfolding stored store_goes_on
 stored_out s n at x vs rest lt = by_test (nat_le (at + n) (length s.memory)) refl
   where
     by_test : (b : Bool) → nat_le (at + n) (length s.memory) ≡ b → stored 1 s n at x vs rest ≡ Traps 1 MemoryOutOfBounds
     by_test true b = absurd (omega (arith, leb-true _ _ b))
-    by_test false b = ap (λ b. if b then Goes 1 (with_memory s (in_place at (bytes_of_number n x) s.memory)) (values vs rest) else Traps 1 MemoryOutOfBounds) b
+    by_test false b = ap (store_goes_on s n at x vs rest) b
 
 grown_ok : (c : Contract) (s : State) (delta : ℕ) (vs : List Value) (rest : Seq) → pages s.memory + delta ≤ most_pages c.deployed.tree.memories →
     grown c 1 s delta vs rest ≡ Goes 1 (with_memory s (s.memory ++ replicate (page_size * delta) 0)) (values vs (Val (value_of I32 (pages s.memory)) rest))

@@ -1,15 +1,16 @@
 -- What one instruction does to the parts of a machine.
-use Rattle.std.specs.Prelude.{◌≡◌, ◌≢◌, ℕ, List, [], ◌∷◌}
+use Rattle.std.specs.Prelude.{◌≡◌, ◌≢◌, ℕ, true, List, [], ◌∷◌, Result, Ok, Err}
 use Rattle.wtypes.specs.declared.PlainInstr.{PlainInstr}
 use Rattle.spec_syntax.specs.Syntax.{Plain}
 use Rattle.module_tree.specs.declared.instr.Instr.{Instr}
 use Rattle.spec_execution.specs.Configuration.{Contract, State}
 use Rattle.spec_execution.specs.Reduction.{most_pages}
-use Rattle.sequences.specs.Meaning.{View, IsSafeAt, Charged, ChargedCall, ChargedTrap}
+use Rattle.sequences.specs.Meaning.{Item, View, IsSafeAt, Charged, ChargedCall, ChargedTrap}
 use Rattle.operands.specs.declared.lent.Lent.{Lent}
 use Rattle.operands.specs.declared.plain.After.{After}
 use Rattle.operands.specs.declared.plain.After.TheVariants as after
 use Rattle.operands.specs.Lent.{contract_of}
+use Rattle.operands.specs.Taking.{takes_memory}
 use Rattle.frames.specs.declared.parts.Parts.{Parts}
 use Rattle.frames.specs.Steps.{IsOrderedParts, AreNumbered}
 use Rattle.frames.specs.Views.{view, items_of}
@@ -39,3 +40,14 @@ pub record IsOperator {A : Type 0} (p : Parts A) (op : PlainInstr) (rest : List 
   pub ordinal : ℕ
   pub here : items_of p.code.now ≡ record { ordinal = ordinal; instr = Plain op } ∷ items_of rest
   pub rest_numbered : AreNumbered rest
+
+-- the first of these may take memory
+abbrev pub MayTake : List Item → Type 0
+MayTake [] = ⊥
+MayTake (i ∷ is) = takes_memory i.instr ≡ true
+
+-- Memory was refused; or a call is to come, for which memory may be refused.
+abbrev pub Wants : {E : Type 0} → Result After E → Type 0
+Wants (Err e) = Unit {0}
+Wants (Ok (after.Calls f)) = Unit {0}
+Wants (Ok _) = ⊥

@@ -4,8 +4,10 @@ ghost use Rattle.wtypes.specs.declared.PlainInstr.TheVariants.{CallIndirect};
 ghost use Rattle.spec_numeric.specs.Operators.{bits_of};
 ghost use Rattle.spec_execution.specs.Reduction.{arity as arity_of};
 ghost use Rattle.sequences.specs.Forms.{runs_on_instance};
-ghost use Rattle.execute.specs.Steps.{IsOperator, IsReadyToRun, Led};
+ghost use Rattle.execute.specs.Steps.{IsOperator, IsReadyToRun, Led, MayTake, Wants};
+ghost use Rattle.operands.specs.Taking.{plain_takes_memory};
 ghost use Rattle.frames.specs.Steps.{IsCounted};
+ghost use Rattle.frames.specs.Views.{items_of};
 
 use frames::blocks::open;
 use frames::branches::{branch, leave_call};
@@ -30,6 +32,7 @@ pub fn execute<'a, A: Allocator + Copy>(
     ensures led { IfOk result (λ a. Led lent.now parts.old a parts.new) }
     ensures counted { IfOk result (λ a. IsCounted parts.new) }
     ensures max { parts.new.instance.memory.max ≡ parts.old.instance.memory.max }
+    ensures takes { Wants result → MayTake (items_of parts.old.code.now) }
 {
     let (instr, rest) = first(parts.code);
     match instr {
@@ -69,6 +72,7 @@ fn execute_operator<'a, A: Allocator + Copy>(
     ensures led { IfOk result (λ a. Led lent.now parts.old a parts.new) }
     ensures counted { IfOk result (λ a. IsCounted parts.new) }
     ensures max { parts.new.instance.memory.max ≡ parts.old.instance.memory.max }
+    ensures takes { Wants result → plain_takes_memory op.now ≡ true }
 {
     match op {
         PlainInstr::Br(label) => {
@@ -116,6 +120,7 @@ fn execute_on_instance<'a, A: Allocator + Copy>(
     ensures led { IfOk result (λ a. Led lent.now parts.old a parts.new) }
     ensures counted { IfOk result (λ a. IsCounted parts.new) }
     ensures max { parts.new.instance.memory.max ≡ parts.old.instance.memory.max }
+    ensures takes { Wants result → plain_takes_memory op.now ≡ true }
 {
     parts.code = rest;
     match op {

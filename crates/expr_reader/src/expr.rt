@@ -10,18 +10,20 @@ ghost use Rattle.expr_reader.specs.Outcome.{Gives, Unless, NoExpression};
 
 use crate::LoadRefusal;
 use crate::body::body_of;
+use crate::unread::Unread;
 use module_tree::instr::Instr;
 use std::alloc::Allocator;
 
 // The levels of an expression, its own among them.
 const LEVELS: u32 = 129;
 
-// An expression, and the bytes after it. A refusal's number is how many bytes were left.
+/// The expression at the front of these bytes, and the bytes after it. Its instructions carry their ordinals. Where it
+/// is refused for another cause than memory, none within the limits on nesting and labels is spelled there.
 #[tactic(auto, unfolding(spec_binary_laws::specs::ReadingExpressions::expression_at))]
-fn expression_of<'b, A: Allocator + Clone>(
+pub fn expression_of<'b, A: Allocator + Clone>(
     alloc: &A,
     bytes: &'b [u8],
-) -> Result<(Vec<Instr<A>, A>, &'b [u8]), LoadRefusal>
+) -> Result<(Vec<Instr<A>, A>, &'b [u8]), Unread>
     requires { length bytes.now < 2 ^ 32 }
     ensures value { Gives (λ x. (instrs_view x.0.items, x.1.now)) result (expression_at 129 bytes.now) }
     ensures numbered { IfOk result (λ x. counts_from 0 (ordinals x.0.items) ≡ true) }
@@ -29,7 +31,7 @@ fn expression_of<'b, A: Allocator + Clone>(
 {
     let (body, closing, rest, _next) = body_of(alloc, bytes, LEVELS, 0)?;
     if closing != 0x0B {
-        return Err(LoadRefusal::Malformed(rest.len() + 1));
+        return Err(Unread::Malformed(rest.len() + 1));
     }
     Ok((body, rest))
 }
@@ -55,11 +57,6 @@ pub fn read_expr<A: Allocator + Clone>(
 {
     match expression_of(&alloc, &bytes[at..end]) {
         Ok((body, rest)) => Ok((body, end - rest.len())),
-        Err(LoadRefusal::Malformed(left)) => Err(LoadRefusal::Malformed(end.saturating_sub(left))),
-        Err(LoadRefusal::Unsupported(left)) => {
-            Err(LoadRefusal::Unsupported(end.saturating_sub(left)))
-        }
-        Err(LoadRefusal::TooLarge(limit)) => Err(LoadRefusal::TooLarge(limit)),
-        Err(LoadRefusal::NoMemory) => Err(LoadRefusal::NoMemory),
+        Err(unread) => Err(unread.ending_at(end)),
     }
 }

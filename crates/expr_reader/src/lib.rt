@@ -6,38 +6,26 @@ mod expr;
 mod opcodes;
 mod plain;
 mod read;
+mod unread;
 
-ghost use Rattle.std.specs.Prelude.{◌≡◌};
-ghost use Rattle.expr_reader.specs.declared.LoadRefusal.TheVariants.{NoMemory};
-
-pub use expr::read_expr;
-use std::alloc::{AllocError, AllocFailed};
+pub use expr::{expression_of, read_expr};
+use module_tree::limit::Limit;
+use thiserror::Error;
+pub use unread::Unread;
 
 /// Why bytes were not read.
-#[derive(Clone, Copy, Debug, PartialEq, Eq)]
+#[derive(Clone, Copy, Debug, PartialEq, Eq, Error)]
 pub enum LoadRefusal {
     /// The grammar has no such form: the offset of the first byte of the item at fault.
+    #[error("malformed at {0}")]
     Malformed(usize),
     /// A form of the standard that this profile leaves out (floating point): the offset of its first byte.
+    #[error("a form that is not supported, at {0}")]
     Unsupported(usize),
-    /// A limit is passed: 1 bytes, 2 functions, 3 locals, 4 nesting, 5 labels.
-    TooLarge(u8),
+    /// A limit is passed.
+    #[error("more than {0}")]
+    TooLarge(Limit),
     /// Memory was refused.
+    #[error("memory was refused")]
     NoMemory,
-}
-
-impl From<AllocError> for LoadRefusal {
-    ghost from_gives = { λ _ e. e ≡ NoMemory };
-
-    fn from(_e: AllocError) -> LoadRefusal {
-        LoadRefusal::NoMemory
-    }
-}
-
-impl<T: Drop> From<AllocFailed<T>> for LoadRefusal {
-    ghost from_gives = { λ _ e. e ≡ NoMemory };
-
-    fn from(_e: AllocFailed<T>) -> LoadRefusal {
-        LoadRefusal::NoMemory
-    }
 }

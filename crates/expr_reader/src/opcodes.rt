@@ -71,6 +71,11 @@ fn convert_of(first: u8) -> Option<PlainInstr>
         0xA7 => Some(PlainInstr::Convert(CvtOp::I32WrapI64)),
         0xAC => Some(PlainInstr::Convert(CvtOp::I64ExtendI32S)),
         0xAD => Some(PlainInstr::Convert(CvtOp::I64ExtendI32U)),
+        0xC0 => Some(PlainInstr::Convert(CvtOp::I32Extend8S)),
+        0xC1 => Some(PlainInstr::Convert(CvtOp::I32Extend16S)),
+        0xC2 => Some(PlainInstr::Convert(CvtOp::I64Extend8S)),
+        0xC3 => Some(PlainInstr::Convert(CvtOp::I64Extend16S)),
+        0xC4 => Some(PlainInstr::Convert(CvtOp::I64Extend32S)),
         _ => None,
     }
 }

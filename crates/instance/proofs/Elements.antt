@@ -13,29 +13,30 @@ use Rattle.spec_syntax.specs.Syntax.{Limits, Element, Module}
 use Rattle.spec_numeric.specs.Operators.{bits_of}
 use Rattle.spec_typing.specs.Modules.{tables, table_of}
 use Rattle.spec_typing.specs.Linking.{IsLinked, InTable, InRange}
-use Rattle.spec_execution.specs.Configuration.{constant, size_of, in_place, with_elements}
+use Rattle.spec_numeric.specs.Memory.{written}
+use Rattle.spec_execution.specs.Configuration.{constant, size_of, with_elements}
 use Rattle.instance.proofs.Segments.{none_else, at_map, only_one, const_number, known_le, map_index, length_map}
 
 -- one element more
-pub put_next : {X : Type 0} (old items : List X) (at : ℕ) (x : X) → at + length items < length old → slice_set (in_place at items old) (at + length items) x ≡ in_place at (items ++ x ∷ []) old
+pub put_next : {X : Type 0} (old items : List X) (at : ℕ) (x : X) → at + length items < length old → slice_set (written at items old) (at + length items) x ≡ written at (items ++ x ∷ []) old
 put_next {X} old items at x lt =
     let n : ℕ = at + length items in
     let front : List X = take at old ++ items in
     let rest : List X = drop (suc n) old in
     let long : length front ≡ n = length-append (take at old) items ∙ omega (arith, length-take at old) in
-    let split : in_place at items old ≡ front ++ get_or old n x ∷ rest = sym (append_assoc (take at old) items (drop n old)) ∙ ap (λ zs. front ++ zs) (drop-cons old n x lt) in
+    let split : written at items old ≡ front ++ get_or old n x ∷ rest = sym (append_assoc (take at old) items (drop n old)) ∙ ap (λ zs. front ++ zs) (drop-cons old n x lt) in
     let more : suc n ≡ at + length (items ++ x ∷ []) = omega (arith, length-append items (x ∷ [])) in
     ap (λ zs. slice_set zs n x) split ∙ ap (λ k. slice_set (front ++ get_or old n x ∷ rest) k x) (sym long) ∙ set-append_seam front (get_or old n x) rest x
     ∙ append_assoc (take at old) items (x ∷ rest) ∙ ap (λ zs. take at old ++ zs) (sym (append_assoc items (x ∷ []) rest) ∙ ap (λ k. (items ++ x ∷ []) ++ drop k old) more)
 
 -- one function more
 pub put_function : (old : List (Option ℕ)) (funcs : List ℕ) (at i : ℕ) → at + length funcs ≤ length old → i < length funcs →
-    slice_set (in_place at (map Some (take i funcs)) old) (at + i) (Some (slice_index_or funcs i 0)) ≡ in_place at (map Some (take (i + 1) funcs)) old
+    slice_set (written at (map Some (take i funcs)) old) (at + i) (Some (slice_index_or funcs i 0)) ≡ written at (map Some (take (i + 1) funcs)) old
 put_function old funcs at i le lt =
     let count : length (map Some (take i funcs)) ≡ i = length_map Some (take i funcs) ∙ omega (arith, length-take i funcs) in
     let one : map Some (take (i + 1) funcs) ≡ map Some (take i funcs) ++ Some (slice_index_or funcs i 0) ∷ [] = ap (map Some) (take_more funcs i 0 lt) ∙ map-append Some (take i funcs) (slice_index_or funcs i 0 ∷ []) in
-    ap (λ k. slice_set (in_place at (map Some (take i funcs)) old) (at + k) (Some (slice_index_or funcs i 0))) (sym count)
-    ∙ put_next old (map Some (take i funcs)) at (Some (slice_index_or funcs i 0)) (omega (arith, count)) ∙ ap (λ xs. in_place at xs old) (sym one)
+    ap (λ k. slice_set (written at (map Some (take i funcs)) old) (at + k) (Some (slice_index_or funcs i 0))) (sym count)
+    ∙ put_next old (map Some (take i funcs)) at (Some (slice_index_or funcs i 0)) (omega (arith, count)) ∙ ap (λ xs. written at xs old) (sym one)
 
 all_left : {X : Type 0} (P : X → Type 0) (xs ys : List X) → All P (xs ++ ys) → All P xs
 all_left P [] ys h = All-nil P
@@ -55,9 +56,9 @@ module _ (m : Module) (calls : List HostCall) (l : IsLinked m calls) where
       let own : size_of m.tables ≡ limits.min = only_one m.tables e.table limits (subst (λ (ts : List Limits). length ts ≤ 1) tables_own l.typed.one_table) (subst (λ (ts : List Limits). slice_get ts e.table ≡ Some limits) tables_own found) in
       omega (arith, number, own, end_is, size_is, le)
 
-with_one_more : (es : List Element) (e : Element) (t : List (Option ℕ)) → with_elements (es ++ e ∷ []) t ≡ in_place (bits_of (constant e.offset)) (map Some e.funcs) (with_elements es t)
+with_one_more : (es : List Element) (e : Element) (t : List (Option ℕ)) → with_elements (es ++ e ∷ []) t ≡ written (bits_of (constant e.offset)) (map Some e.funcs) (with_elements es t)
 with_one_more [] e t = refl
-with_one_more (x ∷ es) e t = with_one_more es e (in_place (bits_of (constant x.offset)) (map Some x.funcs) t)
+with_one_more (x ∷ es) e t = with_one_more es e (written (bits_of (constant x.offset)) (map Some x.funcs) t)
 
 -- a segment of a deployed module
 module _ {A : Type 0} (t : tree.Module A) (calls : List HostCall) (linked : ∥ IsLinked (module_view t) calls ∥₁) (i : ℕ) (x : tree_element.Element A) (lt : i < length t.elements.items) (is : x ≡ slice_index_or t.elements.items i x) where
@@ -70,7 +71,7 @@ module _ {A : Type 0} (t : tree.Module A) (calls : List HostCall) (linked : ∥ 
   pub segment_fits : bits_of (constant (element_view x).offset) + length x.funcs.items ≤ size_of (map limits_view t.tables.items)
   segment_fits = known_le _ _ linked (λ l. element_fits (module_view t) calls l i (element_view x) below there_is)
 
-  pub one_segment_more : (z : List (Option ℕ)) → with_elements (map element_view (take (i + 1) t.elements.items)) z ≡ in_place (bits_of (constant (element_view x).offset)) (map Some x.funcs.items) (with_elements (map element_view (take i t.elements.items)) z)
+  pub one_segment_more : (z : List (Option ℕ)) → with_elements (map element_view (take (i + 1) t.elements.items)) z ≡ written (bits_of (constant (element_view x).offset)) (map Some x.funcs.items) (with_elements (map element_view (take i t.elements.items)) z)
   one_segment_more z =
       ap (λ es. with_elements (map element_view es) z) (take_more t.elements.items i x lt ∙ ap (λ y. take i t.elements.items ++ y ∷ []) (sym is))
       ∙ ap (λ es. with_elements es z) (map-append element_view (take i t.elements.items) (x ∷ [])) ∙ with_one_more (map element_view (take i t.elements.items)) (element_view x) z

@@ -19,7 +19,8 @@ use Rattle.spec_syntax.specs.Profile.{page_size, page_limit}
 use Rattle.spec_numeric.specs.Operators.{bits_of}
 use Rattle.spec_typing.specs.Modules.{memories, memory_of, MemoryTyped}
 use Rattle.spec_typing.specs.Linking.{IsLinked, Resolves, InMemory, InRange, offset_number}
-use Rattle.spec_execution.specs.Configuration.{constant, size_of, in_place, with_datas}
+use Rattle.spec_numeric.specs.Memory.{written}
+use Rattle.spec_execution.specs.Configuration.{constant, size_of, with_datas}
 use Rattle.spec_execution.specs.Reduction.{most_pages}
 
 -- imports are functions alone
@@ -40,7 +41,7 @@ all_right : {X : Type 0} (P : X → Type 0) (xs ys : List X) → All P (xs ++ ys
 all_right P [] ys h = h
 all_right P (x ∷ xs) ys h = all_right P xs ys (All-tail P x (xs ++ ys) h)
 
-below_most : (n : ℕ) (max : Option ℕ) → n ≤ 256 → IfSome max (λ x. n ≤ x) → n ≤ min 256 (unwrap_or max 256)
+below_most : (n : ℕ) (max : Option ℕ) → n ≤ page_limit → IfSome max (λ x. n ≤ x) → n ≤ min page_limit (unwrap_or max page_limit)
 below_most n None le h = omega arith
 below_most n (Some x) le h = omega (arith, h)
 
@@ -58,7 +59,7 @@ pub const_number : (e : Instrs) (at : ℕ) → offset_number e ≡ Some at → b
 const_number (seq (Plain (Const (value.I32 k))) nothing) at e = (let there : cast_unsigned w32 k ≡ at = cc in there)
 const_number _ at e = absurd (cc)
 
-most_is_few : (ms : List Limits) → most_pages ms ≤ 256
+most_is_few : (ms : List Limits) → most_pages ms ≤ page_limit
 most_is_few [] = omega arith
 most_is_few (l ∷ ls) = omega arith
 
@@ -102,13 +103,13 @@ pub length_map : {X Y : Type 0} (f : X → Y) (xs : List X) → length (map f xs
 length_map f [] = refl
 length_map f (x ∷ xs) = ap (λ (n : ℕ). suc n) (length_map f xs)
 
-pub length_in_place : {X : Type 0} (at : ℕ) (items old : List X) → at + length items ≤ length old → length (in_place at items old) ≡ length old
+pub length_in_place : {X : Type 0} (at : ℕ) (items old : List X) → at + length items ≤ length old → length (written at items old) ≡ length old
 length_in_place at items old le =
     length-append (take at old) (items ++ drop (at + length items) old) ∙ (omega (arith, length-append items (drop (at + length items) old), length-take at old, length-drop (at + length items) old))
 
-with_one_more : (ds : List DataSegment) (d : DataSegment) (m : List ℕ) → with_datas (ds ++ d ∷ []) m ≡ in_place (bits_of (constant d.offset)) d.bytes (with_datas ds m)
+with_one_more : (ds : List DataSegment) (d : DataSegment) (m : List ℕ) → with_datas (ds ++ d ∷ []) m ≡ written (bits_of (constant d.offset)) d.bytes (with_datas ds m)
 with_one_more [] d m = refl
-with_one_more (x ∷ ds) d m = with_one_more ds d (in_place (bits_of (constant x.offset)) x.bytes m)
+with_one_more (x ∷ ds) d m = with_one_more ds d (written (bits_of (constant x.offset)) x.bytes m)
 
 -- a segment of a deployed module
 module _ {A : Type 0} (t : tree.Module A) (calls : List HostCall) (linked : ∥ IsLinked (module_view t) calls ∥₁) (i : ℕ) (x : tree_data.DataSegment A) (lt : i < length t.datas.items) (is : x ≡ slice_index_or t.datas.items i x) where
@@ -123,10 +124,10 @@ module _ {A : Type 0} (t : tree.Module A) (calls : List HostCall) (linked : ∥ 
 
   pub segment_small : bits_of (constant (data_view x).offset) < 2 ^ 32
   segment_small =
-      let few : size_of (map limits_view t.memories.items) ≤ 256 = omega (arith, fits_known (module_view t) calls linked, most_is_few (map limits_view t.memories.items)) in
+      let few : size_of (map limits_view t.memories.items) ≤ page_limit = omega (arith, fits_known (module_view t) calls linked, most_is_few (map limits_view t.memories.items)) in
       omega (arith, segment_fits, few)
 
-  pub one_segment_more : (z : List ℕ) → with_datas (map data_view (take (i + 1) t.datas.items)) z ≡ in_place (bits_of (constant (data_view x).offset)) x.bytes.items (with_datas (map data_view (take i t.datas.items)) z)
+  pub one_segment_more : (z : List ℕ) → with_datas (map data_view (take (i + 1) t.datas.items)) z ≡ written (bits_of (constant (data_view x).offset)) x.bytes.items (with_datas (map data_view (take i t.datas.items)) z)
   one_segment_more z =
       ap (λ ds. with_datas (map data_view ds) z) (take_more t.datas.items i x lt ∙ ap (λ y. take i t.datas.items ++ y ∷ []) (sym is))
       ∙ ap (λ ds. with_datas ds z) (map-append data_view (take i t.datas.items) (x ∷ [])) ∙ with_one_more (map data_view (take i t.datas.items)) (data_view x) z

@@ -19,11 +19,12 @@ use crate::tables::open_table;
 use link::deployed::Deployed;
 use memory::{Linear, PAGE_LIMIT, StoreRefusal};
 use module_tree::instr::Instr;
+use module_tree::lone::lone_plain;
 use module_tree::module::Global as Declared;
 use std::alloc::{AllocError, Allocator, Global};
 use wtypes::{Limits, NoMemory, PlainInstr, Value};
 
-/// What a call may change beside its frames (Core Specification, 4.2.6 Module Instances).
+/// What a call may change beside its frames (Core Specification, 4.2.5 Module Instances).
 #[derive(Drop)]
 pub struct Instance<A: Allocator + Copy = Global> {
     /// The globals.
@@ -121,15 +122,9 @@ fn open_globals<A: Allocator + Copy>(
 fn constant_of<A: Allocator>(expression: &Vec<Instr<A>, A>) -> Value
     ensures { result ≡ constant (instrs_view expression.now.items) }
 {
-    if expression.len() != 1 {
-        return Value::I32(0);
-    }
-    match &expression[0] {
-        Instr::Plain(_, op) => value_of_const(*op),
-        Instr::BrTable(_, _, _) => Value::I32(0),
-        Instr::Block(_, _, _) => Value::I32(0),
-        Instr::Loop(_, _, _) => Value::I32(0),
-        Instr::If(_, _, _, _) => Value::I32(0),
+    match lone_plain(expression) {
+        Some(op) => value_of_const(op),
+        None => Value::I32(0),
     }
 }
 

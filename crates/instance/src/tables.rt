@@ -2,7 +2,8 @@
 ghost use Rattle.std.specs.Prelude.{◌≡◌, ◌+◌, ◌≤◌, map, length, replicate, Some, None, IfOk};
 ghost use Rattle.module_tree.specs.ModuleView.{limits_view};
 ghost use Rattle.module_tree.specs.Modules.{module_view};
-ghost use Rattle.spec_execution.specs.Configuration.{size_of, in_place, fresh};
+ghost use Rattle.spec_numeric.specs.Memory.{written};
+ghost use Rattle.spec_execution.specs.Configuration.{size_of, fresh};
 ghost use Rattle.link.specs.Parts.{tree_of};
 
 use crate::{bits, constant_of};
@@ -46,7 +47,7 @@ fn first_table<A: Allocator + Copy>(
 // Puts functions into the elements from this one on.
 fn put_functions<A: Allocator>(table: &mut Vec<Option<u32>, A>, at: usize, funcs: &[u32])
     requires { at + length funcs.now ≤ length table.old.items }
-    ensures { table.new.items ≡ in_place at (map Some funcs.now) table.old.items }
+    ensures { table.new.items ≡ written at (map Some funcs.now) table.old.items }
 {
     for i in 0..funcs.len() {
         table[at + i] = Some(funcs[i]);

@@ -6,3 +6,4 @@ pub mod Beginning
 pub mod Showing
 pub mod Outlook
 pub mod Copying
+pub mod Wanting

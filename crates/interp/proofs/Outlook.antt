@@ -1,5 +1,5 @@
 -- What a machine shows while its run goes on, and at its end.
-use Rattle.std.proofs.Common.{◌≡◌, ◌≢◌, ℕ, ◌≤◌, Bool, true, false, true≢false, List, [], ◌∷◌, length, drop, refl, sym, ap, ◌∙◌, subst, arith, Some, None, inl, inr}
+use Rattle.std.proofs.Common.{◌≡◌, ◌≢◌, ℕ, ◌≤◌, Bool, true, false, true≢false, List, [], ◌∷◌, length, drop, refl, sym, ap, ◌∙◌, subst, arith, Option, Some, None, inl, inr}
 use Rattle.std.specs.Prelude.{if◌then◌else◌, ◌==◌, ◌&&◌, ◌⊎◌}
 use Rattle.std.proofs.lemmas.Bool.{ne_eqb, eq-eqb}
 use Rattle.wtypes.specs.declared.Value.{Value}
@@ -7,17 +7,17 @@ use Rattle.spec_ledger.specs.declared.Op.{Op}
 use Rattle.spec_ledger.specs.declared.Outcome.{Outcome}
 use Rattle.spec_ledger.specs.declared.Outcome.TheVariants.{Returned, Trapped, OutOfFuel, Rejected}
 use Rattle.spec_execution.specs.Configuration as c
-use Rattle.spec_execution.specs.Configuration.{Seq, End, Config, Running}
+use Rattle.spec_execution.specs.Configuration.{Contract, Seq, End, Config, Running}
 use Rattle.spec_execution.specs.Reduction.{reduce, Next, Goes, Traps, Asks, Branches, Returns, Ended, Stuck}
-use Rattle.spec_execution.specs.Run.{next, IsCharged, result_of}
+use Rattle.spec_execution.specs.Run.{next, IsCharged, result_of, Ends, returns, trapped, exhausted}
 use Rattle.spec_execution.specs.Turns.{is_to_come, state_of, stack_in, locals_in, place_in, place_of, stack_of, locals_of}
 use Rattle.interp.specs.declared.turns.Status.{Status}
 use Rattle.interp.specs.declared.turns.Status.TheVariants as status
 use Rattle.sequences.specs.Meaning.{Item, View, config, calling, invoking, sequence, state, listed, height, IsOrdered}
 use Rattle.sequences.specs.Branches.{in_call}
 use Rattle.sequences.specs.Plain.{onto}
-use Rattle.interp.specs.Machine.{Seen, on, progress, config_at, IsAt, IsLive, IsWaiting, IsMachine}
-use Rattle.interp.specs.Shown.{ending, ending_by, is_out, unless_ended, stack_shown, locals_shown, place_shown, IsOpen}
+use Rattle.interp.specs.Machine.{Seen, on, progress, config_at, IsAt, IsLive, IsWaiting, IsOver, IsMachine}
+use Rattle.interp.specs.Shown.{ending, ending_of, ending_by, is_out, leaves_stack, unless_ended, stack_shown, locals_shown, place_shown, IsShown}
 use Rattle.frames.specs.Innermost.{function_in}
 use Rattle.sequences.specs.Charging.{height-le}
 use Rattle.sequences.specs.Rest.{is_charged, is_ended}
@@ -59,6 +59,10 @@ and_false : (b : Bool) → (b && false) ≡ false
 and_false true = refl
 and_false false = refl
 
+picked : (b : Bool) → leaves_stack (if b then Some OutOfFuel else None) ≡ false → is_out (if b then Some OutOfFuel else None) ≡ true
+picked true h = refl
+picked false h = absurd (true≢false h)
+
 in_fuel : (b : Bool) (n : Next) (x y : Config) → is_out (ending_by b n) ≡ false → (if b && is_to_come n then x else y) ≡ y
 in_fuel b (Ended vs) x y h = ap (λ (t : Bool). if t then x else y) (and_false b)
 in_fuel b (Goes charge s q) x y h = pick_in (b && (charge == 1)) x y h
@@ -76,6 +80,23 @@ out_of_fuel b (Asks op go) x y h = pick_out (b && false) x y h
 out_of_fuel b (Branches charge l vs) x y h = pick_out (b && false) x y h
 out_of_fuel b (Returns charge vs) x y h = pick_out (b && false) x y h
 out_of_fuel b Stuck x y h = pick_out (b && false) x y h
+
+-- a run that goes on or is out of fuel, and leaves no stack, is out of fuel
+no_stack_out : (b : Bool) (n : Next) → leaves_stack (ending_by b n) ≡ false → is_out (ending_by b n) ≡ true
+no_stack_out b (Ended vs) h = absurd (true≢false h)
+no_stack_out b (Goes charge s q) h = picked (b && (charge == 1)) h
+no_stack_out b (Traps charge t) h = picked (b && (charge == 1)) h
+no_stack_out b (Asks op go) h = picked (b && false) h
+no_stack_out b (Branches charge l vs) h = picked (b && false) h
+no_stack_out b (Returns charge vs) h = picked (b && false) h
+no_stack_out b Stuck h = picked (b && false) h
+
+stack_in_fuel : (o : Option Outcome) → leaves_stack o ≡ true → is_out o ≡ false
+stack_in_fuel None h = refl
+stack_in_fuel (Some (Returned r)) h = refl
+stack_in_fuel (Some (Trapped t)) h = absurd (true≢false (sym h))
+stack_in_fuel (Some OutOfFuel) h = absurd (true≢false (sym h))
+stack_in_fuel (Some (Rejected n)) h = absurd (true≢false (sym h))
 
 -- ---- how a run ends
 
@@ -103,6 +124,27 @@ module _ (s : Seen) (m : IsMachine s) (running : s.status ≡ status.Running) wh
   pub goes_on : s.view.code ≢ [] → (s.used ≡ s.call.fuel → ⊥) → ending (progress s) ≡ None
   goes_on some_left left = subst (λ (x : Status). ending (progress (on s x)) ≡ None) (sym running)
       (ap (λ b. ending_by b (next s.contract (state s.view) (joined (sequence s.view) s.tail))) (ne_eqb s.used s.call.fuel left) ∙ charged_in _ (charged some_left))
+
+-- after the end
+over_of : (s : Seen) → IsMachine s → (o : Outcome) → s.status ≡ status.Ended o → IsOver s o
+over_of s m o e = subst (IsAt s) e m.at
+
+ended_by : (c : Contract) (limit used : ℕ) (x : Config) (o : Outcome) → Ends c limit used x o → ending_of c limit used x ≡ Some o
+ended_by c limit n x o (returns used s seq vs e) = ap (ending_by (used == limit)) e
+ended_by c limit n x o (trapped used s t) = refl
+ended_by c limit n x o (exhausted s seq h) = ap (λ b. ending_by b (next c s seq)) (eq-eqb limit limit refl) ∙ charged_out (next c s seq) h
+
+pub tells_end : (s : Seen) → IsMachine s → (o : Outcome) → s.status ≡ status.Ended o → ending (progress s) ≡ Some o
+tells_end s m o e = subst (λ (x : Status). ending (progress (on s x)) ≡ Some o) (sym e) (ended_by s.contract s.call.fuel s.used _ o (over_of s m o e).ends)
+
+abbrev IsNoRejection : Outcome → Type 0
+IsNoRejection (Rejected n) = ⊥
+IsNoRejection _ = Unit {0}
+
+no_rejection : (c : Contract) (limit used : ℕ) (x : Config) (o : Outcome) → Ends c limit used x o → IsNoRejection o
+no_rejection c limit n x o (returns used s seq vs e) = tt
+no_rejection c limit n x o (trapped used s t) = tt
+no_rejection c limit n x o (exhausted s seq h) = tt
 
 -- while the host is asked
 pub asks_on : (s : Seen) → IsMachine s → (op : Op) → s.status ≡ status.Asking op → ending (progress s) ≡ None
@@ -132,7 +174,7 @@ running_hidden s live = by_code s.view.code refl
 asking_hidden : (s : Seen) → IsHidden s.tail (invoking s.view s.asked)
 asking_hidden s = hidden_stop s.tail (invoking s.view s.asked) (stops_whole s.view.entries s.view.stack s.view.locals (c.Invoke s.asked (listed s.view.code End)) tt)
 
-pub shows_locals : (s : Seen) → IsMachine s → (x : Status) → s.status ≡ x → IsOpen x → None ≡ ending (progress (on s x)) → s.view.locals ≡ locals_shown (progress (on s x))
+pub shows_locals : (s : Seen) → IsMachine s → (x : Status) → s.status ≡ x → IsShown x → None ≡ ending (progress (on s x)) → s.view.locals ≡ locals_shown (progress (on s x))
 shows_locals s m status.Running is o e =
     sym (ap (λ r. unless_ended r (locals_of (with_tail s.tail (config s.view)))) (sym e)
     ∙ (running_hidden s (live_of s m is)).locals (state s.view).locals
@@ -142,7 +184,7 @@ shows_locals s m (status.Asking op) is o e =
     ∙ (asking_hidden s).locals (state s.view).locals
     ∙ locals_whole s.view.entries s.view.stack s.view.locals (c.Invoke s.asked (listed s.view.code End)))
 shows_locals s m (status.Fallen t) is o e = absurd (let no : None ≡ Some (Trapped t) = e in cc)
-shows_locals s m (status.Ended r) is o e = absurd o
+shows_locals s m (status.Ended r) is o e = absurd (let no : None ≡ Some r = e ∙ subst (λ (x : Status). ending (progress (on s x)) ≡ Some r) is (tells_end s m r is) in cc)
 shows_locals s m status.NoMemory is o e = absurd o
 
 pub shows_none : (s : Seen) (r : Outcome) → Some r ≡ ending (progress s) → [] ≡ locals_shown (progress s)
@@ -174,17 +216,60 @@ module _ (s : Seen) (m : IsMachine s) where
       ∙ (asking_hidden s).stack []
       ∙ stack_whole s.view.entries s.view.stack s.view.locals (c.Invoke s.asked (listed s.view.code End)) waiting.ordered.stands)) left
 
-  -- while its code is left, or the host is asked
+  returned_live : (r : Option Value) → s.status ≡ status.Ended (Returned r) → IsLive s
+  returned_live r e = (over_of s m (Returned r) e).at_end.0
+
+  -- a run that has returned is not out of fuel
+  returned_in : (r : Option Value) → s.status ≡ status.Ended (Returned r) → is_out (ending (progress (on s (status.Ended (Returned r))))) ≡ false
+  returned_in r e = ap is_out (subst (λ (x : Status). ending (progress (on s x)) ≡ Some (Returned r)) e (tells_end s m (Returned r) e))
+
+  returned_stack : (r : Option Value) → s.status ≡ status.Ended (Returned r) → drop (height (in_call s.view.entries)) s.view.stack ≡ stack_shown (progress s)
+  returned_stack r e =
+      subst (λ (x : Status). drop (height (in_call s.view.entries)) s.view.stack ≡ stack_shown (progress (on s x))) (sym e)
+      (sym (ap stack_of (in_fuel (s.used == s.call.fuel) (next s.contract (state s.view) (joined (sequence s.view) s.tail)) _ _ (returned_in r e))
+      ∙ (running_hidden s (returned_live r e)).stack []
+      ∙ stack_whole s.view.entries s.view.stack s.view.locals (listed s.view.code End) (returned_live r e).ordered.stands
+      ∙ stack_listed s.view.code _))
+
+  -- while its code is left, or the host is asked, or it has returned
   abbrev pub IsLeft : Type 0
-  IsLeft = (s.status ≡ status.Running) ⊎ ((op : Op) × (s.status ≡ status.Asking op))
+  IsLeft = (s.status ≡ status.Running) ⊎ (((op : Op) × (s.status ≡ status.Asking op)) ⊎ ((r : Option Value) × (s.status ≡ status.Ended (Returned r))))
 
   pub left_within : IsLeft → height (in_call s.view.entries) ≤ length s.view.stack
   left_within (inl e) = running_within e
-  left_within (inr a) = asking_within a.0 a.1
+  left_within (inr (inl a)) = asking_within a.0 a.1
+  left_within (inr (inr r)) = call_within s (returned_live r.0 r.1).ordered
 
   pub left_stack : IsLeft → is_out (ending (progress s)) ≡ false → drop (height (in_call s.view.entries)) s.view.stack ≡ stack_shown (progress s)
   left_stack (inl e) left = running_stack e left
-  left_stack (inr a) left = asking_stack a.0 a.1 left
+  left_stack (inr (inl a)) left = asking_stack a.0 a.1 left
+  left_stack (inr (inr r)) left = returned_stack r.0 r.1
+
+  out_at_end : s.status ≡ status.Ended OutOfFuel → is_out (ending (progress (on s (status.Ended OutOfFuel)))) ≡ true
+  out_at_end e = ap is_out (subst (λ (x : Status). ending (progress (on s x)) ≡ Some OutOfFuel) e (tells_end s m OutOfFuel e))
+
+  -- after another end than a return nothing stands on the stack, and after each end there is no place
+  pub ended_stack : (o : Outcome) → s.status ≡ status.Ended o → ((r : Option Value) → o ≡ Returned r → ⊥) → [] ≡ stack_shown (progress s)
+  ended_stack o e other = subst (λ (x : Status). [] ≡ stack_shown (progress (on s x))) (sym e) (by_outcome o e other)
+    where
+      by_outcome : (o : Outcome) → s.status ≡ status.Ended o → ((r : Option Value) → o ≡ Returned r → ⊥) → [] ≡ stack_shown (progress (on s (status.Ended o)))
+      by_outcome (Returned r) e other = absurd (other r refl)
+      by_outcome (Trapped t) e other = refl
+      by_outcome OutOfFuel e other = sym (ap stack_of (out_of_fuel (s.used == s.call.fuel) (next s.contract (state s.view) (joined (sequence s.view) s.tail)) _ _ (out_at_end e)))
+      by_outcome (Rejected n) e other = absurd (no_rejection s.contract s.call.fuel s.used _ (Rejected n) (over_of s m (Rejected n) e).ends)
+
+  pub ended_place : (o : Outcome) → s.status ≡ status.Ended o → None ≡ place_shown (progress s)
+  ended_place o e = subst (λ (x : Status). None ≡ place_shown (progress (on s x))) (sym e) (by_outcome o e)
+    where
+      by_outcome : (o : Outcome) → s.status ≡ status.Ended o → None ≡ place_shown (progress (on s (status.Ended o)))
+      by_outcome (Returned r) e =
+          sym (ap place_of (in_fuel (s.used == s.call.fuel) (next s.contract (state s.view) (joined (sequence s.view) s.tail)) _ _ (returned_in r e))
+          ∙ (running_hidden s (returned_live r e)).place None
+          ∙ place_whole s.view.entries s.view.stack s.view.locals (listed s.view.code End)
+          ∙ ap (λ (is : List Item). place_in (function_in (in_call s.view.entries)) (listed is End)) (over_of s m (Returned r) e).at_end.1)
+      by_outcome (Trapped t) e = refl
+      by_outcome OutOfFuel e = sym (ap place_of (out_of_fuel (s.used == s.call.fuel) (next s.contract (state s.view) (joined (sequence s.view) s.tail)) _ _ (out_at_end e)))
+      by_outcome (Rejected n) e = absurd (no_rejection s.contract s.call.fuel s.used _ (Rejected n) (over_of s m (Rejected n) e).ends)
 
   pub running_place : s.status ≡ status.Running → is_out (ending (progress s)) ≡ false → place_in (function_in (in_call s.view.entries)) (listed s.view.code End) ≡ place_shown (progress s)
   running_place e left =
@@ -193,10 +278,10 @@ module _ (s : Seen) (m : IsMachine s) where
       ∙ (running_hidden s (live_of s m e)).place None
       ∙ place_whole s.view.entries s.view.stack s.view.locals (listed s.view.code End))) left
 
-  pub no_place : (x : Status) → IsOpen x → s.status ≡ x → (x ≡ status.Running → is_out (ending (progress s)) ≡ true) → None ≡ place_shown (progress s)
+  pub no_place : (x : Status) → IsShown x → s.status ≡ x → (x ≡ status.Running → is_out (ending (progress s)) ≡ true) → None ≡ place_shown (progress s)
   no_place x o e out = subst (λ (y : Status). None ≡ place_shown (progress (on s y))) (sym e) (by_status x o e out)
     where
-      by_status : (y : Status) → IsOpen y → s.status ≡ y → (y ≡ status.Running → is_out (ending (progress s)) ≡ true) → None ≡ place_shown (progress (on s y))
+      by_status : (y : Status) → IsShown y → s.status ≡ y → (y ≡ status.Running → is_out (ending (progress s)) ≡ true) → None ≡ place_shown (progress (on s y))
       by_status status.Running o e out =
           let h : is_out (ending (progress (on s status.Running))) ≡ true = subst (λ (z : Status). is_out (ending (progress (on s z))) ≡ true) e (out refl) in
           sym (ap place_of (out_of_fuel (s.used == s.call.fuel) (next s.contract (state s.view) (joined (sequence s.view) s.tail)) _ _ h))
@@ -206,18 +291,38 @@ module _ (s : Seen) (m : IsMachine s) where
           ∙ (asking_hidden s).place None
           ∙ place_whole s.view.entries s.view.stack s.view.locals (c.Invoke s.asked (listed s.view.code End)))
       by_status (status.Fallen t) o e out = refl
-      by_status (status.Ended r) o e out = absurd o
+      by_status (status.Ended r) o e out = subst (λ (y : Status). None ≡ place_shown (progress (on s y))) e (ended_place r e)
       by_status status.NoMemory o e out = absurd o
 
-  pub no_stack : (x : Status) → IsOpen x → s.status ≡ x → is_out (ending (progress s)) ≡ true → [] ≡ stack_shown (progress s)
-  no_stack x o e out = subst (λ (y : Status). [] ≡ stack_shown (progress (on s y))) (sym e) (by_status x o (subst (λ (y : Status). is_out (ending (progress (on s y))) ≡ true) e out))
+  -- the status, where a stack is left
+  pub stack_left : (x : Status) → IsShown x → s.status ≡ x → leaves_stack (ending (progress s)) ≡ true → IsLeft
+  stack_left x o e h = by_status x o e (subst (λ (y : Status). leaves_stack (ending (progress (on s y))) ≡ true) e h)
     where
-      by_status : (y : Status) → IsOpen y → is_out (ending (progress (on s y))) ≡ true → [] ≡ stack_shown (progress (on s y))
-      by_status status.Running o h = sym (ap stack_of (out_of_fuel (s.used == s.call.fuel) (next s.contract (state s.view) (joined (sequence s.view) s.tail)) _ _ h))
-      by_status (status.Asking op) o h = sym (ap stack_of (out_of_fuel (s.used == s.call.fuel) (next s.contract (state s.view) (joined (invoking s.view s.asked) s.tail)) _ _ h))
-      by_status (status.Fallen t) o h = refl
-      by_status (status.Ended r) o h = absurd o
-      by_status status.NoMemory o h = absurd o
+      by_end : (r : Outcome) → s.status ≡ status.Ended r → leaves_stack (Some r) ≡ true → IsLeft
+      by_end (Returned r) e h = inr (inr (r, e))
+      by_end (Trapped t) e h = absurd (true≢false (sym h))
+      by_end OutOfFuel e h = absurd (true≢false (sym h))
+      by_end (Rejected n) e h = absurd (true≢false (sym h))
+
+      by_status : (y : Status) → IsShown y → s.status ≡ y → leaves_stack (ending (progress (on s y))) ≡ true → IsLeft
+      by_status status.Running o e h = inl e
+      by_status (status.Asking op) o e h = inr (inl (op, e))
+      by_status (status.Fallen t) o e h = absurd (true≢false (sym h))
+      by_status (status.Ended r) o e h = by_end r e (sym (ap leaves_stack (subst (λ (y : Status). ending (progress (on s y)) ≡ Some r) e (tells_end s m r e))) ∙ h)
+      by_status status.NoMemory o e h = absurd o
+
+  pub shows_stack : (x : Status) → IsShown x → s.status ≡ x → leaves_stack (ending (progress s)) ≡ true → drop (height (in_call s.view.entries)) s.view.stack ≡ stack_shown (progress s)
+  shows_stack x o e h = left_stack (stack_left x o e h) (stack_in_fuel (ending (progress s)) h)
+
+  pub shows_no_stack : (x : Status) → IsShown x → s.status ≡ x → leaves_stack (ending (progress s)) ≡ false → [] ≡ stack_shown (progress s)
+  shows_no_stack x o e h = subst (λ (y : Status). [] ≡ stack_shown (progress (on s y))) (sym e) (by_status x o e (subst (λ (y : Status). leaves_stack (ending (progress (on s y))) ≡ false) e h))
+    where
+      by_status : (y : Status) → IsShown y → s.status ≡ y → leaves_stack (ending (progress (on s y))) ≡ false → [] ≡ stack_shown (progress (on s y))
+      by_status status.Running o e h = sym (ap stack_of (out_of_fuel (s.used == s.call.fuel) (next s.contract (state s.view) (joined (sequence s.view) s.tail)) _ _ (no_stack_out (s.used == s.call.fuel) (next s.contract (state s.view) (joined (sequence s.view) s.tail)) h)))
+      by_status (status.Asking op) o e h = sym (ap stack_of (out_of_fuel (s.used == s.call.fuel) (next s.contract (state s.view) (joined (invoking s.view s.asked) s.tail)) _ _ (no_stack_out (s.used == s.call.fuel) (next s.contract (state s.view) (joined (invoking s.view s.asked) s.tail)) h)))
+      by_status (status.Fallen t) o e h = refl
+      by_status (status.Ended r) o e h = subst (λ (y : Status). [] ≡ stack_shown (progress (on s y))) e (ended_stack r e (λ v q. absurd (true≢false (sym (ap leaves_stack (subst (λ (y : Status). ending (progress (on s y)) ≡ Some r) e (tells_end s m r e) ∙ ap Some q)) ∙ h))))
+      by_status status.NoMemory o e h = absurd o
 
 -- the state, whatever the status
 pub state_at : (v : View) (tail : Seq) (f : ℕ) (x : Status) → state_of (with_tail tail (config_at v f x)) ≡ state v

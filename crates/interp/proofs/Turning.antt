@@ -102,7 +102,7 @@ module _ (s : Seen) (m : IsMachine s) (running : s.status ≡ status.Running) wh
     machine_returned r e = record {
       opens = m.opens;
       safe = m.safe;
-      at = record { reached = (live_of s m running).reached; ends = subst (λ (o : Option Value). Ends s.contract s.call.fuel s.used (with_tail s.tail (config s.view)) (Returned o)) (sym e) ends_so; within = (live_of s m running).within };
+      at = record { reached = (live_of s m running).reached; ends = subst (λ (o : Option Value). Ends s.contract s.call.fuel s.used (with_tail s.tail (config s.view)) (Returned o)) (sym e) ends_so; within = (live_of s m running).within; at_end = (record { reached = (live_of s m running).reached; ordered = (live_of s m running).ordered; ready = (live_of s m running).ready; last = (live_of s m running).last; within = (live_of s m running).within }, at_end) };
     }
 
     pub has_returned : (r : Option Value) → r ≡ result_of (onto s.view.stack []) → IsDone (progress s) (Returned r) (progress (on s (status.Ended (Returned r))))
@@ -118,7 +118,7 @@ module _ (s : Seen) (m : IsMachine s) (running : s.status ≡ status.Running) wh
         by_code (i ∷ is) e = is_charged s.contract s.view i is fine e
 
     pub machine_exhausted : IsMachine (on s (status.Ended OutOfFuel))
-    machine_exhausted = record { opens = m.opens; safe = m.safe; at = record { reached = (live_of s m running).reached; ends = is_out; within = (live_of s m running).within } }
+    machine_exhausted = record { opens = m.opens; safe = m.safe; at = record { reached = (live_of s m running).reached; ends = is_out; within = (live_of s m running).within; at_end = tt } }
 
     pub has_exhausted : IsDone (progress s) OutOfFuel (progress (on s (status.Ended OutOfFuel)))
     has_exhausted = subst (λ (x : Status). IsDone (progress (on s x)) OutOfFuel (progress (on s (status.Ended OutOfFuel)))) (sym running) (record { same = refl; ends = is_out })
@@ -129,7 +129,7 @@ module _ (s : Seen) (m : IsMachine s) (code : TrapCode) (fallen : s.status ≡ s
   is_fallen = subst (IsAt s) fallen m.at
 
   pub machine_told : IsMachine (on s (status.Ended (Trapped code)))
-  machine_told = record { opens = m.opens; safe = m.safe; at = record { reached = is_fallen.reached; ends = trapped s.used (state s.view) code; within = is_fallen.within } }
+  machine_told = record { opens = m.opens; safe = m.safe; at = record { reached = is_fallen.reached; ends = trapped s.used (state s.view) code; within = is_fallen.within; at_end = tt } }
 
   pub has_told : IsDone (progress s) (Trapped code) (progress (on s (status.Ended (Trapped code))))
   has_told = subst (λ (x : Status). IsDone (progress (on s x)) (Trapped code) (progress (on s (status.Ended (Trapped code))))) (sym fallen) (record { same = refl; ends = trapped s.used (state s.view) code })

@@ -104,11 +104,17 @@ pub record IsWaiting (s : Seen) (op : Op) : Type 0 where
   pub room : height s.view.entries + params_of op ≤ length s.view.stack
   pub asks : next s.contract (state s.view) (invoking s.view s.asked) ≡ Asks op (going_on s.view op)
 
+-- where it returned, no code is left
+abbrev pub IsAtEnd : Seen → Outcome → Type 0
+IsAtEnd s (Returned r) = IsLive s × (s.view.code ≡ [])
+IsAtEnd s _ = Unit {0}
+
 -- a run that has ended
 pub record IsOver (s : Seen) (o : Outcome) : Type 0 where
   pub reached : Reaches s (ended_at s.view o)
   pub ends : Ends s.contract s.call.fuel s.used (with_tail s.tail (ended_at s.view o)) o
   pub within : s.used ≤ s.call.fuel
+  pub at_end : IsAtEnd s o
 
 abbrev pub IsAt : Seen → Status → Type 0
 IsAt s status.Running = IsLive s

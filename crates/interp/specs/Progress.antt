@@ -1,5 +1,5 @@
 -- What contracts see of a machine: a call over lent contracts, and how far its run is.
-use Rattle.std.specs.Prelude.{◌≡◌, ℕ, ◌+◌, ◌≤◌, List, [], ◌∷◌, ◌++◌, refl}
+use Rattle.std.specs.Prelude.{◌≡◌, ℕ, ◌+◌, ◌<◌, ◌≤◌, true, List, [], ◌∷◌, ◌++◌, Option, Some, None, refl}
 use Rattle.std.specs.Coded.{Coded, code_by, coded×, coded_ℕ, coded_list}
 use Rattle.spec_ledger.specs.contracts.Step as step
 use Rattle.spec_ledger.specs.declared.Step.{Step}
@@ -7,11 +7,13 @@ use Rattle.spec_ledger.specs.declared.Op.{Op}
 use Rattle.spec_ledger.specs.declared.Reply.{Reply}
 use Rattle.spec_ledger.specs.declared.Outcome.{Outcome}
 use Rattle.spec_ledger.specs.declared.Outcome.TheVariants.{Trapped}
-use Rattle.spec_execution.specs.Configuration.{Deployed, Contract, Seq, State, Config, Running}
+use Rattle.spec_syntax.specs.Syntax.{Instr}
+use Rattle.spec_execution.specs.Configuration.{Deployed, Contract, Seq, End, Val, Code, Free, Label, Frame, Invoke, State, Config, Running, Trap}
 use Rattle.spec_execution.specs.Reduction.{Asks}
 use Rattle.spec_execution.specs.Codes.{coded_config}
 use Rattle.spec_execution.specs.Run.{ContractCall, opening, Opens, first, next, Reduces, Reached, Ends, IsReply}
 use Rattle.spec_execution.specs.Turns.{Frees, IsAtRest, IsTurn}
+use Rattle.operands.specs.Taking.{takes_memory}
 use Rattle.interp.specs.contracts.turns.Status as status_of
 use Rattle.interp.specs.declared.turns.Status.{Status}
 use Rattle.interp.specs.declared.turns.Status.TheVariants as status
@@ -114,6 +116,45 @@ NextIs p turn.Stepped q = HasStepped p q
 NextIs p (turn.Host op) q = HasAsked p op q
 NextIs p turn.NoMemory q = q.status ≡ status.NoMemory
 NextIs p (turn.Done o) q = IsDone p o q
+
+-- ---- want of memory, and what was told before
+
+-- the instruction to come, in the innermost label or frame
+abbrev pub instr_in : Seq → Option Instr
+instr_in End = None
+instr_in (Val v rest) = instr_in rest
+instr_in (Code n i rest) = Some i
+instr_in (Free i rest) = None
+instr_in (Label n at k inside rest) = instr_in inside
+instr_in (Frame f n locals inside rest) = instr_in inside
+instr_in (Invoke f rest) = None
+
+abbrev pub instr_of : Config → Option Instr
+instr_of (Running s seq) = instr_in seq
+instr_of (Trap s t) = None
+
+-- An instruction is to come that may take memory, and there is fuel for it.
+pub record MayTakeMemory (p : Progress) : Type 0 where
+  pub fuel : p.used < p.call.fuel
+  pub instr : Instr
+  pub to_come : instr_of p.config ≡ Some instr
+  pub takes : takes_memory instr ≡ true
+
+-- Memory was refused before; or the run goes on, by an instruction that may take memory.
+abbrev pub WantsMemory : Progress → Status → Type 0
+WantsMemory p status.NoMemory = Unit {0}
+WantsMemory p status.Running = MayTakeMemory p
+WantsMemory p _ = ⊥
+
+-- After an end or want of memory the same is told again, and nothing changes. A trap is told once, as the end.
+abbrev pub IsToldAt : Progress → Turn → Progress → Status → Type 0
+IsToldAt p a q (status.Ended o) = (a ≡ turn.Done o) × (q ≡ p)
+IsToldAt p a q (status.Fallen t) = (a ≡ turn.Done (Trapped t)) × (q ≡ record p { status = status.Ended (Trapped t) })
+IsToldAt p a q status.NoMemory = (a ≡ turn.NoMemory) × (q ≡ p)
+IsToldAt p a q _ = Unit {0}
+
+abbrev pub IsTold : Progress → Turn → Progress → Type 0
+IsTold p a q = IsToldAt p a q p.status
 
 -- the host was asked for an operation that may get this reply
 abbrev pub IsAwaited : Status → Reply → Type 0

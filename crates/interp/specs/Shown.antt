@@ -31,6 +31,12 @@ abbrev pub is_out : Option Outcome → Bool
 is_out (Some OutOfFuel) = true
 is_out _ = false
 
+-- values are shown while the run goes on, and where it has returned
+abbrev pub leaves_stack : Option Outcome → Bool
+leaves_stack None = true
+leaves_stack (Some (Returned r)) = true
+leaves_stack (Some _) = false
+
 -- ---- of a machine
 
 abbrev pub ending : Progress → Option Outcome
@@ -49,11 +55,10 @@ locals_shown p = unless_ended (ending p) (locals_of p.config)
 abbrev pub place_shown : Progress → Option (ℕ × ℕ)
 place_shown p = place_of (config_shown p)
 
--- Memory was not refused, and no end was told yet.
-abbrev pub IsOpen : Status → Type 0
-IsOpen (status.Ended o) = ⊥
-IsOpen status.NoMemory = ⊥
-IsOpen _ = Unit {0}
+-- Memory was not refused.
+abbrev pub IsShown : Status → Type 0
+IsShown status.NoMemory = ⊥
+IsShown _ = Unit {0}
 
 -- what is read of memory: exactly where all of these bytes lie in it, these
 abbrev pub IsReadOf : {A : Type 0} → Config → (from count : ℕ) → Result (Vec ℕ A) BytesRefusal → Type 0

@@ -106,9 +106,15 @@ impl<'a, A: Allocator + Copy> Finished<'a, A> {
 
     /// The fuel that it used.
     pub fn used(&self) -> u64
-        ensures used { result ≡ self.now.used }
-        ensures run { IsPlayed self.now }
+        ensures { result ≡ self.now.used }
     {
         self.used
+    }
+
+    /// These are a run of the call over the contracts.
+    pub fn is_played(&self)
+        ensures { IsPlayed self.now }
+    {
+        let _ = &self.contracts;
     }
 }

@@ -3,7 +3,7 @@ ghost use Rattle.std.specs.Prelude.{◌≡◌, ◌≢◌, ◌<◌, ◌≤◌, �
 ghost use Rattle.spec_numeric.specs.Operators.{bits_of};
 ghost use Rattle.spec_execution.specs.Reduction.{op_of};
 ghost use Rattle.interp.specs.Machine.{progress, IsMachine, IsCalling, HasStarted, HasBegun, HasAskedFor, HasRoom, params_of, arity_of, value_of_reply};
-ghost use Rattle.interp.specs.Progress.{NextIs, IsFree, IsAwaited, HasAnswered, IsFinishOf};
+ghost use Rattle.interp.specs.Progress.{NextIs, IsSameCall, MayTakeMemory, WantsMemory, IsTold, IsFree, IsAwaited, HasAnswered, IsFinishOf};
 ghost use Rattle.interp.specs.Run.{seen, IsKept, IsBegun, IsFirst};
 
 use crate::finished::Finished;
@@ -47,6 +47,9 @@ fn next_turn<'a, A: Allocator + Copy>(run: &mut Run<'a, A>) -> Turn
     requires free { IsFree run.old.status }
     ensures kept { IsKept run.new }
     ensures turn { NextIs (progress (seen run.old)) result (progress (seen run.new)) }
+    ensures told { IsTold (progress (seen run.old)) result (progress (seen run.new)) }
+    ensures no_memory { result ≡ Turn.NoMemory → WantsMemory (progress (seen run.old)) run.old.status }
+    ensures same { result ≡ Turn.NoMemory → IsSameCall (progress (seen run.old)) (progress (seen run.new)) }
 {
     match run.status {
         Status::Ended(outcome) => Turn::Done(outcome),
@@ -67,6 +70,8 @@ fn make_turn<'a, A: Allocator + Copy>(run: &mut Run<'a, A>) -> Turn
     requires running { run.old.status ≡ Status.Running }
     ensures kept { IsKept run.new }
     ensures turn { NextIs (progress (seen run.old)) result (progress (seen run.new)) }
+    ensures no_memory { result ≡ Turn.NoMemory → MayTakeMemory (progress (seen run.old)) }
+    ensures same { result ≡ Turn.NoMemory → IsSameCall (progress (seen run.old)) (progress (seen run.new)) }
 {
     if run.parts.code.is_empty() {
         return give_result(run);
@@ -104,6 +109,7 @@ fn give_up<'a, A: Allocator + Copy>(run: &mut Run<'a, A>) -> Turn
     ensures kept { IsKept run.new }
     ensures no_memory { run.new.status ≡ Status.NoMemory }
     ensures turn { result ≡ Turn.NoMemory }
+    ensures same { IsSameCall (progress (seen run.old)) (progress (seen run.new)) }
 {
     run.parts.entries.clear();
     run.parts.depth = 0;
@@ -117,6 +123,7 @@ fn give_result<'a, A: Allocator + Copy>(run: &mut Run<'a, A>) -> Turn
     requires kept { IsKept run.old }
     requires running { run.old.status ≡ Status.Running }
     requires at_end { run.old.parts.code.now ≡ [] }
+    ensures done { result ≢ Turn.NoMemory }
     ensures kept { IsKept run.new }
     ensures turn { NextIs (progress (seen run.old)) result (progress (seen run.new)) }
 {
@@ -133,6 +140,7 @@ fn start_function<'a, A: Allocator + Copy>(run: &mut Run<'a, A>, func: u32) -> T
     requires defined { length run.old.lent.hosts.now ≤ func }
     ensures kept { IsKept run.new }
     ensures turn { HasStarted (seen run.old) func result (seen run.new) }
+    ensures same { result ≡ Turn.NoMemory → IsSameCall (progress (seen run.old)) (progress (seen run.new)) }
 {
     match enter(run.alloc, &run.lent, func, &mut run.parts) {
         Ok(true) => {
@@ -169,6 +177,7 @@ fn ask<'a, A: Allocator + Copy>(run: &mut Run<'a, A>, func: u32) -> Turn
     requires hosted { func < length run.old.lent.hosts.now }
     ensures kept { IsKept run.new }
     ensures turn { HasAskedFor (seen run.old) func result (seen run.new) }
+    ensures same { result ≡ Turn.NoMemory → IsSameCall (progress (seen run.old)) (progress (seen run.new)) }
 {
     let host = run.lent.hosts[func as usize];
     let op = operation(run.lent.number, host, &run.parts.stack);
@@ -318,12 +327,16 @@ impl<'a, A: Allocator + Copy> Model for Machine<'a, A> {
 
 impl<'a, A: Allocator + Copy> Machine<'a, A> {
     /// Makes a turn: one charged reduction and the free ones that follow, or its trap. Where the run has ended it makes
-    /// none and answers Done. After want of memory it always answers NoMemory.
+    /// none and answers Done. It answers NoMemory only where an instruction is to come that may take memory and there is
+    /// fuel for it, and always after that.
     #[inline(always)]
     pub fn next(&mut self) -> Turn
         requires { IsFree self.old.status }
         ensures turn { NextIs self.old result self.new }
         ensures on_run { IsProgress self.new }
+        ensures told { IsTold self.old result self.new }
+        ensures no_memory { result ≡ Turn.NoMemory → WantsMemory self.old self.old.status }
+        ensures same { result ≡ Turn.NoMemory → IsSameCall self.old self.new }
     {
         next_turn(&mut self.run)
     }
@@ -366,7 +379,7 @@ impl<'a, A: Allocator + Copy> Machine<'a, A> {
     ghost use Rattle.spec_execution.specs.Run.{opening, Opens};
     ghost use Rattle.interp.specs.Lent.{contract_view, contracts_view};
     ghost use Rattle.interp.specs.Progress.{IsStartOf, IsProgress};
-    ghost use Rattle.interp.specs.Starting.{IsRefusedFor};
+    ghost use Rattle.interp.specs.Starting.{IsRefusedFor, HasPlace, wrong_in};
 
     /// The machine of a call before its first turn.
     ///
@@ -382,6 +395,7 @@ impl<'a, A: Allocator + Copy> Machine<'a, A> {
         ensures start { IfOk result (λ m. IsStartOf (contracts_view contracts.now) call.now m) }
         ensures on_run { IfOk result (λ m. IsProgress m) }
         ensures refused { IfErr result (λ refusal. IsRefusedFor refusal (opening (contracts_view contracts.now) call.now)) }
+        ensures place { IfErr result (λ refusal. HasPlace (wrong_in (contracts_view contracts.now) call.now) refusal) }
     {
         match open_call(contracts, call) {
             Ok(Opened { deployed, func }) => {

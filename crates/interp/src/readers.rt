@@ -3,7 +3,7 @@ ghost use Rattle.std.specs.Prelude.{◌≡◌, ◌<◌, ◌≤◌, IfOk, length,
 ghost use Rattle.spec_execution.specs.Turns.{state_of};
 ghost use Rattle.interp.specs.Machine.{progress};
 ghost use Rattle.interp.specs.Run.{seen, IsKept};
-ghost use Rattle.interp.specs.Shown.{is_out, ending, stack_shown, locals_shown, place_shown, IsOpen, IsReadOf};
+ghost use Rattle.interp.specs.Shown.{is_out, leaves_stack, ending, stack_shown, locals_shown, place_shown, IsShown, IsReadOf};
 
 use crate::machine::{Machine, Run};
 use crate::turns::Status;
@@ -13,21 +13,24 @@ use module_tree::module::Module;
 use operands::lent::Lent;
 use spec_ledger::{NoMemory, Outcome, Step};
 use std::alloc::Allocator;
+use thiserror::Error;
 use wtypes::Value;
 
 /// Why bytes are not read.
-#[derive(Clone, Copy, Debug, PartialEq, Eq)]
+#[derive(Clone, Copy, Debug, PartialEq, Eq, Error)]
 pub enum BytesRefusal {
     /// They do not all lie in memory.
+    #[error("the bytes do not all lie in memory")]
     OutOfRange,
     /// Memory was refused.
+    #[error("memory was refused")]
     NoMemory,
 }
 
 // How the run has ended, if it has.
 fn ending_of_run<'a, A: Allocator + Copy>(run: &Run<'a, A>) -> Option<Outcome>
     requires { IsKept run.now }
-    ensures { IsOpen run.now.status → result ≡ ending (progress (seen run.now)) }
+    ensures { IsShown run.now.status → result ≡ ending (progress (seen run.now)) }
 {
     match run.status {
         Status::Ended(outcome) => Some(outcome),
@@ -49,7 +52,7 @@ fn ending_of_run<'a, A: Allocator + Copy>(run: &Run<'a, A>) -> Option<Outcome>
 // Whether the fuel is out and an instruction is to come.
 fn has_run_out<'a, A: Allocator + Copy>(run: &Run<'a, A>) -> bool
     requires { IsKept run.now }
-    ensures { IsOpen run.now.status → result ≡ is_out (ending (progress (seen run.now))) }
+    ensures { IsShown run.now.status → result ≡ is_out (ending (progress (seen run.now))) }
 {
     matches!(ending_of_run(run), Some(Outcome::OutOfFuel))
 }
@@ -65,24 +68,33 @@ fn above(stack: &[Value], height: usize) -> &[Value]
     }
 }
 
+// Whether there are values to show: while the run goes on, and where it has returned.
+fn leaves_stack(ending: Option<Outcome>) -> bool
+    ensures { result ≡ leaves_stack ending }
+{
+    match ending {
+        None => true,
+        Some(Outcome::Returned(_)) => true,
+        Some(_) => false,
+    }
+}
+
 // The values of the innermost call, bottom first.
 fn stack_of_call<'b, 'a, A: Allocator + Copy>(run: &'b Run<'a, A>) -> &'b [Value]
     requires { IsKept run.now }
-    ensures { IsOpen run.now.status → result.now ≡ stack_shown (progress (seen run.now)) }
+    ensures { IsShown run.now.status → result.now ≡ stack_shown (progress (seen run.now)) }
 {
-    let out = has_run_out(run);
-    match run.status {
-        Status::Running | Status::Asking(_) if !out => {
-            above(&run.parts.stack, height_of_call(&run.parts.entries))
-        }
-        _ => &[],
+    if leaves_stack(ending_of_run(run)) {
+        above(&run.parts.stack, height_of_call(&run.parts.entries))
+    } else {
+        &[]
     }
 }
 
 // The locals of the innermost call.
 fn locals_of_call<'b, 'a, A: Allocator + Copy>(run: &'b Run<'a, A>) -> &'b [Value]
     requires { IsKept run.now }
-    ensures { IsOpen run.now.status → result.now ≡ locals_shown (progress (seen run.now)) }
+    ensures { IsShown run.now.status → result.now ≡ locals_shown (progress (seen run.now)) }
 {
     match ending_of_run(run) {
         None => &run.parts.locals,
@@ -93,14 +105,16 @@ fn locals_of_call<'b, 'a, A: Allocator + Copy>(run: &'b Run<'a, A>) -> &'b [Valu
 // The function and the ordinal of the instruction to come.
 fn place_of_run<'a, A: Allocator + Copy>(run: &Run<'a, A>) -> Option<(u32, u32)>
     requires { IsKept run.now }
-    ensures { IsOpen run.now.status → result ≡ place_shown (progress (seen run.now)) }
+    ensures { IsShown run.now.status → result ≡ place_shown (progress (seen run.now)) }
 {
     let out = has_run_out(run);
     match run.status {
         Status::Running if out => None,
         Status::Running => place_in_code(&run.parts),
         Status::Asking(_) => None,
-        Status::Fallen(_) | Status::Ended(_) | Status::NoMemory => None,
+        Status::Fallen(_) => None,
+        Status::Ended(_) => None,
+        Status::NoMemory => None,
     }
 }
 
@@ -169,7 +183,7 @@ impl<'a, A: Allocator + Copy> Machine<'a, A> {
     ghost use Rattle.std.specs.Prelude.{◌≡◌, IfOk};
     ghost use Rattle.module_tree.specs.Modules.{module_view};
     ghost use Rattle.spec_execution.specs.Turns.{state_of};
-    ghost use Rattle.interp.specs.Shown.{ending, stack_shown, locals_shown, place_shown, IsOpen, IsReadOf};
+    ghost use Rattle.interp.specs.Shown.{ending, stack_shown, locals_shown, place_shown, IsShown, IsReadOf};
 
     /// The same machine, with memory of its own.
     ///
@@ -197,10 +211,10 @@ impl<'a, A: Allocator + Copy> Machine<'a, A> {
         self.run.used
     }
 
-    /// How the run has ended, if it has; else None. Of a machine that was told its end or refused memory nothing is said
-    /// here, nor by `place`, `stack` and `locals`.
+    /// How the run has ended, if it has, also before `next` has told it; else None. Of a machine that was refused memory
+    /// nothing is said here, nor by `place`, `stack` and `locals`.
     pub fn ending(&self) -> Option<Outcome>
-        ensures { IsOpen self.now.status → result ≡ ending self.now }
+        ensures { IsShown self.now.status → result ≡ ending self.now }
     {
         ending_of_run(&self.run)
     }
@@ -208,21 +222,21 @@ impl<'a, A: Allocator + Copy> Machine<'a, A> {
     /// The number of the function and the ordinal of the instruction to come. None where the run has ended, and while the
     /// host is asked.
     pub fn place(&self) -> Option<(u32, u32)>
-        ensures { IsOpen self.now.status → result ≡ place_shown self.now }
+        ensures { IsShown self.now.status → result ≡ place_shown self.now }
     {
         place_of_run(&self.run)
     }
 
     /// The values of the innermost frame, bottom first. After the end they are the returned value, if there is one.
     pub fn stack(&self) -> &[Value]
-        ensures { IsOpen self.now.status → result.now ≡ stack_shown self.now }
+        ensures { IsShown self.now.status → result.now ≡ stack_shown self.now }
     {
         stack_of_call(&self.run)
     }
 
     /// The locals of the innermost frame. After the end there are none.
     pub fn locals(&self) -> &[Value]
-        ensures { IsOpen self.now.status → result.now ≡ locals_shown self.now }
+        ensures { IsShown self.now.status → result.now ≡ locals_shown self.now }
     {
         locals_of_call(&self.run)
     }

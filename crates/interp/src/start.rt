@@ -1,36 +1,45 @@
 // Whether a call starts.
-ghost use Rattle.std.specs.Prelude.{◌≡◌, ◌≤◌, length, IfOk, IfErr};
+ghost use Rattle.std.specs.Prelude.{◌≡◌, ℕ, ◌≤◌, Option, length, IfOk, IfErr};
 ghost use Rattle.spec_execution.specs.Run.{opening, Opens, Refused};
 ghost use Rattle.link.specs.Parts.{hosts_of};
+ghost use Rattle.opening.specs.Views as opening_views;
 ghost use Rattle.opening.specs.Views.{code_of};
 ghost use Rattle.interp.specs.Lent.{contract_view, contracts_view};
-ghost use Rattle.interp.specs.Starting.{IsRefusedFor};
+ghost use Rattle.interp.specs.Starting.{IsRefusedFor, HasPlace, wrong_in};
 
 use call::Call;
 use link::deployed::Deployed;
 use opening::{Refusal, entry_of};
 use std::alloc::Allocator;
+use thiserror::Error;
 
 /// Why a call does not start.
-#[derive(Clone, Copy, Debug, PartialEq, Eq)]
+#[derive(Clone, Copy, Debug, PartialEq, Eq, Error)]
 pub enum StartRefusal {
     /// There is no such contract.
+    #[error("there is no such contract")]
     NoContract,
     /// Nothing is exported under the name.
+    #[error("nothing is exported under the name")]
     NoExport,
     /// What is exported is no function of the module's own.
+    #[error("what is exported is no function of the module's own")]
     NotFunction,
     /// There are too many arguments, or too few.
+    #[error("there are too many arguments, or too few")]
     ArgCount,
     /// The argument of this place, from 0, is the first of another type.
+    #[error("argument {0} is of another type")]
     ArgType(u32),
     /// Memory was refused.
+    #[error("memory was refused")]
     NoMemory,
 }
 
 // The refusal of a call that does not open.
 pub(crate) fn refusal_of(refusal: Refusal) -> StartRefusal
-    ensures { IsRefusedFor result (Refused (code_of refusal)) }
+    ensures cause { IsRefusedFor result (Refused (code_of refusal)) }
+    ensures place { (wrong : Option ℕ) → opening_views.HasPlace wrong refusal → HasPlace wrong result }
 {
     match refusal {
         Refusal::NoContract => StartRefusal::NoContract,
@@ -57,6 +66,7 @@ pub(crate) fn open_call<'a, A: Allocator + Copy>(
     ensures opens { IfOk result (λ opened. opening (contracts_view contracts.now) call.now ≡ Opens (record { number = call.now.contract; deployed = contract_view opened.deployed.now }) opened.func) }
     ensures defined { IfOk result (λ opened. length (hosts_of opened.deployed.now) ≤ opened.func) }
     ensures refused { IfErr result (λ refusal. opening (contracts_view contracts.now) call.now ≡ Refused (code_of refusal)) }
+    ensures place { IfErr result (λ refusal. opening_views.HasPlace (wrong_in (contracts_view contracts.now) call.now) refusal) }
 {
     let Some(deployed) = contracts.get(call.contract() as usize) else {
         return Err(Refusal::NoContract);

@@ -3,7 +3,7 @@ use Rattle.lexer.proofs.RunKinds.{integer_is_read}
 use Rattle.std.proofs.Common.{false, true, ◌≡◌, ℕ, ◌+◌, ◌-◌, ◌<◌, ◌≤◌, List, [], ◌∷◌, ◌++◌, length, take, Option, Some, None, Ok, Err, refl, sym, ap, ◌∙◌, arith, subst, append_assoc}
 use Rattle.std.specs.Prelude.{slice_range}
 use Rattle.std.proofs.lemmas.List.{length-append, append_cancel_right, append-nil, take_at, drop_at}
-use Rattle.spec_text.specs.Lexical.{IsBlank, white, line, block, IsToken, open_bracket, close_bracket, keyword, name, integer, string, IsInteger, Token, LexesFrom, end, blank, token, Lexes, LexesToOne}
+use Rattle.spec_text.specs.Lexical.{IsBlank, white, line, block, IsToken, open_bracket, close_bracket, keyword, name, integer, string, IsInteger, Token, LexesFrom, end, blank, token, LexesToOne}
 use Rattle.spec_text.specs.declared.TokenKind.{TokenKind}
 use Rattle.lexer.specs.declared.states.Fault.{Fault}
 use Rattle.lexer.specs.Reading.{Read, piece_at}
@@ -74,7 +74,7 @@ one_list (token {at} {text} {piece} {rest} {kind} {tokens = ts} w h l) u =
     ∙ ap (λ (p : List ℕ). record { kind = kind; from = at; text = p } ∷ t.others) (sym same) ∙ sym t.front
 
 pub lexes_to_one : LexesToOne
-lexes_to_one text ts us t u = one_list t u
+lexes_to_one text ts us t u = one_list t.pieces u.pieces
 
 -- ---- halfway
 
@@ -82,8 +82,8 @@ lexes_to_one text ts us t u = one_list t u
 pub record Half (text rest : List ℕ) (tokens : List Token) : Type 0 where
   pub before : List ℕ
   pub whole : text ≡ before ++ rest
-  pub found : (ts : List Token) → LexesFrom (length before) rest ts → Lexes text (tokens ++ ts)
-  pub only : (ts : List Token) → Lexes text ts → (us : List Token) × (ts ≡ tokens ++ us) × LexesFrom (length before) rest us
+  pub found : (ts : List Token) → LexesFrom (length before) rest ts → LexesFrom 0 text (tokens ++ ts)
+  pub only : (ts : List Token) → LexesFrom 0 text ts → (us : List Token) × (ts ≡ tokens ++ us) × LexesFrom (length before) rest us
 
 pub half_start : (text : List ℕ) → Half text text []
 half_start text = record { before = []; whole = refl; found = λ ts l. l; only = λ ts l. (ts, refl, l) }
@@ -122,7 +122,7 @@ half_step text rest tokens kind after h e =
       whole = h.whole ∙ ap (λ (xs : List ℕ). h.before ++ xs) f.whole ∙ sym (append_assoc h.before f.piece after);
       found = λ ts l. (
           let one = one_more kind (length h.before) rest f.piece after ts f.whole f.is (subst (λ (n : ℕ). LexesFrom n after ts) far l) in
-          subst (λ (xs : List Token). Lexes text xs) (sym (append_assoc tokens (tokens_of kind (length h.before) f.piece) ts)) (h.found (tokens_of kind (length h.before) f.piece ++ ts) one));
+          subst (λ (xs : List Token). LexesFrom 0 text xs) (sym (append_assoc tokens (tokens_of kind (length h.before) f.piece) ts)) (h.found (tokens_of kind (length h.before) f.piece ++ ts) one));
       only = λ ts l. (
           let u = h.only ts l in
           let t = turn u.2 kind after e in
@@ -133,10 +133,10 @@ half_step text rest tokens kind after h e =
           ));
     })
 
-pub half_end : (text : List ℕ) (tokens : List Token) → Half text [] tokens → Lexes text tokens
-half_end text tokens h = subst (λ (xs : List Token). Lexes text xs) (append-nil tokens) (h.found [] end)
+pub half_end : (text : List ℕ) (tokens : List Token) → Half text [] tokens → LexesFrom 0 text tokens
+half_end text tokens h = subst (λ (xs : List Token). LexesFrom 0 text xs) (append-nil tokens) (h.found [] end)
 
-pub half_fault : (text rest : List ℕ) (tokens : List Token) (f : Fault) → Half text rest tokens → piece_at rest ≡ Err f → 0 < length rest → (ts : List Token) → Lexes text ts → ⊥
+pub half_fault : (text rest : List ℕ) (tokens : List Token) (f : Fault) → Half text rest tokens → piece_at rest ≡ Err f → 0 < length rest → (ts : List Token) → LexesFrom 0 text ts → ⊥
 half_fault text rest tokens f h e long ts l =
     let u = h.only ts l in
     let nothing_left : rest ≡ [] = begins u.2 f e in
@@ -188,6 +188,6 @@ half_token text rest tokens kind k after h e s =
     let one = half_step text rest tokens kind after h e in
     subst (λ (x : Option TokenKind). Half text after (tokens ++ between x text (length text - length rest) (length text - length after))) s one
 
-pub half_all : (text rest : List ℕ) (tokens : List Token) → Half text rest tokens → length rest ≡ 0 → Lexes text tokens
+pub half_all : (text rest : List ℕ) (tokens : List Token) → Half text rest tokens → length rest ≡ 0 → LexesFrom 0 text tokens
 half_all text [] tokens h e = half_end text tokens h
 half_all text (b ∷ bs) tokens h e = absurd (let wrong : 1 ≤ length (b ∷ bs) = omega arith in omega arith)

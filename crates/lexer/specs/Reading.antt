@@ -1,6 +1,6 @@
 -- One piece of a text after another, as it is read.
 use Rattle.std.specs.Prelude.{◌≡◌, ◌≤◌, ℕ, ◌+◌, ◌*◌, ◌-◌, min, Bool, true, false, ◌||◌, ◌&&◌, ◌==◌, nat_le, nat_lt, List, [], ◌∷◌, length, take, Option, Some, None, Result, Ok, Err, cond}
-use Rattle.spec_text.specs.Lexical.{is_white, is_digit, is_lower, is_idchar, is_hex, is_plain, is_no_newline, IsUnsigned}
+use Rattle.spec_text.specs.Lexical.{is_white, is_digit, is_lower, is_idchar, is_hex, is_plain, is_no_newline, IsInteger}
 use Rattle.spec_text.specs.declared.TokenKind.{TokenKind}
 use Rattle.spec_text.specs.declared.TokenKind.TheVariants.{Open, Close, Keyword, Name, Integer, Text}
 use Rattle.lexer.specs.declared.states.Fault.{Fault}
@@ -152,6 +152,6 @@ StaysInRange (Go state) = InRange state
 StaysInRange End = Unit {0}
 StaysInRange Wrong = Unit {0}
 
--- the texts that pass are the integers without a sign
-abbrev pub UnsignedIsTested : Type 0
-UnsignedIsTested = (text : List ℕ) → (is_unsigned text ≡ true → IsUnsigned text) × (IsUnsigned text → is_unsigned text ≡ true)
+-- the texts that pass are the integers
+abbrev pub IntegerIsTested : Type 0
+IntegerIsTested = (text : List ℕ) → (is_integer text ≡ true → IsInteger text) × (IsInteger text → is_integer text ≡ true)

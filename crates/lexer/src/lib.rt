@@ -6,26 +6,30 @@ ghost use Rattle.spec_text.specs.Lexical.{Lexes, LexesToOne};
 ghost use Rattle.lexer.specs.Views.{views, SpansRise};
 ghost use Rattle.lexer.specs.declared.LexRefusal.TheVariants.{NoMemory};
 ghost use Rattle.lexer.specs.Refused.{IsRightly};
-ghost use Rattle.lexer.specs.Reading.{UnsignedIsTested};
+ghost use Rattle.lexer.specs.Reading.{IntegerIsTested};
 
 mod list;
 mod reading;
 mod states;
 
 pub use list::{Token, Tokens};
-pub use reading::is_unsigned_integer;
+pub use reading::is_integer;
 use reading::read_piece;
 use states::Fault;
 use std::alloc::{AllocFailed, Allocator};
+use thiserror::Error;
 
 /// Why a text has no tokens. A place is the number of bytes before it.
-#[derive(Clone, Copy, Debug, PartialEq, Eq)]
+#[derive(Clone, Copy, Debug, PartialEq, Eq, Error)]
 pub enum LexRefusal {
     /// What begins at this place is no token, white space or comment.
+    #[error("what begins at byte {0} is no token")]
     BadToken(usize),
     /// The string or block comment that begins at this place does not end.
+    #[error("the string or comment that begins at byte {0} does not end")]
     Unclosed(usize),
     /// The allocator refused.
+    #[error("memory was refused")]
     NoMemory,
 }
 
@@ -74,7 +78,7 @@ pub fn no_text_lexes_to_two_lists()
     ensures { LexesToOne }
 {}
 
-/// A law: the test of `is_unsigned_integer` passes the texts that are integers without a sign, and no others.
-pub fn unsigned_integers_are_tested()
-    ensures { UnsignedIsTested }
+/// A law: the test of `is_integer` passes the texts that are integers, and no others.
+pub fn integers_are_tested()
+    ensures { IntegerIsTested }
 {}

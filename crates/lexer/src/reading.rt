@@ -20,21 +20,21 @@ fn is_white_space(b: u8) -> bool
 fn is_decimal_digit(b: u8) -> bool
     ensures { result ≡ is_digit b }
 {
-    b'0' <= b && b <= b'9'
+    b.is_ascii_digit()
 }
 
 /// Whether the byte is a lower-case letter.
 fn is_lower_case(b: u8) -> bool
     ensures { result ≡ is_lower b }
 {
-    b'a' <= b && b <= b'z'
+    b.is_ascii_lowercase()
 }
 
 /// Whether the byte may stand in a keyword, a name or an integer.
 fn is_identifier_character(b: u8) -> bool
     ensures { result ≡ is_idchar b }
 {
-    is_decimal_digit(b) || is_lower_case(b) || (b'A' <= b && b <= b'Z') || is_symbol(b)
+    is_decimal_digit(b) || is_lower_case(b) || b.is_ascii_uppercase() || is_symbol(b)
 }
 
 /// Whether the byte is one of the marks that may stand in a keyword or a name.
@@ -58,7 +58,7 @@ fn is_symbol(b: u8) -> bool
 fn is_hexadecimal_digit(b: u8) -> bool
     ensures { result ≡ is_hex b }
 {
-    is_decimal_digit(b) || (b'a' <= b && b <= b'f') || (b'A' <= b && b <= b'F')
+    b.is_ascii_hexdigit()
 }
 
 /// Whether the byte stands for itself in a string.
@@ -79,7 +79,7 @@ fn is_short_escape(b: u8) -> bool
 fn is_scalar_value(n: u32) -> bool
     ensures { result ≡ is_scalar n }
 {
-    n < 0xD800 || (0xE000 <= n && n < 0x110000)
+    char::from_u32(n).is_some()
 }
 
 /// What a hexadecimal digit stands for.
@@ -276,8 +276,8 @@ fn are_digits(hexadecimal: bool, text: &[u8]) -> bool
     had
 }
 
-/// Whether the text is an integer without a sign (Core Specification, 6.3.1 Integers).
-pub fn is_unsigned_integer(text: &[u8]) -> bool
+/// Whether the text is an integer without a sign.
+fn is_unsigned_integer(text: &[u8]) -> bool
     ensures { result ≡ is_unsigned text.now }
 {
     match text {
@@ -287,8 +287,8 @@ pub fn is_unsigned_integer(text: &[u8]) -> bool
     }
 }
 
-/// Whether the run is an integer, with a sign or without.
-fn is_signed_integer(text: &[u8]) -> bool
+/// Whether the text is an integer, with a sign or without (Core Specification, 6.3.1 Integers).
+pub fn is_integer(text: &[u8]) -> bool
     ensures { result ≡ is_integer text.now }
 {
     match text {
@@ -319,7 +319,7 @@ fn kind_of_run(text: &[u8]) -> Option<TokenKind>
                 Some(TokenKind::Keyword)
             } else if is_name_run(text) {
                 Some(TokenKind::Name)
-            } else if is_signed_integer(text) {
+            } else if is_integer(text) {
                 Some(TokenKind::Integer)
             } else {
                 None

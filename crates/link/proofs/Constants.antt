@@ -1,46 +1,23 @@
 -- The number of an offset is that of its one instruction.
-use Rattle.std.proofs.Common.{◌≡◌, ◌≢◌, ℕ, List, [], ◌∷◌, Option, None, Vec, length, get_or, refl, sym, ap, ◌∙◌, arith, rules}
-use Rattle.wtypes.specs.declared.ValType.{ValType}
+use Rattle.std.proofs.Common.{◌≡◌, ℕ, Option, Some, None, refl, sym, ap, ◌∙◌}
 use Rattle.wtypes.specs.declared.Value.TheVariants as value
 use Rattle.wtypes.specs.declared.PlainInstr.{PlainInstr}
 use Rattle.wtypes.specs.declared.PlainInstr.TheVariants.{Const}
 use Rattle.spec_syntax.specs.Syntax as syntax
 use Rattle.spec_typing.specs.Linking.{offset_number}
-use Rattle.module_tree.specs.declared.instr.Instr.{Instr, the_lemmas}
-use Rattle.module_tree.specs.declared.instr.Instr as tree
-use Rattle.module_tree.specs.View.{instr_view, instrs_view}
+use Rattle.module_tree.specs.Readers.{lone_plain}
 
-several : (i j : syntax.Instr) (is : syntax.Instrs) → offset_number (syntax.seq i (syntax.seq j is)) ≡ None
-several (syntax.Plain (Const (value.I32 n))) j is = refl
-several (syntax.Plain (Const (value.I64 n))) j is = refl
-several _ j is = refl
+lone_is : (is : syntax.Instrs) (op : PlainInstr) → Some op ≡ lone_plain is → is ≡ syntax.seq (syntax.Plain op) syntax.nothing
+lone_is syntax.nothing op e = absurd cc
+lone_is (syntax.seq (syntax.Plain p) syntax.nothing) op e = let same : p ≡ op = cc in ap (λ q. syntax.seq (syntax.Plain q) syntax.nothing) same
+lone_is (syntax.seq (syntax.Plain p) (syntax.seq j is)) op e = absurd cc
+lone_is (syntax.seq _ is) op e = absurd cc
 
-pub not_one : {A : Type 0} (is : List (Instr A)) → length is ≢ 1 → None ≡ offset_number (instrs_view is)
-not_one [] h = refl
-not_one (x ∷ []) h = absurd (h refl)
-not_one (x ∷ y ∷ is) h = sym (several (instr_view x) (instr_view y) (instrs_view is))
+pub number_some : (is : syntax.Instrs) (op : PlainInstr) (n : Option ℕ) → Some op ≡ lone_plain is → n ≡ offset_number (syntax.seq (syntax.Plain op) syntax.nothing) → n ≡ offset_number is
+number_some is op n e h = h ∙ sym (ap offset_number (lone_is is op e))
 
-one_instr : {A : Type 0} (is : List (Instr A)) (x : Instr A) → length is ≡ 1 → x ≡ get_or is 0 x → instrs_view is ≡ syntax.seq (instr_view x) syntax.nothing
-one_instr [] x e at = absurd (omega (arith, e))
-one_instr (y ∷ []) x e at = ap (λ y. syntax.seq (instr_view y) syntax.nothing) (sym at)
-one_instr (y ∷ z ∷ is) x e at = absurd (omega (arith, e))
-
--- what is said of the one instruction is said of the expression
-pub number_at : {A : Type 0} (is : List (Instr A)) (x : Instr A) (i : syntax.Instr) (n : Option ℕ) → length is ≡ 1 → x ≡ get_or is 0 x → instr_view x ≡ i →
-    n ≡ offset_number (syntax.seq i syntax.nothing) → n ≡ offset_number (instrs_view is)
-number_at is x i n one at same h = h ∙ sym (ap offset_number (one_instr is x one at ∙ ap (λ i. syntax.seq i syntax.nothing) same))
-
-pub view_Plain : (A : Type 0) (n : ℕ) (op : PlainInstr) → instr_view {A = A} (tree.Plain n op) ≡ syntax.Plain op
-view_Plain A n op = search (rules, the_lemmas)
-
-pub view_BrTable : {A : Type 0} (n : ℕ) (ls : Vec ℕ A) (l : ℕ) → instr_view {A = A} (tree.BrTable n ls l) ≡ syntax.BrTable ls.items l
-view_BrTable n ls l = search (rules, the_lemmas)
-
-pub view_Block : {A : Type 0} (n : ℕ) (r : Option ValType) (b : Vec (Instr A) A) → instr_view (tree.Block n r b) ≡ syntax.Block r (instrs_view b.items)
-view_Block n r b = search (rules, the_lemmas)
-
-pub view_Loop : {A : Type 0} (n : ℕ) (r : Option ValType) (b : Vec (Instr A) A) → instr_view (tree.Loop n r b) ≡ syntax.Loop r (instrs_view b.items)
-view_Loop n r b = search (rules, the_lemmas)
-
-pub view_If : {A : Type 0} (n : ℕ) (r : Option ValType) (t e : Vec (Instr A) A) → instr_view (tree.If n r t e) ≡ syntax.If r (instrs_view t.items) (instrs_view e.items)
-view_If n r t e = search (rules, the_lemmas)
+pub number_none : (is : syntax.Instrs) → None ≡ lone_plain is → None ≡ offset_number is
+number_none syntax.nothing e = refl
+number_none (syntax.seq (syntax.Plain (Const (value.I32 n))) syntax.nothing) e = absurd cc
+number_none (syntax.seq (syntax.Plain (Const (value.I32 n))) (syntax.seq j is)) e = refl
+number_none _ e = refl

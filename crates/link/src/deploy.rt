@@ -80,7 +80,7 @@ fn size_refusal<A: Allocator>(tree: &Module<A>) -> Option<LinkRefusal>
     ensures passed { IfSome result (λ e. PassedBefore e (module_view tree.now)) }
     ensures passes { is_none result ≡ true → Sized (module_view tree.now) }
 {
-    if !all_within(&tree.memories, 256) {
+    if !all_within(&tree.memories, 1024) {
         return Some(LinkRefusal::TooManyPages);
     }
     if !all_within(&tree.tables, 65536) {

@@ -4,12 +4,13 @@ ghost use Rattle.std.specs.Prelude.{◌≡◌, ◌+◌, nat_le, map, Some};
 ghost use Rattle.std.specs.List.{list_all};
 ghost use Rattle.spec_syntax.specs.Syntax as syntax;
 ghost use Rattle.spec_typing.specs.Linking;
-ghost use Rattle.module_tree.specs.View.{instr_view, instrs_view};
+ghost use Rattle.module_tree.specs.View.{instrs_view};
 ghost use Rattle.module_tree.specs.ModuleView.{limits_view, element_view, data_view};
 ghost use Rattle.link.specs.Tests;
 ghost use Rattle.link.specs.Tests.{first_fault, is_within};
 
 use module_tree::instr::Instr;
+use module_tree::lone::lone_plain;
 use module_tree::module::{DataSegment, Element};
 use std::alloc::Allocator;
 use wtypes::{Limits, PlainInstr, Value};
@@ -27,15 +28,9 @@ fn const_number(op: PlainInstr) -> Option<u32>
 fn offset_number<A: Allocator>(offset: &Vec<Instr<A>, A>) -> Option<u32>
     ensures { result ≡ Linking.offset_number (instrs_view offset.now.items) }
 {
-    if offset.len() != 1 {
-        return None;
-    }
-    match &offset[0] {
-        Instr::Plain(_, op) => const_number(*op),
-        Instr::BrTable(_, _, _) => None,
-        Instr::Block(_, _, _) => None,
-        Instr::Loop(_, _, _) => None,
-        Instr::If(_, _, _, _) => None,
+    match lone_plain(offset) {
+        Some(op) => const_number(op),
+        None => None,
     }
 }
 

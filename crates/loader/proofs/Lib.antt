@@ -6,7 +6,6 @@ pub mod Ordinals
 pub mod Whole
 pub mod Refused
 pub mod Customs
-pub mod Initial
 pub mod OneMore
 pub mod Runs
 pub mod Codes

@@ -9,17 +9,22 @@ use Rattle.spec_syntax.specs.Profile.{byte_limit}
 use Rattle.spec_syntax.specs.Limits.{is_byte, module_fits}
 use Rattle.spec_binary.specs.Shortest.{shortest}
 use Rattle.spec_binary.specs.Spells.{Spells}
+use Rattle.spec_binary_laws.specs.ShortestBytes.{all_below}
 use Rattle.spec_module_laws.specs.ReadingModules.{module_at}
 use Rattle.spec_module_laws.specs.OneTree.{module_in, bodies_fit, globals_fit, elements_fit, datas_fit, module_takes, module_again}
-use Rattle.spec_shortest.specs.Spellings.{spelled_fits, shortest_no_longer}
-use Rattle.loader.specs.Refusals.{NoModule}
+use Rattle.spec_module_laws.specs.Spellings.{spelled_fits, shortest_no_longer}
+use Rattle.expr_reader.specs.declared.unread.Unread.{Unread}
+use Rattle.expr_reader.specs.declared.unread.Unread.TheVariants as unread
+use Rattle.expr_reader.specs.Outcome.{Unless, Fails, refusal_before}
+use Rattle.loader.specs.Refusals.{NoModule, IsWithin}
 
-pub spelled_is : (bytes : List ℕ) (m : Module) → length bytes ≤ byte_limit → module_at bytes ≡ Some m → nat_le (length (shortest m)) byte_limit ≡ true → Spells bytes m
-spelled_is bytes m fits e short =
+pub spelled_is : (bytes : List ℕ) (m : Module) → list_all is_byte bytes ≡ true → length bytes ≤ byte_limit → module_at bytes ≡ Some m → nat_le (length (shortest m)) byte_limit ≡ true → Spells bytes m
+spelled_is bytes m w fits e short =
     let t = module_takes bytes m e in
     let i = t.1 in
     record {
       bytes_fit = fits;
+      are_bytes = all_below bytes w;
       grammar = t.0;
       tree_fits = record {
         funcs = i.funcs;
@@ -44,3 +49,16 @@ shortest_fits bytes m w fits e =
 
 pub no_module : (bytes : List ℕ) → module_at bytes ≡ None → NoModule bytes
 no_module bytes e m s = none-some m (sym e ∙ module_again m bytes s.grammar (module_in m s.tree_fits))
+
+-- and what a refusal says
+pub told_before : (bytes : List ℕ) (end : ℕ) (e : Unread) → Fails e (module_at bytes) → Unless (NoModule bytes) (refusal_before end e)
+told_before bytes end unread.NoMemory fails = tt
+told_before bytes end (unread.Malformed left) fails = no_module bytes fails
+told_before bytes end (unread.Unsupported left) fails = no_module bytes fails
+told_before bytes end (unread.TooLarge limit) fails = no_module bytes fails
+
+pub told_within : (len end : ℕ) (e : Unread) → end ≤ len → IsWithin len (refusal_before end e)
+told_within len end unread.NoMemory le = tt
+told_within len end (unread.Malformed left) le = omega arith
+told_within len end (unread.Unsupported left) le = omega arith
+told_within len end (unread.TooLarge limit) le = tt

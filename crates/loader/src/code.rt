@@ -1,4 +1,4 @@
-// The code section. Where a reader refuses, its number is how many bytes were left.
+// The code section.
 ghost use Rattle.std.specs.Prelude.{◌≡◌, ℕ, ◌+◌, ◌<◌, ◌≤◌, ◌^◌, List, ◌++◌, [], map, replicate, true, length, IfOk, OnOk};
 ghost use Rattle.std.specs.List.{list_all};
 ghost use Rattle.wtypes.specs.declared.ValType.{ValType};
@@ -10,17 +10,15 @@ ghost use Rattle.spec_module_laws.specs.ReadingModules.{both_at, runs_at, locals
 ghost use Rattle.module_tree.specs.View.{instrs_view, ordinals};
 ghost use Rattle.module_tree.specs.ModuleView.{func_view, func_ordinals};
 
-use crate::items::init_of;
 use crate::sections::{inside_of, slot_of};
 use crate::values::{u32_of, value_type_of};
 use crate::vectors::Reader;
-use expr_reader::LoadRefusal;
+use expr_reader::{Unread, expression_of};
 use module_tree::instr::Instr;
+use module_tree::limit::{LOCAL_LIMIT, Limit};
 use module_tree::module::Func;
 use std::alloc::{AllocError, Allocator};
 use wtypes::ValType;
-
-const LOCAL_LIMIT: u32 = 1024;
 
 // So many more locals of one type.
 fn put_run<A: Allocator>(
@@ -40,17 +38,17 @@ fn runs_of<'b, A: Allocator + Clone>(
     alloc: &A,
     runs: u32,
     bytes: &'b [u8],
-) -> Result<(Vec<ValType, A>, &'b [u8]), LoadRefusal>
+) -> Result<(Vec<ValType, A>, &'b [u8]), Unread>
     ensures value { Gives (λ x. (x.0.items, x.1.now)) result (runs_at local_limit runs bytes.now) }
     ensures shorter { IfOk result (λ x. length x.1.now ≤ length bytes.now) }
 {
     let mut locals = Vec::new(alloc.clone()?);
     let mut rest = bytes;
-    let mut room = LOCAL_LIMIT;
+    let mut room = LOCAL_LIMIT as u32;
     for _i in 0..runs {
         let (count, after) = u32_of(rest)?;
         if count > room {
-            return Err(LoadRefusal::TooLarge(3));
+            return Err(Unread::TooLarge(Limit::Locals));
         }
         let (value_type, following) = value_type_of(after)?;
         put_run(&mut locals, count, value_type)?;
@@ -64,7 +62,7 @@ fn runs_of<'b, A: Allocator + Clone>(
 fn locals_of<'b, A: Allocator + Clone>(
     alloc: &A,
     bytes: &'b [u8],
-) -> Result<(Vec<ValType, A>, &'b [u8]), LoadRefusal>
+) -> Result<(Vec<ValType, A>, &'b [u8]), Unread>
     ensures value { Gives (λ x. (x.0.items, x.1.now)) result (locals_at bytes.now) }
     ensures shorter { IfOk result (λ x. length x.1.now ≤ length bytes.now) }
 {
@@ -90,9 +88,9 @@ impl<A: Allocator + Clone> Reader<A> for Codes {
         &self,
         alloc: &A,
         bytes: &'b [u8],
-    ) -> Result<((Vec<ValType, A>, Vec<Instr<A>, A>), &'b [u8]), LoadRefusal> {
+    ) -> Result<((Vec<ValType, A>, Vec<Instr<A>, A>), &'b [u8]), Unread> {
         let (locals, rest) = locals_of(alloc, bytes)?;
-        let (body, rest) = init_of(alloc, rest)?;
+        let (body, rest) = expression_of(alloc, rest)?;
         Ok(((locals, body), rest))
     }
 }
@@ -102,7 +100,7 @@ fn codes_of<'b, A: Allocator + Clone>(
     alloc: &A,
     indices: &[u32],
     bytes: &'b [u8],
-) -> Result<(Vec<Func<A>, A>, &'b [u8]), LoadRefusal>
+) -> Result<(Vec<Func<A>, A>, &'b [u8]), Unread>
     requires small { length bytes.now < 2 ^ 32 }
     ensures value { Gives (λ x. (map func_view x.0.items, x.1.now)) result (codes_at indices.now bytes.now) }
     ensures shorter { IfOk result (λ x. length x.1.now ≤ length bytes.now) }
@@ -142,14 +140,10 @@ impl<A: Allocator + Clone> Reader<A> for Entries<'_> {
     ghost is_numbered = { λ v. list_all (λ f. counts_from 0 (func_ordinals f)) v.items };
 
     #[tactic(auto, unfolding(spec_module_laws::specs::ReadingModules::entries_at))]
-    fn read<'b>(
-        &self,
-        alloc: &A,
-        bytes: &'b [u8],
-    ) -> Result<(Vec<Func<A>, A>, &'b [u8]), LoadRefusal> {
+    fn read<'b>(&self, alloc: &A, bytes: &'b [u8]) -> Result<(Vec<Func<A>, A>, &'b [u8]), Unread> {
         let (count, rest) = u32_of(bytes)?;
         if count as usize != self.indices.len() {
-            return Err(LoadRefusal::Malformed(bytes.len()));
+            return Err(Unread::Malformed(bytes.len()));
         }
         codes_of(alloc, self.indices, rest)
     }
@@ -160,7 +154,7 @@ pub fn funcs_of<'b, A: Allocator + Clone>(
     alloc: &A,
     indices: &[u32],
     bytes: &'b [u8],
-) -> Result<(Vec<Func<A>, A>, &'b [u8]), LoadRefusal>
+) -> Result<(Vec<Func<A>, A>, &'b [u8]), Unread>
     requires small { length bytes.now < 2 ^ 32 }
     ensures value { Gives (λ x. (map func_view x.0.items, x.1.now)) result (slot_at 10 (entries_at indices.now) [] bytes.now) }
     ensures shorter { IfOk result (λ x. length x.1.now ≤ length bytes.now) }

@@ -1,4 +1,4 @@
-// What sections hold. Where a reader refuses, its number is how many bytes were left.
+// What sections hold.
 ghost use Rattle.std.specs.Prelude.{◌≡◌, ℕ, ◌<◌, ◌^◌, List, true, Option, Some, length, IfOk};
 ghost use Rattle.wtypes.specs.declared.ValType.{ValType};
 ghost use Rattle.expr_reader.specs.Outcome.{Gives};
@@ -13,43 +13,21 @@ use crate::values::{
     value_type_of,
 };
 use crate::vectors::{Reader, items_of, vector_of};
-use expr_reader::{LoadRefusal, read_expr};
-use module_tree::instr::Instr;
+use expr_reader::{Unread, expression_of};
+use module_tree::limit::{FUNCTION_LIMIT, Limit};
 use module_tree::module::{DataSegment, Element, Export, Global, Import};
 use std::alloc::Allocator;
 use wtypes::{FuncType, Limits, ValType};
 
-const FUNCTION_LIMIT: u32 = 4096;
-
-// An expression, and the bytes after it.
-pub fn init_of<'b, A: Allocator + Clone>(
-    alloc: &A,
-    bytes: &'b [u8],
-) -> Result<(Vec<Instr<A>, A>, &'b [u8]), LoadRefusal>
-    requires small { length bytes.now < 2 ^ 32 }
-    ensures value { Gives (λ x. (instrs_view x.0.items, x.1.now)) result (init_at bytes.now) }
-    ensures shorter { IfOk result (λ x. length x.1.now < length bytes.now) }
-    ensures numbered { IfOk result (λ x. counts_from 0 (ordinals x.0.items) ≡ true) }
-{
-    let end = bytes.len();
-    match read_expr(alloc.clone()?, bytes, 0, end) {
-        Ok((body, next)) => Ok((body, &bytes[next..])),
-        Err(LoadRefusal::Malformed(at)) => Err(LoadRefusal::Malformed(end.saturating_sub(at))),
-        Err(LoadRefusal::Unsupported(at)) => Err(LoadRefusal::Unsupported(end.saturating_sub(at))),
-        Err(LoadRefusal::TooLarge(limit)) => Err(LoadRefusal::TooLarge(limit)),
-        Err(LoadRefusal::NoMemory) => Err(LoadRefusal::NoMemory),
-    }
-}
-
 // A count, and that many bytes. Bytes are no item: where there are fewer, their end is at fault.
 #[tactic(auto, unfolding(spec_module_laws::specs::ReadingModules::sized_at))]
-fn content_of(bytes: &[u8]) -> Result<(&[u8], &[u8]), LoadRefusal>
+fn content_of(bytes: &[u8]) -> Result<(&[u8], &[u8]), Unread>
     ensures value { Gives (λ x. (x.0.now, x.1.now)) result (sized_at bytes.now) }
     ensures shorter { IfOk result (λ x. length x.1.now < length bytes.now) }
 {
     let (count, rest) = u32_of(bytes)?;
     if count as usize > rest.len() {
-        return Err(LoadRefusal::Malformed(0));
+        return Err(Unread::Malformed(0));
     }
     Ok(rest.split_at(count as usize))
 }
@@ -68,7 +46,7 @@ impl<A: Allocator + Clone> Reader<A> for ValTypes {
 
     ghost is_numbered = { λ _. true };
 
-    fn read<'b>(&self, _alloc: &A, bytes: &'b [u8]) -> Result<(ValType, &'b [u8]), LoadRefusal> {
+    fn read<'b>(&self, _alloc: &A, bytes: &'b [u8]) -> Result<(ValType, &'b [u8]), Unread> {
         value_type_of(bytes)
     }
 }
@@ -87,7 +65,7 @@ impl<A: Allocator + Clone> Reader<A> for Indices {
 
     ghost is_numbered = { λ _. true };
 
-    fn read<'b>(&self, _alloc: &A, bytes: &'b [u8]) -> Result<(u32, &'b [u8]), LoadRefusal> {
+    fn read<'b>(&self, _alloc: &A, bytes: &'b [u8]) -> Result<(u32, &'b [u8]), Unread> {
         u32_of(bytes)
     }
 }
@@ -107,15 +85,15 @@ impl<A: Allocator + Clone> Reader<A> for FuncTypes {
     ghost is_numbered = { λ _. true };
 
     #[tactic(auto, unfolding(spec_module_laws::specs::ReadingModules::func_type_at, spec_binary_laws::specs::ReadingExpressions::byte_at))]
-    fn read<'b>(&self, alloc: &A, bytes: &'b [u8]) -> Result<(FuncType<A>, &'b [u8]), LoadRefusal> {
+    fn read<'b>(&self, alloc: &A, bytes: &'b [u8]) -> Result<(FuncType<A>, &'b [u8]), Unread> {
         match bytes {
-            [] => Err(LoadRefusal::Malformed(0)),
+            [] => Err(Unread::Malformed(0)),
             [0x60, rest @ ..] => {
                 let (params, rest) = vector_of(alloc, &ValTypes, rest)?;
                 let (results, rest) = vector_of(alloc, &ValTypes, rest)?;
                 Ok((FuncType { params, results }, rest))
             }
-            [_, ..] => Err(LoadRefusal::Malformed(bytes.len())),
+            [_, ..] => Err(Unread::Malformed(bytes.len())),
         }
     }
 }
@@ -135,7 +113,7 @@ impl<A: Allocator + Clone> Reader<A> for Imports {
     ghost is_numbered = { λ _. true };
 
     #[tactic(auto, unfolding(spec_module_laws::specs::ReadingModules::import_at))]
-    fn read<'b>(&self, alloc: &A, bytes: &'b [u8]) -> Result<(Import<A>, &'b [u8]), LoadRefusal> {
+    fn read<'b>(&self, alloc: &A, bytes: &'b [u8]) -> Result<(Import<A>, &'b [u8]), Unread> {
         let (from_module, rest) = name_of(alloc, bytes)?;
         let (name, rest) = name_of(alloc, rest)?;
         let (desc, rest) = import_desc_of(rest)?;
@@ -162,7 +140,7 @@ impl<A: Allocator + Clone> Reader<A> for Tables {
 
     ghost is_numbered = { λ _. true };
 
-    fn read<'b>(&self, _alloc: &A, bytes: &'b [u8]) -> Result<(Limits, &'b [u8]), LoadRefusal> {
+    fn read<'b>(&self, _alloc: &A, bytes: &'b [u8]) -> Result<(Limits, &'b [u8]), Unread> {
         table_type_of(bytes)
     }
 }
@@ -181,7 +159,7 @@ impl<A: Allocator + Clone> Reader<A> for Memories {
 
     ghost is_numbered = { λ _. true };
 
-    fn read<'b>(&self, _alloc: &A, bytes: &'b [u8]) -> Result<(Limits, &'b [u8]), LoadRefusal> {
+    fn read<'b>(&self, _alloc: &A, bytes: &'b [u8]) -> Result<(Limits, &'b [u8]), Unread> {
         limits_of(bytes)
     }
 }
@@ -201,9 +179,9 @@ impl<A: Allocator + Clone> Reader<A> for Globals {
     ghost is_numbered = { λ g. counts_from 0 (global_ordinals g) };
 
     #[tactic(auto, unfolding(spec_module_laws::specs::ReadingModules::global_at))]
-    fn read<'b>(&self, alloc: &A, bytes: &'b [u8]) -> Result<(Global<A>, &'b [u8]), LoadRefusal> {
+    fn read<'b>(&self, alloc: &A, bytes: &'b [u8]) -> Result<(Global<A>, &'b [u8]), Unread> {
         let (global_type, rest) = global_type_of(bytes)?;
-        let (init, rest) = init_of(alloc, rest)?;
+        let (init, rest) = expression_of(alloc, rest)?;
         Ok((Global { global_type, init }, rest))
     }
 }
@@ -223,7 +201,7 @@ impl<A: Allocator + Clone> Reader<A> for Exports {
     ghost is_numbered = { λ _. true };
 
     #[tactic(auto, unfolding(spec_module_laws::specs::ReadingModules::export_at))]
-    fn read<'b>(&self, alloc: &A, bytes: &'b [u8]) -> Result<(Export<A>, &'b [u8]), LoadRefusal> {
+    fn read<'b>(&self, alloc: &A, bytes: &'b [u8]) -> Result<(Export<A>, &'b [u8]), Unread> {
         let (name, rest) = name_of(alloc, bytes)?;
         let (desc, rest) = export_desc_of(rest)?;
         Ok((Export { name, desc }, rest))
@@ -245,9 +223,9 @@ impl<A: Allocator + Clone> Reader<A> for Elements {
     ghost is_numbered = { λ e. counts_from 0 (element_ordinals e) };
 
     #[tactic(auto, unfolding(spec_module_laws::specs::ReadingModules::element_at))]
-    fn read<'b>(&self, alloc: &A, bytes: &'b [u8]) -> Result<(Element<A>, &'b [u8]), LoadRefusal> {
+    fn read<'b>(&self, alloc: &A, bytes: &'b [u8]) -> Result<(Element<A>, &'b [u8]), Unread> {
         let (table, rest) = u32_of(bytes)?;
-        let (offset, rest) = init_of(alloc, rest)?;
+        let (offset, rest) = expression_of(alloc, rest)?;
         let (funcs, rest) = vector_of(alloc, &Indices, rest)?;
         let element = Element {
             table,
@@ -273,13 +251,9 @@ impl<A: Allocator + Clone> Reader<A> for Datas {
     ghost is_numbered = { λ d. counts_from 0 (data_ordinals d) };
 
     #[tactic(auto, unfolding(spec_module_laws::specs::ReadingModules::data_at))]
-    fn read<'b>(
-        &self,
-        alloc: &A,
-        bytes: &'b [u8],
-    ) -> Result<(DataSegment<A>, &'b [u8]), LoadRefusal> {
+    fn read<'b>(&self, alloc: &A, bytes: &'b [u8]) -> Result<(DataSegment<A>, &'b [u8]), Unread> {
         let (memory, rest) = u32_of(bytes)?;
-        let (offset, rest) = init_of(alloc, rest)?;
+        let (offset, rest) = expression_of(alloc, rest)?;
         let (content, rest) = content_of(rest)?;
         let bytes = content.to_vec(alloc.clone()?)?;
         let data = DataSegment {
@@ -306,10 +280,10 @@ impl<A: Allocator + Clone> Reader<A> for TypeIndices {
     ghost is_numbered = { λ _. true };
 
     #[tactic(auto, unfolding(spec_module_laws::specs::ReadingModules::indices_at))]
-    fn read<'b>(&self, alloc: &A, bytes: &'b [u8]) -> Result<(Vec<u32, A>, &'b [u8]), LoadRefusal> {
+    fn read<'b>(&self, alloc: &A, bytes: &'b [u8]) -> Result<(Vec<u32, A>, &'b [u8]), Unread> {
         let (count, rest) = u32_of(bytes)?;
-        if count > FUNCTION_LIMIT {
-            return Err(LoadRefusal::TooLarge(2));
+        if count as usize > FUNCTION_LIMIT {
+            return Err(Unread::TooLarge(Limit::Functions));
         }
         items_of(alloc, &Indices, count, rest)
     }
@@ -329,11 +303,7 @@ impl<A: Allocator + Clone> Reader<A> for Start {
 
     ghost is_numbered = { λ _. true };
 
-    fn read<'b>(
-        &self,
-        _alloc: &A,
-        bytes: &'b [u8],
-    ) -> Result<(Option<u32>, &'b [u8]), LoadRefusal> {
+    fn read<'b>(&self, _alloc: &A, bytes: &'b [u8]) -> Result<(Option<u32>, &'b [u8]), Unread> {
         let (start, rest) = u32_of(bytes)?;
         Ok((Some(start), rest))
     }

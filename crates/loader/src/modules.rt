@@ -11,29 +11,29 @@ ghost use Rattle.loader.specs.Refusals.{NoModule, IsWithin};
 ghost use Rattle.loader.specs.Tail.{tail_at};
 ghost use Rattle.expr_reader.specs.declared.LoadRefusal.TheVariants.{TooLarge};
 ghost use Rattle.expr_reader.specs.Outcome.{Gives, Unless};
+ghost use Rattle.module_tree.specs.declared.limit.Limit.TheVariants as limit;
 
 use crate::code::funcs_of;
 use crate::items::{
     Datas, Elements, Exports, FuncTypes, Globals, Imports, Memories, Start, Tables, TypeIndices,
 };
 use crate::sections::{list_of, skip_customs, slot_of};
-use expr_reader::LoadRefusal;
+use expr_reader::{LoadRefusal, Unread};
+use module_tree::limit::{BYTE_LIMIT, Limit};
 use module_tree::module::{DataSegment, Func, Module};
 use std::alloc::Allocator;
 
-const BYTE_LIMIT: usize = 1048576;
-
 // What is behind the header. Its two parts are items.
 #[tactic(auto, unfolding(spec_module_laws::specs::ReadingModules::header_at, spec_binary_laws::specs::ReadingExpressions::byte_at))]
-fn header_of(bytes: &[u8]) -> Result<&[u8], LoadRefusal>
+fn header_of(bytes: &[u8]) -> Result<&[u8], Unread>
     ensures value { Gives (λ x. x.now) result (header_at bytes.now) }
     ensures shorter { IfOk result (λ x. length x.now ≤ length bytes.now) }
 {
     let [0x00, 0x61, 0x73, 0x6D, rest @ ..] = bytes else {
-        return Err(LoadRefusal::Malformed(bytes.len()));
+        return Err(Unread::Malformed(bytes.len()));
     };
     let [0x01, 0x00, 0x00, 0x00, after @ ..] = rest else {
-        return Err(LoadRefusal::Malformed(rest.len()));
+        return Err(Unread::Malformed(rest.len()));
     };
     Ok(after)
 }
@@ -44,7 +44,7 @@ fn tail_of<A: Allocator + Clone>(
     alloc: &A,
     indices: &[u32],
     bytes: &[u8],
-) -> Result<(Vec<Func<A>, A>, Vec<DataSegment<A>, A>), LoadRefusal>
+) -> Result<(Vec<Func<A>, A>, Vec<DataSegment<A>, A>), Unread>
     requires small { length bytes.now < 2 ^ 32 }
     ensures value { Gives (λ x. (map func_view x.0.items, map data_view x.1.items)) result (tail_at indices.now bytes.now) }
     ensures funcs_numbered { IfOk result (λ x. list_all (λ f. counts_from 0 (func_ordinals f)) x.0.items ≡ true) }
@@ -55,17 +55,17 @@ fn tail_of<A: Allocator + Clone>(
     match rest {
         [] => {
             if funcs.len() != indices.len() {
-                return Err(LoadRefusal::Malformed(0));
+                return Err(Unread::Malformed(0));
             }
             Ok((funcs, datas))
         }
-        [_, ..] => Err(LoadRefusal::Malformed(rest.len())),
+        [_, ..] => Err(Unread::Malformed(rest.len())),
     }
 }
 
-// A refusal's number is how many bytes were left.
+// The module that all of the bytes spell.
 #[tactic(auto, unfolding(spec_module_laws::specs::ReadingModules::module_at))]
-fn module_of<A: Allocator + Clone>(alloc: &A, bytes: &[u8]) -> Result<Module<A>, LoadRefusal>
+fn module_of<A: Allocator + Clone>(alloc: &A, bytes: &[u8]) -> Result<Module<A>, Unread>
     requires small { length bytes.now ≤ byte_limit }
     ensures value { Gives module_view result (module_at bytes.now) }
 {
@@ -103,19 +103,14 @@ pub fn load<A: Allocator + Clone>(alloc: A, bytes: &[u8]) -> Result<Module<A>, L
     ensures spelled { IfOk result (λ m. Spells bytes.now (module_view m)) }
     ensures only { IfErr result (Unless (NoModule bytes.now)) }
     ensures place { IfErr result (IsWithin (length bytes.now)) }
-    ensures large { byte_limit < length bytes.now → result ≡ Err (TooLarge 1) }
+    ensures large { byte_limit < length bytes.now → result ≡ Err (TooLarge limit.Bytes) }
 {
     let end = bytes.len();
     if end > BYTE_LIMIT {
-        return Err(LoadRefusal::TooLarge(1));
+        return Err(LoadRefusal::TooLarge(Limit::Bytes));
     }
     match module_of(&alloc, bytes) {
         Ok(module) => Ok(module),
-        Err(LoadRefusal::Malformed(left)) => Err(LoadRefusal::Malformed(end.saturating_sub(left))),
-        Err(LoadRefusal::Unsupported(left)) => {
-            Err(LoadRefusal::Unsupported(end.saturating_sub(left)))
-        }
-        Err(LoadRefusal::TooLarge(limit)) => Err(LoadRefusal::TooLarge(limit)),
-        Err(LoadRefusal::NoMemory) => Err(LoadRefusal::NoMemory),
+        Err(unread) => Err(unread.ending_at(end)),
     }
 }

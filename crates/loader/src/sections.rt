@@ -1,33 +1,20 @@
-// Sections. Where a reader refuses, its number is how many bytes were left.
+// Sections.
 ghost use Rattle.std.specs.Prelude.{◌≡◌, ℕ, ◌<◌, ◌≤◌, ◌^◌, [], map, true, length, IfOk};
 ghost use Rattle.std.specs.List.{list_all};
 ghost use Rattle.expr_reader.specs.Outcome.{Gives};
-ghost use Rattle.loader.specs.Refusals.{is_memory};
 ghost use Rattle.spec_module_laws.specs.ReadingModules.{inside_at, whole_at, skip, slot_at, list_at};
 
 use crate::values::{sized_of, text_of};
 use crate::vectors::{Reader, VectorOf};
-use expr_reader::LoadRefusal;
+use expr_reader::Unread;
 use std::alloc::Allocator;
-
-// A refusal within an enclosure that so many bytes stand behind.
-pub fn behind(refusal: LoadRefusal, more: usize) -> LoadRefusal
-    ensures { is_memory result ≡ is_memory refusal }
-{
-    match refusal {
-        LoadRefusal::Malformed(left) => LoadRefusal::Malformed(left.saturating_add(more)),
-        LoadRefusal::Unsupported(left) => LoadRefusal::Unsupported(left.saturating_add(more)),
-        LoadRefusal::TooLarge(limit) => LoadRefusal::TooLarge(limit),
-        LoadRefusal::NoMemory => LoadRefusal::NoMemory,
-    }
-}
 
 // What all of the bytes are read as.
 fn whole_of<A: Allocator + Clone, R: Reader<A>>(
     alloc: &A,
     reader: &R,
     bytes: &[u8],
-) -> Result<R::Item, LoadRefusal>
+) -> Result<R::Item, Unread>
     requires small { length bytes.now < 2 ^ 32 }
     ensures value { Gives R.view result (whole_at (R.reading reader.now) bytes.now) }
     ensures numbered { IfOk result (λ x. R.is_numbered x ≡ true) }
@@ -35,7 +22,7 @@ fn whole_of<A: Allocator + Clone, R: Reader<A>>(
     let (item, left) = reader.read(alloc, bytes)?;
     match left {
         [] => Ok(item),
-        [_, ..] => Err(LoadRefusal::Malformed(left.len())),
+        [_, ..] => Err(Unread::Malformed(left.len())),
     }
 }
 
@@ -44,7 +31,7 @@ pub fn inside_of<'b, A: Allocator + Clone, R: Reader<A>>(
     alloc: &A,
     reader: &R,
     bytes: &'b [u8],
-) -> Result<(R::Item, &'b [u8]), LoadRefusal>
+) -> Result<(R::Item, &'b [u8]), Unread>
     requires small { length bytes.now < 2 ^ 32 }
     ensures value { Gives (λ x. (R.view x.0, x.1.now)) result (inside_at (R.reading reader.now) bytes.now) }
     ensures shorter { IfOk result (λ x. length x.1.now < length bytes.now) }
@@ -53,12 +40,12 @@ pub fn inside_of<'b, A: Allocator + Clone, R: Reader<A>>(
     let (content, rest) = sized_of(bytes)?;
     match whole_of(alloc, reader, content) {
         Ok(item) => Ok((item, rest)),
-        Err(refusal) => Err(behind(refusal, rest.len())),
+        Err(unread) => Err(unread.with_more(rest.len())),
     }
 }
 
 // What is left behind the custom sections at the front.
-pub fn skip_customs(bytes: &[u8]) -> Result<&[u8], LoadRefusal>
+pub fn skip_customs(bytes: &[u8]) -> Result<&[u8], Unread>
     ensures value { Gives (λ x. x.now) result (skip bytes.now) }
     ensures shorter { IfOk result (λ x. length x.now ≤ length bytes.now) }
 {
@@ -68,8 +55,8 @@ pub fn skip_customs(bytes: &[u8]) -> Result<&[u8], LoadRefusal>
             return Ok(rest);
         }
         let (content, following) = sized_of(after)?;
-        if let Err(refusal) = text_of(content) {
-            return Err(behind(refusal, following.len()));
+        if let Err(unread) = text_of(content) {
+            return Err(unread.with_more(following.len()));
         }
         rest = following;
     }
@@ -84,7 +71,7 @@ pub fn slot_of<'b, A: Allocator + Clone, R: Reader<A>>(
     id: u8,
     absent: R::Item,
     bytes: &'b [u8],
-) -> Result<(R::Item, &'b [u8]), LoadRefusal>
+) -> Result<(R::Item, &'b [u8]), Unread>
     requires small { length bytes.now < 2 ^ 32 }
     requires absent_numbered { R.is_numbered absent ≡ true }
     ensures value { Gives (λ x. (R.view x.0, x.1.now)) result (slot_at id (R.reading reader.now) (R.view absent) bytes.now) }
@@ -108,7 +95,7 @@ pub fn list_of<'b, A: Allocator + Clone, R: Reader<A>>(
     reader: &R,
     id: u8,
     bytes: &'b [u8],
-) -> Result<(Vec<R::Item, A>, &'b [u8]), LoadRefusal>
+) -> Result<(Vec<R::Item, A>, &'b [u8]), Unread>
     requires small { length bytes.now < 2 ^ 32 }
     ensures value { Gives (λ x. (map R.view x.0.items, x.1.now)) result (list_at id (R.reading reader.now) bytes.now) }
     ensures shorter { IfOk result (λ x. length x.1.now ≤ length bytes.now) }

@@ -2,7 +2,7 @@
 //! bytes. A page gets bytes of its own at the first store that meets it, and reads as zeros before.
 #![tactic(auto)]
 
-ghost use Rattle.std.specs.Prelude.{◌≡◌, ℕ, ◌+◌, ◌*◌, ◌/◌, ◌%◌, ◌^◌, ◌<◌, ◌≤◌, ◌⊎◌, length, replicate, All, IfOk, vec_len, ◌≢◌, slice_index, take, drop};
+ghost use Rattle.std.specs.Prelude.{◌≡◌, ℕ, ◌+◌, ◌*◌, ◌/◌, ◌%◌, ◌^◌, ◌<◌, ◌≤◌, ◌⊎◌, length, replicate, All, IfOk, IsErrOf, vec_len, ◌≢◌, slice_index, take, drop};
 ghost use Rattle.spec_syntax.specs.Profile.{page_size, page_limit};
 ghost use Rattle.spec_numeric.specs.Storage.{bytes_of_number};
 ghost use Rattle.spec_numeric.specs.Memory.{load};
@@ -11,6 +11,7 @@ ghost use Rattle.memory.specs.Pages.{byte_in, bytes_in, contents, IsPage, IsEmpt
 
 use std::alloc::{AllocError, Allocator};
 use std::marker::Model;
+use thiserror::Error;
 pub use wtypes::NoMemory;
 use wtypes::TrapCode;
 
@@ -18,14 +19,16 @@ use wtypes::TrapCode;
 pub const PAGE_SIZE: usize = 65_536;
 
 /// No memory has more pages.
-pub const PAGE_LIMIT: u32 = 256;
+pub const PAGE_LIMIT: u32 = 1024;
 
 /// Why a store is refused.
-#[derive(Clone, Copy, Debug, PartialEq, Eq)]
+#[derive(Clone, Copy, Debug, PartialEq, Eq, Error)]
 pub enum StoreRefusal {
     /// The bytes do not all lie in memory: `MemoryOutOfBounds`.
+    #[error("trap: {0:?}")]
     Trap(TrapCode),
     /// There was no memory for a page.
+    #[error("memory was refused")]
     NoMemory,
 }
 
@@ -316,25 +319,30 @@ impl<A: Allocator + Clone + Drop> Linear<A> {
         self.write(at as usize + offset as usize, &bytes[..width as usize])
     }
 
-    /// Writes these bytes from the address `at` on, as the bytes of a data segment.
+    /// Writes these bytes from the address `at` on, as the bytes of a data segment. No bytes take no memory.
     ///
     /// # Errors
     ///
     /// `Trap` where the bytes do not all lie in memory, else `NoMemory` where a page was refused. Nothing changes.
     pub fn write_all(&mut self, at: u32, bytes: &[u8]) -> Result<(), StoreRefusal>
-        ensures { Stored result self.old at bytes.now self.new }
+        ensures stored { Stored result self.old at bytes.now self.new }
+        ensures some { IsErrOf result StoreRefusal.NoMemory → 0 < length bytes.now }
     {
         self.write(at as usize, bytes)
     }
 
-    // Each page that the bytes meet is made before the first byte is written.
+    // Each page that the bytes meet is made before the first byte is written; no bytes meet none.
     fn write(&mut self, start: usize, bytes: &[u8]) -> Result<(), StoreRefusal>
         requires { start < 2 ^ 33 }
-        ensures { Stored result self.old start bytes.now self.new }
+        ensures stored { Stored result self.old start bytes.now self.new }
+        ensures some { IsErrOf result StoreRefusal.NoMemory → 0 < length bytes.now }
     {
         let end = start + bytes.len();
         if end > PAGE_SIZE * self.pages.len() {
             return Err(StoreRefusal::Trap(TrapCode::MemoryOutOfBounds));
+        }
+        if bytes.is_empty() {
+            return Ok(());
         }
         if make_all(&mut self.pages, start / PAGE_SIZE, end.div_ceil(PAGE_SIZE)).is_err() {
             return Err(StoreRefusal::NoMemory);

@@ -28,7 +28,7 @@ pub(crate) struct Job<'s, 'a, A: Allocator, P: Pace> {
     pub(crate) alloc: A,
     pub(crate) contracts: &'a [Contract<A>],
     pub(crate) calls: &'a [Call],
-    pub(crate) book: &'s SharedBook<A>,
+    pub(crate) book: &'s SharedBook<'s, A>,
     pub(crate) intake: &'s Intake<A>,
     pub(crate) pace: &'s P,
     /// How often a call is tried.

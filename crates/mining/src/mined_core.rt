@@ -79,7 +79,7 @@ pub fn mine_core<'a, R: Threads + Wait + Sync, A: Allocator + Copy + Send + Sync
     ensures by_workers { IfOk result (λ core. core.by_workers ≤ length core.order.items) }
 {
     let count = calls.len() as u32;
-    let book = SharedBook::open(alloc, cells.copy(alloc)?, count)?;
+    let book = SharedBook::open(alloc, cells, count)?;
     let Ok((intake, seats)) = Intake::open(alloc, count, block_fuel, workers) else {
         return Err(NoMemory);
     };

@@ -6,11 +6,8 @@ ghost use Rattle.module_tree.specs.View.{instr_view, instrs_view};
 
 use crate::ranges::{are_u32, is_u32, plain_in_range};
 use module_tree::instr::Instr;
+use module_tree::limit::{LABEL_LIMIT, NESTING_LIMIT};
 use std::alloc::Allocator;
-
-const LABEL_LIMIT: usize = 1024;
-
-const NESTING_LIMIT: u32 = 128;
 
 pub(crate) fn expression_fits<A: Allocator>(body: &Vec<Instr<A>, A>) -> bool
     ensures { result ≡ limit.expression_fits (instrs_view body.now.items) }
@@ -20,7 +17,7 @@ pub(crate) fn expression_fits<A: Allocator>(body: &Vec<Instr<A>, A>) -> bool
 
 // Whether no more than so many blocks stand in one another.
 #[cycle(nest)]
-fn instrs_within<A: Allocator>(body: &Vec<Instr<A>, A>, levels: u32) -> bool
+fn instrs_within<A: Allocator>(body: &Vec<Instr<A>, A>, levels: usize) -> bool
     ensures { result ≡ nat_le (instrs_depth (instrs_view body.now.items)) levels }
 {
     for instr in body {
@@ -32,7 +29,7 @@ fn instrs_within<A: Allocator>(body: &Vec<Instr<A>, A>, levels: u32) -> bool
 }
 
 #[cycle(nest)]
-fn instr_within<A: Allocator>(instr: &Instr<A>, levels: u32) -> bool
+fn instr_within<A: Allocator>(instr: &Instr<A>, levels: usize) -> bool
     ensures { result ≡ nat_le (instr_depth (instr_view instr.now)) levels }
 {
     match instr {

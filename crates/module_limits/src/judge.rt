@@ -13,13 +13,10 @@ use crate::lists::Lists;
 use crate::parts::all_within;
 use crate::ranges::start_in_range;
 use encoder::{ModuleLists, encode_lists};
+use module_tree::limit::{BYTE_LIMIT, FUNCTION_LIMIT};
 use module_tree::module::{Func, Module};
 use std::alloc::{AllocError, Allocator};
 use wtypes::NoMemory;
-
-const FUNCTION_LIMIT: usize = 4096;
-
-const BYTE_LIMIT: usize = 1048576;
 
 /// Why lists are no `Module`.
 #[derive(Clone, Copy, Debug, PartialEq, Eq)]

@@ -8,11 +8,10 @@ use crate::bodies::expression_fits;
 use crate::ranges::{
     are_bytes, are_u32, export_in_range, import_in_range, is_u32, limits_in_range,
 };
+use module_tree::limit::LOCAL_LIMIT;
 use module_tree::module::{DataSegment, Element, Export, Func, Global, Import};
 use std::alloc::Allocator;
 use wtypes::Limits;
-
-const LOCAL_LIMIT: usize = 1024;
 
 // A part of a module.
 pub(crate) trait Part {

@@ -6,7 +6,8 @@ use Rattle.spec_syntax.specs.Syntax as syntax
 use Rattle.spec_syntax.specs.Shape.{instr_preorder, preorder, instr_depth, instrs_depth}
 use Rattle.wtypes.specs.declared.ValType.{ValType}
 use Rattle.module_tree.specs.declared.instr.Instr.{Instr, If, the_lemmas}
-use Rattle.module_tree.specs.View.{instr_view, instrs_view}
+use Rattle.module_tree.specs.View.{join, instr_view, instrs_view, instr_ordinals, ordinals}
+use Rattle.module_tree.specs.Numbering.{join_append, append_nil}
 
 pub get_append_left : {X : Type 0} (xs ys : List X) (i : ℕ) (x : X) → slice_get xs i ≡ Some x → slice_get (xs ++ ys) i ≡ Some x
 get_append_left [] ys i x e = cc
@@ -68,6 +69,33 @@ module _ {A : Type 0} (is : List (Instr A)) (x : Instr A) (i : ℕ) (lt : i < le
   find_on left behind ordinal s e =
       omega (arith, ap length take_next, length-append (preorder (instrs_view (take i is))) (instr_preorder (instr_view x)))
 
+  -- the ordinals before the instruction after i
+  take_ordinals : ordinals (take (i + 1) is) ≡ ordinals (take i is) ++ instr_ordinals x
+  take_ordinals =
+      ap ordinals (take_more is i x lt ∙ ap (λ y. take i is ++ y ∷ []) (sym at))
+      ∙ ap join (map-append instr_ordinals (take i is) (x ∷ []))
+      ∙ join_append (map instr_ordinals (take i is)) (instr_ordinals x ∷ [])
+      ∙ ap (λ l. ordinals (take i is) ++ l) (append_nil (instr_ordinals x))
+
+  split_ordinals : ordinals is ≡ ordinals (take i is) ++ (instr_ordinals x ++ ordinals (drop (i + 1) is))
+  split_ordinals =
+      ap ordinals (sym (take-append-drop i is))
+      ∙ ap join (map-append instr_ordinals (take i is) (drop i is))
+      ∙ join_append (map instr_ordinals (take i is)) (map instr_ordinals (drop i is))
+      ∙ ap (λ l. ordinals (take i is) ++ ordinals l) (drop_more is i x lt)
+      ∙ ap (λ y. ordinals (take i is) ++ (instr_ordinals y ++ ordinals (drop (i + 1) is))) (sym at)
+
+  pub carried_here : (left ordinal n : ℕ) → left + length (ordinals (take i is)) ≡ ordinal
+      → slice_get (instr_ordinals x) left ≡ Some n → slice_get (ordinals is) ordinal ≡ Some n
+  carried_here left ordinal n s e =
+      ap (λ l. slice_get l ordinal) split_ordinals
+      ∙ get_append_right (ordinals (take i is)) _ left ordinal (Some n) s (get_append_left (instr_ordinals x) _ left n e)
+
+  pub carried_on : (left behind ordinal : ℕ) → left + length (ordinals (take i is)) ≡ ordinal
+      → behind + length (instr_ordinals x) ≡ left → behind + length (ordinals (take (i + 1) is)) ≡ ordinal
+  carried_on left behind ordinal s e =
+      omega (arith, ap length take_ordinals, length-append (ordinals (take i is)) (instr_ordinals x))
+
 -- the place n of a choice
 pub in_then : (r : Option ValType) (t e : syntax.Instrs) (n : ℕ) (o : syntax.Instr) → (n ≡ 0 → ⊥) → slice_get (preorder t) (n - 1) ≡ Some o → slice_get (instr_preorder (syntax.If r t e)) n ≡ Some o
 in_then r t e zero o ne h = absurd (ne refl)
@@ -81,3 +109,17 @@ in_else r t e (suc n) left o ne s h = get_append_right (preorder t) (preorder e)
 
 pub past_if : (r : Option ValType) (t e : syntax.Instrs) (n left behind : ℕ) → (n ≡ 0 → ⊥) → left + length (preorder t) ≡ n - 1 → behind + length (preorder e) ≡ left → behind + length (instr_preorder (syntax.If r t e)) ≡ n
 past_if r t e n left behind ne s h = omega (arith, length-append (preorder t) (preorder e))
+
+-- the same of the ordinals
+pub carried_then : (first : ℕ) (ts es : List ℕ) (n o : ℕ) → (n ≡ 0 → ⊥) → slice_get ts (n - 1) ≡ Some o → slice_get (first ∷ (ts ++ es)) n ≡ Some o
+carried_then first ts es zero o ne h = absurd (ne refl)
+carried_then first ts es (suc n) o ne h =
+    let s : suc n - 1 ≡ n = omega arith in
+    get_append_left ts es n o (ap (slice_get ts) (sym s) ∙ h)
+
+pub carried_else : (first : ℕ) (ts es : List ℕ) (n left o : ℕ) → (n ≡ 0 → ⊥) → left + length ts ≡ n - 1 → slice_get es left ≡ Some o → slice_get (first ∷ (ts ++ es)) n ≡ Some o
+carried_else first ts es zero left o ne s h = absurd (ne refl)
+carried_else first ts es (suc n) left o ne s h = get_append_right ts es left n (Some o) (omega arith) h
+
+pub carried_past : (first : ℕ) (ts es : List ℕ) (n left behind : ℕ) → (n ≡ 0 → ⊥) → left + length ts ≡ n - 1 → behind + length es ≡ left → behind + length (first ∷ (ts ++ es)) ≡ n
+carried_past first ts es n left behind ne s h = omega (arith, length-append ts es)

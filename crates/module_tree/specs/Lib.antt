@@ -3,3 +3,4 @@ pub mod ModuleView
 pub mod Modules
 pub mod Numbering
 pub mod Readers
+pub mod LimitNumbers

@@ -36,11 +36,11 @@ numbered_under n m ns p =
     let e : suc (m - (n + 1)) ≡ m - n = omega arith in
     (omega arith, ap (λ l. n ∷ l) p.1 ∙ ap (range_with_len n) e)
 
-join_append : (xs ys : List (List ℕ)) → join (xs ++ ys) ≡ join xs ++ join ys
+pub join_append : (xs ys : List (List ℕ)) → join (xs ++ ys) ≡ join xs ++ join ys
 join_append [] ys = refl
 join_append (x ∷ xs) ys = ap (λ l. x ++ l) (join_append xs ys) ∙ sym (append_assoc x (join xs) (join ys))
 
-append_nil : (l : List ℕ) → l ++ [] ≡ l
+pub append_nil : (l : List ℕ) → l ++ [] ≡ l
 append_nil [] = refl
 append_nil (x ∷ l) = ap (λ k. x ∷ k) (append_nil l)
 

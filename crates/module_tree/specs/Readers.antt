@@ -1,6 +1,7 @@
 -- What is read off a module.
-use Rattle.std.specs.Prelude.{ℕ, ◌+◌, ◌-◌, max, List, [], ◌∷◌, nat_lt, if◌then◌else◌, Option, None, slice_get}
-use Rattle.spec_syntax.specs.Syntax.{ImportDesc, ImportFunc, ImportTable, ImportMemory, ImportGlobal, Import, Func, Module}
+use Rattle.std.specs.Prelude.{ℕ, ◌+◌, ◌-◌, max, List, [], ◌∷◌, nat_lt, if◌then◌else◌, Option, Some, None, slice_get}
+use Rattle.wtypes.specs.declared.PlainInstr.{PlainInstr}
+use Rattle.spec_syntax.specs.Syntax.{Instrs, Plain, nothing, seq, ImportDesc, ImportFunc, ImportTable, ImportMemory, ImportGlobal, Import, Func, Module}
 use Rattle.spec_syntax.specs.Shape.{instrs_depth}
 
 -- the deepest level in a body, 0 without one
@@ -22,3 +23,8 @@ imported_funcs (i ∷ is) = func_count i.desc + imported_funcs is
 -- the defined function of this number; imported functions count first (Core Specification, 2.5.1 Indices)
 abbrev pub defined_func : Module → ℕ → Option Func
 defined_func m n = if nat_lt n (imported_funcs m.imports) then None else slice_get m.funcs (n - imported_funcs m.imports)
+
+-- the instruction that an expression is, where it is one alone, and one that holds no other
+abbrev pub lone_plain : Instrs → Option PlainInstr
+lone_plain (seq (Plain op) nothing) = Some op
+lone_plain _ = None

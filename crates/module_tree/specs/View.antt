@@ -35,3 +35,14 @@ instr_ordinals {A} = fold-Instr A (List ℕ) ordinals_step
 
 abbrev pub ordinals : {A : Type 0} → List (Instr A) → List ℕ
 ordinals is = join (map instr_ordinals is)
+
+abbrev pub ordinal_step : {A : Type 0} → Instr-F A ℕ → ℕ
+ordinal_step (Instr-F.Plain n op) = n
+ordinal_step (Instr-F.BrTable n ls l) = n
+ordinal_step (Instr-F.Block n r b) = n
+ordinal_step (Instr-F.Loop n r b) = n
+ordinal_step (Instr-F.If n r t e) = n
+
+-- the ordinal that an instruction itself carries
+abbrev pub ordinal_of : {A : Type 0} → Instr A → ℕ
+ordinal_of {A} = fold-Instr A ℕ ordinal_step

@@ -9,7 +9,7 @@ use crate::instr::Instr;
 use std::alloc::Allocator;
 use wtypes::{FuncType, Limits, ValType};
 
-/// The type of a global (Core Specification, 2.3.6 Global Types).
+/// The type of a global (Core Specification, 2.3.7 Global Types).
 #[derive(Clone, Copy, Debug, PartialEq, Eq)]
 pub struct GlobalType {
     /// The type of its value.

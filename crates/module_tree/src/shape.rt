@@ -1,8 +1,8 @@
 // What is read off a tree: depth, size, and the instruction at an ordinal.
 
-ghost use Rattle.std.specs.Prelude.{◌≡◌, ◌+◌, ◌<◌, ◌^◌, length, slice_get, Some, None, MatchResult, MatchOption};
+ghost use Rattle.std.specs.Prelude.{◌≡◌, ◌+◌, ◌<◌, ◌^◌, length, slice_get, Some, None, MatchResult, MatchOption, IfSome};
 ghost use Rattle.spec_syntax.specs.Shape.{instr_depth, instrs_depth, instr_preorder, preorder, instr_at};
-ghost use Rattle.module_tree.specs.View.{instr_view, instrs_view};
+ghost use Rattle.module_tree.specs.View.{instr_view, instrs_view, instr_ordinals, ordinals, ordinal_of};
 
 use crate::instr::Instr;
 use std::alloc::Allocator;
@@ -40,9 +40,10 @@ fn depth_at<A: Allocator>(instr: &Instr<A>) -> u32
 
 // The instruction at this place in preorder, or None where there is none.
 pub(crate) fn find<A: Allocator>(body: &Vec<Instr<A>, A>, ordinal: u32) -> Option<&Instr<A>>
-    ensures { MatchOption result
+    ensures view { MatchOption result
         (instr_at (instrs_view body.now.items) ordinal ≡ None)
         (λ i. instr_at (instrs_view body.now.items) ordinal ≡ Some (instr_view i.now)) }
+    ensures carried { IfSome result (λ i. slice_get (ordinals body.now.items) ordinal ≡ Some (ordinal_of i.now)) }
 {
     match find_in(body, ordinal) {
         Ok(found) => Some(found),
@@ -53,9 +54,12 @@ pub(crate) fn find<A: Allocator>(body: &Vec<Instr<A>, A>, ordinal: u32) -> Optio
 // The instruction, or how many places are left behind the last.
 #[cycle(find)]
 fn find_in<A: Allocator>(body: &Vec<Instr<A>, A>, ordinal: u32) -> Result<&Instr<A>, u32>
-    ensures { MatchResult result
+    ensures view { MatchResult result
         (λ i. slice_get (preorder (instrs_view body.now.items)) ordinal ≡ Some (instr_view i.now))
         (λ left. left + length (preorder (instrs_view body.now.items)) ≡ ordinal) }
+    ensures carried { MatchResult result
+        (λ i. slice_get (ordinals body.now.items) ordinal ≡ Some (ordinal_of i.now))
+        (λ left. left + length (ordinals body.now.items) ≡ ordinal) }
 {
     let mut left = ordinal;
     for i in body {
@@ -69,9 +73,12 @@ fn find_in<A: Allocator>(body: &Vec<Instr<A>, A>, ordinal: u32) -> Result<&Instr
 
 #[cycle(find)]
 fn find_at<A: Allocator>(instr: &Instr<A>, ordinal: u32) -> Result<&Instr<A>, u32>
-    ensures { MatchResult result
+    ensures view { MatchResult result
         (λ i. slice_get (instr_preorder (instr_view instr.now)) ordinal ≡ Some (instr_view i.now))
         (λ left. left + length (instr_preorder (instr_view instr.now)) ≡ ordinal) }
+    ensures carried { MatchResult result
+        (λ i. slice_get (instr_ordinals instr.now) ordinal ≡ Some (ordinal_of i.now))
+        (λ left. left + length (instr_ordinals instr.now) ≡ ordinal) }
 {
     if ordinal == 0 {
         return Ok(instr);

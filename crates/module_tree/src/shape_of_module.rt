@@ -1,6 +1,7 @@
 // What is read off a module.
-ghost use Rattle.std.specs.Prelude.{◌≡◌, ◌<◌, ◌+◌, length, slice_get, Some, None, IsSome, MatchOption, option_map, option_and_then};
+ghost use Rattle.std.specs.Prelude.{◌≡◌, ◌<◌, ◌+◌, true, length, slice_get, Some, None, IsSome, IfSome, MatchOption, option_map, option_and_then};
 ghost use Rattle.spec_syntax.specs.Shape.{size, instr_at};
+ghost use Rattle.spec_syntax.specs.Limits.{counts_from};
 ghost use Rattle.module_tree.specs.ModuleView.{import_desc_view};
 ghost use Rattle.module_tree.specs.Readers.{func_count};
 
@@ -19,9 +20,15 @@ fn func_count(desc: ImportDesc) -> usize
     }
 }
 
+fn func_at<A: Allocator>(funcs: &Vec<Func<A>, A>, place: usize) -> Option<&Func<A>>
+    ensures { option_map (λ f. f.now) result ≡ slice_get funcs.now.items place }
+{
+    funcs.get(place)
+}
+
 impl<A: Allocator> Module<A> {
-    ghost use Rattle.module_tree.specs.View.{instr_view};
-    ghost use Rattle.module_tree.specs.ModuleView.{func_view};
+    ghost use Rattle.module_tree.specs.View.{instr_view, ordinal_of};
+    ghost use Rattle.module_tree.specs.ModuleView.{func_view, func_ordinals};
     ghost use Rattle.module_tree.specs.Modules.{module_view};
     ghost use Rattle.module_tree.specs.Readers.{deepest, imported_funcs, defined_func};
 
@@ -47,16 +54,17 @@ impl<A: Allocator> Module<A> {
         count
     }
 
-    /// The defined function of this number, imports counted first.
+    /// The defined function of this number, imports counted first. The instructions of its body carry their ordinals.
     pub fn defined_func(&self, func: u32) -> Option<&Func<A>>
-        ensures { option_map (λ f. func_view f.now) result ≡ defined_func (module_view self.now) func }
+        ensures numbered { IfSome result (λ f. counts_from 0 (func_ordinals f.now) ≡ true) }
+        ensures view { option_map (λ f. func_view f.now) result ≡ defined_func (module_view self.now) func }
     {
         let imported = self.imported_funcs();
         let func = func as usize;
         if func < imported {
             return None;
         }
-        self.funcs.get(func - imported)
+        func_at(&self.funcs, func - imported)
     }
 
     /// The number of ordinals in the body of this function, which has to be a defined one.
@@ -68,9 +76,11 @@ impl<A: Allocator> Module<A> {
         count_of(&found.body)
     }
 
-    /// The instruction at this ordinal in the body of this defined function, or None where there is none.
+    /// The instruction at this ordinal in the body of this defined function, or None where there is none. It is the very
+    /// node there: the ordinal that it carries is the one asked for.
     pub fn instr_at(&self, func: u32, ordinal: u32) -> Option<&Instr<A>>
-        ensures { option_map (λ i. instr_view i.now) result
+        ensures node { IfSome result (λ i. ordinal_of i.now ≡ ordinal) }
+        ensures view { option_map (λ i. instr_view i.now) result
             ≡ option_and_then (λ f. instr_at f.body ordinal) (defined_func (module_view self.now) func) }
     {
         let found = self.defined_func(func)?;

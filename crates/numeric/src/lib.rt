@@ -79,7 +79,8 @@ pub fn compare(op: RelOp, first: Value, second: Value) -> Value
     Value::I32(if holds { 1 } else { 0 })
 }
 
-/// The operand in the other type: its low 32 bits, its signed reading, or its number.
+/// The operand in the other type: its low 32 bits, its signed reading, or its number. An extension of the sign keeps the type: it is the signed
+/// reading of the low 8, 16 or 32 bits.
 pub fn convert(op: CvtOp, value: Value) -> Value
     requires { type_of value ≡ convert_from op }
     ensures { result ≡ convert_of op value }
@@ -90,6 +91,21 @@ pub fn convert(op: CvtOp, value: Value) -> Value
         ),
         (CvtOp::I64ExtendI32S, Value::I32(x)) => Value::I64(i64::from(x)),
         (CvtOp::I64ExtendI32U, Value::I32(x)) => Value::I64(i64::from(x.cast_unsigned())),
+        (CvtOp::I32Extend8S, Value::I32(x)) => Value::I32(i32::from(
+            ((x.cast_unsigned() % (1 << 8)) as u8).cast_signed(),
+        )),
+        (CvtOp::I32Extend16S, Value::I32(x)) => Value::I32(i32::from(
+            ((x.cast_unsigned() % (1 << 16)) as u16).cast_signed(),
+        )),
+        (CvtOp::I64Extend8S, Value::I64(x)) => Value::I64(i64::from(
+            ((x.cast_unsigned() % (1 << 8)) as u8).cast_signed(),
+        )),
+        (CvtOp::I64Extend16S, Value::I64(x)) => Value::I64(i64::from(
+            ((x.cast_unsigned() % (1 << 16)) as u16).cast_signed(),
+        )),
+        (CvtOp::I64Extend32S, Value::I64(x)) => Value::I64(i64::from(
+            ((x.cast_unsigned() % (1 << 32)) as u32).cast_signed(),
+        )),
         _ => unreachable!(),
     }
 }

@@ -12,20 +12,26 @@ use call::Call;
 use link::deployed::Deployed;
 use module_tree::module::{Export, ExportDesc};
 use std::alloc::Allocator;
+use thiserror::Error;
 use wtypes::{ValType, Value};
 
 /// Why a call does not start. The numbers are those of receipts.
-#[derive(Clone, Copy, Debug, PartialEq, Eq)]
+#[derive(Clone, Copy, Debug, PartialEq, Eq, Error)]
 pub enum Refusal {
     /// 1: nothing is exported under the name.
+    #[error("nothing is exported under the name")]
     NoExport,
     /// 2: what is exported is no function of the module's own.
+    #[error("what is exported is no function of the module's own")]
     NotFunction,
     /// 3: there are too many arguments, or too few.
+    #[error("there are too many arguments, or too few")]
     ArgCount,
     /// 4: the argument of this place, from 0, is the first of another type.
+    #[error("argument {0} is of another type")]
     ArgType(u32),
     /// 6: there is no such contract.
+    #[error("there is no such contract")]
     NoContract,
 }
 

@@ -2,3 +2,4 @@ pub mod Lent
 pub mod Plain
 pub mod Memories
 pub mod Elements
+pub mod Taking

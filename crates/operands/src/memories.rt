@@ -10,6 +10,7 @@ ghost use Rattle.operands.specs.Memories.{DidLoad, DidStore, DidGrow, HasPlace};
 use crate::plain::After;
 use crate::values::{bits, pop_top, put_back};
 use memory::{Linear, StoreRefusal};
+use module_tree::width::{load_width, store_width};
 use std::alloc::{AllocError, Allocator};
 use wtypes::{LoadOp, NoMemory, StoreOp, Value};
 
@@ -91,30 +92,6 @@ fn address(value: Value) -> u32
     match value {
         Value::I32(x) => x.cast_unsigned(),
         Value::I64(_) => unreachable!(),
-    }
-}
-
-// How many bytes are read.
-fn load_width(operator: LoadOp) -> u32
-    ensures { result ≡ storage.load_width operator }
-{
-    match operator {
-        LoadOp::I32Load8S | LoadOp::I32Load8U | LoadOp::I64Load8S | LoadOp::I64Load8U => 1,
-        LoadOp::I32Load16S | LoadOp::I32Load16U | LoadOp::I64Load16S | LoadOp::I64Load16U => 2,
-        LoadOp::I32Load | LoadOp::I64Load32S | LoadOp::I64Load32U => 4,
-        LoadOp::I64Load => 8,
-    }
-}
-
-// How many bytes are written.
-fn store_width(operator: StoreOp) -> u32
-    ensures { result ≡ storage.store_width operator }
-{
-    match operator {
-        StoreOp::I32Store8 | StoreOp::I64Store8 => 1,
-        StoreOp::I32Store16 | StoreOp::I64Store16 => 2,
-        StoreOp::I32Store | StoreOp::I64Store32 => 4,
-        StoreOp::I64Store => 8,
     }
 }
 

@@ -1,10 +1,11 @@
 // Instructions that hold no other one and leave the order of the code as it is.
-ghost use Rattle.std.specs.Prelude.{◌≡◌, ◌<◌, ◌++◌, ◌∷◌, [], IfOk, if◌then◌else◌, ◌==◌};
+ghost use Rattle.std.specs.Prelude.{◌≡◌, ◌<◌, ◌++◌, ◌∷◌, [], IfOk, IfErr, true, if◌then◌else◌, ◌==◌};
 ghost use Rattle.wtypes.specs.declared.PlainInstr.TheVariants.{Select, Unary, Binary, Test, Compare, Convert};
 ghost use Rattle.spec_numeric.specs.Operators.{bits_of, unary_type, binary_type, test_type, compare_type, convert_from};
 ghost use Rattle.operands.specs.declared.plain.After.TheVariants as after;
 ghost use Rattle.sequences.specs.Forms.{IsReadyFor, HasOne, HasTwo, HasChoice};
 ghost use Rattle.operands.specs.Plain.{Did, DidAny};
+ghost use Rattle.operands.specs.Taking.{plain_takes_memory};
 
 use crate::values::{bits, pop_top, put_back, top};
 use numeric::{binary, compare, convert, test, unary};
@@ -29,7 +30,8 @@ pub fn execute_plain<A: Allocator + Copy>(
     locals: &mut Vec<Value, A>,
 ) -> Result<After, AllocError>
     requires { IsReadyFor op.now stack.old.items locals.old.items }
-    ensures { IfOk result (λ a. Did op.now stack.old.items locals.old.items a stack.new.items locals.new.items) }
+    ensures did { IfOk result (λ a. Did op.now stack.old.items locals.old.items a stack.new.items locals.new.items) }
+    ensures takes { IfErr result (λ _. plain_takes_memory op.now ≡ true) }
 {
     match op {
         PlainInstr::Unreachable => return Ok(After::Fell(TrapCode::Unreachable)),

@@ -4,6 +4,7 @@ use Rattle.std.specs.Int.{Width, w32, w64, byte_len, from_le_bytes, to_le_bytes}
 use Rattle.std.proofs.lemmas.Bool.{cases_lt, ltb-false, le-ltb, eqb-true, eq-eqb}
 use Rattle.std.proofs.lemmas.List.{take_at, drop_at, take-append-drop, length-append, length-take, get_or-drop, get_or-take, get_or_past}
 use Rattle.std.proofs.lemmas.Nat.{le_bytes_4, le_bytes_8, from_le_bytes-to_le_bytes_4, from_le_bytes-to_le_bytes_8}
+use Rattle.byteorder.specs.Endian.{little_number}
 use Rattle.records.specs.declared.fault.Fault.TheVariants.{Malformed}
 use Rattle.records.specs.Reading.{number_at, front_at, tag_at}
 use Rattle.records.specs.Exact.{AreBytes, Takes, ReadsExactly}
@@ -104,3 +105,11 @@ tag_takes tag bytes rest bounded e =
 pub tag_again : (tag : ℕ) (rest : List ℕ) → tag < 2 ^ 32 → tag_at tag (to_le_bytes w32 tag ++ rest) ≡ Ok rest
 unfolding tag_at
 tag_again tag rest lt = rw (u32_exact.again tag rest lt, eq-eqb tag tag refl) refl
+
+-- ---- the same number, as another definition says it
+
+pub little_4 : (bytes : List ℕ) → little_number 4 bytes ≡ from_le_bytes w32 bytes
+little_4 bytes = omega arith
+
+pub little_8 : (bytes : List ℕ) → little_number 8 bytes ≡ from_le_bytes w64 bytes
+little_8 bytes = omega arith

@@ -3,6 +3,7 @@
 ghost use Rattle.std.specs.Prelude.{◌≡◌, ◌++◌, OnOk, OnErr};
 ghost use Rattle.std.specs.Int.{w32, w64, to_le_bytes};
 
+use byteorder::{ByteOrder, LittleEndian};
 use std::alloc::{AllocError, Allocator};
 
 /// Appends a number as 4 bytes, the low byte first.
@@ -10,7 +11,8 @@ pub fn append_u32<A: Allocator>(out: &mut Vec<u8, A>, number: u32) -> Result<(),
     ensures bytes { OnOk result (out.new.items ≡ out.old.items ++ to_le_bytes w32 number) }
     ensures unchanged { OnErr result (out.new.items ≡ out.old.items) }
 {
-    let bytes: [u8; 4] = number.to_le_bytes();
+    let mut bytes = [0u8; 4];
+    LittleEndian::write_u32(&mut bytes, number);
     out.extend_from_slice(&bytes)
 }
 
@@ -19,6 +21,7 @@ pub fn append_u64<A: Allocator>(out: &mut Vec<u8, A>, number: u64) -> Result<(),
     ensures bytes { OnOk result (out.new.items ≡ out.old.items ++ to_le_bytes w64 number) }
     ensures unchanged { OnErr result (out.new.items ≡ out.old.items) }
 {
-    let bytes: [u8; 8] = number.to_le_bytes();
+    let mut bytes = [0u8; 8];
+    LittleEndian::write_u64(&mut bytes, number);
     out.extend_from_slice(&bytes)
 }

@@ -4,6 +4,7 @@ ghost use Rattle.std.specs.Int.{w32, w64};
 ghost use Rattle.records.specs.Reading.{Gives, byte_at, number_at, front_at, tag_at};
 
 use crate::fault::Fault;
+use byteorder::{ByteOrder, LittleEndian};
 
 /// A byte.
 pub fn read_byte(bytes: &[u8]) -> Result<(u8, &[u8]), Fault>
@@ -16,6 +17,7 @@ pub fn read_byte(bytes: &[u8]) -> Result<(u8, &[u8]), Fault>
 }
 
 /// A number of 4 bytes, the low byte first.
+#[tactic(auto, using(crate::proofs::Numbers::little_4))]
 pub fn read_u32(bytes: &[u8]) -> Result<(u32, &[u8]), Fault>
     ensures { Gives (λ x. (x.0, x.1.now)) result (number_at w32 bytes.now) }
 {
@@ -23,11 +25,11 @@ pub fn read_u32(bytes: &[u8]) -> Result<(u32, &[u8]), Fault>
         return Err(Fault::Malformed(bytes.len()));
     }
     let (front, rest) = bytes.split_at(4);
-    let number = u32::from_le_bytes([front[0], front[1], front[2], front[3]]);
-    Ok((number, rest))
+    Ok((LittleEndian::read_u32(front), rest))
 }
 
 /// A number of 8 bytes, the low byte first.
+#[tactic(auto, using(crate::proofs::Numbers::little_8))]
 pub fn read_u64(bytes: &[u8]) -> Result<(u64, &[u8]), Fault>
     ensures { Gives (λ x. (x.0, x.1.now)) result (number_at w64 bytes.now) }
 {
@@ -35,10 +37,7 @@ pub fn read_u64(bytes: &[u8]) -> Result<(u64, &[u8]), Fault>
         return Err(Fault::Malformed(bytes.len()));
     }
     let (front, rest) = bytes.split_at(8);
-    let number = u64::from_le_bytes([
-        front[0], front[1], front[2], front[3], front[4], front[5], front[6], front[7],
-    ]);
-    Ok((number, rest))
+    Ok((LittleEndian::read_u64(front), rest))
 }
 
 /// So many bytes.

@@ -1,153 +1,230 @@
 -- What ending a position does to a board.
-use Rattle.std.proofs.Common.{◌≡◌, ◌==◌, ◌↔◌, ◌⊎◌, inl, inr, ℕ, ◌+◌, ◌<◌, ◌≤◌, Bool, true, false, List, length, get_or, set, replicate, sym, ◌∙◌, ap, subst, arith, eq-eqb}
+use Rattle.std.proofs.Common.{◌≡◌, ◌==◌, ◌↔◌, ◌⊎◌, inl, inr, ℕ, ◌+◌, ◌<◌, ◌≤◌, Bool, true, false, List, [], length, get_or, set, replicate, sym, ◌∙◌, ap, subst, arith, eq-eqb}
 use Rattle.std.specs.List.{Contains, filter}
 use Rattle.std.specs.List.Sorted.{IsStrictlyIncreasing}
-use Rattle.std.proofs.lemmas.Bool.{eqb-true, cases_eq, cases_lt}
+use Rattle.std.proofs.lemmas.Bool.{cases_eq, cases_lt}
 use Rattle.std.proofs.lemmas.List.{get_or_read, length-set, get_or-set_other, get_or_past, get_or-replicate, length-replicate}
-use Rattle.std.proofs.lemmas.List.Kept.{IsStrictlyIncreasing-filter}
-use Rattle.schedule.specs.Graph.{successors, IsForward}
-use Rattle.schedule.specs.Board.{Progress, IsFree, IsWaiting, count_of, firsts, predecessors, pending, IsBoard}
-use Rattle.schedule.proofs.Counts.{counted_once, pending_none, pending_ended, waits, one_waits, none_waits, all_ended, has_predecessor, some_predecessor}
-use Rattle.schedule.proofs.Firsts.{firsts_rise, firsts_same, first_is, is_first, kept_by, keeps}
+use Rattle.std.proofs.lemmas.Option.{slice_get_within}
+use Rattle.spec_ledger.specs.declared.Entry.{Entry}
+use Rattle.spec_block.specs.Schedule.{IsEdge}
+use Rattle.schedule.specs.Graph.{gathered, list_at, AreGates}
+use Rattle.schedule.specs.Board.{Progress, IsFree, IsWaiting, count_in, count_of, pending, zeros, IsBoard}
+use Rattle.schedule.proofs.Lists.{kept_by, keeps, gathered_there, there_gathered, among_these, nothing}
+use Rattle.schedule.proofs.Counts.{counted_once, pending_none, pending_ended, pending_opened, one_waits, none_waits, all_ended, is_zero, zero_is, zeros_length}
 
 -- a position that has ended is one of the order
-ended_is_within : (edges : List (List ℕ)) (ended : List Bool) (i : ℕ) → length ended ≡ length edges → get_or ended i false ≡ true → i < length edges
-ended_is_within edges ended i len done = by (cases_lt i (length edges))
+ended_is_within : (ended : List Bool) (i n : ℕ) → length ended ≡ n → get_or ended i false ≡ true → i < n
+ended_is_within ended i n len done = by (cases_lt i n)
   where
-    by : (i < length edges) ⊎ (length edges ≤ i) → i < length edges
+    by : (i < n) ⊎ (n ≤ i) → i < n
     by (inl lt) = lt
     by (inr ge) = let none : get_or ended i false ≡ false = get_or_past ended i false (omega (arith, len, ge)) in absurd (let contrary : true ≡ false = sym done ∙ none in cc contrary)
 
-module _ (edges : List (List ℕ)) (waiting : List ℕ) (ended : List Bool) (ready : List ℕ) (board : IsBoard edges waiting ended ready) where
-  pub ready_rises : IsStrictlyIncreasing ready
-  ready_rises = let Rises : List ℕ → Type 0 = λ xs. IsStrictlyIncreasing xs in subst Rises (sym board.first) (firsts_rise (predecessors edges) (length edges))
+module _ (profiles : List (List Entry)) (holds behind : List (List ℕ)) (gates : AreGates profiles holds behind) where
+  pub edge_within : (i j : ℕ) → IsEdge profiles i j → j < length profiles
+  edge_within i j e = slice_get_within profiles j e.holds_second.profile e.holds_second.there
 
-  pub ready_exact : (j : ℕ) → Contains ready j ↔ ((j < length edges) × ((i : ℕ) → ¬ (Contains (successors edges i) j)))
-  ready_exact j = (
-    λ c.
-        let r = first_is (predecessors edges) (length edges) j (subst (λ xs. Contains xs j) board.first c) in
-        (r.0, λ i d. let some = has_predecessor edges i j d in let none = r.1 in absurd (omega (arith, some, none))),
-    λ h.
-        let none : predecessors edges j ≡ 0 = no_predecessor j h.1 in
-        subst (λ xs. Contains xs j) (sym board.first) (is_first (predecessors edges) (length edges) j h.0 none),
-  )
-    where
-      no_predecessor : (j : ℕ) → ((i : ℕ) → ¬ (Contains (successors edges i) j)) → predecessors edges j ≡ 0
-      no_predecessor j never = by (cases_lt 0 (predecessors edges j))
-        where
-          by : (0 < predecessors edges j) ⊎ (predecessors edges j ≤ 0) → predecessors edges j ≡ 0
-          by (inl some) = absurd (let r = some_predecessor edges j (omega (arith, some)) in never r.0 r.1)
-          by (inr none) = omega (arith, none)
+  -- where all gates before a position are open, each predecessor has ended
+  open_free : (left : List ℕ) (ended : List Bool) → length left ≡ length behind → length ended ≡ length profiles → ((g : ℕ) → g < length behind → get_or left g 0 ≡ pending holds ended g)
+      → (j : ℕ) → pending behind (zeros left) j ≡ 0 → (i : ℕ) → IsEdge profiles i j → get_or ended i false ≡ true
+  open_free left ended each ends counted j none i e =
+      let t = (gates.edges i j).1 e in
+      let within = gates.gates i t.0 t.1 in
+      let opened_gate = none_waits behind (zeros left) t.0 j (zeros_length left ∙ each) none t.2 in
+      let empty = zero_is left t.0 (omega (arith, within, each)) opened_gate in
+      none_waits holds ended i t.0 (ends ∙ sym gates.each) (sym (counted t.0 within) ∙ empty) t.1
 
-  pub in_range : (p j : ℕ) → Contains (successors edges p) j → j < length waiting
-  in_range p j c = let k = (board.graph.forward p j c).1 in let len = board.as_many_counts in omega (arith, k, len)
+  -- and the other way round
+  free_open : (left : List ℕ) (ended : List Bool) → length left ≡ length behind → ((g : ℕ) → g < length behind → get_or left g 0 ≡ pending holds ended g)
+      → (j : ℕ) → ((i : ℕ) → IsEdge profiles i j → get_or ended i false ≡ true) → (g : ℕ) → Contains (list_at behind g) j → g < length behind → get_or left g 0 ≡ 0
+  free_open left ended each counted j free g c within = counted g within ∙ all_ended holds ended g (λ i d. free i ((gates.edges i j).0 (g, d, c)))
 
-  -- a position waits exactly where its count is not 0
-  pub is_waiting : (p : ℕ) → p < length edges → ¬ (get_or waiting p 0 ≡ 0) → IsWaiting (record { edges = edges; ended = ended }) p
-  is_waiting p lt some = let is = board.counted p lt in one_waits edges ended p (omega (arith, is, some))
+  gate_within : (g j : ℕ) → Contains (list_at behind g) j → g < length behind
+  gate_within g j c = elim (cases_lt g (length behind)) [
+    | inl lt ↦ lt
+    | inr ge ↦ absurd (let none = among_these (list_at behind g) [] j (get_or_past behind g [] ge) c in nothing j none)
+  ]
 
-  pub not_waiting : (p : ℕ) → get_or waiting p 0 ≡ 0 → IsWaiting (record { edges = edges; ended = ended }) p → ⊥
+  all_open : (left : List ℕ) (ended : List Bool) → length left ≡ length behind → ((g : ℕ) → g < length behind → get_or left g 0 ≡ pending holds ended g)
+      → (j : ℕ) → ((i : ℕ) → IsEdge profiles i j → get_or ended i false ≡ true) → pending behind (zeros left) j ≡ 0
+  all_open left ended each counted j free = all_ended behind (zeros left) j (λ g c.
+      let within = gate_within g j c in
+      is_zero left g (omega (arith, within, each)) (free_open left ended each counted j free g c within))
+
+  -- a board on which no position has ended
+  pub board_opened : (left shut : List ℕ) (ended : List Bool) (ready : List ℕ) → length left ≡ length behind → length shut ≡ length profiles → ended ≡ replicate (length profiles) false
+      → ((g : ℕ) → g < length behind → get_or left g 0 ≡ count_in holds g) → ((j : ℕ) → j < length profiles → get_or shut j 0 ≡ pending behind (zeros left) j)
+      → IsStrictlyIncreasing ready → ((j : ℕ) → Contains ready j ↔ ((j < length shut) × (get_or shut j 0 ≡ 0)))
+      → IsBoard profiles holds behind left shut ended ready
+  board_opened left shut ended ready each positions none counts closed rises exact =
+      let size : length ended ≡ length profiles = ap length none ∙ length-replicate (length profiles) false in
+      let new : (i : ℕ) → get_or ended i false ≡ true → ⊥ = λ i done. absurd (
+      let lt = ended_is_within ended i (length profiles) size done in
+      let none : get_or ended i false ≡ false = ap (λ es. get_or es i false) none ∙ get_or-replicate (length profiles) i false false lt in
+      let contrary : true ≡ false = sym done ∙ none in cc contrary) in
+      let counted : (g : ℕ) → g < length behind → get_or left g 0 ≡ pending holds ended g =
+      λ g lt. counts g lt ∙ (sym (pending_none holds g) ∙ ap (λ es. pending holds es g) (ap (λ n. replicate n false) gates.each ∙ sym none)) in
+      record {
+        gates = gates;
+        each_gate = each;
+        each_position = positions;
+        each_end = size;
+        holders = counted;
+        shut_gates = closed;
+        in_order = λ j done. absurd (new j done);
+        ready_rises = rises;
+        ready_exact = λ j. (
+          λ c.
+              let r = (exact j).0 c in
+              let lt : j < length profiles = (let k = r.0 in omega (arith, k, positions)) in
+              (lt, λ i e. new i (open_free left ended each size counted j (sym (closed j lt) ∙ r.1) i e)),
+          λ h. (exact j).1 ((let lt = h.0 in omega (arith, lt, positions)), closed j h.0 ∙ all_open left ended each counted j (λ i e. absurd (h.1 i e))),
+        );
+      }
+
+module _ (profiles : List (List Entry)) (holds behind : List (List ℕ)) (left shut : List ℕ) (ended : List Bool) (ready : List ℕ) (board : IsBoard profiles holds behind left shut ended ready) where
+  -- a position waits exactly where a gate before it is shut
+  pub is_waiting : (p : ℕ) → p < length profiles → ¬ (get_or shut p 0 ≡ 0) → IsWaiting (record { profiles = profiles; ended = ended }) p
+  is_waiting p lt some =
+      let is = board.shut_gates p lt in
+      let one = one_waits behind (zeros left) p (omega (arith, is, some)) in
+      let within = gate_within profiles holds behind board.gates one.0 p one.1 in
+      let its = board.holders one.0 within in
+      let size = board.each_gate in
+      let full : ¬ (get_or left one.0 0 ≡ 0) = λ none. (let opened_gate = is_zero left one.0 (omega (arith, within, size)) none in let no : true ≡ false = sym opened_gate ∙ one.2 in absurd (cc no)) in
+      let two = one_waits holds ended one.0 (omega (arith, its, full)) in
+      (two.0, (board.gates.edges two.0 p).0 (one.0, two.1, one.1), two.2)
+
+  pub not_waiting : (p : ℕ) → get_or shut p 0 ≡ 0 → IsWaiting (record { profiles = profiles; ended = ended }) p → ⊥
   not_waiting p none w =
-      let lt = (board.graph.forward w.0 p w.1).1 in
-      let is = board.counted p lt in
-      let one = waits edges ended w.0 p board.as_many_ends w.1 w.2 in
-      absurd (omega (arith, is, one, none))
+      let lt = edge_within profiles holds behind board.gates w.0 p w.1 in
+      let done = open_free profiles holds behind board.gates left ended board.each_gate board.each_end board.holders p (sym (board.shut_gates p lt) ∙ none) w.0 w.1 in
+      let contrary : true ≡ false = sym done ∙ w.2 in
+      absurd (cc contrary)
 
   -- the same of the count that was read, and of what contracts see
-  pub never_waits : (view : Progress) (p x : ℕ) → record { edges = edges; ended = ended } ≡ view → p < length edges → x ≡ get_or waiting p x → x ≡ 0 → IsWaiting view p → ⊥
+  pub never_waits : (view : Progress) (p x : ℕ) → record { profiles = profiles; ended = ended } ≡ view → p < length profiles → x ≡ get_or shut p x → x ≡ 0 → IsWaiting view p → ⊥
   never_waits view p x same lt is none w =
-      let size = board.as_many_counts in
-      let read : x ≡ get_or waiting p 0 = get_or_read waiting p x (omega (arith, lt, size)) is 0 in
+      let size = board.each_position in
+      let read : x ≡ get_or shut p 0 = get_or_read shut p x (omega (arith, lt, size)) is 0 in
       not_waiting p (sym read ∙ none) (subst (λ v. IsWaiting v p) (sym same) w)
 
-  pub waiting_within : (p : ℕ) → IsWaiting (record { edges = edges; ended = ended }) p → p < length edges
-  waiting_within p w = (board.graph.forward w.0 p w.1).1
+  pub waiting_within : (p : ℕ) → IsWaiting (record { profiles = profiles; ended = ended }) p → p < length profiles
+  waiting_within p w = edge_within profiles holds behind board.gates w.0 p w.1
 
-  module _ (p : ℕ) (lt : p < length edges) (new : get_or ended p false ≡ false) where
-    pub enough_there : (j : ℕ) → j < length waiting → count_of j (successors edges p) ≤ get_or waiting j 0
-    enough_there j k =
-        let is = board.counted j (let len = board.as_many_counts in omega (arith, k, len)) in
-        let all = pending_ended edges ended p j lt board.as_many_ends new in
+  pub gates_within : (p g : ℕ) → Contains (list_at holds p) g → g < length left
+  gates_within p g c = let lt = board.gates.gates p g c in let size = board.each_gate in omega (arith, lt, size)
+
+  module _ (p : ℕ) (lt : p < length profiles) (new : get_or ended p false ≡ false) where
+    its_end : (g : ℕ) → pending holds (set ended p true) g + count_of g (list_at holds p) ≡ pending holds ended g
+    its_end g = pending_ended holds ended p g (let size = board.gates.each in omega (arith, lt, size)) (board.each_end ∙ sym board.gates.each) new
+
+    pub enough_held : (g : ℕ) → g < length left → count_of g (list_at holds p) ≤ get_or left g 0
+    enough_held g k =
+        let size = board.each_gate in
+        let is = board.holders g (omega (arith, k, size)) in
+        let all = its_end g in
         omega (arith, is, all)
 
-    -- those that waited for it alone are those that are free now
-    pub freed_exact : (free : List ℕ) → free ≡ filter (λ j. get_or waiting j 0 == 1) (successors edges p)
-        → (j : ℕ) → Contains free j ↔ (Contains (successors edges p) j × IsFree (record { edges = edges; ended = set ended p true }) j)
-    freed_exact free is j = (
-      λ c.
-          let r = kept_by (λ j. get_or waiting j 0 == 1) (successors edges p) j (subst (λ xs. Contains xs j) is c) in
-          let one = eqb-true (get_or waiting j 0) 1 r.1 in
-          let once = counted_once (successors edges p) j (board.graph.rising p) r.0 in
-          let old = board.counted j (board.graph.forward p j r.0).1 in
-          let all = pending_ended edges ended p j lt board.as_many_ends new in
-          let none : pending edges (set ended p true) j ≡ 0 = omega (arith, one, once, old, all) in
-          (r.0, λ i d. none_waits edges (set ended p true) i j (length-set ended p true ∙ board.as_many_ends) none d),
-      λ h.
-          let none = all_ended edges (set ended p true) j h.1 in
-          let once = counted_once (successors edges p) j (board.graph.rising p) h.0 in
-          let old = board.counted j (board.graph.forward p j h.0).1 in
-          let all = pending_ended edges ended p j lt board.as_many_ends new in
-          let one : get_or waiting j 0 ≡ 1 = omega (arith, none, once, old, all) in
-          subst (λ xs. Contains xs j) (sym is) (keeps (λ j. get_or waiting j 0 == 1) (successors edges p) j h.0 (eq-eqb (get_or waiting j 0) 1 one)),
-    )
+    module _ (opening : List ℕ) (opens : opening ≡ filter (λ g. get_or left g 0 == 1) (list_at holds p)) where
+      pub opening_within : (g : ℕ) → Contains opening g → g < length behind
+      opening_within g c = board.gates.gates p g (kept_by (λ g. get_or left g 0 == 1) (list_at holds p) g (among_these opening _ g opens c)).0
 
-    pub freed_rises : (free : List ℕ) → free ≡ filter (λ j. get_or waiting j 0 == 1) (successors edges p) → IsStrictlyIncreasing free
-    freed_rises free is = let Rises : List ℕ → Type 0 = λ xs. IsStrictlyIncreasing xs in subst Rises (sym is) (IsStrictlyIncreasing-filter (λ j. get_or waiting j 0 == 1) (successors edges p) (board.graph.rising p))
+      pub list_within : (j : ℕ) → Contains (gathered behind opening) j → j < length shut
+      list_within j c = let r = gathered_there behind opening j c in let lt = board.gates.positions r.0 j r.2 in let size = board.each_position in omega (arith, lt, size)
 
-    pub board_after : get_or waiting p 0 ≡ 0 → (next : List ℕ) → length next ≡ length waiting → ((j : ℕ) → j < length waiting → get_or next j 0 + count_of j (successors edges p) ≡ get_or waiting j 0)
-        → IsBoard edges next (set ended p true) ready
-    board_after none next len lowered = record {
-      graph = board.graph;
-      as_many_counts = len ∙ board.as_many_counts;
-      as_many_ends = length-set ended p true ∙ board.as_many_ends;
-      counted = λ j k.
-          let old = board.counted j k in
-          let low = lowered j (let size = board.as_many_counts in omega (arith, k, size)) in
-          let all = pending_ended edges ended p j lt board.as_many_ends new in
-          omega (arith, old, low, all);
-      in_order = λ j done.
-          let all = pending_ended edges ended p j lt board.as_many_ends new in
-          let before : pending edges ended j ≡ 0 = was_in_order j done none in
-          omega (arith, all, before);
-      first = board.first;
-    }
-      where
-        was_in_order : (j : ℕ) → get_or (set ended p true) j false ≡ true → get_or waiting p 0 ≡ 0 → pending edges ended j ≡ 0
-        was_in_order j done none = by (cases_eq j p)
-          where
-            by : (j ≡ p) ⊎ (¬ (j ≡ p)) → pending edges ended j ≡ 0
-            by (inl same) = let is = board.counted p lt in ap (pending edges ended) same ∙ omega (arith, is, none)
-            by (inr other) = board.in_order j (sym (get_or-set_other ended p j true false other) ∙ done)
+      -- what the counts are afterwards
+      module _ (next : List ℕ) (size : length next ≡ length left) (lowered : (g : ℕ) → g < length left → get_or next g 0 + count_of g (list_at holds p) ≡ get_or left g 0) where
+        now_open : (j : ℕ) → pending behind (zeros next) j + count_of j (gathered behind opening) ≡ pending behind (zeros left) j
+        now_open j = pending_opened behind left next (list_at holds p) opening j board.each_gate size (board.gates.gates_rise p) (board.gates.gates p) lowered opens
 
-pub board_opened : (edges : List (List ℕ)) (waiting : List ℕ) (ended : List Bool) (ready : List ℕ) → IsForward edges → length waiting ≡ length edges
-    → ((j : ℕ) → j < length edges → get_or waiting j 0 ≡ predecessors edges j) → ended ≡ replicate (length edges) false → ready ≡ firsts (predecessors edges) (length edges)
-    → IsBoard edges waiting ended ready
-board_opened edges waiting ended ready graph len counts none first =
-    let size : length ended ≡ length edges = ap length none ∙ length-replicate (length edges) false in
-    record {
-      graph = graph;
-      as_many_counts = len;
-      as_many_ends = size;
-      counted = λ j lt. counts j lt ∙ (sym (pending_none edges j) ∙ ap (λ es. pending edges es j) (sym none));
-      in_order = λ j done. absurd (
-          let lt = ended_is_within edges ended j size done in
-          let new : get_or ended j false ≡ false = ap (λ es. get_or es j false) none ∙ get_or-replicate (length edges) j false false lt in
-          let contrary : true ≡ false = sym done ∙ new in cc contrary);
-      first = first;
-    }
+        pub enough_shut : (j : ℕ) → j < length shut → count_of j (gathered behind opening) ≤ get_or shut j 0
+        enough_shut j k =
+            let each = board.each_position in
+            let is = board.shut_gates j (omega (arith, k, each)) in
+            let all = now_open j in
+            omega (arith, is, all)
 
-pub among_these : (xs ys : List ℕ) (j : ℕ) → xs ≡ ys → Contains xs j → Contains ys j
-among_these xs ys j is c = subst (λ zs. Contains zs j) is c
+        now_held : (g : ℕ) → g < length behind → get_or next g 0 ≡ pending holds (set ended p true) g
+        now_held g k =
+            let each = board.each_gate in
+            let low = lowered g (omega (arith, k, each)) in
+            let is = board.holders g k in
+            let all = its_end g in
+            omega (arith, low, is, all)
 
--- a board as it is opened, over the lists that its makers read
-pub opened : (inside edges es : List (List ℕ)) (waiting ws : List ℕ) (ended : List Bool) (ready : List ℕ) → IsForward inside → edges ≡ inside → es ≡ inside → length waiting ≡ length es
-    → ((j : ℕ) → j < length es → get_or waiting j 0 ≡ predecessors es j) → ws ≡ waiting → ready ≡ firsts (λ j. get_or ws j 0) (length ws) → ended ≡ replicate (length edges) false
-    → IsBoard edges waiting ended ready
-opened inside edges es waiting ws ended ready graph is other len counts read first none =
-    let same : es ≡ edges = other ∙ sym is in
-    let size : length waiting ≡ length edges = len ∙ ap length same in
-    let all : (j : ℕ) → j < length edges → get_or waiting j 0 ≡ predecessors edges j = subst (λ xs. (j : ℕ) → j < length xs → get_or waiting j 0 ≡ predecessors xs j) same counts in
-    let ones : ready ≡ firsts (predecessors edges) (length edges) =
-    first ∙ (ap (λ xs. firsts (λ j. get_or xs j 0) (length xs)) read
-    ∙ (ap (firsts (λ j. get_or waiting j 0)) size ∙ firsts_same (λ j. get_or waiting j 0) (predecessors edges) (length edges) all)) in
-    board_opened edges waiting ended ready (subst IsForward (sym is) graph) size all none ones
+        module _ (rest : List ℕ) (room : length rest ≡ length shut) (taken : (j : ℕ) → j < length shut → get_or rest j 0 + count_of j (gathered behind opening) ≡ get_or shut j 0) where
+          now_shut : (j : ℕ) → j < length profiles → get_or rest j 0 ≡ pending behind (zeros next) j
+          now_shut j k =
+              let each = board.each_position in
+              let low = taken j (omega (arith, k, each)) in
+              let is = board.shut_gates j k in
+              let all = now_open j in
+              omega (arith, low, is, all)
+
+          pub board_after : get_or shut p 0 ≡ 0 → IsBoard profiles holds behind next rest (set ended p true) ready
+          board_after none = record {
+            gates = board.gates;
+            each_gate = size ∙ board.each_gate;
+            each_position = room ∙ board.each_position;
+            each_end = length-set ended p true ∙ board.each_end;
+            holders = now_held;
+            shut_gates = now_shut;
+            in_order = λ j done.
+                let within = ended_is_within (set ended p true) j (length profiles) (length-set ended p true ∙ board.each_end) done in
+                let each = board.each_position in
+                let low = taken j (omega (arith, within, each)) in
+                let before = was_in_order j done none in
+                omega (arith, low, before);
+            ready_rises = board.ready_rises;
+            ready_exact = board.ready_exact;
+          }
+            where
+              was_in_order : (j : ℕ) → get_or (set ended p true) j false ≡ true → get_or shut p 0 ≡ 0 → get_or shut j 0 ≡ 0
+              was_in_order j done none = by (cases_eq j p)
+                where
+                  by : (j ≡ p) ⊎ (¬ (j ≡ p)) → get_or shut j 0 ≡ 0
+                  by (inl same) = ap (λ k. get_or shut k 0) same ∙ none
+                  by (inr other) = board.in_order j (sym (get_or-set_other ended p j true false other) ∙ done)
+
+          -- those behind the gates that opened, with no gate shut, are those that are free now
+          pub freed_exact : (free : List ℕ) → ((j : ℕ) → Contains free j ↔ (Contains (gathered behind opening) j × (get_or rest j 0 ≡ 0)))
+              → (j : ℕ) → Contains free j ↔ (IsEdge profiles p j × IsFree (record { profiles = profiles; ended = set ended p true }) j)
+          freed_exact free exact j =
+              let each : length next ≡ length behind = size ∙ board.each_gate in
+              let ends : length (set ended p true) ≡ length profiles = length-set ended p true ∙ board.each_end in (
+                λ c.
+                    let r = (exact j).0 c in
+                    let through = gathered_there behind opening j r.0 in
+                    let held = kept_by (λ g. get_or left g 0 == 1) (list_at holds p) through.0 (among_these opening _ through.0 opens through.1) in
+                    let within = board.gates.positions through.0 j through.2 in (
+                      (board.gates.edges p j).0 (through.0, held.0, through.2),
+                      λ i e. open_free profiles holds behind board.gates next (set ended p true) each ends now_held j (sym (now_shut j within) ∙ r.1) i e,
+                    ),
+                λ h.
+                    let t = (board.gates.edges p j).1 h.0 in
+                    let within = board.gates.gates p t.0 t.1 in
+                    let here = board.gates.positions t.0 j t.2 in
+                    let empty = free_open profiles holds behind board.gates next (set ended p true) each now_held j h.1 t.0 t.2 within in
+                    let once = counted_once (list_at holds p) t.0 (board.gates.gates_rise p) t.1 in
+                    let low = lowered t.0 (let k = board.each_gate in omega (arith, within, k)) in
+                    let one : get_or left t.0 0 ≡ 1 = omega (arith, empty, once, low) in
+                    let among : Contains opening t.0 = among_these _ opening t.0 (sym opens) (keeps (λ g. get_or left g 0 == 1) (list_at holds p) t.0 t.1 (eq-eqb (get_or left t.0 0) 1 one)) in
+                    (exact j).1 (there_gathered behind opening t.0 j among t.2, now_shut j here ∙ all_open profiles holds behind board.gates next (set ended p true) each now_held j h.1),
+              )
+
+-- those behind the gates that a position holds shut are those that wait for it
+pub successors_exact : (profiles : List (List Entry)) (holds behind : List (List ℕ)) → AreGates profiles holds behind → (i : ℕ) (list : List ℕ) → ((j : ℕ) → Contains list j ↔ Contains (gathered behind (list_at holds i)) j)
+    → (j : ℕ) → Contains list j ↔ IsEdge profiles i j
+successors_exact profiles holds behind gates i list exact j = (
+  λ c. let r = gathered_there behind (list_at holds i) j ((exact j).0 c) in (gates.edges i j).0 (r.0, r.1, r.2),
+  λ e. let t = (gates.edges i j).1 e in (exact j).1 (there_gathered behind (list_at holds i) t.0 j t.1 t.2),
+)
+
+-- the same over the lists that a board's makers read
+pub opened : (ps : List (List Entry)) (hs bs : List (List ℕ)) → AreGates ps hs bs → (profiles : List (List Entry)) (holds behind : List (List ℕ)) → profiles ≡ ps → holds ≡ hs → behind ≡ bs
+    → (left shut : List ℕ) (ended : List Bool) (ready : List ℕ) → IsBoard ps hs bs left shut ended ready → IsBoard profiles holds behind left shut ended ready
+opened ps hs bs gates profiles holds behind p h b left shut ended ready board =
+    subst (λ xs. IsBoard xs holds behind left shut ended ready) (sym p)
+    (subst (λ xs. IsBoard ps xs behind left shut ended ready) (sym h)
+    (subst (λ xs. IsBoard ps hs xs left shut ended ready) (sym b) board))

@@ -1,8 +1,8 @@
-pub mod Before
 pub mod Boards
 pub mod Counts
-pub mod Firsts
-pub mod Holders
+pub mod Least
+pub mod Lists
+pub mod Numbered
 pub mod Places
 pub mod Profiles
 pub mod Published

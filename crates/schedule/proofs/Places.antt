@@ -1,5 +1,5 @@
--- The order of turns at locks, and one holder more at one of them.
-use Rattle.std.proofs.Common.{◌≡◌, ℕ, Bool, true, false, cond, Option, Some, List, refl, ◌∙◌, ap}
+-- The order of turns at locks.
+use Rattle.std.proofs.Common.{◌≡◌, ℕ, refl}
 use Rattle.std.specs.declared.cmp.Ordering.{Ordering}
 use Rattle.std.specs.declared.cmp.Ordering.TheVariants.{Less, Equal, Greater}
 use Rattle.std.specs.Ordering.{nat_cmp, ordering_then}
@@ -9,9 +9,9 @@ use Rattle.spec_ledger.specs.declared.Kind.{Kind}
 use Rattle.spec_ledger.specs.declared.Kind.TheVariants.{Map, Counter}
 use Rattle.spec_ledger.specs.Cells.{lock_cmp}
 use Rattle.spec_ledger.proofs.Maps.{lock_cmp_total, lock_cmp-IsAntisymmetric}
-use Rattle.schedule.specs.declared.index.LockTurn.{LockTurn}
-use Rattle.schedule.specs.contracts.index.LockTurnOrd.TheImpl as derived
-use Rattle.schedule.specs.Index.{turn_cmp, members}
+use Rattle.schedule.specs.declared.lock_turn.LockTurn.{LockTurn}
+use Rattle.schedule.specs.contracts.lock_turn.LockTurnOrd.TheImpl as derived
+use Rattle.schedule.specs.Turns.{turn_cmp}
 
 same_at : (c k t : ℕ) (p q : Kind) (d l u : ℕ) → derived.cmp-value.it (record { lock = record { contract = c; kind = p; key = k }; turn = t }) (record { lock = record { contract = d; kind = q; key = l }; turn = u })
     ≡ turn_cmp (record { lock = record { contract = c; kind = p; key = k }; turn = t }) (record { lock = record { contract = d; kind = q; key = l }; turn = u })
@@ -38,8 +38,3 @@ turn_cmp-IsAntisymmetric a b e =
     let locks = lock_cmp-IsAntisymmetric _ _ parts.0 in
     let turns = nat_cmp-IsAntisymmetric _ _ parts.1 in
     λ i. record { lock = locks i; turn = turns i }
-
--- what stands at a turn after one holder more
-pub put : (b : Bool) (new old : Option (List ℕ)) (ps qs : List ℕ) → new ≡ cond b (Some ps) old → ps ≡ qs → members new ≡ cond b qs (members old)
-put true new old ps qs e f = ap members e ∙ f
-put false new old ps qs e f = ap members e

@@ -1,5 +1,5 @@
 -- What a profile publishes at a lock is one of its entries, and each of its entries is published.
-use Rattle.std.proofs.Common.{◌≡◌, ℕ, zero, suc, ◌<◌, Bool, true, false, cond, T, Some, List, [], ◌∷◌, map, length, get_or, refl, sym, ap, subst, ◌∙◌, arith}
+use Rattle.std.proofs.Common.{◌≡◌, ℕ, zero, suc, ◌<◌, Bool, true, false, cond, T, take, Some, List, [], ◌∷◌, map, length, get_or, refl, sym, ap, subst, ◌∙◌, arith}
 use Rattle.std.specs.declared.cmp.Ordering.TheVariants.{Less, Equal}
 use Rattle.std.specs.List.{Contains}
 use Rattle.std.specs.Cmp.{tied_itself}
@@ -13,7 +13,8 @@ use Rattle.spec_ledger.proofs.Maps.{lock_cmp_total, lock_cmp-IsAntisymmetric, is
 use Rattle.lock_profile.specs.Turns.{IsProfile}
 use Rattle.lock_profile.proofs.Groups.{left, right, less}
 use Rattle.spec_block.specs.Schedule.{hold_in}
-use Rattle.schedule.specs.Index.{IsAt}
+use Rattle.schedule.specs.declared.lock_turn.LockTurn.{LockTurn}
+use Rattle.schedule.specs.Turns.{turn_of, IsAt}
 
 some_is : {A : Type 0} (x y : A) → Some x ≡ Some y → x ≡ y
 some_is x y e = cc e
@@ -58,3 +59,14 @@ published (x ∷ es) h (suc k) d lt =
 
 pub entry_published : (es : List Entry) → IsProfile es → (e : Entry) → Contains es e → hold_in e.lock es ≡ Some (e.mode, e.turn)
 entry_published es h e (k, below, is) = subst (λ (x : Entry). hold_in x.lock es ≡ Some (x.mode, x.turn)) is (published es h k e below)
+
+-- no earlier entry of a profile has the turn of a later one
+pub later_lock : (es : List Entry) → IsProfile es → (k : ℕ) (d : Entry) → k < length es → IsAt (turn_of (get_or es k d)) (take k es) → ⊥
+later_lock [] h k d lt at = absurd (omega (arith, lt))
+later_lock (x ∷ es) h zero d lt at = absurd (let below = at.1.1 in omega (arith, below))
+later_lock (x ∷ es) h (suc k) d lt (e, (zero, l, is), same) =
+    let below : lock_cmp x.lock (get_or es k d).lock ≡ Less = below_each x.lock es (left (below_all lock_cmp x.lock (map (λ (e : Entry). (e.lock, e)) es)) _ h) k d (omega (arith, lt)) in
+    let one : x.lock ≡ (get_or es k d).lock = ap (λ (e : Entry). e.lock) is ∙ ap (λ (q : LockTurn). q.lock) same in
+    let tied : lock_cmp x.lock (get_or es k d).lock ≡ Equal = ap (lock_cmp x.lock) (sym one) ∙ tied_itself lock_cmp_total x.lock in
+    absurd (let no : Less ≡ Equal = sym below ∙ tied in cc no)
+later_lock (x ∷ es) h (suc k) d lt (e, (suc i, l, is), same) = later_lock es (right (below_all lock_cmp x.lock (map (λ (e : Entry). (e.lock, e)) es)) _ h) k d (omega (arith, lt)) (e, (i, omega (arith, l), is), same)

@@ -1,11 +1,10 @@
 -- The wave of a position from those of its predecessors.
-use Rattle.std.proofs.Common.{◌^◌, ◌≡◌, ◌⊎◌, inl, inr, ℕ, ◌+◌, ◌<◌, ◌≤◌, List, [], ◌∷◌, ◌++◌, length, take, get_or, sym, ap, ◌∙◌, subst, arith}
-use Rattle.std.proofs.lemmas.List.{take_more, length_push, get_or_append_left, get_or_push, get_or_past}
+use Rattle.std.proofs.Common.{◌^◌, ◌≡◌, ◌⊎◌, inl, inr, ℕ, ◌+◌, ◌<◌, ◌≤◌, List, [], ◌∷◌, ◌++◌, length, get_or, refl, sym, ap, ◌∙◌, subst, arith}
+use Rattle.std.proofs.lemmas.List.{length_push, get_or_append_left, get_or_push, get_or_past}
 use Rattle.std.proofs.lemmas.Bool.{cases_eq, cases_lt}
-use Rattle.std.proofs.lemmas.List.Elements.{Contains-append_left, Contains-push, Contains-push_cases}
 use Rattle.spec_ledger.specs.declared.Entry.{Entry}
 use Rattle.spec_block.specs.Schedule.{IsEdge, IsPath, here, along, IsWave}
-use Rattle.schedule.specs.Waves.{IsRaised, IsTop}
+use Rattle.schedule.specs.Waves.{IsTop}
 
 last_edge : (profiles : List (List Entry)) (w j i n : ℕ) (wave : ℕ → ℕ) → ((k : ℕ) → IsEdge profiles k j → IsWave profiles k (wave k)) → ((k : ℕ) → IsEdge profiles k j → wave k < w)
     → IsPath profiles n i j → n ≤ w
@@ -25,31 +24,6 @@ wave_step profiles j w wave waves above reached =
           let before = waves r.0 r.1 in
           record { from = before.from; path = subst (λ n. IsPath profiles n before.from j) r.2 (along (wave r.0) before.from r.0 j before.path r.1); longest = λ n i p. last_edge profiles w j i n wave waves above p }
     ]
-
-pub raised_more : (ws js : List ℕ) (i first w next new : ℕ) → i < length js → IsRaised ws (take i js) first w → next ≡ get_or ws (get_or js i 0) 0 + 1
-    → ((w < next) × (new ≡ next)) ⊎ ((next ≤ w) × (new ≡ w)) → IsRaised ws (take (i + 1) js) first new
-raised_more ws js i first w next new below so_far is how =
-    let j = get_or js i 0 in
-    let whole : take i js ++ j ∷ [] ≡ take (i + 1) js = sym (take_more js i 0 below) in
-    let from = so_far.from in
-    subst (λ xs. IsRaised ws xs first new) whole (elim how [
-      | inl up ↦ record {
-        from = omega (arith, from, up.0, up.1);
-        above = λ k c. elim (Contains-push_cases (take i js) j k c) [
-          | inl h ↦ let old = so_far.above k h in omega (arith, old, up.0, up.1)
-          | inr same ↦ let e : get_or ws j 0 ≡ get_or ws k 0 = ap (λ x. get_or ws x 0) same in omega (arith, e, is, up.1)
-        ];
-        least = inr (j, Contains-push (take i js) j, sym is ∙ sym up.1);
-      }
-      | inr down ↦ record {
-        from = omega (arith, from, down.1);
-        above = λ k c. elim (Contains-push_cases (take i js) j k c) [
-          | inl h ↦ let old = so_far.above k h in omega (arith, old, down.1)
-          | inr same ↦ let e : get_or ws j 0 ≡ get_or ws k 0 = ap (λ x. get_or ws x 0) same in omega (arith, e, is, down.0, down.1)
-        ];
-        least = elim so_far.least [ inl none ↦ inl (down.1 ∙ none) | inr r ↦ inr (r.0, Contains-append_left (take i js) (j ∷ []) r.0 r.1, r.2 ∙ sym down.1) ];
-      }
-    ])
 
 -- the waves of the first positions
 pub record AreSoFar (profiles : List (List Entry)) (waves : List ℕ) (n : ℕ) : Type 0 where
@@ -89,3 +63,6 @@ low_waves ws n j len low few = elim (cases_lt j n) [
   | inl lt ↦ let a = low j in omega (arith, a, lt, few)
   | inr ge ↦ let e : get_or ws j 0 ≡ 0 = get_or_past ws j 0 (omega (arith, ge, len)) in omega (arith, e)
 ]
+
+pub none_so_far : (profiles : List (List Entry)) (waves : List ℕ) → waves ≡ [] → AreSoFar profiles waves 0
+none_so_far profiles waves none = subst (λ ws. AreSoFar profiles ws 0) (sym none) (record { each = refl; low = λ i. omega arith; exact = λ i lt. absurd (omega (arith, lt)) })

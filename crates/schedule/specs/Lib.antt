@@ -1,4 +1,4 @@
 pub mod Board
 pub mod Graph
-pub mod Index
+pub mod Turns
 pub mod Waves

@@ -1,21 +1,34 @@
 -- Waves by predecessors.
-use Rattle.std.specs.Prelude.{◌≡◌, ◌+◌, ◌<◌, ◌≤◌, ◌⊎◌, ℕ, List, length, slice_index}
+use Rattle.std.specs.Prelude.{◌≡◌, ◌+◌, ◌<◌, ◌≤◌, ◌⊎◌, ℕ, Option, Some, None, List, slice_index}
 use Rattle.std.specs.List.{Contains}
 use Rattle.spec_ledger.specs.declared.Entry.{Entry}
-use Rattle.spec_block.specs.Schedule.{IsWave}
+use Rattle.schedule.specs.declared.lock_turn.LockTurn.{LockTurn}
+use Rattle.schedule.specs.Turns.{turn_of, next_turn}
 
--- the least number from the first on that is above the waves of these
-pub record IsRaised (waves positions : List ℕ) (first wave : ℕ) : Type 0 where
-  pub from : first ≤ wave
-  pub above : (k : ℕ) → Contains positions k → slice_index waves k < wave
-  pub least : (wave ≡ first) ⊎ ((k : ℕ) × Contains positions k × (slice_index waves k + 1 ≡ wave))
+abbrev pub or_none : Option ℕ → ℕ
+or_none None = 0
+or_none (Some wave) = wave
+
+-- the least wave that is left at a lock and turn
+abbrev pub least_of : (LockTurn → Option ℕ) → LockTurn → ℕ
+least_of waves at = or_none (waves at)
+
+-- the greatest of those that are left to some entries, or 0 where there are none
+pub record IsGreatest (least : LockTurn → ℕ) (es : List Entry) (wave : ℕ) : Type 0 where
+  pub above : (e : Entry) → Contains es e → least (turn_of e) ≤ wave
+  pub reached : (wave ≡ 0) ⊎ ((e : Entry) × Contains es e × (least (turn_of e) ≡ wave))
+
+-- some entry has the turn before at this lock
+abbrev pub IsAfter : LockTurn → List Entry → Type 0
+IsAfter q es = (e : Entry) × Contains es e × (next_turn e ≡ q)
+
+-- raised to a wave where some entry has the turn before
+pub record AreRaised (es : List Entry) (wave : ℕ) (old new : LockTurn → ℕ) : Type 0 where
+  pub up : (q : LockTurn) → old q ≤ new q
+  pub there : (q : LockTurn) → IsAfter q es → wave ≤ new q
+  pub alone : (q : LockTurn) → (new q ≡ old q) ⊎ (IsAfter q es × (new q ≡ wave))
 
 -- one more than the highest wave of these, or 0 where there are none
 pub record IsTop (waves : List ℕ) (IsOne : ℕ → Type 0) (wave : ℕ) : Type 0 where
   pub above : (k : ℕ) → IsOne k → slice_index waves k < wave
   pub least : (wave ≡ 0) ⊎ ((k : ℕ) × IsOne k × (slice_index waves k + 1 ≡ wave))
-
--- for each position its wave
-pub record AreWaves (profiles : List (List Entry)) (waves : List ℕ) : Type 0 where
-  pub each : length waves ≡ length profiles
-  pub exact : (i : ℕ) → i < length profiles → IsWave profiles i (slice_index waves i)

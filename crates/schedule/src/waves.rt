@@ -1,73 +1,92 @@
 //! The wave of each position: the length of the longest path to it.
 
-ghost use Rattle.std.specs.Prelude.{◌≡◌, ◌<◌, ◌^◌, ℕ, length, slice_index, IfOk};
+ghost use Rattle.std.specs.Prelude.{◌≡◌, ◌<◌, ◌^◌, ℕ, length, slice_index, IfOk, OnOk};
 ghost use Rattle.std.specs.BTreeMap.{get};
 ghost use Rattle.std.specs.List.{Contains};
-ghost use Rattle.spec_block.specs.Schedule.{HaveTurns};
-ghost use Rattle.schedule.specs.Index.{turn_cmp, IsIndex, IsBefore};
-ghost use Rattle.schedule.specs.Waves.{IsRaised, IsTop, AreWaves};
+ghost use Rattle.spec_ledger.specs.declared.Entry.{Entry};
+ghost use Rattle.spec_block.specs.Schedule.{AreApart, HaveTurns, IsWave};
+ghost use Rattle.schedule.specs.Turns.{turn_cmp};
+ghost use Rattle.schedule.specs.Waves.{least_of, AreRaised, IsGreatest};
 
-use crate::index::{LockTurn, Positions, holders_at};
+use crate::lock_turn::LockTurn;
 use lock_profile::Profile;
 use spec_ledger::Entry;
 use std::alloc::Allocator;
 use std::collections::BTreeMap;
 use wtypes::NoMemory;
 
-/// The least wave from this one on that is above those of these positions.
-fn wave_above(waves: &[u32], positions: &[u32], first: u32) -> u32
-    requires within { (k : ℕ) → Contains positions.now k → k < length waves.now }
-    requires small { (k : ℕ) → slice_index waves.now k < 2 ^ 16 }
-    ensures { IsRaised waves.now positions.now first result }
+/// The least wave that is left to who has a lock at this turn.
+fn least_at<A: Allocator>(least: &BTreeMap<LockTurn, u32, A>, at: LockTurn) -> u32
+    ensures { result ≡ least_of (get turn_cmp least.now) at }
 {
-    let mut wave = first;
-    for position in positions {
-        let next = waves[*position as usize] + 1;
-        if wave < next {
-            wave = next;
-        }
+    match least.get(&at) {
+        None => 0,
+        Some(wave) => *wave,
     }
-    wave
 }
 
-/// The wave of a position with these entries, where these are the waves of the positions before it.
-fn wave_of<A: Allocator>(
-    index: &BTreeMap<LockTurn, Positions<A>, A>,
-    entries: &[Entry],
-    waves: &[u32],
-) -> u32
-    requires within { (k : ℕ) → IsBefore (get turn_cmp index.now) entries.now k → k < length waves.now }
-    requires small { (k : ℕ) → slice_index waves.now k < 2 ^ 16 }
-    ensures { IsTop waves.now (IsBefore (get turn_cmp index.now) entries.now) result }
+/// The wave of a position with these entries: the greatest of those that are left to it.
+fn wave_of<A: Allocator>(least: &BTreeMap<LockTurn, u32, A>, entries: &[Entry]) -> u32
+    ensures { IsGreatest (least_of (get turn_cmp least.now)) entries.now result }
 {
     let mut wave = 0;
     for entry in entries {
-        if entry.turn > 0 {
-            let before = LockTurn {
-                lock: entry.lock,
-                turn: entry.turn - 1,
-            };
-            wave = wave_above(waves, holders_at(index, before), wave);
+        let own = LockTurn {
+            lock: entry.lock,
+            turn: entry.turn,
+        };
+        let left = least_at(least, own);
+        if wave < left {
+            wave = left;
         }
     }
     wave
 }
 
-/// The wave of each position.
-pub(crate) fn waves_of<A: Allocator + Copy>(
+/// Leaves no wave below this one to those that have the next turn at the locks of these entries.
+fn raise<A: Allocator + Copy>(
+    least: &mut BTreeMap<LockTurn, u32, A>,
+    entries: &[Entry],
+    wave: u32,
+) -> Result<(), NoMemory>
+    requires { (e : Entry) → Contains entries.now e → e.turn < 2 ^ 16 }
+    ensures { OnOk result (AreRaised entries.now wave (least_of (get turn_cmp least.old)) (least_of (get turn_cmp least.new))) }
+{
+    for entry in entries {
+        let next = LockTurn {
+            lock: entry.lock,
+            turn: entry.turn + 1,
+        };
+        if least_at(least, next) < wave {
+            least.insert(next, wave)?;
+        }
+    }
+    Ok(())
+}
+
+/// The wave of each position of these profiles, the length of the longest path to it. Positions of one wave go together at every lock.
+///
+/// # Errors
+///
+/// The allocator refused memory.
+pub fn waves_of<A: Allocator + Copy>(
     alloc: A,
-    index: &BTreeMap<LockTurn, Positions<A>, A>,
     profiles: &[Profile<A>],
 ) -> Result<Vec<u32, A>, NoMemory>
     requires few { length profiles.now < 2 ^ 16 }
     requires turns { HaveTurns profiles.now }
-    requires index { IsIndex profiles.now (get turn_cmp index.now) }
-    ensures { IfOk result (λ waves. AreWaves profiles.now waves.items) }
+    ensures each_wave { IfOk result (λ waves. length waves.items ≡ length profiles.now) }
+    ensures waves { IfOk result (λ waves. (i : ℕ) → i < length profiles.now → IsWave profiles.now i (slice_index waves.items i)) }
+    ensures together { IfOk result (λ waves. (i j : ℕ) → i < j → j < length profiles.now → slice_index waves.items i ≡ slice_index waves.items j → ¬ (AreApart profiles.now i j)) }
 {
+    spec_block::paths_join();
+    let mut least = BTreeMap::new(alloc);
     let mut waves = Vec::new(alloc);
     for profile in profiles {
         profile.hold();
-        let wave = wave_of(index, profile.entries(), &waves);
+        let entries = profile.entries();
+        let wave = wave_of(&least, entries);
+        raise(&mut least, entries, wave + 1)?;
         waves.push(wave)?;
     }
     Ok(waves)

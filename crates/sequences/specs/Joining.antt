@@ -14,9 +14,10 @@ use Rattle.spec_ledger.specs.declared.Reply.{Reply}
 use Rattle.spec_ledger.specs.declared.Reply.TheVariants as reply
 use Rattle.spec_numeric.specs.Operators.{same_type, type_of, bits_of}
 use Rattle.spec_numeric.specs.Storage.{load_type, load_width, extended, store_width}
+use Rattle.spec_numeric.specs.Memory.{load, store}
 use Rattle.spec_syntax.specs.Profile.{frame_limit}
 use Rattle.spec_execution.specs.Configuration.{Contract, Function, Hosted, Defined, function_at, function_type, Seq, End, Val, Code, Free, Label, Frame, Invoke, code, values, instr_size, State, Config, Running, Trap}
-use Rattle.spec_execution.specs.Reduction.{Next, Goes, Traps, Asks, Branches, Returns, Ended, Stuck, with_number, with_value, with_values, found, answered, in_memory, loaded, stored, grown, most_pages, pages, same_function_type, op_of, zero_of, indirect, replied, invoke, execute_plain, execute, in_label, in_frame, reduce}
+use Rattle.spec_execution.specs.Reduction.{Next, Goes, Traps, Asks, Branches, Returns, Ended, Stuck, with_number, with_value, with_values, found, answered, loaded, stored, grown, most_pages, pages, same_function_type, op_of, zero_of, indirect, replied, invoke, execute_plain, execute, in_label, in_frame, reduce}
 use Rattle.spec_execution.specs.Run.{next, Reduces, goes, traps, IsCharged, IsStuck}
 use Rattle.spec_execution.specs.Turns.{Frees, none, one_more, IsAtRest, to_come, ended}
 use Rattle.sequences.specs.Meaning.{Item, View, config, state, sequence, IsFine, IsReady}
@@ -78,7 +79,7 @@ module _ (t : Seq) where
     by_found None f g h = stuck
     by_found (Some x) f g h = h x
 
-    by_answer : (n : ℕ) (r : Result ℕ TrapCode) (f g : ℕ → Next) → ((x : ℕ) → Joins (f x) (g x)) → Joins (answered n r f) (answered n r g)
+    by_answer : {X : Type 0} (n : ℕ) (r : Result X TrapCode) (f g : X → Next) → ((x : X) → Joins (f x) (g x)) → Joins (answered n r f) (answered n r g)
     by_answer n (Ok x) f g h = h x
     by_answer n (Err c) f g h = falls n c
 
@@ -91,16 +92,13 @@ module _ (t : Seq) where
     by_element c n s ty (Some None) vs a = falls n _
     by_element c n s ty (Some (Some f)) vs a = by_found (function_at c.deployed f) _ _ (λ g. either (same_function_type ty (function_type g)) _ _ (Traps n trap.TypeMismatch) (Traps n trap.TypeMismatch) (to n s vs (Invoke f (joined a t)) (Invoke f a) refl) (falls n _))
 
-    by_memory : (n : ℕ) (memory : List ℕ) (at bytes : ℕ) (x y : Next) → Joins x y → Joins (in_memory n memory at bytes x) (in_memory n memory at bytes y)
-    by_memory n memory at bytes x y h = either (nat_le (at + bytes) (length memory)) x y (Traps n trap.MemoryOutOfBounds) (Traps n trap.MemoryOutOfBounds) h (falls n _)
-
     by_load : (n : ℕ) (s : State) (ty : ValType) (bytes : ℕ) (extend : ℕ → ℕ) (at : ℕ) (vs : List Value) (a : Seq) → Joins (loaded n s ty bytes extend at vs (joined a t)) (loaded n s ty bytes extend at vs a)
     unfolding loaded
-    by_load n s ty bytes extend at vs a = by_memory n s.memory at bytes _ _ (to n s vs _ (Val _ a) refl)
+    by_load n s ty bytes extend at vs a = by_answer n (load s.memory at bytes) _ _ (λ x. to n s vs _ (Val _ a) refl)
 
     by_store : (n : ℕ) (s : State) (bytes at x : ℕ) (vs : List Value) (a : Seq) → Joins (stored n s bytes at x vs (joined a t)) (stored n s bytes at x vs a)
     unfolding stored
-    by_store n s bytes at x vs a = by_memory n s.memory at bytes _ _ (to n _ vs _ a refl)
+    by_store n s bytes at x vs a = by_answer n (store s.memory at bytes x) _ _ (λ memory. to n _ vs _ a refl)
 
     by_growth : (c : Contract) (n : ℕ) (s : State) (delta : ℕ) (vs : List Value) (a : Seq) → Joins (grown c n s delta vs (joined a t)) (grown c n s delta vs a)
     unfolding grown

@@ -1,5 +1,6 @@
 -- Where no label and no frame is at its end, an instruction of the code is to come, or the run has ended.
 use Rattle.spec_numeric.specs.Storage.{load_width, store_width}
+use Rattle.spec_numeric.specs.Memory.{load, store}
 use Rattle.std.proofs.Common.{◌≡◌, ◌+◌, ℕ, zero, suc, Bool, true, false, nat_le, List, [], ◌∷◌, length, take, drop, refl, sym, subst, Option, Some, None, Result, Ok, Err, slice_get}
 use Rattle.std.specs.Prelude.{if◌then◌else◌, ◌==◌}
 use Rattle.wtypes.specs.declared.ValType.TheVariants.{I32}
@@ -46,7 +47,7 @@ of_found : {A : Type 0} (n : ℕ) (o : Option A) (go : A → Next) → ((x : A) 
 of_found n None go h = tt
 of_found n (Some x) go h = h x
 
-of_answer : (n : ℕ) (r : Result ℕ TrapCode) (go : ℕ → Next) → ((x : ℕ) → HasCharge n (go x)) → HasCharge n (answered n r go)
+of_answer : {X : Type 0} (n : ℕ) (r : Result X TrapCode) (go : X → Next) → ((x : X) → HasCharge n (go x)) → HasCharge n (answered n r go)
 of_answer n (Ok x) go h = h x
 of_answer n (Err t) go h = refl
 
@@ -80,8 +81,8 @@ plain_charge c s n (Br l) vs rest = refl
 plain_charge c s n (BrIf l) vs rest = of_number n I32 vs _ (λ k ws. refl)
 plain_charge c s n Return vs rest = refl
 plain_charge c s n (GlobalGet x) vs rest = of_found n (slice_get s.globals x) _ (λ v. refl)
-plain_charge c s n (Load o align offset) vs rest = of_number n I32 vs _ (λ a ws. of_test n (nat_le (a + offset + load_width o) (length s.memory)) _ _ refl refl)
-plain_charge c s n (Store o align offset) vs rest = of_number n _ vs _ (λ x ws. of_number n I32 ws _ (λ a us. of_test n (nat_le (a + offset + store_width o) (length s.memory)) _ _ refl refl))
+plain_charge c s n (Load o align offset) vs rest = of_number n I32 vs _ (λ a ws. of_answer n (load s.memory (a + offset) (load_width o)) _ (λ x. refl))
+plain_charge c s n (Store o align offset) vs rest = of_number n _ vs _ (λ x ws. of_number n I32 ws _ (λ a us. of_answer n (store s.memory (a + offset) (store_width o) x) _ (λ memory. refl)))
 plain_charge c s n MemorySize vs rest = refl
 plain_charge c s n MemoryGrow vs rest = of_number n I32 vs _ (λ k ws. of_test n (nat_le (pages s.memory + k) (most_pages c.deployed.tree.memories)) _ _ refl refl)
 plain_charge c s n (GlobalSet x) vs rest = of_value n vs _ (λ v ws. of_found n (slice_get s.globals x) _ (λ old. refl))

@@ -9,8 +9,8 @@ use Rattle.spec_ledger.specs.Cells.{Cells, cells_after, reply_to, inverse_to}
 use Rattle.spec_ledger.specs.Book.{after, GetsReplies, inverses_of}
 use Rattle.spec_ledger.proofs.Traces.{after-append, GetsReplies-push, inverses_of-push}
 use Rattle.storage.specs.Counts.{Store, opened}
-use Rattle.boost.specs.Counted.{opened_all}
-use Rattle.boost.proofs.Counted.{opened_all-push}
+use Rattle.storage.specs.Counts.{opened_all}
+use Rattle.storage.proofs.Counted.{opened_all-push}
 use Rattle.interp.specs.declared.turns.Status.{Status}
 use Rattle.interp.specs.declared.turns.Status.TheVariants as status
 use Rattle.interp.specs.Progress.{Progress, HasAsked, HasReplied, HasAnswered, AnsweredAt, GoesOn, IsFree}

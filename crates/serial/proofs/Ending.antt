@@ -10,8 +10,8 @@ use Rattle.spec_ledger.specs.Modes.{Modes, touched}
 use Rattle.spec_ledger.specs.Book.{after, back_all, has_returned}
 use Rattle.spec_ledger.proofs.Traces.{back_all-inverses}
 use Rattle.storage.specs.Counts.{Store}
-use Rattle.boost.specs.Counted.{opened_all, closed_all, AreUnsettled}
-use Rattle.boost.proofs.Counted.{AreCounts-empty, AreUnsettled-opened_all, closed_all-opened_all}
+use Rattle.storage.specs.Counts.{opened_all, closed_all, AreUnsettled}
+use Rattle.storage.proofs.Counted.{AreCounts-empty, AreUnsettled-opened_all, closed_all-opened_all}
 use Rattle.spec_execution.specs.Configuration.{Deployed}
 use Rattle.spec_execution.specs.Run.{ContractCall, RunsWith}
 use Rattle.spec_execution.specs.Exec.{Executes}

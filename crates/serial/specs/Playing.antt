@@ -3,7 +3,7 @@ use Rattle.std.specs.Prelude.{◌≡◌, ◌+◌, ◌≤◌, List}
 use Rattle.spec_ledger.specs.declared.Inverse.{Inverse}
 use Rattle.spec_ledger.specs.Book.{after, GetsReplies, inverses_of}
 use Rattle.storage.specs.Counts.{Store}
-use Rattle.boost.specs.Counted.{opened_all}
+use Rattle.storage.specs.Counts.{opened_all}
 use Rattle.spec_execution.specs.Configuration.{Deployed}
 use Rattle.spec_execution.specs.Run.{ContractCall}
 use Rattle.interp.specs.declared.turns.Status.{Status}

@@ -3,7 +3,6 @@
 #![tactic(auto)]
 
 mod again;
-mod changes;
 mod locks;
 mod playing;
 
@@ -12,8 +11,7 @@ ghost use Rattle.std.specs.List.{All};
 ghost use Rattle.std.specs.FinMap as finite;
 ghost use Rattle.spec_ledger.specs.Cells.{AreCells};
 ghost use Rattle.spec_ledger.specs.Book.{back_all, GetsReplies};
-ghost use Rattle.storage.specs.Counts.{Store};
-ghost use Rattle.boost.specs.Counted.{closed_all, AreUnsettled};
+ghost use Rattle.storage.specs.Counts.{AreUnsettled, Store, closed_all};
 ghost use Rattle.spec_execution.specs.Exec.{Executes};
 ghost use Rattle.spec_execution.specs.Serial.{Serial};
 ghost use Rattle.interp.specs.Lent.{contracts_view};
@@ -21,7 +19,6 @@ ghost use Rattle.serial.specs.Playing.{AreDone};
 ghost use Rattle.serial.specs.Positions.{positions};
 
 use crate::again::act_again;
-use crate::changes::{end_all, returned};
 use crate::locks::touched_by;
 use crate::playing::play;
 use call::Call;
@@ -30,7 +27,7 @@ use link::deployed::Deployed as Contract;
 use lock_profile::Touched;
 use spec_ledger::{Inverse, NoMemory, Receipt};
 use std::alloc::{Allocator, Global};
-use storage::Cells;
+use storage::{Cells, end_all, returned};
 
 /// What calls came to that ran one after another.
 #[derive(Drop)]
@@ -65,6 +62,7 @@ fn conclude<A: Allocator + Copy>(
     ensures err { OnErr result (cells.new.cells ≡ back_all inverses.items cells.old.cells) }
     ensures unsettled { cells.new.unsettled ≡ closed_all inverses.items cells.old.unsettled }
 {
+    finished.is_played();
     let receipt = Receipt {
         outcome: finished.outcome(),
         used: finished.used(),

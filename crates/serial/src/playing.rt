@@ -9,7 +9,6 @@ ghost use Rattle.interp.specs.Starting.{IsOpened, IsRejection};
 ghost use Rattle.interp.specs.Progress.{IsFree, IsSameCall};
 ghost use Rattle.serial.specs.Playing.{HasTurned, IsOnItsWay, IsPlayedOver, IsEnded, AreDone, AreSomeDone};
 
-use crate::changes::end_all;
 use call::Call;
 use interp::finished::Finished;
 use interp::machine::Machine;
@@ -18,7 +17,7 @@ use interp::turns::Turn;
 use link::deployed::Deployed as Contract;
 use spec_ledger::{Inverse, NoMemory, Op, Reply};
 use std::alloc::Allocator;
-use storage::Cells;
+use storage::{Cells, end_all};
 
 /// Does an operation, and keeps its inverse. Where memory is refused all is as it was.
 pub(crate) fn act<A: Allocator + Copy>(

@@ -12,7 +12,7 @@ ghost use Rattle.spec_block.specs.Worlds.{limits};
 ghost use Rattle.spec_block.specs.Blocks.{block_of, world_after};
 ghost use Rattle.serial.specs.Positions.{positions as ran_of};
 ghost use Rattle.world.specs.Views.{world_view};
-ghost use Rattle.serial_block.specs.Ordered.{IsOutcomeOf, used_by};
+ghost use Rattle.serial_block.specs.Ordered.{ArePossible, IsOutcomeOf, used_by};
 
 use crate::positions::fuel_of;
 use block::{Block, digest_calls};
@@ -42,6 +42,7 @@ pub fn seal<A: Allocator + Copy>(
     requires order { length order.now ≤ Block.MOST_POSITIONS }
     requires receipts { length core.receipts.items ≡ length order.now }
     requires touched { length core.touched.items ≡ length order.now }
+    requires possible { ArePossible core.receipts.items }
     requires fuel { used_by core.receipts.items < 2 ^ 64 }
     ensures block { IfOk result (λ r. r.0 ≡ block_of (world_view world.now) calls.now order.now (ran_of core.receipts.items core.touched.items) core.cells.cells) }
     ensures world { IfOk result (λ r. world_view r.1 ≡ world_after (world_view world.now) core.cells.cells) }

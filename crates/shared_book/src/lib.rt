@@ -3,4 +3,4 @@
 
 mod shared;
 
-pub use shared::SharedBook;
+pub use shared::{OtherBook, SharedBook};

@@ -1,5 +1,6 @@
 // The book behind a lock.
 ghost use Rattle.std.specs.Prelude.{◌≡◌, ◌≤◌, ◌⊎◌, Err, IfOk, IfErr, length};
+ghost use Rattle.std.specs.FinMap as finite;
 ghost use Rattle.std.specs.List.{AllByRecursion};
 ghost use Rattle.spec_ledger.specs.Book.{AreDistinct, Content, IsDefined, call_is_new, settled};
 ghost use Rattle.spec_ledger.specs.Events.{BeginDone, CommitDone, HasNoAttempt, IsConflict, IsOther, IsStale, OpDone, UndoDone};
@@ -9,15 +10,34 @@ ghost use Rattle.shared_book.specs.Taking.{Happened, HoldsOfTheBook, IsLawful};
 use boost::book::{BeginRefusal, Book, Closed, CommitRefusal, OpRefusal, Run, Ticket};
 use spec_ledger::{Op, Reply};
 use std::alloc::{Allocator, Global};
+use std::marker::Model;
 use std::sync::{Mutex, Wait};
 use storage::{Cells, NoMemory};
+use thiserror::Error;
 
-/// A book that threads share. Each call takes the lock, is one event of the book, and lets the lock go.
+/// The book under the lock began with other cells than the shared book. No call of this crate puts such a book there.
+#[derive(Clone, Copy, Debug, PartialEq, Eq, Error)]
+#[error("the book under the lock began with other cells")]
+pub struct OtherBook;
+
+/// A book that threads share. Each call takes the lock, is one event of the book, and lets the lock go. Contracts see it as the cells that it was opened with, which are lent to it.
 ///
-/// Whenever the lock is taken, the book has all that its type keeps, whatever other threads did. No more is known of it: no fact passes from one taking of the lock to the next. So a clause speaks of the book as the call found it, and none says which book that was.
+/// Whenever the lock is taken, the book has all that its type keeps, whatever other threads did. No more is known of it: no fact passes from one taking of the lock to the next. So a clause speaks of the book as the call found it, and none says which book that was. That it began with the cells that the shared book was opened with is therefore looked at when it is closed.
 #[derive(Drop)]
-pub struct SharedBook<A: Allocator = Global> {
+pub struct SharedBook<'c, A: Allocator = Global> {
+    opening: &'c Cells<A>,
     book: Mutex<Book<A>>,
+}
+
+impl<'c, A: Allocator> Model for SharedBook<'c, A> {
+    ghost use Rattle.spec_ledger.specs.Cells.{Cells as TheCells};
+    ghost use Rattle.spec_ledger.specs.Codes.{coded_cells};
+
+    ghost Value = { TheCells };
+
+    ghost coded = { coded_cells };
+
+    ghost view = { λ b. b.opening.now.cells };
 }
 
 /// What is known of the book that was found under the lock.
@@ -27,11 +47,18 @@ fn look<A: Allocator + Copy>(book: &Book<A>)
     book.hold();
 }
 
-impl<A: Allocator + Copy> SharedBook<A> {
+impl<'c, A: Allocator + Copy> SharedBook<'c, A> {
     /// A book of this many calls, with no entry and no attempt, over a copy of the opening cells.
-    pub fn open(alloc: A, cells: Cells<A>, calls: u32) -> Result<Self, NoMemory> {
-        let book = Book::open(alloc, cells, calls)?;
+    ///
+    /// # Errors
+    ///
+    /// Memory was refused.
+    pub fn open(alloc: A, cells: &'c Cells<A>, calls: u32) -> Result<Self, NoMemory>
+        ensures opening { IfOk result (λ book. book ≡ cells.now.cells) }
+    {
+        let book = Book::open(alloc, cells.copy(alloc)?, calls)?;
         Ok(SharedBook {
+            opening: cells,
             book: Mutex::new(book),
         })
     }
@@ -87,15 +114,25 @@ impl<A: Allocator + Copy> SharedBook<A> {
     }
 
     /// The opening cells, the entries, and the cells after every live call is undone. The entries are a serial run from the opening cells: each reply is the one that its operation gives at that point, no call has two entries, and the cells are those that the entries leave.
-    pub fn close(self) -> Closed<A>
-        ensures replies { IsDefined result.opening.cells result.entries.items }
-        ensures distinct { AreDistinct result.entries.items }
-        ensures modes { AllByRecursion (λ e. e.modes ≡ touched e.trace) result.entries.items }
-        ensures cells { result.cells.cells ≡ settled result.opening.cells result.entries.items }
+    ///
+    /// # Errors
+    ///
+    /// The book under the lock began with other cells. No call puts such a book there, which no clause can say, since no fact passes a lock.
+    pub fn close(self) -> Result<Closed<A>, OtherBook>
+        ensures opening { IfOk result (λ closed. closed.opening.cells ≡ self.entry) }
+        ensures replies { IfOk result (λ closed. IsDefined closed.opening.cells closed.entries.items) }
+        ensures distinct { IfOk result (λ closed. AreDistinct closed.entries.items) }
+        ensures modes { IfOk result (λ closed. AllByRecursion (λ e. e.modes ≡ touched e.trace) closed.entries.items) }
+        ensures cells { IfOk result (λ closed. closed.cells.cells ≡ settled closed.opening.cells closed.entries.items) }
+        ensures settled { IfOk result (λ closed. closed.cells.unsettled ≡ finite.empty) }
     {
-        let SharedBook { book } = self;
+        let SharedBook { opening, book } = self;
         let book = book.into_inner();
         book.hold();
-        book.close()
+        let closed = book.close();
+        if !closed.opening.has_cells_of(opening) {
+            return Err(OtherBook);
+        }
+        Ok(closed)
     }
 }

@@ -13,10 +13,11 @@ use Rattle.spec_syntax.specs.Syntax.{Instr, Plain, BrTable, Block, Loop, If, Ins
 use Rattle.spec_syntax.specs.Shape.{size}
 use Rattle.spec_numeric.specs.Operators.{same_type, type_of, bits_of, value_of, truth, unary_type, binary_type, test_type, compare_type, convert_from, convert_to}
 use Rattle.spec_numeric.specs.Storage.{load_type, load_width, extended, store_type, store_width}
+use Rattle.spec_numeric.specs.Memory.{load, store}
 use Rattle.spec_typing.specs.Typing.{PlainTyped, InstrTyped, Typed, of}
 use Rattle.spec_typing.specs.Modules.{type_at, func_type_indices, globals}
 use Rattle.spec_execution.specs.Configuration.{Deployed, Contract, Function, function_at, function_type, Seq, End, Val, Free, Label, Invoke, code, values, State, instr_size}
-use Rattle.spec_execution.specs.Reduction.{Next, Goes, Traps, Stuck, with_number, with_value, found, answered, arity, in_memory, pages, most_pages, with_memory, loaded, stored, grown, same_types, same_function_type, indirect, execute_plain, execute}
+use Rattle.spec_execution.specs.Reduction.{Next, Goes, Traps, Stuck, with_number, with_value, found, answered, arity, pages, most_pages, with_memory, loaded, stored, grown, same_types, same_function_type, indirect, execute_plain, execute}
 use Rattle.soundness.specs.Typed.{types, Scope, inside_label, context_in, ElementTyped, StateTyped, SeqTyped, NextTyped}
 
 -- ---- types
@@ -123,7 +124,7 @@ module _ (c : Contract) (s : Scope) (to : List ValType) where
   by_held (v ∷ vs) zero t f e h = let same : type_of v ≡ t = cc in h v same
   by_held (v ∷ vs) (suc n) t f e h = by_held vs n t f e h
 
-  by_answer : (n : ℕ) (r : Result ℕ TrapCode) (f : ℕ → Next) → ((x : ℕ) → Kept (f x)) → Kept (answered n r f)
+  by_answer : {X : Type 0} (n : ℕ) (r : Result X TrapCode) (f : X → Next) → ((x : X) → Kept (f x)) → Kept (answered n r f)
   by_answer n (Ok x) f h = h x
   by_answer n (Err code) f h = kept tt
 
@@ -137,16 +138,13 @@ module _ (c : Contract) (s : Scope) (to : List ValType) where
   in_new_memory : (state : State) (memory : List ℕ) → StateTyped c.deployed s.locals state → StateTyped c.deployed s.locals (with_memory state memory)
   in_new_memory state memory st = record { locals_are = st.locals_are; globals_are = st.globals_are; elements = st.elements }
 
-  by_memory : (n : ℕ) (memory : List ℕ) (at bytes : ℕ) (x : Next) → Kept x → Kept (in_memory n memory at bytes x)
-  by_memory n memory at bytes x h = either (nat_le (at + bytes) (length memory)) x (Traps n trap.MemoryOutOfBounds) (λ _. h) (kept tt)
-
   by_load : (n : ℕ) (state : State) (t : ValType) (bytes : ℕ) (extend : ℕ → ℕ) (at : ℕ) (vs : List Value) (rest : Seq) (ts : List ValType) → StateTyped c.deployed s.locals state → types vs ≡ ts → SeqTyped c.deployed s rest (t ∷ ts) to → Kept (loaded n state t bytes extend at vs rest)
   unfolding loaded
-  by_load n state t bytes extend at vs rest ts st e h = by_memory n state.memory at bytes _ (gives n state vs _ rest t ts st (of_value t _) e h)
+  by_load n state t bytes extend at vs rest ts st e h = by_answer n (load state.memory at bytes) _ (λ x. gives n state vs _ rest t ts st (of_value t _) e h)
 
   by_store : (n : ℕ) (state : State) (bytes at x : ℕ) (vs : List Value) (rest : Seq) (ts : List ValType) → StateTyped c.deployed s.locals state → types vs ≡ ts → SeqTyped c.deployed s rest ts to → Kept (stored n state bytes at x vs rest)
   unfolding stored
-  by_store n state bytes at x vs rest ts st e h = by_memory n state.memory at bytes _ (goes n _ vs rest ts (in_new_memory state _ st) e h)
+  by_store n state bytes at x vs rest ts st e h = by_answer n (store state.memory at bytes x) _ (λ memory. goes n _ vs rest ts (in_new_memory state _ st) e h)
 
   by_growth : (n : ℕ) (state : State) (delta : ℕ) (vs : List Value) (rest : Seq) (ts : List ValType) → StateTyped c.deployed s.locals state → types vs ≡ ts → SeqTyped c.deployed s rest (I32 ∷ ts) to → Kept (grown c n state delta vs rest)
   unfolding grown

@@ -14,7 +14,8 @@ use Rattle.spec_numeric.specs.Operators.{type_of, same_type}
 use Rattle.spec_typing.specs.Modules.{IsConstant, GlobalTyped, imported_globals, globals, func_type_indices}
 use Rattle.spec_typing.specs.Modules as modules
 use Rattle.spec_typing.specs.Linking.{IsLinked}
-use Rattle.spec_execution.specs.Configuration.{Deployed, Contract, Function, Hosted, Defined, function_at, function_type, Seq, End, Invoke, arguments, State, Config, Running, Trap, constant, in_place, size_of, with_elements, fresh}
+use Rattle.spec_numeric.specs.Memory.{written}
+use Rattle.spec_execution.specs.Configuration.{Deployed, Contract, Function, Hosted, Defined, function_at, function_type, Seq, End, Invoke, arguments, State, Config, Running, Trap, constant, size_of, with_elements, fresh}
 use Rattle.spec_execution.specs.Reduction.{Next, Goes, Traps, Asks, Branches, Returns, Ended, Stuck}
 use Rattle.spec_execution.specs.Run.{Reached, at_first, reduced, replied, next, Reduces, goes, traps, IsReply, IsStuck, ContractCall, Refused, Opens, exported, wrong_argument, by_wrong, by_function, by_export, by_contract, after_start, first}
 use Rattle.spec_ledger.specs.declared.Step.{Step}
@@ -35,7 +36,7 @@ inits_typed : (imported : List GlobalType) (gs : List Global) → imported ≡ [
 inits_typed imported [] none h = refl
 inits_typed imported (g ∷ gs) none h = ap₂ (λ t ts. t ∷ ts) (constant_typed imported g.init g.type.type none (All-head (λ g. IsConstant imported g.init g.type.type) g gs h)) (inits_typed imported gs none (All-tail (λ g. IsConstant imported g.init g.type.type) g gs h))
 
-placed : {X : Type 0} (P : X → Type 0) (at : ℕ) (items xs : List X) → All P items → All P xs → All P (in_place at items xs)
+placed : {X : Type 0} (P : X → Type 0) (at : ℕ) (items xs : List X) → All P items → All P xs → All P (written at items xs)
 placed P at items xs h g = All-append P (take at xs) _ (All-take P at xs g) (All-append P items _ h (All-drop P (at + length items) xs g))
 
 -- what a call that opens has found

@@ -1,2 +1,4 @@
 pub mod Typed
 pub mod Laws
+pub mod Coming
+pub mod Once

@@ -1,6 +1,13 @@
-// Soundness of validation (Core Specification, Appendix, Soundness), which contracts cite. The functions here state laws.
+// Soundness of validation (Core Specification, Appendix, Soundness), which contracts cite, and what follows from it: each call has one execution, and
+// each place is that of the instruction to come. The functions here state laws.
 #![tactic(auto)]
 
+ghost use Rattle.std.specs.Prelude.{ℕ, List};
+ghost use Rattle.spec_ledger.specs.Cells.{Cells};
+ghost use Rattle.spec_execution.specs.Configuration.{Deployed};
+ghost use Rattle.spec_execution.specs.Run.{ContractCall};
+ghost use Rattle.soundness.specs.Coming.{PlacesAreOfWhatComes};
+ghost use Rattle.soundness.specs.Once.{AreLinked, AreNumbersOf, ExecutesOnce, RunsSerially};
 ghost use Rattle.soundness.specs.Laws.{DeployedCallsAreSafe, DeployedCallsAreTyped, ResultsAreTyped, StepsAreTyped};
 
 /// A typed configuration of a linked module is never stuck, and what it reduces to is typed.
@@ -18,3 +25,19 @@ pub fn deployed_calls_are_typed()
     ensures reached { DeployedCallsAreTyped }
     ensures results { ResultsAreTyped }
 {}
+
+/// Over any cells a call of linked contracts has exactly one execution, and calls in any order have exactly one serial execution.
+pub fn calls_execute_once()
+    ensures calls { (contracts : List Deployed) (call : ContractCall) (cells : Cells) → AreLinked contracts → ExecutesOnce contracts call cells }
+    ensures orders { (contracts : List Deployed) (calls : List ContractCall) (order : List ℕ) (cells : Cells) → AreLinked contracts → AreNumbersOf calls order → RunsSerially contracts calls order cells }
+{
+    deployed_calls_are_safe();
+    spec_execution::runs_are_unique();
+}
+
+/// Where an instruction is to come, the place that is read off the configuration is that of the instruction that reduces.
+pub fn places_are_of_what_comes()
+    ensures { PlacesAreOfWhatComes }
+{
+    spec_execution::numbers_take_no_part();
+}

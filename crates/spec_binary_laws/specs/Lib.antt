@@ -3,3 +3,4 @@ pub mod ReadingExpressions
 pub mod Readers
 pub mod PlainLaws
 pub mod ExpressionLaws
+pub mod ShortestBytes

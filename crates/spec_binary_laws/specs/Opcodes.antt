@@ -6,7 +6,7 @@ use Rattle.wtypes.specs.declared.UnOp.TheVariants.{Clz, Ctz, Popcnt}
 use Rattle.wtypes.specs.declared.BinOp.TheVariants.{Add, Sub, Mul, DivS, DivU, RemS, RemU, And, Or, Xor, Shl, ShrS, ShrU, Rotl, Rotr}
 use Rattle.wtypes.specs.declared.TestOp.TheVariants.{Eqz}
 use Rattle.wtypes.specs.declared.RelOp.TheVariants.{Equal, NotEqual, LtS, LtU, GtS, GtU, LeS, LeU, GeS, GeU}
-use Rattle.wtypes.specs.declared.CvtOp.TheVariants.{I32WrapI64, I64ExtendI32S, I64ExtendI32U}
+use Rattle.wtypes.specs.declared.CvtOp.TheVariants.{I32WrapI64, I64ExtendI32S, I64ExtendI32U, I32Extend8S, I32Extend16S, I64Extend8S, I64Extend16S, I64Extend32S}
 use Rattle.wtypes.specs.declared.LoadOp.{LoadOp}
 use Rattle.wtypes.specs.declared.LoadOp.TheVariants.{I32Load, I64Load, I32Load8S, I32Load8U, I32Load16S, I32Load16U, I64Load8S, I64Load8U, I64Load16S, I64Load16U, I64Load32S, I64Load32U}
 use Rattle.wtypes.specs.declared.StoreOp.{StoreOp}
@@ -41,7 +41,12 @@ convert_at b =
     if b == 0xA7 then Some (Convert I32WrapI64)
     else (if b == 0xAC then Some (Convert I64ExtendI32S)
     else (if b == 0xAD then Some (Convert I64ExtendI32U)
-    else None))
+    else (if b == 0xC0 then Some (Convert I32Extend8S)
+    else (if b == 0xC1 then Some (Convert I32Extend16S)
+    else (if b == 0xC2 then Some (Convert I64Extend8S)
+    else (if b == 0xC3 then Some (Convert I64Extend16S)
+    else (if b == 0xC4 then Some (Convert I64Extend32S)
+    else None)))))))
 
 -- the instructions that are one byte
 unfoldable pub simple_at : ℕ → Option PlainInstr

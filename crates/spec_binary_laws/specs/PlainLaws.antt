@@ -9,7 +9,7 @@ use Rattle.wtypes.specs.declared.UnOp.TheVariants.{Clz, Ctz, Popcnt}
 use Rattle.wtypes.specs.declared.BinOp.TheVariants.{Add, Sub, Mul, DivS, DivU, RemS, RemU, And, Or, Xor, Shl, ShrS, ShrU, Rotl, Rotr}
 use Rattle.wtypes.specs.declared.TestOp.TheVariants.{Eqz}
 use Rattle.wtypes.specs.declared.RelOp.TheVariants.{Equal, NotEqual, LtS, LtU, GtS, GtU, LeS, LeU, GeS, GeU}
-use Rattle.wtypes.specs.declared.CvtOp.TheVariants.{I32WrapI64, I64ExtendI32S, I64ExtendI32U}
+use Rattle.wtypes.specs.declared.CvtOp.TheVariants.{I32WrapI64, I64ExtendI32S, I64ExtendI32U, I32Extend8S, I32Extend16S, I64Extend8S, I64Extend16S, I64Extend32S}
 use Rattle.wtypes.specs.declared.LoadOp.{LoadOp}
 use Rattle.wtypes.specs.declared.LoadOp.TheVariants.{I32Load, I64Load, I32Load8S, I32Load8U, I32Load16S, I32Load16U, I64Load8S, I64Load8U, I64Load16S, I64Load16U, I64Load32S, I64Load32U}
 use Rattle.wtypes.specs.declared.StoreOp.{StoreOp}
@@ -83,7 +83,12 @@ convert_takes : (b : ℕ) (op : PlainInstr) → convert_at b ≡ Some op → IsS
 convert_takes b op e =
     test_then b 0xA7 _ _ _ e (λ n f. simple_is (Convert I32WrapI64) op b 0xA7 n f (refl, refl)) (λ e.
     test_then b 0xAC _ _ _ e (λ n f. simple_is (Convert I64ExtendI32S) op b 0xAC n f (refl, refl)) (λ e.
-    test_then b 0xAD _ _ _ e (λ n f. simple_is (Convert I64ExtendI32U) op b 0xAD n f (refl, refl)) (λ e. absurd cc)))
+    test_then b 0xAD _ _ _ e (λ n f. simple_is (Convert I64ExtendI32U) op b 0xAD n f (refl, refl)) (λ e.
+    test_then b 0xC0 _ _ _ e (λ n f. simple_is (Convert I32Extend8S) op b 0xC0 n f (refl, refl)) (λ e.
+    test_then b 0xC1 _ _ _ e (λ n f. simple_is (Convert I32Extend16S) op b 0xC1 n f (refl, refl)) (λ e.
+    test_then b 0xC2 _ _ _ e (λ n f. simple_is (Convert I64Extend8S) op b 0xC2 n f (refl, refl)) (λ e.
+    test_then b 0xC3 _ _ _ e (λ n f. simple_is (Convert I64Extend16S) op b 0xC3 n f (refl, refl)) (λ e.
+    test_then b 0xC4 _ _ _ e (λ n f. simple_is (Convert I64Extend32S) op b 0xC4 n f (refl, refl)) (λ e. absurd cc))))))))
 
 pub simple_takes : (b : ℕ) (op : PlainInstr) → simple_at b ≡ Some op → IsSimple b op
 unfolding simple_at
@@ -343,6 +348,11 @@ plain_again (Compare (GeU valtype.I64)) a rest s = simple_again (Compare (GeU va
 plain_again (Convert I32WrapI64) a rest s = simple_again (Convert I32WrapI64) a rest refl s
 plain_again (Convert I64ExtendI32S) a rest s = simple_again (Convert I64ExtendI32S) a rest refl s
 plain_again (Convert I64ExtendI32U) a rest s = simple_again (Convert I64ExtendI32U) a rest refl s
+plain_again (Convert I32Extend8S) a rest s = simple_again (Convert I32Extend8S) a rest refl s
+plain_again (Convert I32Extend16S) a rest s = simple_again (Convert I32Extend16S) a rest refl s
+plain_again (Convert I64Extend8S) a rest s = simple_again (Convert I64Extend8S) a rest refl s
+plain_again (Convert I64Extend16S) a rest s = simple_again (Convert I64Extend16S) a rest refl s
+plain_again (Convert I64Extend32S) a rest s = simple_again (Convert I64Extend32S) a rest refl s
 plain_again (Br x) a rest s = rw (unsigned_again 32 a x rest s) refl
 plain_again (BrIf x) a rest s = rw (unsigned_again 32 a x rest s) refl
 plain_again (Call x) a rest s = rw (unsigned_again 32 a x rest s) refl
@@ -430,6 +440,11 @@ plain_starts (Compare (GeU valtype.I64)) = (refl, refl, refl, refl, refl)
 plain_starts (Convert I32WrapI64) = (refl, refl, refl, refl, refl)
 plain_starts (Convert I64ExtendI32S) = (refl, refl, refl, refl, refl)
 plain_starts (Convert I64ExtendI32U) = (refl, refl, refl, refl, refl)
+plain_starts (Convert I32Extend8S) = (refl, refl, refl, refl, refl)
+plain_starts (Convert I32Extend16S) = (refl, refl, refl, refl, refl)
+plain_starts (Convert I64Extend8S) = (refl, refl, refl, refl, refl)
+plain_starts (Convert I64Extend16S) = (refl, refl, refl, refl, refl)
+plain_starts (Convert I64Extend32S) = (refl, refl, refl, refl, refl)
 plain_starts (Br x) = (refl, refl, refl, refl, refl)
 plain_starts (BrIf x) = (refl, refl, refl, refl, refl)
 plain_starts (Call x) = (refl, refl, refl, refl, refl)

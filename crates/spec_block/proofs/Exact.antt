@@ -10,7 +10,7 @@ use Rattle.spec_ledger.specs.declared.Entry.{Entry}
 use Rattle.spec_ledger.specs.Cells.{Cells}
 use Rattle.spec_ledger.specs.Order.{limits_of, turn_at}
 use Rattle.spec_block.specs.Worlds.{Call, World, Position, Block, order_of, profiles_of, limits, held_in}
-use Rattle.spec_block.specs.Runs.{RunsAreUnique}
+use Rattle.spec_block.proofs.Given.{RunsAreUnique}
 use Rattle.spec_execution.specs.Serial.{Ran}
 use Rattle.spec_block.specs.Serial.{Serial}
 use Rattle.spec_block.specs.Bytes.{world_bytes, calls_bytes, SpellsBlock}

@@ -2,7 +2,7 @@
 use Rattle.std.proofs.Common.{◌≡◌, ℕ, List, refl, sym, ap, subst, ◌∙◌, ⊎_elim, arith}
 use Rattle.std.proofs.lemmas.Bool.{cases_lt}
 use Rattle.spec_block.specs.Worlds.{Call, World, Block, order_of, profiles_of}
-use Rattle.spec_block.specs.Runs.{RunsAreUnique}
+use Rattle.spec_block.proofs.Given.{RunsAreUnique}
 use Rattle.spec_execution.specs.Serial.{Ran}
 use Rattle.spec_block.specs.Blocks.{world_after}
 use Rattle.spec_block.specs.Verdicts.{Verdict, Malformed, WrongWorld, WrongCalls, BadOrder, OverBudget, RoomLeft, BadTurns, Deviates, WrongEnd, Accept, place, IsLeast, IsBadNumber, HasRoom, HasOtherTurns, IsOther, HoldsOf, Holds, IsVerdictOf}

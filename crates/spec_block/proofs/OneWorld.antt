@@ -18,7 +18,7 @@ use Rattle.spec_ledger.specs.Cells.{Cells, lock_cmp, rank}
 use Rattle.spec_typing.specs.Linking.{IsLinked}
 use Rattle.spec_typing.specs.Laws.{IsResolvedOnce}
 use Rattle.spec_block.specs.Worlds.{World}
-use Rattle.spec_block.specs.Bytes.{u32_bytes, u64_bytes, counted, is_map, is_counter, contract_bytes, cell_bytes, cells_bytes, IsCell, IsTree, SpellsWorld, TreesAreUnique}
+use Rattle.spec_block.specs.Bytes.{u32_bytes, u64_bytes, counted, is_map, is_counter, contract_bytes, cell_bytes, cells_bytes, IsCell, IsTree, SpellsWorld}
 use Rattle.spec_block.proofs.Locks.{lock_is}
 use Rattle.spec_block.proofs.OneToOne.{halves, IsCode, code32, code64, list_code, counted_code}
 
@@ -33,6 +33,10 @@ lock_cmp-IsAntisymmetric a b e = lock_is a b ((Equal-is (lock_cmp a b)).1 e)
 -- the linking is kept truncated, and equations of lists of host calls are propositions
 hosts_set : IsSet (List HostCall)
 hosts_set = Coded-set (coded_list host.the_row.coded)
+
+-- no bytes spell two trees
+abbrev pub TreesAreUnique : Type 0
+TreesAreUnique = (bytes : List ℕ) (m n : Module) → Spells bytes m → Spells bytes n → m ≡ n
 
 pub contract_code : TreesAreUnique → IsResolvedOnce → IsCode contract_bytes IsTree
 contract_code unique once x y r s a b e =

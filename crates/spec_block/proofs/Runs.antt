@@ -4,7 +4,7 @@ use Rattle.spec_ledger.specs.Cells.{Cells}
 use Rattle.spec_ledger.specs.Modes.{touched}
 use Rattle.spec_ledger.specs.Book.{after, has_returned}
 use Rattle.spec_block.specs.Worlds.{Call, World}
-use Rattle.spec_block.specs.Runs.{RunsAreUnique}
+use Rattle.spec_block.proofs.Given.{RunsAreUnique}
 use Rattle.spec_execution.specs.Serial.{Ran}
 use Rattle.spec_block.specs.Serial.{Executed, Serial}
 

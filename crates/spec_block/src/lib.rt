@@ -8,18 +8,12 @@ ghost use Rattle.spec_ledger.specs.declared.Mode.{Mode};
 ghost use Rattle.spec_ledger.specs.Cells.{Cells};
 ghost use Rattle.spec_ledger.specs.Order.{AreGroups, groups_before, groups_before_last};
 ghost use Rattle.spec_block.specs.Worlds.{Block, Call, World, profiles_of};
-ghost use Rattle.spec_block.specs.Runs.{RunsAreUnique};
 ghost use Rattle.spec_execution.specs.Serial.{Ran};
 ghost use Rattle.spec_block.specs.Serial.{Serial};
 ghost use Rattle.spec_block.specs.Bytes.{IsCall, SpellsBlock, SpellsWorld, calls_bytes};
 ghost use Rattle.spec_block.specs.Verdicts.{IsVerdictOf, Verdict};
 ghost use Rattle.spec_block.specs.Headline.{AcceptsExactly, Headline};
 ghost use Rattle.spec_block.specs.Schedule.{HaveTurns, PathsJoin, WavesGoTogether};
-
-/// Accepted are exactly the spellings of the blocks of admissible orders, where a call has one run.
-pub fn accepts_exactly()
-    ensures exactly { RunsAreUnique → (world : World) (calls : List Call) (fuel : ℕ) (bytes : List ℕ) → AcceptsExactly world calls fuel bytes }
-{}
 
 /// Bytes spell one block, one list of calls and one world.
 pub fn one_block_a_spelling()
@@ -41,9 +35,11 @@ pub fn one_serial_run()
 /// Positions whose modes at a lock do not go together are joined by a path, the earlier first; those of one wave go together.
 pub fn paths_join()
     ensures joined { (profiles : List (List Entry)) → HaveTurns profiles → PathsJoin profiles }
-    ensures published { RunsAreUnique → (world : World) (calls : List Call) (fuel : ℕ) (block : Block) (next : World) → Headline world calls fuel block next → HaveTurns (profiles_of block) }
+    ensures published { (world : World) (calls : List Call) (fuel : ℕ) (block : Block) (next : World) → Headline world calls fuel block next → HaveTurns (profiles_of block) }
     ensures together { (profiles : List (List Entry)) → HaveTurns profiles → WavesGoTogether profiles }
-{}
+{
+    spec_execution::runs_are_unique();
+}
 
 /// A lock's holders fall into groups, and a holder's turn is the number of groups before its own.
 pub fn turns_count_groups()
@@ -51,12 +47,7 @@ pub fn turns_count_groups()
     ensures turns { (held : List Mode) (groups : List (List Mode)) → AreGroups held groups → (k : ℕ) → k < length held → groups_before groups k ≡ groups_before_last (take (k + 1) held) }
 {}
 
-/// Bytes have one verdict, where a call has one run.
-pub fn one_verdict()
-    ensures one { RunsAreUnique → (world : World) (calls : List Call) (fuel : ℕ) (bytes : List ℕ) (v w : Verdict) → IsVerdictOf world calls fuel bytes v → IsVerdictOf world calls fuel bytes w → v ≡ w }
-{}
-
-/// The same of the runs of the execution, which are unique: accepted are exactly the spellings of the blocks of admissible orders.
+/// Accepted are exactly the spellings of the blocks of admissible orders, and bytes have one verdict.
 pub fn accepts_exactly_the_published()
     ensures exactly { (world : World) (calls : List Call) (fuel : ℕ) (bytes : List ℕ) → AcceptsExactly world calls fuel bytes }
     ensures one { (world : World) (calls : List Call) (fuel : ℕ) (bytes : List ℕ) (v w : Verdict) → IsVerdictOf world calls fuel bytes v → IsVerdictOf world calls fuel bytes w → v ≡ w }

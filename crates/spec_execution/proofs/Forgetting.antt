@@ -15,9 +15,10 @@ use Rattle.spec_ledger.specs.declared.Reply.{Reply}
 use Rattle.spec_ledger.specs.declared.Reply.TheVariants as reply
 use Rattle.spec_numeric.specs.Operators.{same_type, type_of, bits_of}
 use Rattle.spec_numeric.specs.Storage.{load_type, load_width, extended, store_width}
-use Rattle.spec_execution.specs.Configuration.{Contract, Function, Hosted, Defined, function_at, function_type, in_place, Seq, End, Val, Code, Free, Label, Frame, Invoke, code, values, State}
+use Rattle.spec_numeric.specs.Memory.{load, store}
+use Rattle.spec_execution.specs.Configuration.{Contract, Function, Hosted, Defined, function_at, function_type, Seq, End, Val, Code, Free, Label, Frame, Invoke, code, values, State}
 use Rattle.spec_syntax.specs.Profile.{page_size, frame_limit}
-use Rattle.spec_execution.specs.Reduction.{Next, Goes, Traps, Asks, Branches, Returns, Ended, Stuck, with_number, with_value, with_values, found, answered, in_memory, loaded, stored, grown, most_pages, pages, with_memory, same_function_type, op_of, zero_of, indirect, replied, invoke, execute_plain, execute, in_label, in_frame, reduce}
+use Rattle.spec_execution.specs.Reduction.{Next, Goes, Traps, Asks, Branches, Returns, Ended, Stuck, with_number, with_value, with_values, found, answered, loaded, stored, grown, most_pages, pages, with_memory, same_function_type, op_of, zero_of, indirect, replied, invoke, execute_plain, execute, in_label, in_frame, reduce}
 use Rattle.spec_execution.specs.Numbers.{forget, forget_next, NumbersTakeNoPart}
 
 -- forgetting twice is forgetting once
@@ -72,7 +73,7 @@ by_found : {X : Type 0} (x : Option X) (f g : X → Next) → ((x : X) → SameN
 by_found None f g h = same
 by_found (Some x) f g h = h x
 
-by_answer : (n : ℕ) (r : Result ℕ TrapCode) (f g : ℕ → Next) → ((x : ℕ) → SameNext (f x) (g x)) → SameNext (answered n r f) (answered n r g)
+by_answer : {X : Type 0} (n : ℕ) (r : Result X TrapCode) (f g : X → Next) → ((x : X) → SameNext (f x) (g x)) → SameNext (answered n r f) (answered n r g)
 by_answer n (Ok x) f g h = h x
 by_answer n (Err t) f g h = same
 
@@ -85,16 +86,13 @@ by_element c n s t None vs a = same
 by_element c n s t (Some None) vs a = same
 by_element c n s t (Some (Some f)) vs a = by_found (function_at c.deployed f) _ _ (λ g. either (same_function_type t (function_type g)) _ _ (Traps n trap.TypeMismatch) (Traps n trap.TypeMismatch) (to_same n s vs (Invoke f a) (Invoke f (forget a)) (ap (Invoke f) (twice a))) same)
 
-by_memory : (n : ℕ) (memory : List ℕ) (at bytes : ℕ) (x y : Next) → SameNext x y → SameNext (in_memory n memory at bytes x) (in_memory n memory at bytes y)
-by_memory n memory at bytes x y h = either (nat_le (at + bytes) (length memory)) x y (Traps n trap.MemoryOutOfBounds) (Traps n trap.MemoryOutOfBounds) h same
-
 by_load : (n : ℕ) (s : State) (t : ValType) (bytes : ℕ) (extend : ℕ → ℕ) (at : ℕ) (vs : List Value) (a : Seq) → SameNext (loaded n s t bytes extend at vs a) (loaded n s t bytes extend at vs (forget a))
 unfolding loaded
-by_load n s t bytes extend at vs a = by_memory n s.memory at bytes _ _ (to_val n s vs _ a)
+by_load n s t bytes extend at vs a = by_answer n (load s.memory at bytes) _ _ (λ x. to_val n s vs _ a)
 
 by_store : (n : ℕ) (s : State) (bytes at x : ℕ) (vs : List Value) (a : Seq) → SameNext (stored n s bytes at x vs a) (stored n s bytes at x vs (forget a))
 unfolding stored
-by_store n s bytes at x vs a = by_memory n s.memory at bytes _ _ (to_same n _ vs _ _ (twice a))
+by_store n s bytes at x vs a = by_answer n (store s.memory at bytes x) _ _ (λ memory. to_same n _ vs _ _ (twice a))
 
 by_growth : (c : Contract) (n : ℕ) (s : State) (delta : ℕ) (vs : List Value) (a : Seq) → SameNext (grown c n s delta vs a) (grown c n s delta vs (forget a))
 unfolding grown

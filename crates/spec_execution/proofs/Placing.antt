@@ -15,9 +15,10 @@ use Rattle.spec_ledger.specs.declared.Reply.{Reply}
 use Rattle.spec_ledger.specs.declared.Reply.TheVariants as reply
 use Rattle.spec_numeric.specs.Operators.{same_type, type_of, bits_of}
 use Rattle.spec_numeric.specs.Storage.{load_type, load_width, extended, store_width}
+use Rattle.spec_numeric.specs.Memory.{load, store}
 use Rattle.spec_execution.specs.Configuration.{Contract, Function, Hosted, Defined, function_at, function_type, Seq, End, Val, Code, Free, Label, Frame, Invoke, code, values, State, instr_size}
 use Rattle.spec_syntax.specs.Profile.{frame_limit}
-use Rattle.spec_execution.specs.Reduction.{Next, Goes, Traps, Asks, Branches, Returns, Ended, Stuck, with_number, with_value, with_values, found, answered, in_memory, loaded, stored, grown, most_pages, pages, same_function_type, zero_of, indirect, replied, invoke, execute_plain, execute, in_label, in_frame, reduce}
+use Rattle.spec_execution.specs.Reduction.{Next, Goes, Traps, Asks, Branches, Returns, Ended, Stuck, with_number, with_value, with_values, found, answered, loaded, stored, grown, most_pages, pages, same_function_type, zero_of, indirect, replied, invoke, execute_plain, execute, in_label, in_frame, reduce}
 use Rattle.spec_execution.specs.Places.{StandsAt, AllStandFrom, body_of, body_of_function, IsPlain, IsPlaced, IsPlacedNext, PlacesAreKept}
 
 module _ (c : Contract) (body : Instrs) where
@@ -69,20 +70,17 @@ module _ (c : Contract) (body : Instrs) where
   by_found None f h = no tt
   by_found (Some x) f h = h x refl
 
-  by_answer : (n : ℕ) (r : Result ℕ TrapCode) (f : ℕ → Next) → ((x : ℕ) → Kept (f x)) → Kept (answered n r f)
+  by_answer : {X : Type 0} (n : ℕ) (r : Result X TrapCode) (f : X → Next) → ((x : X) → Kept (f x)) → Kept (answered n r f)
   by_answer n (Ok x) f h = h x
   by_answer n (Err t) f h = no tt
 
-  by_memory : (n : ℕ) (memory : List ℕ) (at bytes : ℕ) (x : Next) → Kept x → Kept (in_memory n memory at bytes x)
-  by_memory n memory at bytes x h = either (nat_le (at + bytes) (length memory)) x (Traps n trap.MemoryOutOfBounds) h (no tt)
-
   by_load : (n : ℕ) (s : State) (t : ValType) (bytes : ℕ) (extend : ℕ → ℕ) (at : ℕ) (vs : List Value) (a : Seq) → IsPlaced c body a → Kept (loaded n s t bytes extend at vs a)
   unfolding loaded
-  by_load n s t bytes extend at vs a p = by_memory n s.memory at bytes _ (to_kept n s vs (Val _ a) p)
+  by_load n s t bytes extend at vs a p = by_answer n (load s.memory at bytes) _ (λ x. to_kept n s vs (Val _ a) p)
 
   by_store : (n : ℕ) (s : State) (bytes at x : ℕ) (vs : List Value) (a : Seq) → IsPlaced c body a → Kept (stored n s bytes at x vs a)
   unfolding stored
-  by_store n s bytes at x vs a p = by_memory n s.memory at bytes _ (to_kept n _ vs a p)
+  by_store n s bytes at x vs a p = by_answer n (store s.memory at bytes x) _ (λ memory. to_kept n _ vs a p)
 
   by_growth : (n : ℕ) (s : State) (delta : ℕ) (vs : List Value) (a : Seq) → IsPlaced c body a → Kept (grown c n s delta vs a)
   unfolding grown

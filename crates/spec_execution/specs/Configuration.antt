@@ -1,5 +1,5 @@
--- Contracts and configurations (Core, Execution, Runtime Structure): globals, memory, the table, and one instruction sequence.
-use Rattle.std.specs.Prelude.{ℕ, zero, suc, ◌+◌, ◌-◌, ◌*◌, ◌^◌, Bool, List, [], ◌∷◌, ◌++◌, length, map, take, drop, replicate, Option, Some, None, nat_lt, if◌then◌else◌, slice_get, option_map, option_and_then}
+-- Contracts and configurations (Core 4.2, Runtime Structure): globals, memory, the table, and one instruction sequence.
+use Rattle.std.specs.Prelude.{ℕ, zero, suc, ◌+◌, ◌-◌, ◌*◌, ◌^◌, Bool, List, [], ◌∷◌, length, map, replicate, Option, Some, None, nat_lt, if◌then◌else◌, slice_get, option_map, option_and_then}
 use Rattle.wtypes.specs.declared.ValType.{ValType}
 use Rattle.wtypes.specs.declared.ValType.TheVariants.{I32, I64}
 use Rattle.wtypes.specs.declared.Value.{Value}
@@ -10,6 +10,7 @@ use Rattle.spec_syntax.specs.Shape.{instr_preorder}
 use Rattle.wtypes.specs.declared.HostCall.{HostCall}
 use Rattle.spec_syntax.specs.Profile.{page_size, host_type}
 use Rattle.spec_numeric.specs.Operators.{value_of, bits_of}
+use Rattle.spec_numeric.specs.Memory.{written}
 
 -- ---- contracts
 
@@ -43,7 +44,7 @@ function_type (Defined t f) = t
 
 -- ---- sequences
 
--- An instruction sequence (Core, Administrative Instructions): an item, then the rest. Values, labels and frames stand in it.
+-- An instruction sequence (4.2.13, Administrative Instructions): an item, then the rest. Values, labels and frames stand in it.
 -- Each instruction of the code has its ordinal in its function, and each frame the number of its function: these give the place and take no part in the reduction.
 pub data Seq : Type 0 where
   End : Seq
@@ -91,16 +92,12 @@ pub data Config : Type 0 where
   Running : State → Seq → Config
   Trap : State → TrapCode → Config
 
--- ---- a fresh instance (Core, Modules, Instantiation)
+-- ---- a fresh instance (4.5.4, Instantiation)
 
 -- A deployed module has no other constant expression than a const.
 abbrev pub constant : Instrs → Value
 constant (seq (Plain (Const v)) nothing) = v
 constant _ = value_of I32 0
-
--- a list with these items in place from an index on
-abbrev pub in_place : {X : Type 0} → ℕ → List X → List X → List X
-in_place at items xs = take at xs ++ (items ++ drop (at + length items) xs)
 
 abbrev pub size_of : List Limits → ℕ
 size_of [] = 0
@@ -108,11 +105,11 @@ size_of (l ∷ ls) = l.min
 
 abbrev pub with_elements : List Element → List (Option ℕ) → List (Option ℕ)
 with_elements [] table = table
-with_elements (e ∷ es) table = with_elements es (in_place (bits_of (constant e.offset)) (map Some e.funcs) table)
+with_elements (e ∷ es) table = with_elements es (written (bits_of (constant e.offset)) (map Some e.funcs) table)
 
 abbrev pub with_datas : List DataSegment → List ℕ → List ℕ
 with_datas [] memory = memory
-with_datas (s ∷ ss) memory = with_datas ss (in_place (bits_of (constant s.offset)) s.bytes memory)
+with_datas (s ∷ ss) memory = with_datas ss (written (bits_of (constant s.offset)) s.bytes memory)
 
 abbrev pub fresh : Module → State
 fresh m = record {

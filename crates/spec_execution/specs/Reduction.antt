@@ -1,4 +1,6 @@
--- The reduction of configurations (Core, Execution, Instructions). Its charge is 1 for an instruction of the code, and 0 else.
+-- The reduction of configurations (Core 4.4, Instructions). The headings are the standard's sections. "Own" marks what this product adds: the
+-- charge, which is 1 for an instruction of the code and 0 else; the operations that an import asks of the host; and two limits, 1,024 pages
+-- (`page_limit`) and 256 frames (`frame_limit`).
 use Rattle.std.specs.Prelude.{ℕ, zero, suc, ◌+◌, ◌-◌, ◌*◌, ◌/◌, ◌%◌, ◌^◌, min, Bool, true, false, not, ◌&&◌, ◌==◌, nat_lt, nat_le, if◌then◌else◌, List, [], ◌∷◌, ◌++◌, length, map, take, drop, reverse, replicate, Option, Some, None, Result, Ok, Err, slice_get, slice_set, unwrap_or}
 use Rattle.wtypes.specs.declared.ValType.{ValType}
 use Rattle.wtypes.specs.declared.ValType.TheVariants.{I32, I64}
@@ -19,8 +21,9 @@ use Rattle.wtypes.specs.declared.HostCall.{HostCall}
 use Rattle.wtypes.specs.declared.HostCall.TheVariants as host
 use Rattle.spec_syntax.specs.Profile.{page_limit, page_size, frame_limit}
 use Rattle.spec_numeric.specs.Operators.{same_type, type_of, bits_of, value_of, word, truth, unary, unary_type, binary, binary_type, test, test_type, compare, compare_type, convert, convert_from, convert_to}
-use Rattle.spec_numeric.specs.Storage.{load_type, load_width, extended, store_type, store_width, number_of_bytes, bytes_of_number}
-use Rattle.spec_execution.specs.Configuration.{Contract, Function, Hosted, Defined, function_at, function_type, Seq, End, Val, Code, Free, Label, Frame, Invoke, code, values, State, size_of, in_place}
+use Rattle.spec_numeric.specs.Storage.{load_type, load_width, extended, store_type, store_width}
+use Rattle.spec_numeric.specs.Memory.{load, store}
+use Rattle.spec_execution.specs.Configuration.{Contract, Function, Hosted, Defined, function_at, function_type, Seq, End, Val, Code, Free, Label, Frame, Invoke, code, values, State, size_of}
 
 -- What a sequence does next, seen from inside the labels and frames around it.
 pub data Next : Type 0 where
@@ -39,7 +42,7 @@ pub data Next : Type 0 where
   -- no rule fits
   Stuck : Next
 
--- ---- what an instruction takes
+-- ---- what an instruction takes from the stack (4.4: "pop the value from the stack"). The standard's assertions, due to validation, are Stuck
 
 -- the topmost value's number, where the value is of this type, and the values below
 abbrev pub with_number : ValType → List Value → (ℕ → List Value → Next) → Next
@@ -59,7 +62,8 @@ abbrev pub found : {X : Type 0} → Option X → (X → Next) → Next
 found None go = Stuck
 found (Some x) go = go x
 
-abbrev pub answered : ℕ → Result ℕ TrapCode → (ℕ → Next) → Next
+-- what comes of an operator, a load or a store, or its trap
+abbrev pub answered : {X : Type 0} → ℕ → Result X TrapCode → (X → Next) → Next
 answered charge (Ok x) go = go x
 answered charge (Err code) go = Traps charge code
 
@@ -67,16 +71,13 @@ abbrev pub arity : Option ValType → ℕ
 arity None = 0
 arity (Some t) = 1
 
--- ---- memory
+-- ---- 4.4.4, memory instructions
 
--- so many bytes at an address lie in memory
-abbrev pub in_memory : ℕ → List ℕ → ℕ → ℕ → Next → Next
-in_memory charge memory at bytes next = if nat_le (at + bytes) (length memory) then next else Traps charge trap.MemoryOutOfBounds
-
+-- the pages of a memory of this length (4.2.8, Memory Instances)
 abbrev pub pages : List ℕ → ℕ
 pages memory = length memory / page_size
 
--- a declared maximum counts where it is below the limit
+-- the most pages that memory grows to; own: a declared maximum counts where it is below `page_limit`
 abbrev pub most_pages : List Limits → ℕ
 most_pages [] = page_limit
 most_pages (l ∷ ls) = min page_limit (unwrap_or l.max page_limit)
@@ -84,14 +85,17 @@ most_pages (l ∷ ls) = min page_limit (unwrap_or l.max page_limit)
 abbrev pub with_memory : State → List ℕ → State
 with_memory s memory = record s { memory = memory }
 
+-- t.load memarg, t.loadN_sx memarg
 unfoldable pub loaded : ℕ → State → ValType → ℕ → (ℕ → ℕ) → ℕ → List Value → Seq → Next
 loaded charge s t bytes extend at vs rest =
-    in_memory charge s.memory at bytes (Goes charge s (values vs (Val (value_of t (extend (number_of_bytes (take bytes (drop at s.memory))))) rest)))
+    answered charge (load s.memory at bytes) (λ x. Goes charge s (values vs (Val (value_of t (extend x)) rest)))
 
+-- t.store memarg, t.storeN memarg
 unfoldable pub stored : ℕ → State → ℕ → ℕ → ℕ → List Value → Seq → Next
 stored charge s bytes at x vs rest =
-    in_memory charge s.memory at bytes (Goes charge (with_memory s (in_place at (bytes_of_number bytes x) s.memory)) (values vs rest))
+    answered charge (store s.memory at bytes x) (λ memory. Goes charge (with_memory s memory) (values vs rest))
 
+-- memory.grow, which never fails for want of memory: own
 unfoldable pub grown : Contract → ℕ → State → ℕ → List Value → Seq → Next
 grown c charge s delta vs rest =
     let old = pages s.memory in
@@ -99,7 +103,7 @@ grown c charge s delta vs rest =
     then Goes charge (with_memory s (s.memory ++ replicate (page_size * delta) 0)) (values vs (Val (value_of I32 old) rest))
     else Goes charge s (values vs (Val (value_of I32 (2 ^ 32 - 1)) rest))
 
--- ---- calls
+-- ---- 4.4.5, call_indirect
 
 abbrev pub same_types : List ValType → List ValType → Bool
 same_types [] [] = true
@@ -116,6 +120,8 @@ indirect c charge s t (Some None) vs rest = Traps charge trap.EmptyElement
 indirect c charge s t (Some (Some f)) vs rest =
     found (function_at c.deployed f) (λ g. if same_function_type t (function_type g) then Goes charge s (values vs (Invoke f rest)) else Traps charge trap.TypeMismatch)
 
+-- ---- own: the host's functions
+
 -- what an import asks of the host, by its first argument and its second one
 abbrev pub asks : HostCall → Place → ℕ → Op
 asks host.Get p x = op.Get p
@@ -131,16 +137,20 @@ op_of contract h [] = asks h (record { contract = contract; key = 0 }) 0
 op_of contract h (k ∷ []) = asks h (record { contract = contract; key = bits_of k }) 0
 op_of contract h (k ∷ v ∷ vs) = asks h (record { contract = contract; key = bits_of k }) (bits_of v)
 
+-- the value that the host's reply puts on the stack, if any
 abbrev pub replied : Reply → Seq → Seq
 replied reply.Nothing rest = rest
 replied (reply.I32 x) rest = Val (value.I32 x) rest
 replied (reply.I64 x) rest = Val (value.I64 x) rest
 
+-- ---- 4.4.7, function calls
+
 -- a local that is no parameter begins at 0
 abbrev pub zero_of : ValType → Value
 zero_of t = value_of t 0
 
--- Function number f is invoked with these arguments, the first one first, with so many frames around.
+-- Invocation: function number f is invoked with these arguments, the first one first, with so many frames around.
+-- Own: a host's function asks for an operation; in the innermost of `frame_limit` frames an invocation traps.
 abbrev pub invoke : Contract → ℕ → State → ℕ → Function → List Value → List Value → Seq → Next
 invoke c frames s f (Hosted h) args vs rest = Asks (op_of c.number h args) (λ r. values vs (replied r rest))
 invoke c frames s f (Defined t g) args vs rest =
@@ -149,16 +159,12 @@ invoke c frames s f (Defined t g) args vs rest =
     then Goes 0 s (values vs (Frame f n (args ++ map zero_of g.locals) (Label n 0 nothing (code 0 g.body End) End) rest))
     else Traps 0 trap.CallDepth
 
--- ---- instructions
+-- ---- 4.4.1 to 4.4.5, instructions
 
 -- An instruction that holds no other one, with these values before it, topmost first, and the rest behind it.
 unfoldable pub execute_plain : Contract → State → (charge : ℕ) → PlainInstr → List Value → Seq → Next
-execute_plain c s n Unreachable vs rest = Traps n trap.Unreachable
-execute_plain c s n Nop vs rest = Goes n s (values vs rest)
+-- 4.4.1, numeric instructions
 execute_plain c s n (Const v) vs rest = Goes n s (values vs (Val v rest))
-execute_plain c s n Drop vs rest = with_value vs (λ a vs. Goes n s (values vs rest))
-execute_plain c s n Select vs rest =
-    with_number I32 vs (λ k vs. with_value vs (λ b vs. with_value vs (λ a vs. Goes n s (values vs (Val (if k == 0 then b else a) rest)))))
 execute_plain c s n (Unary o) vs rest =
     with_number (unary_type o) vs (λ a vs. Goes n s (values vs (Val (value_of (unary_type o) (unary (word (unary_type o)) o a)) rest)))
 execute_plain c s n (Binary o) vs rest =
@@ -171,6 +177,11 @@ execute_plain c s n (Compare o) vs rest =
     Goes n s (values vs (Val (truth (compare (word (compare_type o)) o a b)) rest))))
 execute_plain c s n (Convert o) vs rest =
     with_number (convert_from o) vs (λ a vs. Goes n s (values vs (Val (value_of (convert_to o) (convert o a)) rest)))
+-- 4.4.2, parametric instructions
+execute_plain c s n Drop vs rest = with_value vs (λ a vs. Goes n s (values vs rest))
+execute_plain c s n Select vs rest =
+    with_number I32 vs (λ k vs. with_value vs (λ b vs. with_value vs (λ a vs. Goes n s (values vs (Val (if k == 0 then b else a) rest)))))
+-- 4.4.3, variable instructions
 execute_plain c s n (LocalGet x) vs rest = found (slice_get s.locals x) (λ v. Goes n s (values vs (Val v rest)))
 execute_plain c s n (LocalSet x) vs rest =
     with_value vs (λ v vs. found (slice_get s.locals x) (λ old. Goes n (record s { locals = slice_set s.locals x v }) (values vs rest)))
@@ -178,12 +189,16 @@ execute_plain c s n (LocalTee x) vs rest = with_value vs (λ v vs. Goes n s (val
 execute_plain c s n (GlobalGet x) vs rest = found (slice_get s.globals x) (λ v. Goes n s (values vs (Val v rest)))
 execute_plain c s n (GlobalSet x) vs rest =
     with_value vs (λ v vs. found (slice_get s.globals x) (λ old. Goes n (record s { globals = slice_set s.globals x v }) (values vs rest)))
+-- 4.4.4, memory instructions
 execute_plain c s n (Load o align offset) vs rest =
     with_number I32 vs (λ a vs. loaded n s (load_type o) (load_width o) (extended o) (a + offset) vs rest)
 execute_plain c s n (Store o align offset) vs rest =
     with_number (store_type o) vs (λ x vs. with_number I32 vs (λ a vs. stored n s (store_width o) (a + offset) x vs rest))
 execute_plain c s n MemorySize vs rest = Goes n s (values vs (Val (value_of I32 (pages s.memory)) rest))
 execute_plain c s n MemoryGrow vs rest = with_number I32 vs (λ delta vs. grown c n s delta vs rest)
+-- 4.4.5, control instructions
+execute_plain c s n Nop vs rest = Goes n s (values vs rest)
+execute_plain c s n Unreachable vs rest = Traps n trap.Unreachable
 execute_plain c s n (Br label) vs rest = Branches n label vs
 execute_plain c s n (BrIf label) vs rest =
     with_number I32 vs (λ k vs. Goes n s (values vs (if k == 0 then rest else Free (Plain (Br label)) rest)))
@@ -192,7 +207,7 @@ execute_plain c s n (Call f) vs rest = Goes n s (values vs (Invoke f rest))
 execute_plain c s n (CallIndirect t) vs rest =
     with_number I32 vs (λ k vs. found (slice_get c.deployed.tree.types t) (λ type. indirect c n s type (slice_get s.table k) vs rest))
 
--- The same for any instruction; at is its ordinal.
+-- The same for any instruction; at is its ordinal. 4.4.5: br_table, block, loop and if, which enter a block with a label (4.4.6)
 unfoldable pub execute : Contract → State → (charge at : ℕ) → Instr → List Value → Seq → Next
 execute c s n at (Plain i) vs rest = execute_plain c s n i vs rest
 execute c s n at (BrTable labels fallback) vs rest =
@@ -202,9 +217,10 @@ execute c s n at (Loop result body) vs rest = Goes n s (values vs (Label 0 at (s
 execute c s n at (If result a b) vs rest =
     with_number I32 vs (λ k vs. Goes n s (values vs (Label (arity result) at nothing (if k == 0 then code (at + 1 + size a) b End else code (at + 1) a End) rest)))
 
--- ---- evaluation contexts
+-- ---- 4.2.13, evaluation contexts; 4.4.6, blocks; 4.4.7, returning from a function
 
--- What a label does by what the sequence inside it does; vs are the values before the label, topmost first.
+-- What a label does by what the sequence inside it does; vs are the values before the label, topmost first. A branch to it goes on with its
+-- continuation (4.4.5, br); values inside it leave it (4.4.6, exiting).
 abbrev pub in_label : State → (arity ordinal : ℕ) → Instrs → List Value → Seq → Next → Next
 in_label s n at k vs rest (Goes charge s' inside) = Goes charge s' (values vs (Label n at k inside rest))
 in_label s n at k vs rest (Traps charge t) = Traps charge t
@@ -215,7 +231,7 @@ in_label s n at k vs rest (Returns charge ws) = Returns charge ws
 in_label s n at k vs rest (Ended ws) = Goes 0 s (values vs (values ws rest))
 in_label s n at k vs rest Stuck = Stuck
 
--- The same for a frame; s is the state outside it.
+-- The same for a frame; s is the state outside it. A return (4.4.5) and values inside it leave it (4.4.7, returning).
 abbrev pub in_frame : State → (func arity : ℕ) → List Value → List Value → Seq → Next → Next
 in_frame s f n locals vs rest (Goes charge s' inside) = Goes charge (record s' { locals = s.locals }) (values vs (Frame f n s'.locals inside rest))
 in_frame s f n locals vs rest (Traps charge t) = Traps charge t

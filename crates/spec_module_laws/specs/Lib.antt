@@ -4,3 +4,12 @@ pub mod ItemLaws
 pub mod SectionLaws
 pub mod ModuleLaws
 pub mod OneTree
+pub mod Expressions
+pub mod Items
+pub mod Modules
+pub mod Numbers
+pub mod Parts
+pub mod Spelled
+pub mod Spellings
+pub mod Whole
+pub mod ItemBytes

@@ -88,10 +88,6 @@ none_case F bs x rest e = absurd cc
 
 -- ---- sizes
 
--- these bytes
-abbrev pub exactly : List ℕ → Language
-exactly b bytes = bytes ≡ b
-
 pub sized_takes : (bs x rest : List ℕ) → sized_at bs ≡ Some (x, rest) → (a : List ℕ) × (bs ≡ a ++ (x ++ rest)) × unsigned 32 (length x) a
 unfolding sized_at
 sized_takes bs x rest e = bind_then _ _ _ e (λ n h e.

@@ -1,16 +1,16 @@
 -- Worked examples of operators, bytes and memory.
-use Rattle.std.specs.Prelude.{◌≡◌, refl, pos, negsuc, Ok, Err, [], ◌∷◌}
+use Rattle.std.specs.Prelude.{◌≡◌, ◌≢◌, ℕ, refl, pos, negsuc, Ok, Err, [], ◌∷◌}
 use Rattle.wtypes.specs.declared.ValType.TheVariants as valtype
 use Rattle.wtypes.specs.declared.Value.TheVariants.{I32, I64}
 use Rattle.wtypes.specs.declared.TrapCode.TheVariants as trap
 use Rattle.wtypes.specs.declared.UnOp.TheVariants.{Clz, Ctz, Popcnt}
 use Rattle.wtypes.specs.declared.BinOp.TheVariants.{DivS, DivU, RemS, ShrS, Rotl, Rotr}
 use Rattle.wtypes.specs.declared.RelOp.TheVariants.{LtS, LtU}
-use Rattle.wtypes.specs.declared.CvtOp.TheVariants.{I32WrapI64, I64ExtendI32S, I64ExtendI32U}
+use Rattle.wtypes.specs.declared.CvtOp.TheVariants.{I32WrapI64, I64ExtendI32S, I64ExtendI32U, I32Extend8S, I32Extend16S, I64Extend8S, I64Extend16S, I64Extend32S}
 use Rattle.spec_numeric.specs.Numbers.{zeros_above, zeros_below, ones_among}
 use Rattle.spec_numeric.specs.Operators.{unary_of, binary_of, compare_of, convert_of}
 use Rattle.spec_numeric.specs.Storage.{bytes_of_number, extended}
-use Rattle.spec_numeric.specs.Memory.{load, written}
+use Rattle.spec_numeric.specs.Memory.{load, store, written}
 use Rattle.wtypes.specs.declared.LoadOp.TheVariants.{I32Load8S, I32Load8U}
 
 rotl_row : binary_of (Rotl valtype.I32) (I32 (negsuc 2147483646)) (I32 (pos 33)) ≡ Ok (I32 (pos 3))
@@ -54,6 +54,35 @@ extend_row = refl
 extend_signed : convert_of I64ExtendI32S (I32 (negsuc 0)) ≡ I64 (negsuc 0)
 extend_signed = refl
 
+extend_8_row : convert_of I32Extend8S (I32 (pos 128)) ≡ I32 (negsuc 127)
+extend_8_row = refl
+
+extend_8_positive : convert_of I32Extend8S (I32 (pos 127)) ≡ I32 (pos 127)
+extend_8_positive = refl
+
+-- the low 8 bits alone are another number
+extend_8_signed : convert_of I32Extend8S (I32 (pos 128)) ≢ I32 (pos 128)
+extend_8_signed e = let wrong : I32 (negsuc 127) ≡ I32 (pos 128) = e in cc
+
+-- 0x1280
+extend_8_low : convert_of I32Extend8S (I32 (pos 4736)) ≡ I32 (negsuc 127)
+extend_8_low = refl
+
+extend_16_row : convert_of I32Extend16S (I32 (pos 32768)) ≡ I32 (negsuc 32767)
+extend_16_row = refl
+
+extend_8_wide : convert_of I64Extend8S (I64 (pos 255)) ≡ I64 (negsuc 0)
+extend_8_wide = refl
+
+extend_16_wide : convert_of I64Extend16S (I64 (pos 65535)) ≡ I64 (negsuc 0)
+extend_16_wide = refl
+
+extend_32_row : convert_of I64Extend32S (I64 (pos 2147483648)) ≡ I64 (negsuc 2147483647)
+extend_32_row = refl
+
+extend_32_low : convert_of I64Extend32S (I64 (pos 4294967296)) ≡ I64 (pos 0)
+extend_32_low = refl
+
 wrap_row : convert_of I32WrapI64 (I64 (pos 4294967303)) ≡ I32 (pos 7)
 wrap_row = refl
 
@@ -88,8 +117,14 @@ upper_half = refl
 past_the_end : load (bytes_of_number 8 72623859790382856) 5 4 ≡ Err trap.MemoryOutOfBounds
 past_the_end = refl
 
-in_the_middle : written 1 (7 ∷ 8 ∷ []) (1 ∷ 2 ∷ 3 ∷ 4 ∷ []) ≡ 1 ∷ 7 ∷ 8 ∷ 4 ∷ []
+in_the_middle : written {X = ℕ} 1 (7 ∷ 8 ∷ []) (1 ∷ 2 ∷ 3 ∷ 4 ∷ []) ≡ 1 ∷ 7 ∷ 8 ∷ 4 ∷ []
 in_the_middle = refl
+
+stored_in_the_middle : store (1 ∷ 2 ∷ 3 ∷ 4 ∷ []) 1 2 2055 ≡ Ok (1 ∷ 7 ∷ 8 ∷ 4 ∷ [])
+stored_in_the_middle = refl
+
+stored_past_the_end : store (1 ∷ 2 ∷ 3 ∷ 4 ∷ []) 3 2 2055 ≡ Err trap.MemoryOutOfBounds
+stored_past_the_end = refl
 
 load_signed : extended I32Load8S 255 ≡ 4294967295
 load_signed = refl

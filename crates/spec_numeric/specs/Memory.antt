@@ -1,16 +1,20 @@
--- Linear memory as one list of bytes (Core Specification, 4.2.8 Memory Instances; 4.4.4 Memory Instructions).
+-- Linear memory as one list of bytes (Core 4.2.8, Memory Instances; 4.4.4, Memory Instructions). The reduction loads and stores by these.
 use Rattle.std.specs.Prelude.{◌≡◌, ℕ, ◌+◌, ◌%◌, ◌^◌, ◌≤◌, nat_le, if◌then◌else◌, List, ◌++◌, length, take, drop, Result, Ok, Err}
 use Rattle.wtypes.specs.declared.TrapCode.{TrapCode}
 use Rattle.wtypes.specs.declared.TrapCode.TheVariants.{MemoryOutOfBounds}
 use Rattle.spec_numeric.specs.Storage.{number_of_bytes, bytes_of_number}
 
--- the number that the n bytes from an address on spell, where all of them lie in memory
+-- 4.4.4, t.load memarg: the number that the n bytes from an address on spell, where all of them lie in memory
 abbrev pub load : List ℕ → ℕ → ℕ → Result ℕ TrapCode
 load memory at n = if nat_le (at + n) (length memory) then Ok (number_of_bytes (take n (drop at memory))) else Err MemoryOutOfBounds
 
--- memory with these bytes from an address on
-abbrev pub written : ℕ → List ℕ → List ℕ → List ℕ
-written at bytes memory = take at memory ++ (bytes ++ drop (at + length bytes) memory)
+-- a list with these items in place from an index on
+abbrev pub written : {X : Type 0} → ℕ → List X → List X → List X
+written at items xs = take at xs ++ (items ++ drop (at + length items) xs)
+
+-- 4.4.4, t.store memarg: memory with the n lowest bytes of a number in place from an address on, where all of them lie in memory
+abbrev pub store : List ℕ → ℕ → ℕ → ℕ → Result (List ℕ) TrapCode
+store memory at n x = if nat_le (at + n) (length memory) then Ok (written at (bytes_of_number n x) memory) else Err MemoryOutOfBounds
 
 -- a load gives back the n lowest bytes of what was stored
 abbrev pub LoadsGiveWhatWasStored : Type 0

@@ -1,7 +1,7 @@
 -- The operators of the integer profile (Core Specification, 4.3.2 Integer Operations and 4.3.4 Conversions): first on numbers of N bits, where the width is an
 -- argument of its own and an operator's own type is not read, then on values (4.4.1 Numeric Instructions).
 use Rattle.std.specs.Prelude.{ℕ, ◌+◌, ◌-◌, ◌*◌, ◌/◌, ◌%◌, ◌^◌, pos, Bool, true, false, not, ◌==◌, nat_lt, nat_le, int_lt, int_le, int_div, int_rem, if◌then◌else◌, bit_and, bit_or, bit_xor, Result, Ok, Err}
-use Rattle.std.specs.Int.{Width, w32, w64}
+use Rattle.std.specs.Int.{Width, w8, w16, w32, w64}
 use mir.Val.{bits, hbits}
 use Rattle.spec_numeric.specs.Numbers.{modulus, signed, unsigned, zeros_above, zeros_below, ones_among, floor, rotated_left, rotated_right}
 use Rattle.wtypes.specs.declared.ValType.{ValType}
@@ -19,7 +19,7 @@ use Rattle.wtypes.specs.declared.RelOp.TheVariants.{Equal, NotEqual, LtS, LtU, G
 use Rattle.wtypes.specs.declared.TestOp.{TestOp}
 use Rattle.wtypes.specs.declared.TestOp.TheVariants.{Eqz}
 use Rattle.wtypes.specs.declared.CvtOp.{CvtOp}
-use Rattle.wtypes.specs.declared.CvtOp.TheVariants.{I32WrapI64, I64ExtendI32S, I64ExtendI32U}
+use Rattle.wtypes.specs.declared.CvtOp.TheVariants.{I32WrapI64, I64ExtendI32S, I64ExtendI32U, I32Extend8S, I32Extend16S, I64Extend8S, I64Extend16S, I64Extend32S}
 
 -- ---- on numbers
 
@@ -84,11 +84,20 @@ compare w (LeU t) x y = nat_le x y
 compare w (GeS t) x y = int_le (signed w y) (signed w x)
 compare w (GeU t) x y = nat_le y x
 
--- wrap modulo 2^32, extend_s by the signed reading, extend_u
+-- iextendM_s of a number of N bits (Core Specification 2.0, 4.3.2): the signed reading of its M lowest bits. M is `bits m`, N is `bits w`.
+abbrev pub extend_low : Width → Width → ℕ → ℕ
+extend_low m w x = unsigned w (signed m (x % modulus m))
+
+-- wrap modulo 2^32, extend_s by the signed reading, extend_u; and the extensions of a sign
 abbrev pub convert : CvtOp → ℕ → ℕ
 convert I32WrapI64 x = x % 2 ^ 32
 convert I64ExtendI32S x = unsigned w64 (signed w32 x)
 convert I64ExtendI32U x = x
+convert I32Extend8S x = extend_low w8 w32 x
+convert I32Extend16S x = extend_low w16 w32 x
+convert I64Extend8S x = extend_low w8 w64 x
+convert I64Extend16S x = extend_low w16 w64 x
+convert I64Extend32S x = extend_low w32 w64 x
 
 -- ---- on values
 
@@ -166,11 +175,21 @@ abbrev pub convert_from : CvtOp → ValType
 convert_from I32WrapI64 = I64
 convert_from I64ExtendI32S = I32
 convert_from I64ExtendI32U = I32
+convert_from I32Extend8S = I32
+convert_from I32Extend16S = I32
+convert_from I64Extend8S = I64
+convert_from I64Extend16S = I64
+convert_from I64Extend32S = I64
 
 abbrev pub convert_to : CvtOp → ValType
 convert_to I32WrapI64 = I32
 convert_to I64ExtendI32S = I64
 convert_to I64ExtendI32U = I64
+convert_to I32Extend8S = I32
+convert_to I32Extend16S = I32
+convert_to I64Extend8S = I64
+convert_to I64Extend16S = I64
+convert_to I64Extend32S = I64
 
 -- a number as a value of type t, a trap as it is
 abbrev pub answer_of : ValType → Result ℕ TrapCode → Result Value TrapCode

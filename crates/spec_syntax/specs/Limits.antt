@@ -1,5 +1,11 @@
--- The trees of this profile, by tests: their numbers are in range, and they keep the limits on functions, locals,
--- nesting and labels.
+-- The trees of this profile, by tests: their numbers are in range, and they keep the limits on functions, locals, nesting and labels.
+--
+-- The definition of these limits is `ModuleFits` of `spec_binary/specs/Spells.antt`, which says them as propositions, with the size of the
+-- shortest spelling: by it a spelling, and the module of a text, are stated. The other forms are stated for code and proofs:
+-- `module_fits` is the same as a test, without that size and with the ranges of numbers, which the grammar gives (the type of a module
+-- in memory keeps it); `expression_fits` is its part for one expression; `Fits` is `module_fits` part by part, by the two lemmas below it;
+-- `IsWithin` of `module_limits` is `module_fits` with that size. `spelled_is_in_range` and `module_limits` of `spec_module_laws` show that a tree
+-- that is spelled passes `module_fits`, and that what passes it within that size is `ModuleFits`.
 use Rattle.std.specs.Prelude.{◌≡◌, refl, ℕ, ◌+◌, Bool, true, false, ◌&&◌, List, [], ◌∷◌, length, nat_le, nat_lt, nat_eq, ℤ, pos, negsuc, Option, Some, None}
 use Rattle.std.specs.List.{list_all}
 use Rattle.wtypes.specs.declared.Value.{Value}
@@ -10,7 +16,7 @@ use Rattle.spec_syntax.specs.Syntax.{Instr, Plain, BrTable, Block, Loop, If, Ins
 use Rattle.spec_syntax.specs.Shape.{instrs_depth}
 use Rattle.spec_syntax.specs.Profile.{function_limit, local_limit, nesting_limit, label_limit}
 
--- ---- Numbers (Core, Structure, Values)
+-- ---- Numbers (Core 2.2, Values)
 
 -- an unsigned number of 32 bits
 abbrev pub is_u32 : ℕ → Bool
@@ -54,7 +60,7 @@ plain_in_range (Test op) = true
 plain_in_range (Compare op) = true
 plain_in_range (Convert op) = true
 
--- ---- Instructions: numbers in range, and each vector of labels short enough
+-- ---- Instructions (Core 2.4): numbers in range, and each vector of labels short enough
 
 abbrev mutual
   pub instr_fits : Instr → Bool
@@ -72,7 +78,7 @@ abbrev mutual
 unfoldable pub expression_fits : Instrs → Bool
 expression_fits is = nat_le (instrs_depth is) nesting_limit && instrs_fit is
 
--- ---- Modules
+-- ---- Modules (Core 2.5)
 
 abbrev pub max_fits : Option ℕ → Bool
 max_fits None = true

@@ -35,7 +35,7 @@ page_size = 65536
 
 -- no memory has more pages
 abbrev pub page_limit : ℕ
-page_limit = 256
+page_limit = 1024
 
 -- no table has more elements at its beginning
 abbrev pub element_limit : ℕ
@@ -44,28 +44,6 @@ element_limit = 65536
 -- no more frames stand in one another
 abbrev pub frame_limit : ℕ
 frame_limit = 256
-
--- ---- Limits of worlds, blocks and calls
-
-abbrev pub contract_limit : ℕ
-contract_limit = 1024
-
-abbrev pub call_limit : ℕ
-call_limit = 65535
-
--- the bytes of a call's entry
-abbrev pub entry_limit : ℕ
-entry_limit = 65535
-
--- the arguments of a call
-abbrev pub argument_limit : ℕ
-argument_limit = 1024
-
-abbrev pub worker_limit : ℕ
-worker_limit = 64
-
-abbrev pub try_limit : ℕ
-try_limit = 16
 
 -- ---- The host module
 

@@ -5,9 +5,9 @@ use Rattle.spec_syntax.specs.Profile.{byte_limit}
 use Rattle.spec_binary.specs.Spells.{ModuleFits}
 use Rattle.spec_text.specs.Lexical.{Token, Lexes}
 use Rattle.spec_text.specs.Words.{Word, AreWords}
-use Rattle.spec_text.specs.Named.{Field}
+use Rattle.spec_text.specs.Placed.{Field, without_places}
 use Rattle.spec_text.specs.Grammar.{IsModule}
-use Rattle.spec_text.specs.Resolve.{Resolves}
+use Rattle.spec_text.specs.Fields.{Resolves}
 
 -- The text lexes to tokens, whose words are fields, which make the module.
 pub record Spelled (text : List ℕ) (m : Module) : Type 0 where
@@ -17,7 +17,7 @@ pub record Spelled (text : List ℕ) (m : Module) : Type 0 where
   pub lexes : Lexes text tokens
   pub are_words : AreWords tokens words
   pub grammar : IsModule words fields
-  pub resolves : Resolves fields m
+  pub resolves : Resolves (without_places fields) m
 
 -- The same, with text and module within the limits.
 pub record Names (text : List ℕ) (m : Module) : Type 0 where

@@ -1,2 +1,3 @@
 pub mod Listed
 pub mod Slots
+pub mod Counted

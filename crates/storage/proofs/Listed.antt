@@ -1,12 +1,12 @@
 -- The cells of a store as a list in the order of locks.
-use Rattle.std.proofs.Common.{◌≡◌, ◌≢◌, ℕ, zero, suc, ◌<◌, ◌≤◌, ◌^◌, Bool, true, false, cond, ◌&&◌, Option, Some, None, List, [], ◌∷◌, ◌++◌, map, length, refl, sym, ◌∙◌, ap, subst, arith}
+use Rattle.std.proofs.Common.{◌≡◌, ◌≢◌, ℕ, zero, suc, ◌<◌, ◌≤◌, ◌^◌, Bool, true, false, cond, ◌&&◌, Option, Some, None, List, [], ◌∷◌, ◌++◌, map, length, drop, get_or, refl, sym, ◌∙◌, ap, subst, arith}
 use Rattle.std.specs.Prelude.{T}
 use Rattle.std.specs.declared.cmp.Ordering.{Ordering}
 use Rattle.std.specs.declared.cmp.Ordering.TheVariants.{Less, Equal, Greater}
 use Rattle.std.specs.Ordering.{eq_by_cmp, is_eq, is_lt, ordering_reverse}
 use Rattle.std.specs.List.{AllByRecursion}
 use Rattle.std.specs.List.Sorted.{IsStrictlySortedBy}
-use Rattle.std.specs.FinMap.{get, insert, remove, empty, entries, entries_sorted, get-entries, get-remove, entries-insert, len-entries, len-empty, from_entries, from_entries_push, get-from_entries, same_map, find, put, is_sorted}
+use Rattle.std.specs.FinMap.{get, insert, remove, empty, entries, entries_sorted, get-entries, get-remove, entries-insert, len-entries, len-empty, from_entries, from_entries_push, get-from_entries, same_map, same_entries_map, find, put, is_sorted}
 use Rattle.std.specs.FinMap.Entries.{below_all}
 use Rattle.spec_ledger.specs.declared.Kind.TheVariants.{Counter}
 use Rattle.spec_ledger.specs.declared.Lock.{Lock}
@@ -144,3 +144,25 @@ length-held (e ∷ es) = length-with e.0 e.1.cell (held_in es) (length es) (leng
 
 pub held_fits : (its es : List (Lock × Slot)) → its ≡ es → length es < 2 ^ 63 → length (held_in its) < 2 ^ 63
 held_fits its es e h = subst (λ xs. length (held_in xs) < 2 ^ 63) (sym e) (let l = length-held es in omega (arith, l, h))
+
+-- ---- two lists gone over side by side
+
+cancel : (xs ys zs : List (Lock × ℕ)) → xs ++ ys ≡ xs ++ zs → ys ≡ zs
+cancel [] ys zs e = e
+cancel (x ∷ xs) ys zs e = cancel xs ys zs (ap (drop 1) e)
+
+module _ (m n : Cells) (xs its others : List (Lock × ℕ)) (a : xs ++ its ≡ entries m) (b : xs ++ others ≡ entries n) where
+  tails : m ≡ n → its ≡ others
+  tails e = cancel xs its others (a ∙ ap entries e ∙ sym b)
+
+  pub both_end : its ≡ [] → others ≡ [] → m ≡ n
+  both_end i j = same_entries_map m n (sym a ∙ ap (λ t. xs ++ t) (i ∙ sym j) ∙ b)
+
+  pub one_ends : (e : Lock × ℕ) (ys : List (Lock × ℕ)) → its ≡ e ∷ ys → others ≡ [] → m ≢ n
+  one_ends e ys i j same = absurd (let h = ap length (sym i ∙ tails same ∙ j) in omega (arith, h))
+
+  pub other_ends : (o : Lock × ℕ) (zs : List (Lock × ℕ)) → its ≡ [] → others ≡ o ∷ zs → m ≢ n
+  other_ends o zs i j same = absurd (let h = ap length (sym i ∙ tails same ∙ j) in omega (arith, h))
+
+  pub they_differ : (e o : Lock × ℕ) (ys zs : List (Lock × ℕ)) → its ≡ e ∷ ys → others ≡ o ∷ zs → e ≢ o → m ≢ n
+  they_differ e o ys zs i j different same = different (ap (λ es. get_or es 0 e) (sym i ∙ tails same ∙ j))

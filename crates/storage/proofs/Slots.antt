@@ -1,5 +1,5 @@
 -- What slots hold, key by key.
-use Rattle.std.proofs.Common.{◌≡◌, ℕ, zero, suc, ◌+◌, ◌<◌, ◌^◌, arith, Bool, true, false, cond, Option, Some, List, [], ◌∷◌, refl, sym, ◌∙◌, ap, subst}
+use Rattle.std.proofs.Common.{◌≡◌, ℕ, zero, suc, ◌+◌, ◌<◌, ◌^◌, arith, Bool, true, false, cond, Option, Some, None, unwrap_or, List, [], ◌∷◌, refl, sym, ◌∙◌, ap, subst}
 use Rattle.std.specs.declared.cmp.Ordering.{Ordering}
 use Rattle.std.specs.Ordering.{eq_by_cmp, is_eq}
 use Rattle.std.specs.Map.{lookup}
@@ -23,7 +23,7 @@ use Rattle.spec_ledger.proofs.Maps.{get-set_at, lock_cmp_total, lock_cmp-IsAntis
 use Rattle.spec_ledger.specs.contracts.LockOrd.TheImpl as derived
 use Rattle.spec_ledger.proofs.Locks.{derived_is}
 use Rattle.storage.specs.declared.Slot.{Slot}
-use Rattle.storage.specs.Slots.{cells_in, counts_in, cell_in, count_in}
+use Rattle.storage.specs.Slots.{cells_in, counts_in, cell_in, count_in, cell_back}
 
 cell_of_cond : (b : Bool) (v : Slot) (o : Option Slot) → cond b v.cell (cell_in o) ≡ cell_in (cond b (Some v) o)
 cell_of_cond true v o = refl
@@ -95,6 +95,47 @@ number-counter : (n : ℕ) → number (counter n) ≡ n
 number-counter zero = refl
 number-counter (suc n) = refl
 
+pub same_cells : (m n : Cells) (l : Lock) (c : Option ℕ) → n ≡ set_at m l c → c ≡ finite.get m l → n ≡ m
+same_cells m n l c e f = e ∙ ap (set_at m l) f ∙ update_same lock_cmp_total lock_cmp-IsAntisymmetric m l (λ x. x) refl
+
+pub settled : (m n : Cells) (l : Lock) → n ≡ update m l (cell_back Keep) → n ≡ m
+settled m n l e = e ∙ update_same lock_cmp_total lock_cmp-IsAntisymmetric m l (cell_back Keep) refl
+
+cell_of_slot : (o : Option Slot) (s : Slot) → s ≡ unwrap_or o (record { cell = None; unsettled = 0 }) → s.cell ≡ cell_in o
+cell_of_slot None s e = ap (λ (x : Slot). x.cell) e
+cell_of_slot (Some v) s e = ap (λ (x : Slot). x.cell) e
+
+count_of_slot : (o : Option Slot) (s : Slot) → s ≡ unwrap_or o (record { cell = None; unsettled = 0 }) → s.unsettled ≡ count_in o
+count_of_slot None s e = ap (λ (x : Slot). x.unsettled) e
+count_of_slot (Some v) s e = ap (λ (x : Slot). x.unsettled) e
+
+-- a slot that is there, or an empty one where there is none
+module _ (m : BTreeMap Lock Slot) (lock : Lock) (o : Option Slot) (s : Slot) (was : s ≡ unwrap_or o (record { cell = None; unsettled = 0 })) (is : o ≡ tree.get derived.cmp-value.it m lock) where
+  pub slot_cell : s.cell ≡ finite.get (cells_in m.entries) lock
+  slot_cell = cell_of_slot o s was ∙ cell_found m lock o is
+
+  pub slot_count : counter s.unsettled ≡ finite.get (counts_in m.entries) lock
+  slot_count = ap counter (count_of_slot o s was) ∙ count_found m lock o is
+
+  pub slot_number : s.unsettled ≡ count_at (counts_in m.entries) lock
+  slot_number = sym (number-counter s.unsettled) ∙ ap number slot_count
+
+  -- after another is written in its place
+  module _ (n : BTreeMap Lock Slot) (next : Slot) (h : (q : Lock) → tree.get derived.cmp-value.it n q ≡ cond (eq_by_cmp derived.cmp-value.it lock q) (Some next) (tree.get derived.cmp-value.it m q)) where
+    pub cells_changed : (f : Option ℕ → Option ℕ) → next.cell ≡ f s.cell → cells_in n.entries ≡ update (cells_in m.entries) lock f
+    cells_changed f e = cells_written m n lock (Some next) h ∙ ap (λ c. set_at (cells_in m.entries) lock c) (e ∙ ap f slot_cell)
+
+    pub counts_changed : (f : ℕ → ℕ) → next.unsettled ≡ f s.unsettled → counts_in n.entries ≡ update (counts_in m.entries) lock (λ c. counter (f (number c)))
+    counts_changed f e = counts_written m n lock (Some next) h ∙ ap (λ c. set_at (counts_in m.entries) lock (counter c)) (e ∙ ap f slot_number)
+
+  -- after the same is written
+  module _ (n : BTreeMap Lock Slot) (h : (q : Lock) → tree.get derived.cmp-value.it n q ≡ cond (eq_by_cmp derived.cmp-value.it lock q) (Some s) (tree.get derived.cmp-value.it m q)) where
+    pub cells_kept : cells_in n.entries ≡ cells_in m.entries
+    cells_kept = same_cells (cells_in m.entries) (cells_in n.entries) lock s.cell (cells_written m n lock (Some s) h) slot_cell
+
+    pub counts_kept : counts_in n.entries ≡ counts_in m.entries
+    counts_kept = same_cells (counts_in m.entries) (counts_in n.entries) lock (counter s.unsettled) (counts_written m n lock (Some s) h) slot_count
+
 pub AreCells-none : (es : List (Lock × Slot)) → es ≡ [] → AreCells (cells_in es)
 AreCells-none es e = subst (λ x. AreCells (cells_in x)) (sym e) AreCells-empty
 
@@ -106,8 +147,8 @@ read_cells (Put p v) m b e f = cc
 read_cells (Del p) m b e f = cc
 read_cells (Add p v) m b e f = cc
 
-pub put_is : (op : Op) (m n : Cells) (l : Lock) (next cell : Option ℕ) → n ≡ set_at m l next → l ≡ lock_of op → next ≡ cell_after op cell → cell ≡ finite.get m l → n ≡ cells_after op m
-put_is op m n l next cell e f g h = e ∙ (λ i. set_at m (f i) (g i)) ∙ ap (λ x. set_at m (lock_of op) (cell_after op x)) (h ∙ ap (finite.get m) f)
+pub applied : (op : Op) (m n : Cells) (l : Lock) → n ≡ update m l (cell_after op) → l ≡ lock_of op → n ≡ cells_after op m
+applied op m n l e f = e ∙ ap (λ k. update m k (cell_after op)) f
 
 opened_is : (op : Op) (c : Option ℕ) (m : Counts) → is_reading op ≡ false → opened (inverse_of op c) m ≡ update m (lock_of op) (λ n. counter (number n + 1))
 opened_is (Get p) c m e = cc
@@ -117,19 +158,14 @@ opened_is (Put p v) c m e = refl
 opened_is (Del p) c m e = refl
 opened_is (Add p v) c m e = refl
 
-pub opened_by : (op : Op) (cell : Option ℕ) (i : Inverse) (b : Bool) (m n : Counts) (l : Lock) (count : ℕ) → n ≡ set_at m l (counter (count + 1)) → l ≡ lock_of op → counter count ≡ finite.get m l → i ≡ inverse_of op cell → b ≡ is_reading op → b ≡ false → n ≡ opened i m
-opened_by op cell i b m n l count e f g h r changing =
+pub opened_by : (op : Op) (cell : Option ℕ) (i : Inverse) (b : Bool) (m n : Counts) (l : Lock) → n ≡ update m l (λ x. counter (number x + 1)) → l ≡ lock_of op → i ≡ inverse_of op cell → b ≡ is_reading op → b ≡ false → n ≡ opened i m
+opened_by op cell i b m n l e f h r changing =
     e
-    ∙ ap (λ x. set_at m l (counter (x + 1))) (sym (number-counter count) ∙ ap number g)
     ∙ ap (λ k. update m k (λ x. counter (number x + 1))) f
     ∙ sym (ap (λ x. opened x m) h ∙ opened_is op cell m (sym r ∙ changing))
 
-pub same_cells : (m n : Cells) (l : Lock) (c : Option ℕ) → n ≡ set_at m l c → c ≡ finite.get m l → n ≡ m
-same_cells m n l c e f = e ∙ ap (set_at m l) f ∙ update_same lock_cmp_total lock_cmp-IsAntisymmetric m l (λ x. x) refl
-
-pub AreCells-subtracted : (m n : Cells) (p : Place) (v : ℕ) (l : Lock) (next cell : Option ℕ) → n ≡ set_at m l next → l ≡ counter_at p → next ≡ subtracted v cell → cell ≡ finite.get m l → AreCells m → AreCells n
-AreCells-subtracted m n p v l next cell e f g h are =
-    subst (λ x. AreCells x) (sym (e ∙ (λ i. set_at m (f i) (g i)) ∙ ap (λ x. set_at m (counter_at p) (subtracted v x)) (h ∙ ap (finite.get m) f))) (AreCells-back (Subtract p v) m are)
+pub AreCells-subtracted : (m n : Cells) (p : Place) (v : ℕ) (l : Lock) → n ≡ update m l (subtracted v) → l ≡ counter_at p → AreCells m → AreCells n
+AreCells-subtracted m n p v l e f are = subst (λ x. AreCells x) (sym (e ∙ ap (λ k. update m k (subtracted v)) f)) (AreCells-back (Subtract p v) m are)
 
 pub AreCells-restored : (m n : Cells) (p : Place) (l : Lock) (c : Option ℕ) → n ≡ set_at m l c → l ≡ map_at p → AreCells m → AreCells n
 AreCells-restored m n p l c e f are = subst (λ x. AreCells x) (sym (e ∙ ap (λ k. set_at m k c) f)) (AreCells-back (Restore p c) m are)

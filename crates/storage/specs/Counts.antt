@@ -1,5 +1,5 @@
 -- How many changes of each lock are unsettled: done, and neither taken back nor settled.
-use Rattle.std.specs.Prelude.{refl, ℕ, ◌+◌, ◌-◌, ◌<◌}
+use Rattle.std.specs.Prelude.{◌≡◌, refl, ℕ, ◌+◌, ◌-◌, ◌<◌, List, [], ◌∷◌}
 use Rattle.std.specs.Coded.{Coded, code_by, coded×}
 use Rattle.spec_ledger.specs.Codes.{coded_cells}
 use Rattle.std.specs.FinMap.{FinMap, get}
@@ -33,6 +33,25 @@ abbrev pub IsUnsettled : Inverse → Counts → Type 0
 IsUnsettled Keep counts = Unit {0}
 IsUnsettled (Subtract p v) counts = 0 < count_at counts (counter_at p)
 IsUnsettled (Restore p c) counts = 0 < count_at counts (map_at p)
+
+-- the counts after the changes of these inverses
+abbrev pub opened_all : List Inverse → Counts → Counts
+opened_all [] counts = counts
+opened_all (i ∷ is) counts = opened_all is (opened i counts)
+
+-- the counts when these are closed, last first
+abbrev pub closed_all : List Inverse → Counts → Counts
+closed_all [] counts = counts
+closed_all (i ∷ is) counts = closed i (closed_all is counts)
+
+-- these may be closed, last first
+abbrev pub AreUnsettled : List Inverse → Counts → Type 0
+AreUnsettled [] counts = Unit {0}
+AreUnsettled (i ∷ is) counts = AreUnsettled is counts × IsUnsettled i (closed_all is counts)
+
+-- a count is never there with 0
+pub record AreCounts (m : Counts) : Type 0 where
+  pub each : (l : Lock) → counter (number (get m l)) ≡ get m l
 
 -- what contracts see of a store: the cells, and how many changes of each lock are unsettled
 pub record Store : Type 0 where

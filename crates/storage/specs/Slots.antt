@@ -3,7 +3,9 @@ use Rattle.std.specs.Prelude.{ℕ, Option, Some, None, List, [], ◌∷◌}
 use Rattle.std.specs.FinMap.{empty}
 use Rattle.spec_ledger.specs.declared.Lock.{Lock}
 use Rattle.storage.specs.declared.Slot.{Slot}
-use Rattle.spec_ledger.specs.Cells.{Cells, counter, set_at}
+use Rattle.spec_ledger.specs.declared.Inverse.{Inverse}
+use Rattle.spec_ledger.specs.declared.Inverse.TheVariants.{Keep, Subtract, Restore}
+use Rattle.spec_ledger.specs.Cells.{Cells, counter, set_at, subtracted}
 use Rattle.storage.specs.Counts.{Counts}
 
 -- the cells of some slots
@@ -24,6 +26,12 @@ cell_in (Some s) = s.cell
 abbrev pub count_in : Option Slot → ℕ
 count_in None = 0
 count_in (Some s) = s.unsettled
+
+-- what a cell holds once a change of it is taken back
+abbrev pub cell_back : Inverse → Option ℕ → Option ℕ
+cell_back Keep cell = cell
+cell_back (Subtract place value) cell = subtracted value cell
+cell_back (Restore place former) cell = former
 
 -- the cells that these slots hold, in their order
 abbrev pub with_cell : Lock → Option ℕ → List (Lock × ℕ) → List (Lock × ℕ)

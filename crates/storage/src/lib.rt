@@ -1,6 +1,8 @@
 // Boosted storage: cells whose changes can be taken back without memory.
 #![tactic(auto)]
 
+mod changes;
+
 ghost use Rattle.std.specs.Prelude.{◌≡◌, ◌+◌, ◌-◌, ◌<◌, ◌≤◌, ◌^◌, ◌%◌, ℕ, Some, None, IsSome, IfOk, OnOk, OnErr, ◌↔◌, IsTrue, if◌then◌else◌, Option, length};
 ghost use Rattle.std.specs.BTreeMap.{get, IsUnchanged};
 ghost use Rattle.std.specs.Ordering.{eq_by_cmp};
@@ -9,10 +11,11 @@ ghost use Rattle.spec_ledger.specs.Cells.{lock_cmp, lock_of, cell_after, reply_o
 ghost use Rattle.spec_ledger.specs.Modes.{mode_of};
 ghost use Rattle.storage.specs.Counts.{opened, closed, IsUnsettled, count_at};
 ghost use Rattle.spec_ledger.specs.declared.Lock.{Lock};
-ghost use Rattle.storage.specs.Slots.{cells_in, counts_in, cell_in, count_in};
+ghost use Rattle.storage.specs.Slots.{cells_in, counts_in, cell_back};
 ghost use Rattle.std.specs.FinMap as finite;
 ghost use Rattle.std.specs.Iterator.{YieldsFirst, item_count};
 
+pub use changes::{end_all, returned, settle_all, take_all_back};
 pub use spec_ledger::{Inverse, Kind, Lock, NoMemory, Op, Place, Reply, Step};
 use std::alloc::{Allocator, Global};
 use std::collections::BTreeMap;
@@ -118,7 +121,6 @@ fn note_types(lock: Lock, cell: Option<u64>)
 fn slot_at<A: Allocator>(slots: &BTreeMap<Lock, Slot, A>, lock: Lock) -> Slot
     ensures cell { result.cell ≡ finite.get (cells_in slots.now.entries) lock }
     ensures count { counter result.unsettled ≡ finite.get (counts_in slots.now.entries) lock }
-    ensures present { 0 < result.unsettled → IsSome (get lock_cmp slots.now lock) }
 {
     match slots.get(&lock) {
         None => Slot {
@@ -137,29 +139,69 @@ fn drop_slot<A: Allocator>(slots: &mut BTreeMap<Lock, Slot, A>, lock: Lock)
     slots.remove(&lock);
 }
 
-/// Writes a slot that is there, which takes no memory.
-fn write_slot<A: Allocator + Copy>(slots: &mut BTreeMap<Lock, Slot, A>, lock: Lock, slot: Slot)
-    requires { IsSome (get lock_cmp slots.old lock) }
-    ensures cells { cells_in slots.new.entries ≡ set_at (cells_in slots.old.entries) lock slot.cell }
-    ensures counts { counts_in slots.new.entries ≡ set_at (counts_in slots.old.entries) lock (counter slot.unsettled) }
+/// Does an operation on a lock's slot, in place or in a new one, and answers what the cell held. One change more of the lock is unsettled.
+fn open_slot<A: Allocator + Copy>(
+    slots: &mut BTreeMap<Lock, Slot, A>,
+    lock: Lock,
+    op: Op,
+) -> Result<Option<u64>, NoMemory>
+    ensures before { IfOk result (λ cell. cell ≡ finite.get (cells_in slots.old.entries) lock) }
+    ensures cells { OnOk result (cells_in slots.new.entries ≡ update (cells_in slots.old.entries) lock (cell_after op)) }
+    ensures counts { OnOk result (counts_in slots.new.entries ≡ update (counts_in slots.old.entries) lock (λ n. counter (number n + 1))) }
+    ensures types { OnOk result (AreOfTheirTypes (cells_in slots.old.entries) → AreOfTheirTypes (cells_in slots.new.entries)) }
+    ensures cells_at_err { OnErr result (cells_in slots.new.entries ≡ cells_in slots.old.entries) }
+    ensures counts_at_err { OnErr result (counts_in slots.new.entries ≡ counts_in slots.old.entries) }
 {
-    match slots.insert(lock, slot) {
-        Ok(_) => (),
-        Err(_) => unreachable!(),
+    let slot = slots.entry(lock)?.or_insert(Slot {
+        cell: None,
+        unsettled: 0,
+    });
+    if slot.unsettled == u64::MAX {
+        return Err(NoMemory);
+    }
+    let before = slot.cell;
+    let next = next_cell(op, before);
+    note_types(lock, next);
+    *slot = Slot {
+        cell: next,
+        unsettled: slot.unsettled + 1,
+    };
+    Ok(before)
+}
+
+/// What a cell holds once a change is taken back.
+fn former_cell(inverse: Inverse, cell: Option<u64>) -> Option<u64>
+    ensures { result ≡ cell_back inverse cell }
+{
+    match inverse {
+        Inverse::Keep => cell,
+        Inverse::Subtract(_, value) => less_cell(cell, value),
+        Inverse::Restore(_, former) => former,
     }
 }
 
-/// Writes a slot that is there, or drops it where it is empty.
-fn close_slot<A: Allocator + Copy>(slots: &mut BTreeMap<Lock, Slot, A>, lock: Lock, slot: Slot)
-    requires { IsSome (get lock_cmp slots.old lock) }
-    ensures cells { cells_in slots.new.entries ≡ set_at (cells_in slots.old.entries) lock slot.cell }
-    ensures counts { counts_in slots.new.entries ≡ set_at (counts_in slots.old.entries) lock (counter slot.unsettled) }
+/// Takes a change back in a lock's slot, in place, and drops the slot where that leaves it empty. One change less of the lock is unsettled.
+fn close_slot<A: Allocator + Copy>(
+    slots: &mut BTreeMap<Lock, Slot, A>,
+    lock: Lock,
+    inverse: Inverse,
+)
+    requires { 0 < count_at (counts_in slots.old.entries) lock }
+    ensures cells { cells_in slots.new.entries ≡ update (cells_in slots.old.entries) lock (cell_back inverse) }
+    ensures counts { counts_in slots.new.entries ≡ update (counts_in slots.old.entries) lock (λ n. counter (number n - 1)) }
     ensures types { AreOfTheirTypes (cells_in slots.old.entries) → AreOfTheirTypes (cells_in slots.new.entries) }
 {
-    note_types(lock, slot.cell);
-    match (slot.cell, slot.unsettled) {
+    let Some(slot) = slots.get_mut(&lock) else {
+        unreachable!()
+    };
+    let next = Slot {
+        cell: former_cell(inverse, slot.cell),
+        unsettled: slot.unsettled - 1,
+    };
+    note_types(lock, next.cell);
+    match (next.cell, next.unsettled) {
         (None, 0) => drop_slot(slots, lock),
-        _ => write_slot(slots, lock, slot),
+        _ => *slot = next,
     }
 }
 
@@ -179,6 +221,12 @@ fn put_slot<A: Allocator + Copy>(
         Ok(_) => Ok(()),
         Err(_) => Err(NoMemory),
     }
+}
+
+fn is_same_entry(a: (Lock, u64), b: (Lock, u64)) -> bool
+    ensures { IsTrue result ↔ (a ≡ b) }
+{
+    a.0 == b.0 && a.1 == b.1
 }
 
 /// The cells of a store that are left to go over, in the order of locks.
@@ -271,6 +319,25 @@ impl<A: Allocator + Copy> Cells<A> {
         }
     }
 
+    /// Whether other cells have the same numbers at the same locks. Unsettled changes do not matter.
+    pub fn has_cells_of(&self, other: &Cells<A>) -> bool
+        ensures { IsTrue result ↔ (self.now.cells ≡ other.now.cells) }
+    {
+        let mut others = other.entries();
+        for entry in self.entries() {
+            let Some(other) = others.next() else {
+                return false;
+            };
+            if !is_same_entry(entry, other) {
+                return false;
+            }
+        }
+        let Some(_more) = others.next() else {
+            return true;
+        };
+        false
+    }
+
     /// The same cells, in which nothing is unsettled.
     pub fn copy(&self, alloc: A) -> Result<Self, NoMemory>
         ensures cells { IfOk result (λ copy. copy.cells ≡ self.now.cells) }
@@ -309,21 +376,13 @@ impl<A: Allocator + Copy> Cells<A> {
         ensures err { OnErr result (self.new ≡ self.old) }
     {
         let lock = lock(op);
-        let slot = slot_at(&self.slots, lock);
-        let reply = reply(op, slot.cell);
-        let inverse = inverse(op, slot.cell);
         if reads(op) {
-            return Ok((reply, inverse));
+            let cell = slot_at(&self.slots, lock).cell;
+            return Ok((reply(op, cell), inverse(op, cell)));
         }
-        if slot.unsettled == u64::MAX {
-            return Err(NoMemory);
-        }
-        let next = Slot {
-            cell: next_cell(op, slot.cell),
-            unsettled: slot.unsettled + 1,
-        };
-        put_slot(&mut self.slots, lock, next)?;
-        Ok((reply, inverse))
+        let cell = open_slot(&mut self.slots, lock, op)?;
+        let inverse = inverse(op, cell);
+        Ok((reply(op, cell), inverse))
     }
 
     /// Takes a change back.
@@ -334,24 +393,10 @@ impl<A: Allocator + Copy> Cells<A> {
     {
         match inverse {
             Inverse::Keep => (),
-            Inverse::Subtract(place, value) => {
-                let lock = counter_lock(place);
-                let slot = slot_at(&self.slots, lock);
-                let next = Slot {
-                    cell: less_cell(slot.cell, value),
-                    unsettled: slot.unsettled - 1,
-                };
-                close_slot(&mut self.slots, lock, next);
+            Inverse::Subtract(place, _) => {
+                close_slot(&mut self.slots, counter_lock(place), inverse);
             }
-            Inverse::Restore(place, cell) => {
-                let lock = map_lock(place);
-                let slot = slot_at(&self.slots, lock);
-                let next = Slot {
-                    cell,
-                    unsettled: slot.unsettled - 1,
-                };
-                close_slot(&mut self.slots, lock, next);
-            }
+            Inverse::Restore(place, _) => close_slot(&mut self.slots, map_lock(place), inverse),
         }
     }
 
@@ -375,12 +420,7 @@ fn settle_slot<A: Allocator + Copy>(slots: &mut BTreeMap<Lock, Slot, A>, lock: L
     ensures cells { cells_in slots.new.entries ≡ cells_in slots.old.entries }
     ensures counts { counts_in slots.new.entries ≡ update (counts_in slots.old.entries) lock (λ n. counter (number n - 1)) }
 {
-    let slot = slot_at(slots, lock);
-    let next = Slot {
-        cell: slot.cell,
-        unsettled: slot.unsettled - 1,
-    };
-    close_slot(slots, lock, next);
+    close_slot(slots, lock, Inverse::Keep);
 }
 
 fn less_cell(cell: Option<u64>, value: u64) -> Option<u64>

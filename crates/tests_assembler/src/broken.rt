@@ -60,7 +60,7 @@ fn characters_that_are_no_tokens(rt: HostRuntime) -> Result<(), Fail> {
     refuses(&rt, rt.alloc(), &CHARACTERS_THAT_ARE_NO_TOKENS)
 }
 
-const TOKENS_THAT_ARE_NO_TEXT: [Broken; 42] = [
+const TOKENS_THAT_ARE_NO_TEXT: [Broken; 43] = [
     // nothing
     ("", Unexpected(0)),
     // only a comment
@@ -134,6 +134,8 @@ const TOKENS_THAT_ARE_NO_TEXT: [Broken; 42] = [
     ("(module (func i32.fdiv))", Unexpected(14)),
     // a float instruction
     ("(module (func f32.add))", Unexpected(14)),
+    // 32 bits have no wider reading in 32
+    ("(module (func i32.extend32_s))", Unexpected(14)),
     // a constant without a number
     ("(module (func i32.const))", Unexpected(23)),
     // a call without a function
@@ -182,7 +184,7 @@ fn tokens_that_are_no_text(rt: HostRuntime) -> Result<(), Fail> {
     refuses(&rt, rt.alloc(), &TOKENS_THAT_ARE_NO_TEXT)
 }
 
-const NAMES_AND_NUMBERS: [Broken; 31] = [
+const NAMES_AND_NUMBERS: [Broken; 39] = [
     // an unknown local
     ("(module (func (local.get $x)))", UnknownName(25)),
     // an unknown function
@@ -274,6 +276,46 @@ const NAMES_AND_NUMBERS: [Broken; 31] = [
     (
         "(module (memory 1) (func i32.const 0 i32.load align=0))",
         NumberRange(46),
+    ),
+    // an offset with a sign
+    (
+        "(module (memory 1) (func i32.const 0 i32.load offset=+1))",
+        NumberRange(46),
+    ),
+    // an offset below nothing
+    (
+        "(module (memory 1) (func i32.const 0 i32.load offset=-1))",
+        NumberRange(46),
+    ),
+    // an alignment below nothing
+    (
+        "(module (memory 1) (func i32.const 0 i32.load align=-4))",
+        NumberRange(46),
+    ),
+    // an alignment with a sign
+    (
+        "(module (memory 1) (func i32.const 0 i32.store align=+4))",
+        NumberRange(47),
+    ),
+    // a sign before a later fault of the grammar
+    (
+        "(module (memory 1) (func i32.const 0 i32.load offset=+1 param))",
+        Unexpected(56),
+    ),
+    // an offset without an integer
+    (
+        "(module (memory 1) (func i32.const 0 i32.load offset=))",
+        Unexpected(46),
+    ),
+    // an offset of a sign alone
+    (
+        "(module (memory 1) (func i32.const 0 i32.load offset=+))",
+        Unexpected(46),
+    ),
+    // a sign within an integer
+    (
+        "(module (memory 1) (func i32.const 0 i32.load offset=0x+1))",
+        Unexpected(46),
     ),
     // an offset above its range
     (

@@ -368,7 +368,7 @@ fn calls_and_memory(rt: HostRuntime) -> Result<(), Fail> {
     assembles(&rt, rt.alloc(), &CALLS_AND_MEMORY)
 }
 
-const NUMBERS_AND_OPERATORS: [Row; 12] = [
+const NUMBERS_AND_OPERATORS: [Row; 13] = [
     // tee select drop return
     (
         "(module (func (param i32) (result i32) (select (local.tee 0 (i32.const 1)) (i32.const 2) (local.get 0)) return))",
@@ -403,6 +403,11 @@ const NUMBERS_AND_OPERATORS: [Row; 12] = [
     (
         "(module (func (param i32) (param i64) (drop (i32.wrap_i64 (local.get 1))) (drop (i64.extend_i32_s (local.get 0))) (drop (i64.extend_i32_u (local.get 0)))))",
         b"\x01\x06\x01`\x02\x7f~\x00\x03\x02\x01\x00\x0a\x10\x01\x0e\x00 \x01\xa7\x1a \x00\xac\x1a \x00\xad\x1a\x0b",
+    ),
+    // extensions of a sign
+    (
+        "(module (func (param i32) (param i64) (drop (i32.extend8_s (local.get 0))) (drop (i32.extend16_s (local.get 0))) (drop (i64.extend8_s (local.get 1))) (drop (i64.extend16_s (local.get 1))) (drop (i64.extend32_s (local.get 1)))))",
+        b"\x01\x06\x01`\x02\x7f~\x00\x03\x02\x01\x00\x0a\x18\x01\x16\x00 \x00\xc0\x1a \x00\xc1\x1a \x01\xc2\x1a \x01\xc3\x1a \x01\xc4\x1a\x0b",
     ),
     // names of all characters
     (

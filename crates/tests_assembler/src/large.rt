@@ -1,6 +1,6 @@
 // Texts at the limits of modules and above, and texts that nest deeply.
 use assembler::AsmRefusal::{TooLarge, Unexpected};
-use assembler::{AsmRefusal, assemble};
+use assembler::{AsmRefusal, Limit, assemble};
 use module_tree::module::Module;
 use std::alloc::Global;
 use std::process::Abort;
@@ -30,7 +30,7 @@ fn limited(
     a: Global,
     parts: [&str; 3],
     most: usize,
-    limit: u8,
+    limit: Limit,
 ) -> Result<(), Fail> {
     let [front, part, back] = parts;
     let within = repeated(a, front, part, most, back)?;
@@ -47,10 +47,22 @@ fn limited(
 #[test]
 fn each_limit_is_met_exactly(rt: HostRuntime) -> Result<(), Fail> {
     let a = rt.alloc();
-    limited(&rt, a, ["(module", " ", ")"], 1_048_576 - 8, 1)?;
-    limited(&rt, a, ["(module ", "(func)", ")"], 4_096, 2)?;
-    limited(&rt, a, ["(module (func ", "(local i32)", "))"], 1_024, 3)?;
-    limited(&rt, a, ["(module (func (br_table 0", " 0", ")))"], 1_024, 5)?;
+    limited(&rt, a, ["(module", " ", ")"], 1_048_576 - 8, Limit::Bytes)?;
+    limited(&rt, a, ["(module ", "(func)", ")"], 4_096, Limit::Functions)?;
+    limited(
+        &rt,
+        a,
+        ["(module (func ", "(local i32)", "))"],
+        1_024,
+        Limit::Locals,
+    )?;
+    limited(
+        &rt,
+        a,
+        ["(module (func (br_table 0", " 0", ")))"],
+        1_024,
+        Limit::Labels,
+    )?;
     Ok(())
 }
 
@@ -62,7 +74,10 @@ fn blocks_nest_128_deep(rt: HostRuntime) -> Result<(), Fail> {
     assert_eq!(rt; refusal_of(assemble(a, &text)), None);
     let mut text = repeated(a, "(module (func ", "block ", 129, "")?;
     text.push_str(&repeated(a, "", "end ", 129, "))")?)?;
-    assert_eq!(rt; refusal_of(assemble(a, &text)), Some(TooLarge(4)));
+    assert_eq!(rt;
+        refusal_of(assemble(a, &text)),
+        Some(TooLarge(Limit::Nesting))
+    );
     Ok(())
 }
 

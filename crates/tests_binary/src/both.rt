@@ -4,6 +4,7 @@ use encoder::encode;
 use leb::write_u32;
 use linked_list_allocator::LocalHeap;
 use loader::{LoadRefusal, load};
+use module_tree::limit::Limit;
 use module_tree::module::Module;
 use samples::EXAMPLE;
 use std::alloc::{Allocator, Global};
@@ -221,7 +222,7 @@ fn nested_blocks_in_a_heap(rt: HostRuntime) -> Result<(), Fail> {
 fn deeper_blocks_under_each_allocator(rt: HostRuntime) -> Result<(), Fail> {
     let bytes = nested(rt.alloc(), 129)?;
     let arena = Bump::new(rt.alloc());
-    let too_large = Some(LoadRefusal::TooLarge(4));
+    let too_large = Some(LoadRefusal::TooLarge(Limit::Nesting));
     assert_eq!(rt; refusal(rt.alloc(), &bytes), too_large);
     assert_eq!(rt; refusal(&arena, &bytes), too_large);
     Ok(())

@@ -1,8 +1,9 @@
 use expr_reader::{LoadRefusal, read_expr};
 use module_tree::instr::Instr;
+use module_tree::limit::Limit;
 use std::alloc::Global;
 use std::test::Fail;
-use wtypes::{BinOp, LoadOp, PlainInstr, ValType, Value};
+use wtypes::{BinOp, CvtOp, LoadOp, PlainInstr, ValType, Value};
 
 // block, loop, if with a result and an else part, br_table, load, call_indirect, i64.add
 const EACH_KIND: [u8; 25] = [
@@ -69,6 +70,27 @@ fn a_body_with_each_kind_of_instruction(rt: HostRuntime) -> Result<(), Fail> {
     Ok(())
 }
 
+// The extensions of a sign stand in the order of their codes.
+const EXTENSIONS: [(u32, CvtOp); 5] = [
+    (0, CvtOp::I32Extend8S),
+    (1, CvtOp::I32Extend16S),
+    (2, CvtOp::I64Extend8S),
+    (3, CvtOp::I64Extend16S),
+    (4, CvtOp::I64Extend32S),
+];
+
+#[test]
+fn a_body_of_extensions(rt: HostRuntime) -> Result<(), Fail> {
+    let bytes = [0xC0, 0xC1, 0xC2, 0xC3, 0xC4, 0x0B];
+    let (body, next) = read_expr(rt.alloc(), &bytes, 0, 6)?;
+    assert_eq!(rt; (body.len(), next), (5, 6));
+    for (instr, (ordinal, op)) in body.iter().zip(EXTENSIONS) {
+        let plain = PlainInstr::Convert(op);
+        assert!(rt; is_plain(Some(instr), ordinal, plain), "{op:?}");
+    }
+    Ok(())
+}
+
 // How bytes, of which there are at most 4,000, are refused.
 fn refusal(a: Global, bytes: &[u8]) -> Result<Option<LoadRefusal>, Fail> {
     if bytes.len() > 4000 {
@@ -80,7 +102,7 @@ fn refusal(a: Global, bytes: &[u8]) -> Result<Option<LoadRefusal>, Fail> {
 /// Bytes, and how they are refused.
 type Row<'b> = (&'b [u8], Option<LoadRefusal>);
 
-const REFUSALS: [Row; 9] = [
+const REFUSALS: [Row; 13] = [
     // the input's end
     (&[0x01], Some(LoadRefusal::Malformed(1))),
     // an unknown instruction
@@ -102,10 +124,20 @@ const REFUSALS: [Row; 9] = [
         &[0x43, 0x00, 0x00, 0x00, 0x00, 0x0B],
         Some(LoadRefusal::Unsupported(0)),
     ),
+    // the last instruction of floating point
+    (&[0xBF, 0x0B], Some(LoadRefusal::Unsupported(0))),
+    // the extensions of a sign
+    (&[0xC0, 0xC1, 0xC2, 0xC3, 0xC4, 0x0B], None),
+    // behind them no instruction is known
+    (&[0xC4, 0xC5, 0x0B], Some(LoadRefusal::Malformed(1))),
+    (&[0xFF, 0x0B], Some(LoadRefusal::Malformed(0))),
     // a block's type of floating point
     (&[0x02, 0x7C, 0x0B, 0x0B], Some(LoadRefusal::Unsupported(1))),
     // 1025 labels
-    (&[0x0E, 0x81, 0x08, 0x00], Some(LoadRefusal::TooLarge(5))),
+    (
+        &[0x0E, 0x81, 0x08, 0x00],
+        Some(LoadRefusal::TooLarge(Limit::Labels)),
+    ),
     // nothing
     (&[0x0B], None),
 ];
@@ -130,7 +162,10 @@ fn nested(a: Global, blocks: usize) -> Result<Option<LoadRefusal>, Fail> {
 
 #[test]
 fn nesting_has_a_limit(rt: HostRuntime) -> Result<(), Fail> {
-    for (blocks, wanted) in [(128, None), (129, Some(LoadRefusal::TooLarge(4)))] {
+    for (blocks, wanted) in [
+        (128, None),
+        (129, Some(LoadRefusal::TooLarge(Limit::Nesting))),
+    ] {
         assert_eq!(rt; nested(rt.alloc(), blocks)?, wanted, "{blocks}");
     }
     Ok(())

@@ -1,5 +1,6 @@
 use loader::LoadRefusal::{self, Malformed, TooLarge, Unsupported};
 use loader::load;
+use module_tree::limit::Limit;
 use samples::EXAMPLE;
 use std::alloc::{AllocError, Global};
 use std::process::Abort;
@@ -212,7 +213,7 @@ fn of_size(a: Global, size: usize) -> Result<Option<LoadRefusal>, AllocError> {
 
 #[test]
 fn at_most_1048576_bytes(rt: HostRuntime) -> Result<(), Fail> {
-    for (size, wanted) in [(1_048_576, None), (1_048_577, Some(TooLarge(1)))] {
+    for (size, wanted) in [(1_048_576, None), (1_048_577, Some(TooLarge(Limit::Bytes)))] {
         assert_eq!(rt; of_size(rt.alloc(), size)?, wanted, "{size}");
     }
     Ok(())
@@ -233,7 +234,10 @@ fn functions(a: Global, count: u32) -> Result<usize, Fail> {
     Ok(load(a, &bytes)?.funcs.len())
 }
 
-const TOO_MANY_FUNCTIONS: [Row; 1] = [(&[0x03, 0x03, 0x81, 0x20, 0x00], Some(TooLarge(2)))];
+const TOO_MANY_FUNCTIONS: [Row; 1] = [(
+    &[0x03, 0x03, 0x81, 0x20, 0x00],
+    Some(TooLarge(Limit::Functions)),
+)];
 
 #[test]
 fn at_most_4096_functions(rt: HostRuntime) -> Result<(), Fail> {
@@ -254,14 +258,20 @@ fn refusal_of_entry(a: Global, entry: &[u8]) -> Result<Option<LoadRefusal>, Allo
 // A function's locals and its end, and how they are refused.
 const LOCALS: [Row; 5] = [
     (&[0x01, 0x80, 0x08, 0x7F, 0x0B], None),
-    (&[0x01, 0x81, 0x08, 0x7F, 0x0B], Some(TooLarge(3))),
+    (
+        &[0x01, 0x81, 0x08, 0x7F, 0x0B],
+        Some(TooLarge(Limit::Locals)),
+    ),
     (&[0x02, 0x80, 0x08, 0x7F, 0x00, 0x7E, 0x0B], None),
     (
         &[0x02, 0x80, 0x08, 0x7F, 0x01, 0x7E, 0x0B],
-        Some(TooLarge(3)),
+        Some(TooLarge(Limit::Locals)),
     ),
     // the count of the run comes before its type
-    (&[0x01, 0x81, 0x08, 0x7D, 0x0B], Some(TooLarge(3))),
+    (
+        &[0x01, 0x81, 0x08, 0x7D, 0x0B],
+        Some(TooLarge(Limit::Locals)),
+    ),
 ];
 
 #[test]
@@ -284,7 +294,7 @@ fn nested(a: Global, blocks: usize) -> Result<Option<LoadRefusal>, AllocError> {
 
 #[test]
 fn at_most_128_levels_of_blocks(rt: HostRuntime) -> Result<(), Fail> {
-    for (blocks, wanted) in [(128, None), (129, Some(TooLarge(4)))] {
+    for (blocks, wanted) in [(128, None), (129, Some(TooLarge(Limit::Nesting)))] {
         assert_eq!(rt; nested(rt.alloc(), blocks)?, wanted, "{blocks}");
     }
     Ok(())
@@ -303,7 +313,7 @@ fn labels(a: Global, count: u32) -> Result<Option<LoadRefusal>, AllocError> {
 
 #[test]
 fn at_most_1024_labels(rt: HostRuntime) -> Result<(), Fail> {
-    for (count, wanted) in [(1024, None), (1025, Some(TooLarge(5)))] {
+    for (count, wanted) in [(1024, None), (1025, Some(TooLarge(Limit::Labels)))] {
         assert_eq!(rt; labels(rt.alloc(), count)?, wanted, "{count}");
     }
     Ok(())

@@ -1,16 +1,17 @@
 // Graphs of orders, and orders played to their end.
 use crate::locks::{Taken, touched_by};
 use lock_profile::turns;
-use schedule::{Board, EndRefusal, Graph, turns_agree};
+use ration::Ration;
+use schedule::{Board, EndRefusal, Graph, turns_agree, waves_of};
 use spec_ledger::Kind::{Counter, Map};
 use spec_ledger::Mode::{Add, Excl, Read};
-use std::alloc::Global;
+use std::alloc::{Allocator, Global};
 
 /// The locks that each position of an order takes, and the graph of it: each edge once and in this order, and a wave for each position.
 struct Row<'b> {
     name: &'b str,
     order: &'b [&'b [Taken]],
-    edges: &'b [(usize, u32)],
+    edges: &'b [(u32, u32)],
     waves: &'b [u32],
 }
 
@@ -101,33 +102,75 @@ const ROWS: [Row; 9] = [
     },
 ];
 
+/// A position that reads a counter.
+const READS: [Taken; 1] = [(Counter, 7, Read)];
+
+/// A position that adds to it.
+const ADDS: [Taken; 1] = [(Counter, 7, Add)];
+
+/// How many positions of a crowd read the counter, and how many add to it.
+const HALF: usize = 32_767;
+
+/// An order of positions that read a counter, and behind them as many that add to it.
+fn crowd<'b>(alloc: Global) -> Option<Vec<&'b [Taken]>> {
+    let mut order: Vec<&[Taken]> = Vec::new(alloc);
+    for _ in 0..HALF {
+        order.push(&READS).ok()?;
+    }
+    for _ in 0..HALF {
+        order.push(&ADDS).ok()?;
+    }
+    Some(order)
+}
+
+/// The waves of an order.
+fn waves(alloc: Global, order: &[&[Taken]]) -> Option<Vec<u32>> {
+    let touched = touched_by(alloc, order)?;
+    turns_agree();
+    waves_of(alloc, &turns(alloc, &touched).ok()?).ok()
+}
+
+/// The readers of a crowd are one wave, and the others the next.
+fn are_two_waves(waves: &[u32]) -> bool {
+    waves.len() == 2 * HALF
+        && waves
+            .iter()
+            .enumerate()
+            .all(|(position, wave)| *wave == u32::from(position >= HALF))
+}
+
+#[test]
+fn two_groups_are_two_waves(rt: HostRuntime) {
+    let waves = crowd(rt.alloc()).and_then(|order| waves(rt.alloc(), &order));
+    assert!(rt; waves.is_some_and(|waves| are_two_waves(&waves)));
+}
+
 /// The graph of an order.
-fn graph(alloc: Global, order: &[&[Taken]]) -> Option<Graph> {
+fn graph<A: Allocator + Copy>(alloc: A, order: &[&[Taken]]) -> Option<Graph<A>> {
     let touched = touched_by(alloc, order)?;
     turns_agree();
     Graph::of(alloc, &turns(alloc, &touched).ok()?).ok()
 }
 
 /// These are its edges, in this order.
-fn has_edges(graph: &Graph, edges: &[(usize, u32)]) -> bool {
+fn has_edges(alloc: Global, graph: &Graph, edges: &[(u32, u32)]) -> Option<bool> {
     let mut wanted = edges.iter();
-    for (position, successors) in graph.edges().iter().enumerate() {
-        for successor in successors.as_slice() {
-            if wanted.next() != Some(&(position, *successor)) {
-                return false;
+    for (position, _) in graph.waves().iter().enumerate() {
+        let position = u32::try_from(position).ok()?;
+        for successor in graph.successors(alloc, position).ok()? {
+            if wanted.next() != Some(&(position, successor)) {
+                return Some(false);
             }
         }
     }
-    wanted.next().is_none()
+    Some(wanted.next().is_none())
 }
 
 /// The order has the graph of its row.
 fn is_graph(alloc: Global, row: &Row) -> bool {
     match graph(alloc, row.order) {
         Some(graph) => {
-            graph.waves() == row.waves
-                && graph.edges().len() == row.waves.len()
-                && has_edges(&graph, row.edges)
+            graph.waves() == row.waves && has_edges(alloc, &graph, row.edges) == Some(true)
         }
         None => false,
     }
@@ -148,7 +191,7 @@ struct Game<'b> {
     ends: &'b [(u32, Result<&'b [u32], EndRefusal>)],
 }
 
-const GAMES: [Game; 2] = [
+const GAMES: [Game; 3] = [
     Game {
         name: "a position is ready when its predecessor has ended",
         order: &[
@@ -177,10 +220,30 @@ const GAMES: [Game; 2] = [
         ready: &[0],
         ends: &[(0, Ok(&[1, 2])), (2, Ok(&[])), (1, Ok(&[3])), (3, Ok(&[]))],
     },
+    Game {
+        name: "the last of a group frees all of the next",
+        order: &[&READS, &READS, &READS, &ADDS, &ADDS, &ADDS, &READS],
+        ready: &[0, 1, 2],
+        ends: &[
+            (2, Ok(&[])),
+            (3, Err(EndRefusal::NotReady)),
+            (0, Ok(&[])),
+            (1, Ok(&[3, 4, 5])),
+            (4, Ok(&[])),
+            (5, Ok(&[])),
+            (6, Err(EndRefusal::NotReady)),
+            (3, Ok(&[6])),
+            (6, Ok(&[])),
+        ],
+    },
 ];
 
 /// The end of a position is answered so.
-fn ends(board: &mut Board, position: u32, wanted: Result<&[u32], EndRefusal>) -> bool {
+fn ends<A: Allocator + Copy>(
+    board: &mut Board<A>,
+    position: u32,
+    wanted: Result<&[u32], EndRefusal>,
+) -> bool {
     match board.end(position) {
         Ok(free) => wanted == Ok(free.as_slice()),
         Err(refusal) => wanted == Err(refusal),
@@ -210,5 +273,72 @@ fn is_played(alloc: Global, game: &Game) -> bool {
 fn orders_played_to_their_end(rt: HostRuntime) {
     for game in &GAMES {
         assert!(rt; is_played(rt.alloc(), game), "{}", game.name);
+    }
+}
+
+/// A crowd is played to its end: its readers are ready, the last of them frees the others, and no other end frees any.
+fn crowd_is_played(alloc: Global) -> Option<bool> {
+    let order = crowd(alloc)?;
+    let graph = graph(alloc, &order)?;
+    let mut board = Board::open(alloc, &graph).ok()?;
+    if board.ready().len() != HALF {
+        return Some(false);
+    }
+    for position in 0..2 * HALF {
+        let free = board.end(position as u32).ok()?;
+        let wanted = if position + 1 == HALF { HALF } else { 0 };
+        if free.len() != wanted {
+            return Some(false);
+        }
+    }
+    Some(true)
+}
+
+#[test]
+fn two_groups_played_to_their_end(rt: HostRuntime) {
+    assert!(rt; crowd_is_played(rt.alloc()) == Some(true));
+}
+
+/// What is answered is what the game says, or memory is refused: then it is refused again, since the board is unchanged. None where
+/// it is refused.
+fn is_played_in<A: Allocator + Copy>(alloc: A, game: &Game) -> Option<bool> {
+    let graph = graph(alloc, game.order)?;
+    let mut board = Board::open(alloc, &graph).ok()?;
+    for (position, wanted) in game.ends {
+        match board.end(*position) {
+            Err(EndRefusal::NoMemory) => {
+                return if ends(&mut board, *position, Err(EndRefusal::NoMemory)) {
+                    None
+                } else {
+                    Some(false)
+                };
+            }
+            Err(refusal) => {
+                if *wanted != Err(refusal) {
+                    return Some(false);
+                }
+            }
+            Ok(free) => {
+                if *wanted != Ok(free.as_slice()) {
+                    return Some(false);
+                }
+            }
+        }
+    }
+    Some(true)
+}
+
+/// No game of this file takes more blocks of memory.
+const BLOCKS: u64 = 400;
+
+#[test]
+fn memory_refused_at_each_block(rt: HostRuntime) {
+    for game in &GAMES {
+        for blocks in 0..BLOCKS {
+            let ration = Ration::new(rt.alloc(), blocks);
+            assert!(rt; is_played_in(&ration, game) != Some(false), "{}", game.name);
+        }
+        let ration = Ration::new(rt.alloc(), BLOCKS);
+        assert!(rt; is_played_in(&ration, game) == Some(true), "{}", game.name);
     }
 }

@@ -17,3 +17,4 @@ mod numbers;
 mod profiles;
 #[cfg(test)]
 mod records_of_calls;
+mod refusals;

@@ -3,7 +3,7 @@ ghost use Rattle.std.specs.Prelude.{IfSome, length, ◌<◌, ◌^◌};
 
 use lock_profile::{Held, Profile, Touched};
 use spec_ledger::{Entry, Kind, Lock, Mode};
-use std::alloc::Global;
+use std::alloc::{Allocator, Global};
 
 /// A lock that a position takes, by its kind and its key, and its mode.
 pub type Taken = (Kind, u64, Mode);
@@ -38,7 +38,7 @@ pub fn profile(alloc: Global, turns: &[Turn]) -> Option<Profile> {
 }
 
 /// The map of these locks, if they rise.
-pub fn touched(alloc: Global, taken: &[Taken]) -> Option<Touched> {
+pub fn touched<A: Allocator + Copy>(alloc: A, taken: &[Taken]) -> Option<Touched<A>> {
     let mut held = Vec::new(alloc);
     for (kind, key, mode) in taken {
         let lock = lock(*kind, *key);
@@ -48,7 +48,7 @@ pub fn touched(alloc: Global, taken: &[Taken]) -> Option<Touched> {
 }
 
 /// The maps of the locks of the positions of an order, fewer than 65,536.
-pub fn touched_by(alloc: Global, order: &[&[Taken]]) -> Option<Vec<Touched>>
+pub fn touched_by<A: Allocator + Copy>(alloc: A, order: &[&[Taken]]) -> Option<Vec<Touched<A>, A>>
     ensures { IfSome result (λ maps. length maps.items < 2 ^ 16) }
 {
     let mut maps = Vec::new(alloc);

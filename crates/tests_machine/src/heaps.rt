@@ -1,8 +1,9 @@
 //! Linear memory in a heap of fixed size, where growth is refused.
 
 use linked_list_allocator::LocalHeap;
-use memory::{Linear, NoMemory, StoreRefusal};
+use memory::{Linear, NoMemory, PAGE_LIMIT, StoreRefusal};
 use std::process::Abort;
+use wtypes::TrapCode;
 
 /// Spells the bytes 8, 7, .. 1.
 const VALUE: u64 = 0x0102_0304_0506_0708;
@@ -29,6 +30,13 @@ fn a_heap_for_the_list_alone(rt: HostRuntime) {
         Err(StoreRefusal::NoMemory)
     );
     assert_all_zero(&rt, &memory);
+    assert_eq!(rt; memory.write_all(5, b""), Ok(()));
+    assert_eq!(rt; memory.write_all(BYTES, b""), Ok(()));
+    assert_eq!(rt;
+        memory.write_all(BYTES + 1, b""),
+        Err(StoreRefusal::Trap(TrapCode::MemoryOutOfBounds))
+    );
+    assert_eq!(rt; memory.write_all(5, b"a"), Err(StoreRefusal::NoMemory));
 }
 
 // The store gets one of the two pages that it meets, and writes nothing.
@@ -68,19 +76,19 @@ fn a_heap_for_two_pages(rt: HostRuntime) {
 #[test]
 fn a_heap_for_a_short_list(rt: HostRuntime) {
     let heap = LocalHeap::new(rt.alloc(), 1_000).expect(&rt, "heap");
-    let mut memory = Linear::new(&heap, 2, 256).expect(&rt, "memory");
-    assert_eq!(rt; memory.grow(254), Err(NoMemory));
+    let mut memory = Linear::new(&heap, 2, PAGE_LIMIT).expect(&rt, "memory");
+    assert_eq!(rt; memory.grow(1_022), Err(NoMemory));
     assert_eq!(rt; memory.size(), 2);
-    assert_eq!(rt; memory.grow(255), Ok(-1));
+    assert_eq!(rt; memory.grow(1_023), Ok(-1));
     assert_eq!(rt; memory.grow(1), Ok(2));
     assert_all_zero(&rt, &memory);
-    assert!(rt; Linear::new(&heap, 256, 256).is_err());
+    assert!(rt; Linear::new(&heap, 1_024, PAGE_LIMIT).is_err());
 }
 
-// 256 pages without a byte of their own stand in a heap that has no room for one page.
+// 1,024 pages without a byte of their own stand in a heap that has no room for one page.
 #[test]
 fn fresh_pages_take_no_bytes(rt: HostRuntime) {
-    let heap = LocalHeap::new(rt.alloc(), 10_000).expect(&rt, "heap");
-    let memory = Linear::new(&heap, 256, 256).expect(&rt, "memory");
-    assert_eq!(rt; memory.load(16_777_208, 0, 8), Ok(0));
+    let heap = LocalHeap::new(rt.alloc(), 60_000).expect(&rt, "heap");
+    let memory = Linear::new(&heap, 1_024, PAGE_LIMIT).expect(&rt, "memory");
+    assert_eq!(rt; memory.load(67_108_856, 0, 8), Ok(0));
 }

@@ -10,6 +10,8 @@ mod heaps;
 #[cfg(test)]
 mod linear;
 #[cfg(test)]
+mod messages;
+#[cfg(test)]
 mod operators_32;
 #[cfg(test)]
 mod operators_64;

@@ -58,6 +58,16 @@ fn grows_to_the_greatest_size(rt: HostRuntime) {
 }
 
 #[test]
+fn grows_to_the_page_limit(rt: HostRuntime) {
+    for (delta, answer, size) in [(1_023, 1, 1_024), (1_024, -1, 1)] {
+        let mut memory = Linear::new(rt.alloc(), 1, PAGE_LIMIT).expect(&rt, "memory");
+        assert_eq!(rt; memory.grow(delta), Ok(answer), "by {delta}");
+        assert_eq!(rt; memory.size(), size, "by {delta}");
+        assert_eq!(rt; memory.grow(1_024), Ok(-1), "by {delta}");
+    }
+}
+
+#[test]
 fn reads_bytes_over_the_border(rt: HostRuntime) {
     let mut memory = Linear::new(rt.alloc(), 2, 2).expect(&rt, "memory");
     assert_eq!(rt; memory.store(65_535, 0, 2, 0x0201), Ok(()));

@@ -4,8 +4,8 @@ ghost use Rattle.interp.specs.Progress.{IsFree};
 ghost use Rattle.spec_execution.specs.Run.{IsReply};
 
 use crate::programs::{
-    ASKING_FIRST, COUNTDOWN, ELEMENTS, EMPTY_START, ENDLESS_START, EXPORTS, FALLING, GROWTH, HOST,
-    IMPORTED_ELEMENTS, ROWS, STARTED,
+    ASKING_FIRST, COUNTDOWN, DECLARED_BEYOND, ELEMENTS, EMPTY_START, ENDLESS_START, EXPORTS,
+    FALLING, GROWTH, HOST, IMPORTED_ELEMENTS, PAGES, ROWS, SIGNS, STARTED, STORING,
 };
 use call::Call;
 use interp::finished::Finished;
@@ -13,9 +13,10 @@ use interp::machine::Machine;
 use interp::start::StartRefusal;
 use interp::turns::Turn;
 use link::deployed::Deployed;
+use linked_list_allocator::LocalHeap;
 use samples::{FIRST_MODULE, call, deployed};
 use spec_ledger::{Op, Outcome, Place, Reply, Step};
-use std::alloc::Global;
+use std::alloc::{Allocator, Global};
 use std::process::Abort;
 use std::test::Fail;
 use wtypes::{TrapCode, Value};
@@ -35,7 +36,7 @@ fn reply_to(op: Op) -> Reply
 }
 
 // Makes a turn, with the reply of the host where it was asked.
-fn make_turn<'a>(machine: &mut Machine<'a, Global>) -> Turn
+fn make_turn<'a, A: Allocator + Copy>(machine: &mut Machine<'a, A>) -> Turn
     requires { IsFree machine.old.status }
     ensures { IsFree machine.new.status }
 {
@@ -49,6 +50,17 @@ fn make_turn<'a>(machine: &mut Machine<'a, Global>) -> Turn
     turn
 }
 
+// Makes turns up to the end.
+fn play<'a>(machine: &mut Machine<'a, Global>)
+    requires { IsFree machine.old.status }
+{
+    for _ in 0..1_000_000 {
+        if let Turn::Done(_) = make_turn(machine) {
+            break;
+        }
+    }
+}
+
 fn run<'a>(
     alloc: Global,
     contracts: &'a [Deployed<Global>],
@@ -57,11 +69,7 @@ fn run<'a>(
     let mut machine = Machine::start(alloc, contracts, call)
         .ok()
         .ok_or("a machine")?;
-    for _ in 0..1_000_000 {
-        if let Turn::Done(_) = make_turn(&mut machine) {
-            break;
-        }
-    }
+    play(&mut machine);
     Ok(machine.finish().ok().ok_or("its end")?)
 }
 
@@ -151,6 +159,56 @@ fn growth(rt: HostRuntime) -> Result<(), Fail> {
         ("new_page", Value::I32(77)),
     ];
     assert_values(&rt, rt.alloc(), &GROWTH, &rows)
+}
+
+// Each extension of a sign takes one unit of the fuel.
+#[test]
+fn extensions_of_signs(rt: HostRuntime) -> Result<(), Fail> {
+    let alloc = rt.alloc();
+    let contracts = [deployed(alloc, &SIGNS)?];
+    for (name, value, used) in [
+        ("byte_128", Value::I32(-128), 2),
+        ("byte_127", Value::I32(127), 2),
+        ("half_32768", Value::I32(-32768), 2),
+        ("wide_byte_255", Value::I64(-1), 2),
+        ("wide_half_65535", Value::I64(-1), 2),
+        ("word_2147483648", Value::I64(-2147483648), 2),
+        ("word_4294967296", Value::I64(0), 2),
+        ("in_turn", Value::I64(-127), 7),
+    ] {
+        let found = ending(alloc, &contracts, name, 10_000)?;
+        assert_eq!(rt; found, (Outcome::Returned(Some(value)), used), "of {name}");
+        let short = ending(alloc, &contracts, name, used - 1)?;
+        assert_eq!(rt; short, (Outcome::OutOfFuel, used - 1), "of {name}");
+    }
+    Ok(())
+}
+
+// The values are those that V8 (Node.js 20.20) gives where a maximum of 1,024 pages is declared.
+#[test]
+fn growth_to_the_page_limit(rt: HostRuntime) -> Result<(), Fail> {
+    let alloc = rt.alloc();
+    let pages = [deployed(alloc, &PAGES)?];
+    let declared = [deployed(alloc, &DECLARED_BEYOND)?];
+    let one = Outcome::Returned(Some(Value::I32(1)));
+    let refused = Outcome::Returned(Some(Value::I32(-1)));
+    let most = Outcome::Returned(Some(Value::I32(1024)));
+    let nine = Outcome::Returned(Some(Value::I32(9)));
+    let outside = Outcome::Trapped(TrapCode::MemoryOutOfBounds);
+    for (contracts, name, outcome, used) in [
+        (&pages, "by_256", one, 2),
+        (&pages, "by_1023", one, 2),
+        (&pages, "by_1024", refused, 2),
+        (&pages, "size_after", most, 7),
+        (&pages, "last_byte", nine, 8),
+        (&pages, "past", outside, 5),
+        (&declared, "by_1023", one, 2),
+        (&declared, "by_1024", refused, 2),
+    ] {
+        let found = ending(alloc, contracts, name, 10_000)?;
+        assert_eq!(rt; found, (outcome, used), "of {name}");
+    }
+    Ok(())
 }
 
 #[test]
@@ -372,9 +430,13 @@ fn host_calls(rt: HostRuntime) -> Result<(), Fail> {
 #[test]
 fn refusals(rt: HostRuntime) -> Result<(), Fail> {
     let alloc = rt.alloc();
-    let contracts = [deployed(alloc, &ROWS)?, deployed(alloc, &COUNTDOWN)?];
+    let contracts = [
+        deployed(alloc, &ROWS)?,
+        deployed(alloc, &COUNTDOWN)?,
+        deployed(alloc, &STARTED)?,
+    ];
     for (number, name, args, refusal) in [
-        (2, "down", [].as_slice(), StartRefusal::NoContract),
+        (3, "down", [].as_slice(), StartRefusal::NoContract),
         (1, "up", [].as_slice(), StartRefusal::NoExport),
         (0, "memory", [].as_slice(), StartRefusal::NotFunction),
         (1, "down", [].as_slice(), StartRefusal::ArgCount),
@@ -383,6 +445,12 @@ fn refusals(rt: HostRuntime) -> Result<(), Fail> {
             "down",
             [Value::I32(2)].as_slice(),
             StartRefusal::ArgType(0),
+        ),
+        (
+            2,
+            "less",
+            [Value::I64(1), Value::I32(2)].as_slice(),
+            StartRefusal::ArgType(1),
         ),
     ] {
         let call = call(alloc, number, name, args, 100)?;
@@ -466,5 +534,113 @@ fn the_start_function_asks_the_host_before_the_entry(rt: HostRuntime) -> Result<
     let finished = machine.finish().ok().ok_or("its end")?;
     assert_eq!(rt; finished.trace(), [ADDED, TOTALLED].as_slice());
     assert_eq!(rt; finished.used(), 5);
+    Ok(())
+}
+
+// What is shown after Done: the returned value, if there is one.
+#[test]
+fn the_end_is_shown(rt: HostRuntime) -> Result<(), Fail> {
+    let alloc = rt.alloc();
+    let contracts = [deployed(alloc, &ROWS)?, deployed(alloc, &FIRST_MODULE)?];
+    let total = Outcome::Returned(Some(Value::I64(12)));
+    for (number, name, args, fuel, outcome, stack) in [
+        (
+            1,
+            "run",
+            [Value::I64(7)].as_slice(),
+            7,
+            total,
+            [Value::I64(12)].as_slice(),
+        ),
+        (
+            1,
+            "run",
+            [Value::I64(7)].as_slice(),
+            6,
+            Outcome::OutOfFuel,
+            [].as_slice(),
+        ),
+        (
+            0,
+            "nothing",
+            [].as_slice(),
+            2,
+            Outcome::Returned(None),
+            [].as_slice(),
+        ),
+        (
+            0,
+            "endless",
+            [].as_slice(),
+            256,
+            Outcome::Trapped(TrapCode::CallDepth),
+            [].as_slice(),
+        ),
+    ] {
+        let call = call(alloc, number, name, args, fuel)?;
+        let mut machine = Machine::start(alloc, &contracts, &call)
+            .ok()
+            .ok_or("a machine")?;
+        play(&mut machine);
+        assert_eq!(rt; machine.ending(), Some(outcome), "of {name}");
+        assert_eq!(rt; machine.stack(), stack, "of {name} with {fuel}");
+        assert!(rt; machine.locals().is_empty(), "of {name}");
+        assert!(rt; machine.place().is_none(), "of {name}");
+    }
+    Ok(())
+}
+
+// Whether a machine in a heap of so many bytes wants memory for the growth, again and again, and has no end.
+fn wants_memory_to_grow(alloc: Global, bytes: usize, name: &str) -> Result<bool, Fail> {
+    let heap = LocalHeap::new(alloc, bytes)?;
+    let contracts = [deployed(&heap, &PAGES)?];
+    let call = call(alloc, 0, name, &[], 10)?;
+    let mut machine = Machine::start(&heap, &contracts, &call)
+        .ok()
+        .ok_or("a machine")?;
+    let mut wants = make_turn(&mut machine) == Turn::Stepped;
+    for _ in 0..3 {
+        wants = wants && make_turn(&mut machine) == Turn::NoMemory;
+    }
+    Ok(wants && machine.finish().is_err())
+}
+
+// Growth to 1,024 pages needs a list of them, and takes no page. What passes the limit needs no memory.
+#[test]
+fn want_of_memory_for_the_growth(rt: HostRuntime) -> Result<(), Fail> {
+    for (bytes, name, wants) in [
+        (20_000, "by_1023", true),
+        (60_000, "by_1023", true),
+        (20_000, "by_1024", false),
+        (120_000, "by_1023", false),
+    ] {
+        let found = wants_memory_to_grow(rt.alloc(), bytes, name)?;
+        assert_eq!(rt; found, wants, "{name} in {bytes}");
+    }
+    Ok(())
+}
+
+// The heap has no room for a page. The segment without bytes takes none, and the store is refused one, again and again.
+#[test]
+fn want_of_memory_is_the_last_answer(rt: HostRuntime) -> Result<(), Fail> {
+    let heap = LocalHeap::new(rt.alloc(), 30_000)?;
+    let contracts = [deployed(&heap, &STORING)?];
+    let call = call(rt.alloc(), 0, "put", &[], 10)?;
+    let mut machine = Machine::start(&heap, &contracts, &call)
+        .ok()
+        .ok_or("a machine")?;
+    for (number, turn) in [
+        Turn::Stepped,
+        Turn::Stepped,
+        Turn::NoMemory,
+        Turn::NoMemory,
+        Turn::NoMemory,
+    ]
+    .iter()
+    .enumerate()
+    {
+        assert_eq!(rt; make_turn(&mut machine), *turn, "turn {number}");
+    }
+    assert!(rt; machine.finish().is_err());
     Ok(())
 }

@@ -283,13 +283,24 @@ fn want_of_fuel(rt: HostRuntime) -> Result<(), Fail> {
 #[test]
 fn a_call_that_does_not_start(rt: HostRuntime) -> Result<(), Fail> {
     let alloc = rt.alloc();
-    let contracts = [deployed(alloc, &COUNTDOWN)?];
-    let up = calling(alloc, "up", &[], 15)?;
+    let contracts = [deployed(alloc, &COUNTDOWN)?, deployed(alloc, &EXAMPLE)?];
     let cells = Cells::new(alloc);
-    assert_eq!(rt;
-        Session::open(alloc, &contracts, &cells, &up).err(),
-        Some(StartRefusal::NoExport)
-    );
+    for (number, name, args, refusal) in [
+        (0, "up", [].as_slice(), StartRefusal::NoExport),
+        (
+            1,
+            "both",
+            [Value::I64(7), Value::I32(1)].as_slice(),
+            StartRefusal::ArgType(1),
+        ),
+    ] {
+        let call = call(alloc, number, name, args, 15)?;
+        assert_eq!(rt;
+            Session::open(alloc, &contracts, &cells, &call).err(),
+            Some(refusal),
+            "of {name}"
+        );
+    }
     Ok(())
 }
 

@@ -104,6 +104,56 @@ fn rules(rt: HostRuntime) -> Result<(), Fail> {
                 b"\x01\x04\x01`\x00\x00\x03\x02\x01\x00\x0a\x0c\x01\x0a\x00A\x00B\x00A\x01\x1b\x1a\x0b",
                 Broken(Some(0), 3, 17),
             ),
+            // (module (func (param i32) (param i64) (result i64) local.get 0 i32.extend8_s i32.extend16_s drop local.get 1 i64.extend8_s i64.extend16_s i64.extend32_s))
+            (
+                b"\x01\x07\x01`\x02\x7f~\x01~\x03\x02\x01\x00\x0a\x0e\x01\x0c\x00 \x00\xc0\xc1\x1a \x01\xc2\xc3\xc4\x0b",
+                Deployed,
+            ),
+            // (module (func i64.const 0 i32.extend8_s drop))
+            (
+                b"\x01\x04\x01`\x00\x00\x03\x02\x01\x00\x0a\x08\x01\x06\x00B\x00\xc0\x1a\x0b",
+                Broken(Some(0), 1, 17),
+            ),
+            // (module (func i64.const 0 i32.extend16_s drop))
+            (
+                b"\x01\x04\x01`\x00\x00\x03\x02\x01\x00\x0a\x08\x01\x06\x00B\x00\xc1\x1a\x0b",
+                Broken(Some(0), 1, 17),
+            ),
+            // (module (func i32.const 0 i64.extend8_s drop))
+            (
+                b"\x01\x04\x01`\x00\x00\x03\x02\x01\x00\x0a\x08\x01\x06\x00A\x00\xc2\x1a\x0b",
+                Broken(Some(0), 1, 17),
+            ),
+            // (module (func i32.const 0 i64.extend16_s drop))
+            (
+                b"\x01\x04\x01`\x00\x00\x03\x02\x01\x00\x0a\x08\x01\x06\x00A\x00\xc3\x1a\x0b",
+                Broken(Some(0), 1, 17),
+            ),
+            // (module (func i32.const 0 i64.extend32_s drop))
+            (
+                b"\x01\x04\x01`\x00\x00\x03\x02\x01\x00\x0a\x08\x01\x06\x00A\x00\xc4\x1a\x0b",
+                Broken(Some(0), 1, 17),
+            ),
+            // (module (func i32.extend8_s drop))
+            (
+                b"\x01\x04\x01`\x00\x00\x03\x02\x01\x00\x0a\x06\x01\x04\x00\xc0\x1a\x0b",
+                Broken(Some(0), 0, 17),
+            ),
+            // (module (func (result i64) i32.const 0 i32.extend8_s))
+            (
+                b"\x01\x05\x01`\x00\x01~\x03\x02\x01\x00\x0a\x07\x01\x05\x00A\x00\xc0\x0b",
+                Broken(Some(0), 2, 18),
+            ),
+            // (module (func (result i32) unreachable i32.extend16_s))
+            (
+                b"\x01\x05\x01`\x00\x01\x7f\x03\x02\x01\x00\x0a\x06\x01\x04\x00\x00\xc1\x0b",
+                Deployed,
+            ),
+            // (module (func (result i32) unreachable i64.extend32_s))
+            (
+                b"\x01\x05\x01`\x00\x01\x7f\x03\x02\x01\x00\x0a\x06\x01\x04\x00\x00\xc4\x0b",
+                Broken(Some(0), 2, 18),
+            ),
             // (module (func drop))
             (
                 b"\x01\x04\x01`\x00\x00\x03\x02\x01\x00\x0a\x05\x01\x03\x00\x1a\x0b",

@@ -133,10 +133,10 @@ fn sizes(rt: HostRuntime) -> Result<(), Fail> {
         &rt,
         rt.alloc(),
         &[
-            // (module (memory 256))
-            (b"\x05\x04\x01\x00\x80\x02", Deployed),
-            // (module (memory 257))
-            (b"\x05\x04\x01\x00\x81\x02", Unlinked(TooManyPages)),
+            // (module (memory 1024))
+            (b"\x05\x04\x01\x00\x80\x08", Deployed),
+            // (module (memory 1025))
+            (b"\x05\x04\x01\x00\x81\x08", Unlinked(TooManyPages)),
             // (module (memory 0 65536))
             (b"\x05\x06\x01\x01\x00\x80\x80\x04", Deployed),
             // (module (table 65536 funcref))
@@ -146,9 +146,9 @@ fn sizes(rt: HostRuntime) -> Result<(), Fail> {
             // (module (table 0 4294967295 funcref))
             (b"\x04\x09\x01p\x01\x00\xff\xff\xff\xff\x0f", Deployed),
             // Imports, segments, the memory, the table.
-            // (module (import "env" "get" (func)) (memory 257) (data (i32.const -1) "a"))
+            // (module (import "env" "get" (func)) (memory 1025) (data (i32.const -1) "a"))
             (
-                b"\x01\x04\x01`\x00\x00\x02\x0b\x01\x03env\x03get\x00\x00\x05\x04\x01\x00\x81\x02\x0b\x07\x01\x00A\x7f\x0b\x01a",
+                b"\x01\x04\x01`\x00\x00\x02\x0b\x01\x03env\x03get\x00\x00\x05\x04\x01\x00\x81\x08\x0b\x07\x01\x00A\x7f\x0b\x01a",
                 Unlinked(UnknownImport(0)),
             ),
             // (module (import "boost" "get" (func)) (table 65537 funcref))
@@ -156,9 +156,9 @@ fn sizes(rt: HostRuntime) -> Result<(), Fail> {
                 b"\x01\x04\x01`\x00\x00\x02\x0d\x01\x05boost\x03get\x00\x00\x04\x06\x01p\x00\x81\x80\x04",
                 Unlinked(ImportType(0)),
             ),
-            // (module (memory 257) (data (i32.const -1) "a"))
+            // (module (memory 1025) (data (i32.const -1) "a"))
             (
-                b"\x05\x04\x01\x00\x81\x02\x0b\x07\x01\x00A\x7f\x0b\x01a",
+                b"\x05\x04\x01\x00\x81\x08\x0b\x07\x01\x00A\x7f\x0b\x01a",
                 Unlinked(SegmentRange(0)),
             ),
             // (module (table 65537 funcref) (func) (elem (i32.const -1) 0))
@@ -166,9 +166,9 @@ fn sizes(rt: HostRuntime) -> Result<(), Fail> {
                 b"\x01\x04\x01`\x00\x00\x03\x02\x01\x00\x04\x06\x01p\x00\x81\x80\x04\x09\x07\x01\x00A\x7f\x0b\x01\x00\x0a\x04\x01\x02\x00\x0b",
                 Unlinked(SegmentRange(0)),
             ),
-            // (module (table 65537 funcref) (memory 257))
+            // (module (table 65537 funcref) (memory 1025))
             (
-                b"\x04\x06\x01p\x00\x81\x80\x04\x05\x04\x01\x00\x81\x02",
+                b"\x04\x06\x01p\x00\x81\x80\x04\x05\x04\x01\x00\x81\x08",
                 Unlinked(TooManyPages),
             ),
         ],

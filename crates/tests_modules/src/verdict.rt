@@ -17,7 +17,7 @@ pub enum Verdict {
     Deployed,
     /// The bytes spell no module.
     Unread,
-    /// It is not typed: the function, the ordinal and the rule that is broken.
+    /// It is not typed: the function, the ordinal and the number of the rule that is broken.
     Broken(Option<u32>, u32, u8),
     /// It is typed and is not deployed.
     Unlinked(LinkRefusal),
@@ -33,7 +33,7 @@ fn broken(refusal: TypeRefusal) -> Verdict {
             func,
             ordinal,
             rule,
-        } => Verdict::Broken(func, ordinal, rule),
+        } => Verdict::Broken(func, ordinal, rule.number()),
         TypeRefusal::NoMemory => Verdict::NoMemory,
     }
 }

@@ -18,6 +18,8 @@ mod module_lines;
 #[cfg(test)]
 mod modules;
 #[cfg(test)]
+mod paces;
+#[cfg(test)]
 mod rows;
 #[cfg(test)]
 mod words;

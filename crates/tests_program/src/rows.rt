@@ -1,6 +1,7 @@
 //! Lines of words over files in memory, as rows of plain data.
 
 use codec::{Failures, MemorySink};
+use pace::NoPace;
 use std::alloc::{AllocError, Global};
 use std::str::from_utf8;
 use std::sync::Wait;
@@ -144,7 +145,7 @@ fn run_row<R: Threads + Wait + Sync>(rt: &R, alloc: Global, row: &Line) -> Resul
     let mut files = holding(alloc, 100, row.files, row.file_fails)?;
     let mut out = MemorySink::new(alloc, 3, failing(row.out_fails));
     let mut err = MemorySink::new(alloc, 3, Failures::none());
-    let status = run_line(rt, alloc, &words, &mut files, &mut out, &mut err);
+    let status = run_line(rt, alloc, &words, &mut files, &mut out, &mut err, &NoPace);
     Ok(Run {
         status,
         out,

@@ -1,7 +1,8 @@
 // The worked examples of a book, by its calls and by events.
+use boost::attempt::Entry;
 use boost::book::{BeginRefusal, Book, Closed, CommitRefusal, OpRefusal, Run, Ticket};
 use boost::play::{Answer, Event};
-use spec_ledger::{Kind, Lock, Op, Outcome, Place, Reply, Step};
+use spec_ledger::{Kind, Lock, Mode, Op, Outcome, Place, Reply, Step};
 use std::alloc::Global;
 use storage::{Cells, lock};
 use wtypes::TrapCode;
@@ -652,4 +653,86 @@ fn books_by_lists_of_events(rt: HostRuntime) {
     for list in &LISTS {
         assert!(rt; is_answered(rt.alloc(), list), "{}", list.name);
     }
+}
+
+/// What an entry says: its call, its trace, how it ended, and in which mode it held these locks.
+#[derive(Drop)]
+struct Told<'b> {
+    call: u32,
+    trace: &'b [Step],
+    outcome: Outcome,
+    modes: &'b [(Lock, Option<Mode>)],
+}
+
+const TOTAL_3: Step = Step {
+    op: Op::Total(SEVEN),
+    reply: Reply::I64(3),
+};
+
+/// An adder is committed, and after it a call that looks at the sum, adds to it and traps.
+const TWO_CALLS: [Event; 7] = [
+    Begin(1),
+    Event::Op(1, Op::Add(SEVEN, 3)),
+    Commit(
+        1,
+        Run {
+            trace: &[ADD_3],
+            outcome: RETURNED,
+        },
+    ),
+    Begin(0),
+    Event::Op(0, Op::Total(SEVEN)),
+    Event::Op(0, Op::Add(SEVEN, 5)),
+    Commit(
+        0,
+        Run {
+            trace: &[TOTAL_3, ADD_5],
+            outcome: TRAPPED,
+        },
+    ),
+];
+
+const ORDER: [Told; 2] = [
+    Told {
+        call: 1,
+        trace: &[ADD_3],
+        outcome: RETURNED,
+        modes: &[(COUNTER_SEVEN, Some(Mode::Add)), (MAP_ONE, None)],
+    },
+    Told {
+        call: 0,
+        trace: &[TOTAL_3, ADD_5],
+        outcome: TRAPPED,
+        modes: &[(COUNTER_SEVEN, Some(Mode::Excl)), (MAP_ONE, None)],
+    },
+];
+
+fn tells(entry: &Entry, told: &Told) -> bool {
+    entry.call() == told.call
+        && entry.trace() == told.trace
+        && entry.outcome() == told.outcome
+        && told
+            .modes
+            .iter()
+            .all(|(lock, mode)| entry.mode(*lock) == *mode)
+}
+
+fn tell_the_order(alloc: Global) -> bool {
+    match Book::play(alloc, Cells::new(alloc), &TWO_CALLS) {
+        Ok((book, _answers)) => {
+            let closed = book.close();
+            closed.entries.len() == ORDER.len()
+                && closed
+                    .entries
+                    .iter()
+                    .zip(ORDER.iter())
+                    .all(|(entry, told)| tells(entry, told))
+        }
+        Err(_) => false,
+    }
+}
+
+#[test]
+fn an_order_is_read_from_entries(rt: HostRuntime) {
+    assert!(rt; tell_the_order(rt.alloc()));
 }

@@ -4,8 +4,8 @@ use std::alloc::Global;
 use std::process::Abort;
 use std::test::Fail;
 use text_body::shared::Part;
-use text_body::{Flat, Index, Opener, body, shared};
-use text_words::{Piece, TextRefusal, Word};
+use text_body::{Flat, Index, Opener, Unread, body, shared};
+use text_words::{Piece, Word};
 use wtypes::{BinOp, LoadOp, ValType};
 
 // A letter for each instruction of a body.
@@ -34,7 +34,7 @@ fn letter(flat: &Flat<'_, Global>) -> u8 {
 }
 
 /// The letters of a body, and how many words are behind it; or how it is refused, with how many words are left.
-type Answer = Result<(Vec<u8, Global>, usize), TextRefusal>;
+type Answer = Result<(Vec<u8, Global>, usize), Unread>;
 
 fn answer_to(a: Global, text: &str) -> Result<Answer, Fail> {
     let words = words_of(a, text)?;
@@ -131,7 +131,7 @@ const BROKEN: [(&str, usize); 12] = [
 #[test]
 fn broken_bodies(rt: HostRuntime) -> Result<(), Fail> {
     for (text, left) in BROKEN {
-        let wanted = Some(TextRefusal::Unexpected(left));
+        let wanted = Some(Unread::Stuck(left));
         assert_eq!(rt; answer_to(rt.alloc(), text)?.err(), wanted, "{text}");
     }
     Ok(())
@@ -145,7 +145,7 @@ fn begins_with_one_name(rest: &mut &[Word]) -> bool {
 }
 
 // Whether a type of two parameters and an `i32`, then no results, and then one local are read.
-fn goes_on_with_parts(a: Global, rest: &mut &[Word]) -> Result<bool, TextRefusal> {
+fn goes_on_with_parts(a: Global, rest: &mut &[Word]) -> Result<bool, Unread> {
     let written = shared::type_use(&a, rest)?;
     let results = shared::results(&a, rest)?;
     let locals = shared::bindings(&a, Part::Local, rest)?;

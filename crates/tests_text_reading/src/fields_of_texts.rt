@@ -419,3 +419,58 @@ const LEAST_PLACE: [Broken; 6] = [
 fn the_least_place(rt: HostRuntime) -> Result<(), Fail> {
     refuses(&rt, rt.alloc(), &LEAST_PLACE)
 }
+
+// The place of a name, if there is one.
+fn place(name: Option<Piece<'_>>) -> Option<usize> {
+    Some(name?.at)
+}
+
+// The place of an index that is a name.
+fn place_of_index(index: Index<'_>) -> Option<usize> {
+    match index {
+        Index::Named(piece) => Some(piece.at),
+        Index::Numbered(_) => None,
+    }
+}
+
+// The places of the names of a field: its own, and that of the index that it is of.
+fn places(field: &Field<'_, Global>) -> (Option<usize>, Option<usize>) {
+    match field {
+        Field::Type(own) => (place(own.name), None),
+        Field::Func(func) => (
+            place(func.name),
+            match func.body.first() {
+                Some(Flat::Indexed(_, index)) => place_of_index(*index),
+                _ => None,
+            },
+        ),
+        Field::Table(table) => (place(table.name), None),
+        Field::Export(export) => (None, place_of_index(export.index)),
+        Field::Start(index) => (None, place_of_index(*index)),
+        Field::Elem(elem) => (None, place_of_index(elem.table)),
+        _ => (None, None),
+    }
+}
+
+// Equal names, each at a place of its own.
+const EQUAL_NAMES: &str = "(module (type $a (func)) (func $a (call $a)) (table $a 1 funcref)
+(export \"a\" (table $a)) (start $a) (elem $a (offset (i32.const 0))))";
+
+const PLACES: [(Option<usize>, Option<usize>); 6] = [
+    (Some(14), None),
+    (Some(31), Some(40)),
+    (Some(52), None),
+    (None, Some(85)),
+    (None, Some(97)),
+    (None, Some(107)),
+];
+
+#[test]
+fn names_come_with_their_places(rt: HostRuntime) -> Result<(), Fail> {
+    let tree = tree_of(rt.alloc(), EQUAL_NAMES)?;
+    assert_eq!(rt; tree.fields.len(), PLACES.len());
+    for (field, wanted) in tree.fields.iter().zip(PLACES) {
+        assert_eq!(rt; places(field), wanted);
+    }
+    Ok(())
+}

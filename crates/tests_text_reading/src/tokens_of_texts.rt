@@ -1,5 +1,5 @@
 use lexer::LexRefusal::{BadToken, Unclosed};
-use lexer::{LexRefusal, is_unsigned_integer, tokens};
+use lexer::{LexRefusal, is_integer, tokens};
 use spec_text::TokenKind;
 use std::alloc::Global;
 use std::test::Fail;
@@ -217,8 +217,8 @@ fn tokens_of_a_contract(rt: HostRuntime) -> Result<(), Fail> {
     Ok(())
 }
 
-/// Texts, and whether they are integers without a sign.
-const INTEGERS: [(&[u8], bool); 8] = [
+/// Texts, and whether they are integers.
+const INTEGERS: [(&[u8], bool); 12] = [
     (b"1_000", true),
     (b"0xdead_BEEF", true),
     (b"", false),
@@ -226,12 +226,16 @@ const INTEGERS: [(&[u8], bool); 8] = [
     (b"_1", false),
     (b"1__0", false),
     (b"0x", false),
-    (b"+1", false),
+    (b"+1", true),
+    (b"-0x1_0", true),
+    (b"+", false),
+    (b"0x+1", false),
+    (b"+-1", false),
 ];
 
 #[test]
-fn integers_without_a_sign(rt: HostRuntime) {
+fn integers(rt: HostRuntime) {
     for (text, wanted) in INTEGERS {
-        assert_eq!(rt; is_unsigned_integer(text), wanted, "{text:?}");
+        assert_eq!(rt; is_integer(text), wanted, "{text:?}");
     }
 }

@@ -48,11 +48,13 @@ fn refusal(a: Global, text: &str) -> Result<Option<TextRefusal>, Fail> {
 }
 
 // Texts, and the places at which their tokens are no words.
-const NO_WORDS: [(&str, usize); 5] = [
+const NO_WORDS: [(&str, usize); 7] = [
     ("(module f32)", 8),
     ("(i32.load offset=)", 10),
     ("(i32.load offset=1_)", 10),
-    ("(i32.load align=-4)", 10),
+    ("(i32.load offset=+)", 10),
+    ("(i32.load offset=0x+1)", 10),
+    ("(i32.load align=--4)", 10),
     ("modules", 0),
 ];
 
@@ -62,6 +64,30 @@ fn keywords_that_are_no_words(rt: HostRuntime) -> Result<(), Fail> {
         let wanted = Some(TextRefusal::Unexpected(at));
         assert_eq!(rt; refusal(rt.alloc(), text)?, wanted, "{text}");
     }
+    Ok(())
+}
+
+// The words of an offset and an alignment, whose integers may have a sign.
+const SIGNED: [Word; 4] = [
+    Word::OffsetIs(Piece { at: 0, text: b"+1" }),
+    Word::OffsetIs(Piece {
+        at: 10,
+        text: b"-0x1_0",
+    }),
+    Word::AlignIs(Piece {
+        at: 25,
+        text: b"-4",
+    }),
+    Word::AlignIs(Piece {
+        at: 34,
+        text: b"+4",
+    }),
+];
+
+#[test]
+fn memory_arguments_with_a_sign(rt: HostRuntime) -> Result<(), Fail> {
+    let found = words_of(rt.alloc(), "offset=+1 offset=-0x1_0  align=-4 align=+4")?;
+    assert_eq!(rt; found.as_slice(), SIGNED.as_slice());
     Ok(())
 }
 

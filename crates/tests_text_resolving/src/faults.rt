@@ -4,6 +4,7 @@ use std::process::Abort;
 use std::test::Fail;
 use text_faults::first_fault;
 use text_resolve::AsmRefusal::{self, NumberRange, RepeatedName, TooLarge, UnknownName};
+use text_resolve::Limit;
 
 /// A text, and its refusal.
 type Row<'t> = (&'t str, AsmRefusal);
@@ -127,7 +128,7 @@ const TWO_FAULTS: [Row; 8] = [
         "(module (func block $a block $a end br $a end br $a))",
         UnknownName(49),
     ),
-    ("(module (func))", TooLarge(1)),
+    ("(module (func))", TooLarge(Limit::Bytes)),
 ];
 
 #[test]
@@ -137,12 +138,20 @@ fn the_first_of_two_faults(rt: HostRuntime) -> Result<(), Fail> {
 
 // A front, a part and a back, how many parts there may be, and how one more is refused.
 const LIMITS: [([&str; 3], u32, AsmRefusal); 3] = [
-    (["(module ", "(func)", ")"], 4_096, TooLarge(2)),
-    (["(module (func ", "(local i32)", "))"], 1_024, TooLarge(3)),
+    (
+        ["(module ", "(func)", ")"],
+        4_096,
+        TooLarge(Limit::Functions),
+    ),
+    (
+        ["(module (func ", "(local i32)", "))"],
+        1_024,
+        TooLarge(Limit::Locals),
+    ),
     (
         ["(module (func (br_table 0", " 0", ")))"],
         1_024,
-        TooLarge(5),
+        TooLarge(Limit::Labels),
     ),
 ];
 
@@ -157,7 +166,7 @@ fn each_limit_is_met_exactly(rt: HostRuntime) -> Result<(), Fail> {
     for (parts, most, refusal) in LIMITS {
         assert_eq!(rt;
             fault_of_many(rt.alloc(), parts, most)?,
-            TooLarge(1),
+            TooLarge(Limit::Bytes),
             "{most}"
         );
         let above = most.saturating_add(1);
@@ -187,7 +196,13 @@ fn blocks_nest_128_deep(rt: HostRuntime) -> Result<(), Fail> {
         ["(module (func (local.get 0) br_table", " 0", " 0 "],
         1_025,
     )?;
-    assert_eq!(rt; fault_of_blocks(a, "(module (func ", 128)?, TooLarge(1));
-    assert_eq!(rt; fault_of_blocks(a, many_labels.as_str(), 129)?, TooLarge(4));
+    assert_eq!(rt;
+        fault_of_blocks(a, "(module (func ", 128)?,
+        TooLarge(Limit::Bytes)
+    );
+    assert_eq!(rt;
+        fault_of_blocks(a, many_labels.as_str(), 129)?,
+        TooLarge(Limit::Nesting)
+    );
     Ok(())
 }

@@ -4,13 +4,13 @@ use module_tree::module::{DataSegment, Element, Export, ExportDesc, Func, Import
 use std::alloc::Global;
 use std::test::Fail;
 use text_fields::{Part, part_of};
-use text_resolve::AsmRefusal::{self, NumberRange, RepeatedName, UnknownName};
+use text_resolve::Unresolved::{self, NumberRange, RepeatedName, UnknownName};
 use wtypes::{Limits, PlainInstr, ValType, Value};
 
 type Parts = Vec<Part<Global>, Global>;
 
 // The parts that the fields of a text make, each function with the number 7, or why a field makes none.
-fn answer_to(a: Global, text: &str) -> Result<Result<Parts, AsmRefusal>, Fail> {
+fn answer_to(a: Global, text: &str) -> Result<Result<Parts, Unresolved>, Fail> {
     let tree = tree_of(a, text)?;
     let spaces = spaces_of(a, text)??;
     let mut parts = Vec::new(a);
@@ -143,7 +143,7 @@ fn start_and_segments(rt: HostRuntime) -> Result<(), Fail> {
     Ok(())
 }
 
-const REFUSALS: [(&str, Option<AsmRefusal>); 5] = [
+const REFUSALS: [(&str, Option<Unresolved>); 5] = [
     (
         "(module (func (param $a i32) (local $a i32)))",
         Some(RepeatedName(36)),

@@ -5,12 +5,12 @@ use std::alloc::Global;
 use std::process::Abort;
 use std::test::Fail;
 use text_body::body;
-use text_resolve::AsmRefusal::{self, NumberRange, TooLarge, UnknownName};
-use text_resolve::expression;
+use text_resolve::Unresolved::{self, NumberRange, TooLarge, UnknownName};
+use text_resolve::{Limit, expression};
 use text_words::words;
 use wtypes::{LoadOp, PlainInstr, StoreOp, ValType, Value};
 
-type Outcome = Result<Vec<Instr<Global>, Global>, AsmRefusal>;
+type Outcome = Result<Vec<Instr<Global>, Global>, Unresolved>;
 
 // The types are i32 to nothing and nothing to i64, which is $t; $f is function 0, and $g function 2 and global 1.
 const SPACES: &str =
@@ -51,7 +51,7 @@ fn becomes(rt: &impl Abort, a: Global, rows: &[(&str, &[PlainInstr])]) -> Result
 }
 
 /// A text, and its refusal, if it is refused.
-type Row<'t> = (&'t str, Option<AsmRefusal>);
+type Row<'t> = (&'t str, Option<Unresolved>);
 
 // Each text is refused as its row says.
 fn refuses(rt: &impl Abort, a: Global, rows: &[Row]) -> Result<(), Fail> {
@@ -183,24 +183,24 @@ fn labels_and_ordinals(rt: HostRuntime) -> Result<(), Fail> {
 }
 
 // How so many blocks in one another are refused.
-fn refusal_of_blocks(a: Global, levels: u32) -> Result<Option<AsmRefusal>, Fail> {
+fn refusal_of_blocks(a: Global, levels: u32) -> Result<Option<Unresolved>, Fail> {
     let opened = repeated(a, ["", "(block ", ""], levels)?;
     let text = repeated(a, [opened.as_str(), ")", ")"], levels)?;
     Ok(resolved(a, text.as_str())?.err())
 }
 
 // How a table of so many labels beside the default one is refused.
-fn refusal_of_labels(a: Global, count: u32) -> Result<Option<AsmRefusal>, Fail> {
+fn refusal_of_labels(a: Global, count: u32) -> Result<Option<Unresolved>, Fail> {
     let text = repeated(a, ["br_table 0", " 0", ")"], count)?;
     Ok(resolved(a, text.as_str())?.err())
 }
 
 #[test]
 fn limits_of_an_expression(rt: HostRuntime) -> Result<(), Fail> {
-    for (levels, wanted) in [(128, None), (129, Some(TooLarge(4)))] {
+    for (levels, wanted) in [(128, None), (129, Some(TooLarge(Limit::Nesting)))] {
         assert_eq!(rt; refusal_of_blocks(rt.alloc(), levels)?, wanted, "{levels}");
     }
-    for (count, wanted) in [(1024, None), (1025, Some(TooLarge(5)))] {
+    for (count, wanted) in [(1024, None), (1025, Some(TooLarge(Limit::Labels)))] {
         assert_eq!(rt; refusal_of_labels(rt.alloc(), count)?, wanted, "{count}");
     }
     Ok(())

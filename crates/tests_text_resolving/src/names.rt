@@ -3,7 +3,7 @@ use std::alloc::Global;
 use std::process::Abort;
 use std::test::Fail;
 use text_body::Index;
-use text_resolve::AsmRefusal::{self, NumberRange, RepeatedName, UnknownName};
+use text_resolve::Unresolved::{self, NumberRange, RepeatedName, UnknownName};
 use text_resolve::{Finds, Labels, Space, index_in, indices_in, number};
 use text_words::Piece;
 
@@ -13,7 +13,7 @@ fn piece(at: usize, text: &[u8]) -> Piece<'_> {
 }
 
 // Names at 20, and what they stand for in a space of `$a`, no name and `$b`.
-const NAMES: [(&[u8], Result<u32, AsmRefusal>); 3] = [
+const NAMES: [(&[u8], Result<u32, Unresolved>); 3] = [
     (b"$a", Ok(0)),
     (b"$b", Ok(2)),
     (b"$c", Err(UnknownName(20))),
@@ -24,7 +24,7 @@ fn numbers(
     a: Global,
     space: &Space<'_, Global>,
     other: Index,
-) -> Result<Vec<u32, Global>, AsmRefusal> {
+) -> Result<Vec<u32, Global>, Unresolved> {
     let mut indices = Vec::new(a);
     indices.push(Index::Named(piece(20, b"$b")))?;
     indices.push(other)?;
@@ -66,7 +66,7 @@ enum Step<'t> {
     /// The innermost label is left.
     Leave,
     /// A name at a place stands for this.
-    Find(usize, &'t [u8], Result<u32, AsmRefusal>),
+    Find(usize, &'t [u8], Result<u32, Unresolved>),
 }
 
 const STEPS: [Step; 15] = [
@@ -92,7 +92,7 @@ fn follows<'t>(
     rt: &impl Abort,
     labels: &mut Labels<'t, Global>,
     step: Step<'t>,
-) -> Result<(), AsmRefusal> {
+) -> Result<(), Unresolved> {
     match step {
         Step::Enter(label) if label.is_empty() => labels.enter(None)?,
         Step::Enter(label) => labels.enter(Some(piece(0, label)))?,
@@ -116,7 +116,7 @@ fn an_inner_label_hides_an_outer_one(rt: HostRuntime) -> Result<(), Fail> {
     Ok(())
 }
 
-const RANGES: [(usize, &[u8], Result<u32, AsmRefusal>); 3] = [
+const RANGES: [(usize, &[u8], Result<u32, Unresolved>); 3] = [
     (5, b"4_294_967_295", Ok(u32::MAX)),
     (5, b"4294967296", Err(NumberRange(5))),
     (6, b"-0", Err(NumberRange(6))),

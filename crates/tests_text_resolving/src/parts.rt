@@ -3,10 +3,10 @@ use assembler::{Parts, parts_of_text};
 use module_tree::module::{Export, ExportDesc, ImportDesc};
 use std::alloc::Global;
 use std::test::Fail;
-use text_resolve::AsmRefusal::{self, UnknownName};
+use text_resolve::Unresolved::{self, UnknownName};
 
 // The parts of a text, or why it has none.
-fn answer_to(a: Global, text: &str) -> Result<Result<Parts<Global>, AsmRefusal>, Fail> {
+fn answer_to(a: Global, text: &str) -> Result<Result<Parts<Global>, Unresolved>, Fail> {
     let tree = tree_of(a, text)?;
     let spaces = spaces_of(a, text)??;
     Ok(parts_of_text(&a, &spaces, &tree))
@@ -112,7 +112,7 @@ fn segments_and_globals(rt: HostRuntime) -> Result<(), Fail> {
     Ok(())
 }
 
-const REFUSALS: [(&str, Option<AsmRefusal>); 2] = [
+const REFUSALS: [(&str, Option<Unresolved>); 2] = [
     ("(module (func) (start $f) (func))", Some(UnknownName(22))),
     ("(module (func) (start 0) (func))", None),
 ];

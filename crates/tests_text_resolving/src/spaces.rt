@@ -1,7 +1,7 @@
 use crate::texts::spaces_of;
 use std::alloc::Global;
 use std::test::Fail;
-use text_resolve::{AsmRefusal, Finds, Space, Spaces};
+use text_resolve::{Finds, Space, Spaces, Unresolved};
 use text_words::Piece;
 
 /// A space.
@@ -57,26 +57,26 @@ fn each_name_is_in_its_space(rt: HostRuntime) -> Result<(), Fail> {
 }
 
 // Texts, and how they are refused for a name that stands twice.
-const REPEATED: [(&str, Option<AsmRefusal>); 6] = [
+const REPEATED: [(&str, Option<Unresolved>); 6] = [
     (
         "(module (type $t (func)) (type $t (func)))",
-        Some(AsmRefusal::RepeatedName(31)),
+        Some(Unresolved::RepeatedName(31)),
     ),
     (
         "(module (import \"m\" \"f\" (func $f)) (func $f))",
-        Some(AsmRefusal::RepeatedName(41)),
+        Some(Unresolved::RepeatedName(41)),
     ),
     (
         "(module (table $t 1 funcref) (table $t 2 funcref))",
-        Some(AsmRefusal::RepeatedName(36)),
+        Some(Unresolved::RepeatedName(36)),
     ),
     (
         "(module (memory $m 1) (memory $m 2))",
-        Some(AsmRefusal::RepeatedName(30)),
+        Some(Unresolved::RepeatedName(30)),
     ),
     (
         "(module (global $g i32) (global $g i32))",
-        Some(AsmRefusal::RepeatedName(32)),
+        Some(Unresolved::RepeatedName(32)),
     ),
     ("(module (func $f) (global $f i32) (memory $f 1))", None),
 ];

@@ -3,7 +3,7 @@ use lexer::tokens;
 use std::alloc::{AllocError, Global};
 use std::test::Fail;
 use text_fields::spaces_of_text;
-use text_resolve::{AsmRefusal, Space, Spaces};
+use text_resolve::{Space, Spaces, Unresolved};
 use text_tree::{Text, parse};
 use text_words::Piece;
 
@@ -17,7 +17,7 @@ pub fn tree_of<'t>(a: Global, text: &'t str) -> Result<Text<'t, Global>, Fail> {
 pub fn spaces_of<'t>(
     a: Global,
     text: &'t str,
-) -> Result<Result<Spaces<'t, Global>, AsmRefusal>, Fail> {
+) -> Result<Result<Spaces<'t, Global>, Unresolved>, Fail> {
     let tree = tree_of(a, text)?;
     Ok(spaces_of_text(&a, &tree))
 }
@@ -26,7 +26,7 @@ pub fn spaces_of<'t>(
 pub fn space_of(
     a: Global,
     names: &[(usize, &'static [u8])],
-) -> Result<Space<'static, Global>, AsmRefusal> {
+) -> Result<Space<'static, Global>, Unresolved> {
     let mut pieces = Vec::new(a);
     for (at, text) in names {
         if text.is_empty() {

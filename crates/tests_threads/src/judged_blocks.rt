@@ -127,7 +127,23 @@ fn reason<R: Threads + Wait + Sync>(
     }
 }
 
-/// The world after a block that is accepted, in which no position was run again.
+/// How many positions of a block the caller runs again.
+fn again<R: Threads + Wait + Sync>(
+    rt: &R,
+    alloc: Global,
+    world: &World,
+    calls: &[Call],
+    bytes: &[u8],
+) -> Result<u32, Fail>
+    requires { length calls.now ≤ 65535 }
+{
+    match find_verdict(rt, alloc, world, calls, 1_000, bytes, 2, &NoPace) {
+        Ok(found) => Ok(found.again),
+        Err(_) => Err(Fail::from("refused")),
+    }
+}
+
+/// The world after a block that two workers accept.
 fn after_at<R: Threads + Wait + Sync, P: Pace>(
     rt: &R,
     alloc: Global,
@@ -138,15 +154,10 @@ fn after_at<R: Threads + Wait + Sync, P: Pace>(
 ) -> Result<World, Fail>
     requires { length calls.now ≤ 65535 }
 {
-    let Ok(found) = find_verdict(rt, alloc, world, calls, 1_000, bytes, 2, pace) else {
-        return Err(Fail::from("refused"));
-    };
-    if found.again != 0 {
-        return Err(Fail::from("run again"));
-    }
-    match found.verdict {
-        Verdict::Accept(next) => Ok(next),
-        Verdict::Reject(_) => Err(Fail::from("rejected")),
+    match validate(rt, alloc, world, calls, 1_000, bytes, 2, pace) {
+        Ok(Verdict::Accept(next)) => Ok(next),
+        Ok(Verdict::Reject(_)) => Err(Fail::from("rejected")),
+        Err(_) => Err(Fail::from("refused")),
     }
 }
 
@@ -181,7 +192,7 @@ struct Accepted {
     after: &'static [CellRow],
 }
 
-/// Whether the block of two calls is accepted, with these cells after it.
+/// Whether the block of two calls is accepted, with these cells after it, and no position of it is run again.
 fn is_accepted<R: Threads + Wait + Sync>(
     rt: &R,
     alloc: Global,
@@ -190,7 +201,8 @@ fn is_accepted<R: Threads + Wait + Sync>(
     let world = world_of(alloc, row.two.cells)?;
     let (calls, bytes) = made_of(alloc, &world, &row.two)?;
     let next = after(rt, alloc, &world, &calls, &bytes, row.meeting)?;
-    Ok(are_cells(next.cells(), row.after))
+    let again = again(rt, alloc, &world, &calls, &bytes)?;
+    Ok(are_cells(next.cells(), row.after) && again == 0)
 }
 
 /// Why the block of two calls is rejected after these changes of its bytes. None where it is accepted.

@@ -90,7 +90,7 @@ enum Answer {
 /// Begins an attempt of a call.
 fn begin<R: Wait>(
     rt: &R,
-    book: &SharedBook,
+    book: &SharedBook<'_>,
     tickets: &mut [Option<Ticket>; 2],
     call: u32,
 ) -> Answer {
@@ -108,7 +108,7 @@ fn begin<R: Wait>(
 /// Commits an attempt of a call. A refusal leaves its ticket there.
 fn commit<R: Wait>(
     rt: &R,
-    book: &SharedBook,
+    book: &SharedBook<'_>,
     place: &mut Option<Ticket>,
     trace: &[Step],
 ) -> Answer {
@@ -125,7 +125,7 @@ fn commit<R: Wait>(
 }
 
 /// Undoes an attempt of a call.
-fn undo<R: Wait>(rt: &R, book: &SharedBook, place: &mut Option<Ticket>) -> Answer {
+fn undo<R: Wait>(rt: &R, book: &SharedBook<'_>, place: &mut Option<Ticket>) -> Answer {
     match place.take() {
         Some(ticket) => {
             book.undo(rt, ticket);
@@ -136,7 +136,7 @@ fn undo<R: Wait>(rt: &R, book: &SharedBook, place: &mut Option<Ticket>) -> Answe
 }
 
 /// Does an operation for an attempt of a call.
-fn act<R: Wait>(rt: &R, book: &SharedBook, place: &Option<Ticket>, op: Op) -> Answer {
+fn act<R: Wait>(rt: &R, book: &SharedBook<'_>, place: &Option<Ticket>, op: Op) -> Answer {
     match place {
         Some(ticket) => match book.op(rt, ticket, op) {
             Ok(reply) => Answer::Replied(reply),
@@ -149,7 +149,7 @@ fn act<R: Wait>(rt: &R, book: &SharedBook, place: &Option<Ticket>, op: Op) -> An
 /// What a book answers to what is asked.
 fn ask<R: Wait>(
     rt: &R,
-    book: &SharedBook,
+    book: &SharedBook<'_>,
     tickets: &mut [Option<Ticket>; 2],
     asked: &Asked,
 ) -> Answer {
@@ -227,15 +227,20 @@ const SCRIPT: [(bool, Asked, Answer); 13] = [
 fn all_answers<R: Wait>(rt: &R, alloc: Global) -> Result<(Vec<Answer>, Closed, Closed), Fail> {
     let mut opening = Cells::new(alloc);
     opening.insert(cell(Kind::Counter, SUM), 100)?;
-    let book = SharedBook::open(alloc, opening, 2)?;
-    let other = SharedBook::open(alloc, Cells::new(alloc), 2)?;
+    let empty = Cells::new(alloc);
+    let book = SharedBook::open(alloc, &opening, 2)?;
+    let other = SharedBook::open(alloc, &empty, 2)?;
     let mut tickets = [None, None];
     let mut answers = Vec::new(alloc);
     for (first, asked, _) in &SCRIPT {
-        let asked_of = if *first { &book } else { &other };
-        answers.push(ask(rt, asked_of, &mut tickets, asked))?;
+        let answer = if *first {
+            ask(rt, &book, &mut tickets, asked)
+        } else {
+            ask(rt, &other, &mut tickets, asked)
+        };
+        answers.push(answer)?;
     }
-    Ok((answers, book.close(), other.close()))
+    Ok((answers, book.close()?, other.close()?))
 }
 
 /// Whether the counter has 100 before and after the one call of a book.
@@ -256,7 +261,7 @@ fn each_call_and_each_refusal_through_the_lock(rt: HostRuntime) -> Result<(), Fa
 }
 
 /// Puts its own cell, adds to the common counter, and commits when two attempts have come this far.
-fn meet<R: Wait>(rt: &R, book: &SharedBook, told: &AtomicU64, call: u32) -> Option<u32> {
+fn meet<R: Wait>(rt: &R, book: &SharedBook<'_>, told: &AtomicU64, call: u32) -> Option<u32> {
     let own = Place {
         contract: 0,
         key: u64::from(call),
@@ -274,7 +279,8 @@ fn meet<R: Wait>(rt: &R, book: &SharedBook, told: &AtomicU64, call: u32) -> Opti
 
 /// Whether two attempts that were held at once are committed, each at its position.
 fn both_meet<R: Threads + Wait + Sync>(rt: &R, alloc: Global) -> Result<bool, Fail> {
-    let book = SharedBook::open(alloc, Cells::new(alloc), 2)?;
+    let cells = Cells::new(alloc);
+    let book = SharedBook::open(alloc, &cells, 2)?;
     let told = AtomicU64::new(0);
     let positions = thread::join(
         rt,
@@ -282,7 +288,7 @@ fn both_meet<R: Threads + Wait + Sync>(rt: &R, alloc: Global) -> Result<bool, Fa
         || meet(rt, &book, &told, 1),
     );
     let either = positions == (Some(0), Some(1)) || positions == (Some(1), Some(0));
-    let closed = book.close();
+    let closed = book.close()?;
     Ok(
         either
             && closed.entries.len() == 2
@@ -297,7 +303,7 @@ fn two_attempts_are_live_at_once(rt: HostRuntime) -> Result<(), Fail> {
 }
 
 /// Holds a cell until the other call was refused there.
-fn keep_out<R: Wait>(rt: &R, book: &SharedBook, turns: &AtomicU64) -> Option<u32> {
+fn keep_out<R: Wait>(rt: &R, book: &SharedBook<'_>, turns: &AtomicU64) -> Option<u32> {
     let ticket = book.begin(rt, 0).ok()?;
     book.op(rt, &ticket, Op::Put(HOT, 9)).ok()?;
     turns.fetch_add(1, Ordering::SeqCst);
@@ -310,7 +316,7 @@ fn keep_out<R: Wait>(rt: &R, book: &SharedBook, turns: &AtomicU64) -> Option<u32
 }
 
 /// Is refused a cell that the other call holds, is undone, and reads the cell when that one was committed.
-fn be_kept_out<R: Wait>(rt: &R, book: &SharedBook, turns: &AtomicU64) -> Option<u32> {
+fn be_kept_out<R: Wait>(rt: &R, book: &SharedBook<'_>, turns: &AtomicU64) -> Option<u32> {
     let ticket = book.begin(rt, 1).ok()?;
     book.op(rt, &ticket, Op::Add(SUM, 5)).ok()?;
     let met = hold(turns, 1, LOOKS)
@@ -336,14 +342,15 @@ fn be_kept_out<R: Wait>(rt: &R, book: &SharedBook, turns: &AtomicU64) -> Option<
 
 /// Whether a call that is refused what another one holds comes after it.
 fn one_is_kept_out<R: Threads + Wait + Sync>(rt: &R, alloc: Global) -> Result<bool, Fail> {
-    let book = SharedBook::open(alloc, Cells::new(alloc), 2)?;
+    let cells = Cells::new(alloc);
+    let book = SharedBook::open(alloc, &cells, 2)?;
     let turns = AtomicU64::new(0);
     let positions = thread::join(
         rt,
         || keep_out(rt, &book, &turns),
         || be_kept_out(rt, &book, &turns),
     );
-    let closed = book.close();
+    let closed = book.close()?;
     Ok(
         positions == (Some(0), Some(1))
             && closed.cells.get(cell(Kind::Map, HOT)) == Some(9)
@@ -399,7 +406,7 @@ fn outcome(call: u32) -> Outcome {
 fn trace_of<R: Wait>(
     rt: &R,
     alloc: Global,
-    book: &SharedBook,
+    book: &SharedBook<'_>,
     ticket: &Ticket,
     call: u32,
 ) -> Option<Vec<Step>> {
@@ -413,7 +420,12 @@ fn trace_of<R: Wait>(
 }
 
 /// Tries a call until it is committed.
-fn commit_at_last<R: Wait>(rt: &R, alloc: Global, book: &SharedBook, call: u32) -> Option<Done> {
+fn commit_at_last<R: Wait>(
+    rt: &R,
+    alloc: Global,
+    book: &SharedBook<'_>,
+    call: u32,
+) -> Option<Done> {
     for _ in 0..LOOKS {
         let ticket = book.begin(rt, call).ok()?;
         let Some(trace) = trace_of(rt, alloc, book, &ticket, call) else {
@@ -441,7 +453,7 @@ fn commit_at_last<R: Wait>(rt: &R, alloc: Global, book: &SharedBook, call: u32) 
 fn work<R: Wait>(
     rt: &R,
     alloc: Global,
-    book: &SharedBook,
+    book: &SharedBook<'_>,
     told: &AtomicU64,
     worker: usize,
 ) -> Option<Vec<Done>> {
@@ -496,7 +508,8 @@ fn all_done(alloc: Global, parts: Vec<Option<Vec<Done>>>) -> Result<Vec<Done>, F
 
 /// Whether the calls of many threads come to the same one after another.
 fn has_one_order<R: Threads + Wait + Sync>(rt: &R, alloc: Global) -> Result<bool, Fail> {
-    let book = SharedBook::open(alloc, Cells::new(alloc), CALLS)?;
+    let cells = Cells::new(alloc);
+    let book = SharedBook::open(alloc, &cells, CALLS)?;
     let told = AtomicU64::new(0);
     let parts = thread::map_indices(
         rt,
@@ -505,7 +518,7 @@ fn has_one_order<R: Threads + Wait + Sync>(rt: &R, alloc: Global) -> Result<bool
         &|worker| work(rt, alloc, &book, &told, worker),
     )?;
     let done = all_done(alloc, parts)?;
-    let closed = book.close();
+    let closed = book.close()?;
     let alone = replayed(alloc, done.as_slice())?;
     // 0 + 1 + .. + 159 less the multiples of 5, which trapped
     Ok(

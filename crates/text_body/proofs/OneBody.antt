@@ -6,7 +6,7 @@ use Rattle.spec_text.specs.declared.KeyWord.{KeyWord}
 use Rattle.spec_text.specs.declared.KeyWord.TheVariants as k
 use Rattle.spec_text.specs.declared.Operator.{Operator}
 use Rattle.spec_text.specs.Words.{Word, LeftBracket, RightBracket, Key, Op}
-use Rattle.spec_text.specs.Named as N
+use Rattle.spec_text.specs.Placed as N
 use Rattle.spec_text.specs.Grammar as G
 use Rattle.spec_text.specs.Grammar.{OptionalId, OptionalResult, Plain, Indices, Bindings, Results, TypeUses, Offset, Align}
 use Rattle.text_body.specs.declared.parts.Part.TheVariants as part
@@ -34,11 +34,11 @@ uses_less : {ws us : List Word} {u : N.TypeUse} → TypeUses ws us u → length 
 uses_less (G.by_index h b r) = let l = bindings_less b in let m = results_less r in omega arith
 uses_less (G.by_type h b r) = let l = bindings_less b in let m = results_less r in omega arith
 
-offset_less : {ws us : List Word} {o : Option (List ℕ)} → Offset ws us o → length us ≤ length ws
+offset_less : {ws us : List Word} {o : Option N.Placed} → Offset ws us o → length us ≤ length ws
 offset_less G.some_offset = omega arith
 offset_less (G.no_offset h) = omega arith
 
-align_less : {ws us : List Word} {o : Option (List ℕ)} → Align ws us o → length us ≤ length ws
+align_less : {ws us : List Word} {o : Option N.Placed} → Align ws us o → length us ≤ length ws
 align_less G.some_align = omega arith
 align_less (G.no_align h) = omega arith
 
@@ -61,7 +61,7 @@ plain_at_less op ws us f e =
     let long : length (Op op ∷ ws) ≡ length ws + 1 = omega arith in
     omega arith
 
-header_less : (ws us : List Word) (h : Option (List ℕ) × Option ValType) → header_at ws ≡ Some (h, us) → length us ≤ length ws
+header_less : (ws us : List Word) (h : Option N.Placed × Option ValType) → header_at ws ≡ Some (h, us) → length us ≤ length ws
 header_less ws us h e = let f = header_found ws us h e in let l = id_less f.1 in let m = result_less f.2 in omega arith
 
 -- no more words than these
@@ -77,13 +77,13 @@ answer ws n m ts us e l = answered ws n m ts us (some_same (n, ts) (m, us) e) l
 folded_block_less : (o : Option N.Opener) (ws us : List Word) (m : Move) → folded_block_at o ws ≡ Some (m, us) → length us ≤ length ws
 folded_block_less None ws us m e = absurd (none_some (m, us) e)
 folded_block_less (Some o) ws us m e =
-    let r = map_some (λ (h : (Option (List ℕ) × Option ValType) × List Word). (folded_move o h.0.0 h.0.1, h.1)) (header_at ws) (m, us) e in
+    let r = map_some (λ (h : (Option N.Placed × Option ValType) × List Word). (folded_move o h.0.0 h.0.1, h.1)) (header_at ws) (m, us) e in
     answered ws (folded_move o r.0.0.0 r.0.0.1) m r.0.1 us r.2 (header_less ws r.0.1 r.0.0 r.1)
 
 flat_block_less : (o : Option N.Opener) (ws us : List Word) (m : Move) → flat_block_at o ws ≡ Some (m, us) → length us ≤ length ws
 flat_block_less None ws us m e = absurd (none_some (m, us) e)
 flat_block_less (Some o) ws us m e =
-    let r = map_some (λ (h : (Option (List ℕ) × Option ValType) × List Word). (Opens (N.Opens o h.0.0 h.0.1) (flat_form o), h.1)) (header_at ws) (m, us) e in
+    let r = map_some (λ (h : (Option N.Placed × Option ValType) × List Word). (Opens (N.Opens o h.0.0 h.0.1) (flat_form o), h.1)) (header_at ws) (m, us) e in
     answered ws (Opens (N.Opens o r.0.0.0 r.0.0.1) (flat_form o)) m r.0.1 us r.2 (header_less ws r.0.1 r.0.0 r.1)
 
 folded_less : (ws us : List Word) (m : Move) → folded_at ws ≡ Some (m, us) → length us ≤ length ws

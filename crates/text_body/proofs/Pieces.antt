@@ -8,7 +8,7 @@ use Rattle.spec_text.specs.declared.KeyWord.TheVariants as k
 use Rattle.spec_text.specs.declared.Operator.{Operator}
 use Rattle.spec_text.specs.declared.Operator.TheVariants as o
 use Rattle.spec_text.specs.Words.{Word, LeftBracket, RightBracket, Key, Op, OffsetIs, AlignIs, Id, Number}
-use Rattle.spec_text.specs.Named as N
+use Rattle.spec_text.specs.Placed as N
 use Rattle.spec_text.specs.Grammar as G
 use Rattle.spec_text.specs.Grammar.{NotAhead, OptionalId, some_id, no_id, IsIndex, Indices, Bindings, Results, OptionalResult, TypeUses, Offset, Align, Plain, is_simple, is_indexed, are_unnamed}
 use Rattle.text_body.specs.declared.parts.Part.{Part}
@@ -50,11 +50,11 @@ chosen false x y z e = inr (refl, e)
 
 -- ---- names, offsets and alignments
 
-no_id_at : (ws : List Word) → ((id : List ℕ) (rest : List Word) → ws ≡ Id id ∷ rest → ⊥) → id_at ws ≡ (None, ws)
+no_id_at : (ws : List Word) → ((id : N.Placed) (rest : List Word) → ws ≡ Id id ∷ rest → ⊥) → id_at ws ≡ (None, ws)
 no_id_at (Id id ∷ ws) h = absurd (h id ws refl)
 no_id_at ws h = refl
 
-pub id_is_read : {ws us : List Word} {id : Option (List ℕ)} → OptionalId ws us id → id_at ws ≡ (id, us)
+pub id_is_read : {ws us : List Word} {id : Option N.Placed} → OptionalId ws us id → id_at ws ≡ (id, us)
 id_is_read some_id = refl
 id_is_read (no_id {ws} h) = no_id_at ws h
 
@@ -62,11 +62,11 @@ pub read_is_id : (ws : List Word) → OptionalId ws (id_at ws).1 (id_at ws).0
 read_is_id (Id id ∷ ws) = some_id
 read_is_id ws = no_id (λ id rest e. cc)
 
-no_offset_at : (ws : List Word) → ((text : List ℕ) (rest : List Word) → ws ≡ OffsetIs text ∷ rest → ⊥) → offset_at ws ≡ (None, ws)
+no_offset_at : (ws : List Word) → ((text : N.Placed) (rest : List Word) → ws ≡ OffsetIs text ∷ rest → ⊥) → offset_at ws ≡ (None, ws)
 no_offset_at (OffsetIs text ∷ ws) h = absurd (h text ws refl)
 no_offset_at ws h = refl
 
-offset_is_read : {ws us : List Word} {o : Option (List ℕ)} → Offset ws us o → offset_at ws ≡ (o, us)
+offset_is_read : {ws us : List Word} {o : Option N.Placed} → Offset ws us o → offset_at ws ≡ (o, us)
 offset_is_read G.some_offset = refl
 offset_is_read (G.no_offset {ws} h) = no_offset_at ws h
 
@@ -74,11 +74,11 @@ read_is_offset : (ws : List Word) → Offset ws (offset_at ws).1 (offset_at ws).
 read_is_offset (OffsetIs text ∷ ws) = G.some_offset
 read_is_offset ws = G.no_offset (λ text rest e. cc)
 
-no_align_at : (ws : List Word) → ((text : List ℕ) (rest : List Word) → ws ≡ AlignIs text ∷ rest → ⊥) → align_at ws ≡ (None, ws)
+no_align_at : (ws : List Word) → ((text : N.Placed) (rest : List Word) → ws ≡ AlignIs text ∷ rest → ⊥) → align_at ws ≡ (None, ws)
 no_align_at (AlignIs text ∷ ws) h = absurd (h text ws refl)
 no_align_at ws h = refl
 
-align_is_read : {ws us : List Word} {a : Option (List ℕ)} → Align ws us a → align_at ws ≡ (a, us)
+align_is_read : {ws us : List Word} {a : Option N.Placed} → Align ws us a → align_at ws ≡ (a, us)
 align_is_read G.some_align = refl
 align_is_read (G.no_align {ws} h) = no_align_at ws h
 
@@ -86,9 +86,9 @@ read_is_align : (ws : List Word) → Align ws (align_at ws).1 (align_at ws).0
 read_is_align (AlignIs text ∷ ws) = G.some_align
 read_is_align ws = G.no_align (λ text rest e. cc)
 
-argument_is_read : {ws us vs : List Word} {offset align : Option (List ℕ)} → Offset ws us offset → Align us vs align → argument_at ws ≡ (offset, align, vs)
+argument_is_read : {ws us vs : List Word} {offset align : Option N.Placed} → Offset ws us offset → Align us vs align → argument_at ws ≡ (offset, align, vs)
 argument_is_read {offset = offset} f a =
-    ap (λ (p : Option (List ℕ) × List Word). (p.0, (align_at p.1).0, (align_at p.1).1)) (offset_is_read f) ∙ ap (λ (p : Option (List ℕ) × List Word). (offset, p.0, p.1)) (align_is_read a)
+    ap (λ (p : Option N.Placed × List Word). (p.0, (align_at p.1).0, (align_at p.1).1)) (offset_is_read f) ∙ ap (λ (p : Option N.Placed × List Word). (offset, p.0, p.1)) (align_is_read a)
 
 -- ---- indices
 
@@ -163,11 +163,11 @@ valued_is (Key (k.Value s) ∷ ws) us t e =
     ap (λ (xs : List Word). Key (k.Value s) ∷ xs) (close_is ws m.0 m.1) ∙ ap (λ (p : ValType × List Word). Key (k.Value p.0) ∷ RightBracket ∷ p.1) m.2
 valued_is ws us t e = absurd (none_some (t, us) e)
 
-abbrev bound : Option (List ℕ) → ValType → N.Binding
+abbrev bound : Option N.Placed → ValType → N.Binding
 bound id t = record { name = id; type = t }
 
-binding_is_read : {us ws : List Word} {id : Option (List ℕ)} {t : ValType} → OptionalId us (Key (k.Value t) ∷ RightBracket ∷ ws) id → binding_at us ≡ Some (record { name = id; type = t }, ws)
-binding_is_read i = ap (λ (p : Option (List ℕ) × List Word). option_map (λ r. (bound p.0 r.0, r.1)) (valued_at p.1)) (id_is_read i)
+binding_is_read : {us ws : List Word} {id : Option N.Placed} {t : ValType} → OptionalId us (Key (k.Value t) ∷ RightBracket ∷ ws) id → binding_at us ≡ Some (record { name = id; type = t }, ws)
+binding_is_read i = ap (λ (p : Option N.Placed × List Word). option_map (λ r. (bound p.0 r.0, r.1)) (valued_at p.1)) (id_is_read i)
 
 binding_found : (us ws : List Word) (b : N.Binding) → binding_at us ≡ Some (b, ws) → OptionalId us (Key (k.Value b.type) ∷ RightBracket ∷ ws) b.name
 binding_found us ws b e =
@@ -175,7 +175,7 @@ binding_found us ws b e =
     let behind = valued_is (id_at us).1 m.0.1 m.0.0 m.1 in
     subst (λ (p : N.Binding × List Word). OptionalId us (Key (k.Value p.0.type) ∷ RightBracket ∷ p.1) p.0.name) m.2 (subst (λ (xs : List Word). OptionalId us xs (id_at us).0) behind (read_is_id us))
 
-pub id_less : {ws us : List Word} {id : Option (List ℕ)} → OptionalId ws us id → length us ≤ length ws
+pub id_less : {ws us : List Word} {id : Option N.Placed} → OptionalId ws us id → length us ≤ length ws
 id_less (some_id {id} {ws}) = omega arith
 id_less (no_id {ws} h) = omega arith
 
@@ -307,11 +307,11 @@ result_found ws us (Some t) e =
     subst (λ (ys : List Word). OptionalResult ys us (Some t)) (sym (ahead_is part.Result ws g.0 g.1 ∙ ap (λ (ys : List Word). LeftBracket ∷ Key k.Result ∷ ys) (valued_is g.0 us t g.2))) G.some_result
 
 abbrev Header : Type 0
-Header = Option (List ℕ) × Option ValType
+Header = Option N.Placed × Option ValType
 
-pub header_is_read : {ws us ts : List Word} {label : Option (List ℕ)} {r : Option ValType} → OptionalId ws us label → OptionalResult us ts r → header_at ws ≡ Some ((label, r), ts)
+pub header_is_read : {ws us ts : List Word} {label : Option N.Placed} {r : Option ValType} → OptionalId ws us label → OptionalResult us ts r → header_at ws ≡ Some ((label, r), ts)
 header_is_read {label = label} i q =
-    ap (λ (p : Option (List ℕ) × List Word). option_map (λ (r : Option ValType × List Word). ((p.0, r.0), r.1)) (result_at p.1)) (id_is_read i)
+    ap (λ (p : Option N.Placed × List Word). option_map (λ (r : Option ValType × List Word). ((p.0, r.0), r.1)) (result_at p.1)) (id_is_read i)
     ∙ ap (λ (o : Read (Option ValType)). option_map (λ (r : Option ValType × List Word). ((label, r.0), r.1)) o) (result_is_read q)
 
 pub header_found : (ws ts : List Word) (h : Header) → header_at ws ≡ Some (h, ts) → (us : List Word) × OptionalId ws us h.0 × OptionalResult us ts h.1
@@ -483,8 +483,8 @@ plain_is_read (G.with_index {op} {w} {i} {ws} h x) = other_is_read op (w ∷ ws)
 plain_is_read (G.br_table {ws} {vs} {is} {last} h) = table_is ws vs (is ++ last ∷ []) is last (indices_read h) refl
 plain_is_read (G.call_indirect {ws} {vs} {written} u n) =
     ap (λ (o : Read N.TypeUse). o >>= λ u. cond (are_unnamed u.0.params) (Some (N.CallIndirect u.0, u.1)) None) (use_is_read u) ∙ cond-true (are_unnamed written.params) (Some (N.CallIndirect written, vs)) None n
-plain_is_read (G.load {op} f a) = ap (λ (p : Option (List ℕ) × Option (List ℕ) × List Word). Some (N.Load op p.0 p.1, p.2)) (argument_is_read f a)
-plain_is_read (G.store {op} f a) = ap (λ (p : Option (List ℕ) × Option (List ℕ) × List Word). Some (N.Store op p.0 p.1, p.2)) (argument_is_read f a)
+plain_is_read (G.load {op} f a) = ap (λ (p : Option N.Placed × Option N.Placed × List Word). Some (N.Load op p.0 p.1, p.2)) (argument_is_read f a)
+plain_is_read (G.store {op} f a) = ap (λ (p : Option N.Placed × Option N.Placed × List Word). Some (N.Store op p.0 p.1, p.2)) (argument_is_read f a)
 plain_is_read G.const = refl
 
 -- what was found, at what was answered

@@ -7,7 +7,7 @@ use Rattle.spec_text.specs.declared.KeyWord.{KeyWord}
 use Rattle.spec_text.specs.declared.KeyWord.TheVariants as k
 use Rattle.spec_text.specs.declared.Operator.{Operator}
 use Rattle.spec_text.specs.Words.{Word, LeftBracket, RightBracket, Key, Op}
-use Rattle.spec_text.specs.Named as N
+use Rattle.spec_text.specs.Placed as N
 use Rattle.spec_text.specs.Grammar as G
 use Rattle.spec_text.specs.Grammar.{OptionalId, OptionalResult, Plain, IsBlock, Instrs, OneInstr, Foldeds, Branches, NotAhead}
 use Rattle.text_body.specs.declared.parts.Part.TheVariants as part
@@ -37,7 +37,7 @@ pub record ShutsTwice (P : Rule) (es : List Word) (os : List N.Flat) : Type 0 wh
 pub record EndsBlock (P : Rule) (es : List Word) (os : List N.Flat) : Type 0 where
   behind : List Word
   after : List Word
-  closing : Option (List ℕ)
+  closing : Option N.Placed
   others : List N.Flat
   words : es ≡ Key k.End ∷ behind
   name : OptionalId behind after closing
@@ -60,7 +60,7 @@ pub record Operating (K : Rule) (ws : List Word) (fs : List N.Flat) : Type 0 whe
 pub record ElseBlock (P : Rule) (es : List Word) (os : List N.Flat) : Type 0 where
   behind : List Word
   after : List Word
-  closing : Option (List ℕ)
+  closing : Option N.Placed
   others : List N.Flat
   words : es ≡ Key k.Else ∷ behind
   name : OptionalId behind after closing
@@ -80,7 +80,7 @@ AfterFlatIf P es os = EndsBlock P es os ⊎ ElseBlock P es os
 abbrev pub AfterThen : Rule → Rule
 AfterThen P es os = ShutsTwice P es os ⊎ ElseBranch P es os
 
-pub record ThenBranch (label : Option (List ℕ)) (result : Option ValType) (P : Rule) (es : List Word) (os : List N.Flat) : Type 0 where
+pub record ThenBranch (label : Option N.Placed) (result : Option ValType) (P : Rule) (es : List Word) (os : List N.Flat) : Type 0 where
   after : List Word
   others : List N.Flat
   words : es ≡ LeftBracket ∷ Key k.Then ∷ after
@@ -136,7 +136,7 @@ pub record Moved (s : List Open) (ws : List Word) (fs : List N.Flat) (vs : List 
   pub goes : Goes move after s fs vs
 
 abbrev pub Header : Type 0
-Header = Option (List ℕ) × Option ValType
+Header = Option N.Placed × Option ValType
 
 abbrev pub Moves : Type 0
 Moves = Read Move
@@ -211,14 +211,14 @@ operator_goes s vs {ws} {ms} {us} {f} {fs} {hs} p q r =
       goes = record { es = _; os = _; body = q; closes = record { after = us; others = hs; words = refl; flats = refl; goes = r } };
     })
 
-folded_read : (o : N.Opener) {ws us ts : List Word} {label : Option (List ℕ)} {result : Option ValType} → OptionalId ws us label → OptionalResult us ts result → folded_block_at (Some o) ws ≡ Some (folded_move o label result, ts)
+folded_read : (o : N.Opener) {ws us ts : List Word} {label : Option N.Placed} {result : Option ValType} → OptionalId ws us label → OptionalResult us ts result → folded_block_at (Some o) ws ≡ Some (folded_move o label result, ts)
 folded_read o i q = ap (λ (x : Read Header). option_map (λ (h : Header × List Word). (folded_move o h.0.0 h.0.1, h.1)) x) (header_is_read i q)
 
-flat_read : (o : N.Opener) {ws us ts : List Word} {label : Option (List ℕ)} {result : Option ValType} → OptionalId ws us label → OptionalResult us ts result
+flat_read : (o : N.Opener) {ws us ts : List Word} {label : Option N.Placed} {result : Option ValType} → OptionalId ws us label → OptionalResult us ts result
     → flat_block_at (Some o) ws ≡ Some (Opens (N.Opens o label result) (flat_form o), ts)
 flat_read o i q = ap (λ (x : Read Header). option_map (λ (h : Header × List Word). (Opens (N.Opens o h.0.0 h.0.1) (flat_form o), h.1)) x) (header_is_read i q)
 
-folded_block_goes : (s : List Open) (vs : List Word) {key : KeyWord} {opener : N.Opener} {ws us ts zs : List Word} {label : Option (List ℕ)} {result : Option ValType} {fs gs : List N.Flat}
+folded_block_goes : (s : List Open) (vs : List Word) {key : KeyWord} {opener : N.Opener} {ws us ts zs : List Word} {label : Option N.Placed} {result : Option ValType} {fs gs : List N.Flat}
     → IsBlock key opener → OptionalId ws us label → OptionalResult us ts result → Instrs ts (RightBracket ∷ zs) fs (N.End None ∷ gs) → Rest s zs gs vs → Moved s (LeftBracket ∷ Key key ∷ ws) (N.Opens opener label result ∷ fs) vs
 folded_block_goes s vs {zs = zs} {fs = fs} {gs = gs} G.block i q body r =
     record { move = _; after = _; read = folded_read N.Block i q; goes = (fs, refl, record { es = _; os = _; body = body; closes = record { after = zs; others = gs; words = refl; flats = refl; goes = r } }) }
@@ -246,7 +246,7 @@ plain_goes s vs t {ws} {ms} {f} {hs} p r =
       goes = (hs, refl, r);
     })
 
-block_goes : (s : List Open) (vs : List Word) → takes_all (top_of s) ≡ true → {key : KeyWord} {opener : N.Opener} {ws us ts rs zs : List Word} {label closing : Option (List ℕ)} {result : Option ValType} {fs gs : List N.Flat}
+block_goes : (s : List Open) (vs : List Word) → takes_all (top_of s) ≡ true → {key : KeyWord} {opener : N.Opener} {ws us ts rs zs : List Word} {label closing : Option N.Placed} {result : Option ValType} {fs gs : List N.Flat}
     → IsBlock key opener → OptionalId ws us label → OptionalResult us ts result → Instrs ts (Key k.End ∷ rs) fs (N.End closing ∷ gs) → OptionalId rs zs closing → Rest s zs gs vs → Moved s (Key key ∷ ws) (N.Opens opener label result ∷ fs) vs
 block_goes s vs t {ws = ws} {rs = rs} {zs = zs} {closing = closing} {fs = fs} {gs = gs} G.block i q body c r = record {
   move = _;
@@ -328,12 +328,12 @@ module _ (s : List Open) (vs : List Word) where
   then_moves ws fs (inl c) = subst (λ (xs : List Word). Moved (Inside Then ∷ s) xs fs vs) (sym c.words) (record { move = Closes (N.End None); after = c.after; read = refl; goes = (c.others, c.flats, c.goes) })
   then_moves ws fs (inr c) = subst (λ (xs : List Word). Moved (Inside Then ∷ s) xs fs vs) (sym c.words) (record { move = Turns (N.Else None) Otherwise; after = c.after; read = refl; goes = (c.others, c.flats, c.goes) })
 
-  condition_moves : (label : Option (List ℕ)) (result : Option ValType) (ws : List Word) (fs : List N.Flat) → ThenBranch label result On ws fs → Moved (Inside (Condition label result) ∷ s) ws fs vs
+  condition_moves : (label : Option N.Placed) (result : Option ValType) (ws : List Word) (fs : List N.Flat) → ThenBranch label result On ws fs → Moved (Inside (Condition label result) ∷ s) ws fs vs
   condition_moves label result ws fs c =
       subst (λ (xs : List Word). Moved (Inside (Condition label result) ∷ s) xs fs vs) (sym c.words) (record { move = Turns (N.Opens N.If label result) Then; after = c.after; read = refl; goes = (c.others, c.flats, c.goes) })
 
-  closed_read : (behind after : List Word) (closing : Option (List ℕ)) → OptionalId behind after closing → ◌≡◌ {A = Moves} (Some (Closes (N.End (id_at behind).0), (id_at behind).1)) (Some (Closes (N.End closing), after))
-  closed_read behind after closing i = ap (λ (p : Option (List ℕ) × List Word). Some (Closes (N.End p.0), p.1)) (id_is_read i)
+  closed_read : (behind after : List Word) (closing : Option N.Placed) → OptionalId behind after closing → ◌≡◌ {A = Moves} (Some (Closes (N.End (id_at behind).0), (id_at behind).1)) (Some (Closes (N.End closing), after))
+  closed_read behind after closing i = ap (λ (p : Option N.Placed × List Word). Some (Closes (N.End p.0), p.1)) (id_is_read i)
 
   flatly_moves : (ws : List Word) (fs : List N.Flat) → EndsBlock On ws fs → Moved (Inside Flatly ∷ s) ws fs vs
   flatly_moves ws fs c =
@@ -346,7 +346,7 @@ module _ (s : List Open) (vs : List Word) where
       subst (λ (xs : List Word). Moved (Inside FlatIf ∷ s) xs fs vs) (sym c.words) (record {
         move = Turns (N.Else c.closing) Flatly;
         after = c.after;
-        read = ap (λ (p : Option (List ℕ) × List Word). Some (Turns (N.Else p.0) Flatly, p.1)) (id_is_read c.name);
+        read = ap (λ (p : Option N.Placed × List Word). Some (Turns (N.Else p.0) Flatly, p.1)) (id_is_read c.name);
         goes = (c.others, c.flats, c.goes);
       })
 
@@ -409,7 +409,7 @@ module _ (s : List Open) (fs : List N.Flat) (vs : List Word) (m : Move) (us : Li
       let b = back_to s fs vs m (Begins (Operands r.0.0)) us r.0.1 r.2 g in
       folded_comes s vs (G.operator (read_is_plain op xs r.0.1 r.0.0 r.1) (foldeds_at r.0.1 b.es (RightBracket ∷ b.closes.after) fs b.os (r.0.0 ∷ b.closes.others) b.closes.words b.closes.flats b.body)) b.closes.goes
 
-  folded_block_comes : (key : KeyWord) (o : N.Opener) (xs : List Word) → IsBlock key o → folded_block_at (Some o) xs ≡ Some Answer → ((l : Option (List ℕ)) (q : Option ValType) → folded_move o l q ≡ Opens (N.Opens o l q) Folded)
+  folded_block_comes : (key : KeyWord) (o : N.Opener) (xs : List Word) → IsBlock key o → folded_block_at (Some o) xs ≡ Some Answer → ((l : Option N.Placed) (q : Option ValType) → folded_move o l q ≡ Opens (N.Opens o l q) Folded)
       → Rest s (LeftBracket ∷ Key key ∷ xs) fs vs
   folded_block_comes key o xs b_is e same =
       let r = map_some (λ (h : Header × List Word). (folded_move o h.0.0 h.0.1, h.1)) (header_at xs) Answer e in

@@ -1,4 +1,5 @@
 pub mod Views
+pub mod Places
 pub mod Reading
 pub mod Outcome
 pub mod Turns

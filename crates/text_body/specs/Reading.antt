@@ -6,7 +6,7 @@ use Rattle.spec_text.specs.declared.KeyWord.TheVariants as k
 use Rattle.spec_text.specs.declared.Operator.{Operator}
 use Rattle.spec_text.specs.declared.Operator.TheVariants as o
 use Rattle.spec_text.specs.Words.{Word, LeftBracket, RightBracket, Key, OffsetIs, AlignIs, Id, Number}
-use Rattle.spec_text.specs.Named as N
+use Rattle.spec_text.specs.Placed as N
 use Rattle.spec_text.specs.Grammar.{is_simple, is_indexed, are_unnamed}
 use Rattle.text_body.specs.declared.parts.Part.{Part}
 use Rattle.text_body.specs.declared.parts.Part.TheVariants as part
@@ -21,15 +21,15 @@ o >>= f = option_and_then f o
 
 -- ---- what may be there
 
-abbrev pub id_at : List Word → Option (List ℕ) × List Word
+abbrev pub id_at : List Word → Option N.Placed × List Word
 id_at (Id id ∷ ws) = (Some id, ws)
 id_at ws = (None, ws)
 
-abbrev pub offset_at : List Word → Option (List ℕ) × List Word
+abbrev pub offset_at : List Word → Option N.Placed × List Word
 offset_at (OffsetIs text ∷ ws) = (Some text, ws)
 offset_at ws = (None, ws)
 
-abbrev pub align_at : List Word → Option (List ℕ) × List Word
+abbrev pub align_at : List Word → Option N.Placed × List Word
 align_at (AlignIs text ∷ ws) = (Some text, ws)
 align_at ws = (None, ws)
 
@@ -117,7 +117,7 @@ abbrev pub result_at : List Word → Read (Option ValType)
 result_at ws = next_at part.Result valued_at ws
 
 -- $id? result?
-abbrev pub header_at : List Word → Read (Option (List ℕ) × Option ValType)
+abbrev pub header_at : List Word → Read (Option N.Placed × Option ValType)
 header_at ws = option_map (λ r. (((id_at ws).0, r.0), r.1)) (result_at (id_at ws).1)
 
 -- ---- typeuses
@@ -154,7 +154,7 @@ abbrev pub indirect_at : List Word → Read N.Flat
 indirect_at ws = use_at ws >>= λ u. cond (are_unnamed u.0.params) (Some (N.CallIndirect u.0, u.1)) None
 
 -- the offset, the alignment and the words behind them
-abbrev pub argument_at : List Word → Option (List ℕ) × Option (List ℕ) × List Word
+abbrev pub argument_at : List Word → Option N.Placed × Option N.Placed × List Word
 argument_at ws = ((offset_at ws).0, (align_at (offset_at ws).1).0, (align_at (offset_at ws).1).1)
 
 abbrev pub other_at : Operator → List Word → Read N.Flat

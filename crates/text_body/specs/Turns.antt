@@ -5,7 +5,7 @@ use Rattle.spec_text.specs.declared.KeyWord.{KeyWord}
 use Rattle.spec_text.specs.declared.KeyWord.TheVariants as k
 use Rattle.spec_text.specs.declared.Operator.{Operator}
 use Rattle.spec_text.specs.Words.{Word, LeftBracket, RightBracket, Key, Op}
-use Rattle.spec_text.specs.Named as N
+use Rattle.spec_text.specs.Placed as N
 use Rattle.text_body.specs.declared.parts.Part.TheVariants as part
 use Rattle.text_body.specs.declared.turns.Form as code_form
 use Rattle.text_body.specs.declared.turns.Form.TheVariants as form
@@ -15,14 +15,14 @@ use Rattle.text_body.specs.declared.turns.Top as code_top
 use Rattle.text_body.specs.declared.turns.Top.TheVariants as top
 use Rattle.text_body.specs.declared.turns.Turn as code_turn
 use Rattle.text_body.specs.declared.turns.Turn.TheVariants as turn
-use Rattle.text_body.specs.Views.{text_of, flat_of}
+use Rattle.text_body.specs.Places.{text_of, flat_of}
 use Rattle.text_body.specs.Reading.{Read, id_at, header_at, plain_at, ahead, close_at}
 
 -- a folded block or loop; a flat one, or a flat conditional behind its else; a flat conditional before its else; a folded
 -- conditional before its then, behind it, and behind its else
 pub data Form : Type 0 where
   Folded Flatly FlatIf Then Otherwise : Form
-  Condition : Option (List ℕ) → Option ValType → Form
+  Condition : Option N.Placed → Option ValType → Form
 
 -- the operands of an instruction, or a form
 pub data Open : Type 0 where
@@ -79,7 +79,7 @@ opener_of_key k.Loop = Some N.Loop
 opener_of_key k.If = Some N.If
 opener_of_key _ = None
 
-abbrev pub folded_move : N.Opener → Option (List ℕ) → Option ValType → Move
+abbrev pub folded_move : N.Opener → Option N.Placed → Option ValType → Move
 folded_move N.If label result = Begins (Inside (Condition label result))
 folded_move o label result = Opens (N.Opens o label result) Folded
 

@@ -6,7 +6,9 @@ mod flat;
 mod parts;
 pub mod shared;
 mod turns;
+mod unread;
 mod whole;
 
 pub use flat::{Binding, Flat, Index, Opener, TypeUse};
+pub use unread::Unread;
 pub use whole::{body, no_words_begin_with_two_bodies};

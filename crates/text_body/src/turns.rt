@@ -1,15 +1,16 @@
 //! What the next words of a body do.
 ghost use Rattle.std.specs.Prelude.{◌≡◌, ◌≤◌, ◌<◌, ◌+◌, length, IfOk, Option, option_map};
 ghost use Rattle.text_words.specs.Views.{views};
-ghost use Rattle.text_body.specs.Views.{opener_of};
+ghost use Rattle.text_body.specs.Places.{opener_of};
 ghost use Rattle.text_body.specs.Outcome.{Gives};
 ghost use Rattle.text_body.specs.Turns.{seen_top, move_of, move_at, left_at, folded_at, then_at, right_at, key_at, end_at, else_at, takes_all, opener_of_key, folded_block_at, flat_block_at};
 
 use crate::flat::{Flat, Opener};
 use crate::parts::{Part, closes, enters, header, left_behind_parts, optional_id, plain};
+use crate::unread::Unread;
 use spec_text::KeyWord;
 use std::alloc::Allocator;
-use text_words::{Piece, TextRefusal, Word};
+use text_words::{Piece, Word};
 use wtypes::ValType;
 
 /// What is open, if not the operands of an instruction.
@@ -84,12 +85,12 @@ fn opener(key: KeyWord) -> Option<Opener>
 fn folded_block<'w, 'a, A: Allocator>(
     opener: Option<Opener>,
     rest: &mut &'w [Word<'a>],
-) -> Result<Turn<'a, A>, TextRefusal>
+) -> Result<Turn<'a, A>, Unread>
     ensures value { Gives (λ t. (move_of t, views rest.new.now)) result (folded_block_at (option_map opener_of opener) (views rest.old.now)) }
     ensures shorter { IfOk result (λ _. length rest.new.now ≤ length rest.old.now) }
 {
     let Some(opener) = opener else {
-        return Err(TextRefusal::Unexpected(rest.len() + 1));
+        return Err(Unread::Stuck(rest.len() + 1));
     };
     let (label, found) = header(rest)?;
     match opener {
@@ -103,12 +104,12 @@ fn folded_block<'w, 'a, A: Allocator>(
 fn flat_block<'w, 'a, A: Allocator>(
     opener: Option<Opener>,
     rest: &mut &'w [Word<'a>],
-) -> Result<Turn<'a, A>, TextRefusal>
+) -> Result<Turn<'a, A>, Unread>
     ensures value { Gives (λ t. (move_of t, views rest.new.now)) result (flat_block_at (option_map opener_of opener) (views rest.old.now)) }
     ensures shorter { IfOk result (λ _. length rest.new.now ≤ length rest.old.now) }
 {
     let Some(opener) = opener else {
-        return Err(TextRefusal::Unexpected(rest.len() + 1));
+        return Err(Unread::Stuck(rest.len() + 1));
     };
     let (label, found) = header(rest)?;
     match opener {
@@ -122,12 +123,12 @@ fn flat_block<'w, 'a, A: Allocator>(
 fn folded<'w, 'a, A: Allocator + Clone>(
     alloc: &A,
     rest: &mut &'w [Word<'a>],
-) -> Result<Turn<'a, A>, TextRefusal>
+) -> Result<Turn<'a, A>, Unread>
     ensures value { Gives (λ t. (move_of t, views rest.new.now)) result (folded_at (views rest.old.now)) }
     ensures shorter { IfOk result (λ _. length rest.new.now ≤ length rest.old.now) }
 {
     match *rest {
-        [] => Err(TextRefusal::Unexpected(0)),
+        [] => Err(Unread::Stuck(0)),
         [word, after @ ..] => match *word {
             Word::Op(op) => {
                 *rest = after;
@@ -138,7 +139,7 @@ fn folded<'w, 'a, A: Allocator + Clone>(
                 *rest = after;
                 folded_block(opener(key), rest)
             }
-            _ => Err(TextRefusal::Unexpected(rest.len())),
+            _ => Err(Unread::Stuck(rest.len())),
         },
     }
 }
@@ -147,7 +148,7 @@ fn folded<'w, 'a, A: Allocator + Clone>(
 fn then<'w, 'a, A: Allocator>(
     top: Top<'a>,
     rest: &mut &'w [Word<'a>],
-) -> Result<Turn<'a, A>, TextRefusal>
+) -> Result<Turn<'a, A>, Unread>
     ensures value { Gives (λ t. (move_of t, views rest.new.now)) result (then_at (seen_top top.entry) (views rest.old.now)) }
     ensures shorter { IfOk result (λ _. length rest.new.now ≤ length rest.old.now) }
 {
@@ -157,9 +158,9 @@ fn then<'w, 'a, A: Allocator>(
                 Flat::Opens(Opener::If, label, found),
                 Form::Then,
             )),
-            _ => Err(TextRefusal::Unexpected(rest.len() + 1)),
+            _ => Err(Unread::Stuck(rest.len() + 1)),
         },
-        _ => Err(TextRefusal::Unexpected(rest.len() + 1)),
+        _ => Err(Unread::Stuck(rest.len() + 1)),
     }
 }
 
@@ -168,7 +169,7 @@ fn left<'w, 'a, A: Allocator + Clone>(
     alloc: &A,
     top: Top<'a>,
     rest: &mut &'w [Word<'a>],
-) -> Result<Turn<'a, A>, TextRefusal>
+) -> Result<Turn<'a, A>, Unread>
     ensures value { Gives (λ t. (move_of t, views rest.new.now)) result (left_at (seen_top top.entry) (views rest.old.now)) }
     ensures shorter { IfOk result (λ _. length rest.new.now ≤ length rest.old.now) }
 {
@@ -185,7 +186,7 @@ fn left<'w, 'a, A: Allocator + Clone>(
 fn right<'w, 'a, A: Allocator>(
     top: Top<'a>,
     rest: &mut &'w [Word<'a>],
-) -> Result<Turn<'a, A>, TextRefusal>
+) -> Result<Turn<'a, A>, Unread>
     ensures value { Gives (λ t. (move_of t, views rest.new.now)) result (right_at (seen_top top.entry) (views rest.old.now)) }
     ensures shorter { IfOk result (λ _. length rest.new.now ≤ length rest.old.now) }
 {
@@ -201,24 +202,21 @@ fn right<'w, 'a, A: Allocator>(
                 if enters(Part::Else, rest) {
                     return Ok(Turn::Turns(Flat::Else(None), Form::Otherwise));
                 }
-                Err(TextRefusal::Unexpected(left_behind_parts(rest)))
+                Err(Unread::Stuck(left_behind_parts(rest)))
             }
             Form::Otherwise => {
                 if closes(rest) {
                     return Ok(Turn::Closes(Flat::End(None)));
                 }
-                Err(TextRefusal::Unexpected(rest.len()))
+                Err(Unread::Stuck(rest.len()))
             }
-            _ => Err(TextRefusal::Unexpected(rest.len() + 1)),
+            _ => Err(Unread::Stuck(rest.len() + 1)),
         },
     }
 }
 
 /// `end`, behind itself.
-fn end<'w, 'a, A: Allocator>(
-    top: Top<'a>,
-    rest: &mut &'w [Word<'a>],
-) -> Result<Turn<'a, A>, TextRefusal>
+fn end<'w, 'a, A: Allocator>(top: Top<'a>, rest: &mut &'w [Word<'a>]) -> Result<Turn<'a, A>, Unread>
     ensures value { Gives (λ t. (move_of t, views rest.new.now)) result (end_at (seen_top top.entry) (views rest.old.now)) }
     ensures shorter { IfOk result (λ _. length rest.new.now ≤ length rest.old.now) }
 {
@@ -226,9 +224,9 @@ fn end<'w, 'a, A: Allocator>(
         Top::Inside(form) => match form {
             Form::Flatly => Ok(Turn::Closes(Flat::End(optional_id(rest)))),
             Form::FlatIf => Ok(Turn::Closes(Flat::End(optional_id(rest)))),
-            _ => Err(TextRefusal::Unexpected(rest.len() + 1)),
+            _ => Err(Unread::Stuck(rest.len() + 1)),
         },
-        _ => Err(TextRefusal::Unexpected(rest.len() + 1)),
+        _ => Err(Unread::Stuck(rest.len() + 1)),
     }
 }
 
@@ -236,16 +234,16 @@ fn end<'w, 'a, A: Allocator>(
 fn otherwise<'w, 'a, A: Allocator>(
     top: Top<'a>,
     rest: &mut &'w [Word<'a>],
-) -> Result<Turn<'a, A>, TextRefusal>
+) -> Result<Turn<'a, A>, Unread>
     ensures value { Gives (λ t. (move_of t, views rest.new.now)) result (else_at (seen_top top.entry) (views rest.old.now)) }
     ensures shorter { IfOk result (λ _. length rest.new.now ≤ length rest.old.now) }
 {
     match top {
         Top::Inside(form) => match form {
             Form::FlatIf => Ok(Turn::Turns(Flat::Else(optional_id(rest)), Form::Flatly)),
-            _ => Err(TextRefusal::Unexpected(rest.len() + 1)),
+            _ => Err(Unread::Stuck(rest.len() + 1)),
         },
-        _ => Err(TextRefusal::Unexpected(rest.len() + 1)),
+        _ => Err(Unread::Stuck(rest.len() + 1)),
     }
 }
 
@@ -268,7 +266,7 @@ fn key_word<'w, 'a, A: Allocator>(
     top: Top<'a>,
     key: KeyWord,
     rest: &mut &'w [Word<'a>],
-) -> Result<Turn<'a, A>, TextRefusal>
+) -> Result<Turn<'a, A>, Unread>
     ensures value { Gives (λ t. (move_of t, views rest.new.now)) result (key_at (seen_top top.entry) key (views rest.old.now)) }
     ensures shorter { IfOk result (λ _. length rest.new.now ≤ length rest.old.now) }
 {
@@ -277,7 +275,7 @@ fn key_word<'w, 'a, A: Allocator>(
         KeyWord::Else => otherwise(top, rest),
         _ => {
             if !all_allowed(top) {
-                return Err(TextRefusal::Unexpected(rest.len() + 1));
+                return Err(Unread::Stuck(rest.len() + 1));
             }
             flat_block(opener(key), rest)
         }
@@ -289,12 +287,12 @@ pub(crate) fn next_turn<'w, 'a, A: Allocator + Clone>(
     alloc: &A,
     top: Top<'a>,
     rest: &mut &'w [Word<'a>],
-) -> Result<Turn<'a, A>, TextRefusal>
+) -> Result<Turn<'a, A>, Unread>
     ensures value { Gives (λ t. (move_of t, views rest.new.now)) result (move_at (seen_top top.entry) (views rest.old.now)) }
     ensures shorter { IfOk result (λ _. length rest.new.now < length rest.old.now) }
 {
     match *rest {
-        [] => Err(TextRefusal::Unexpected(0)),
+        [] => Err(Unread::Stuck(0)),
         [word, after @ ..] => match *word {
             Word::LeftBracket => {
                 *rest = after;
@@ -306,7 +304,7 @@ pub(crate) fn next_turn<'w, 'a, A: Allocator + Clone>(
             }
             Word::Op(op) => {
                 if !all_allowed(top) {
-                    return Err(TextRefusal::Unexpected(rest.len()));
+                    return Err(Unread::Stuck(rest.len()));
                 }
                 *rest = after;
                 let found = plain(alloc, op, rest)?;
@@ -316,7 +314,7 @@ pub(crate) fn next_turn<'w, 'a, A: Allocator + Clone>(
                 *rest = after;
                 key_word(top, key, rest)
             }
-            _ => Err(TextRefusal::Unexpected(rest.len())),
+            _ => Err(Unread::Stuck(rest.len())),
         },
     }
 }

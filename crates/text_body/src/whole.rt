@@ -1,16 +1,17 @@
 //! Whole bodies.
 ghost use Rattle.std.specs.Prelude.{◌≡◌, ◌<◌, length, option_map, IfOk, IfErr};
 ghost use Rattle.text_words.specs.Views.{views};
-ghost use Rattle.text_body.specs.Views.{flat_of, flats_of};
+ghost use Rattle.text_body.specs.Places.{flat_of, flats_of};
 ghost use Rattle.text_body.specs.Outcome.{Unless};
 ghost use Rattle.text_body.specs.Turns.{seen_top, top_of, state_of, move_of, is_end, completed, left_behind, step_of, applied};
 ghost use Rattle.text_body.specs.Bodies.{IsBody, NoBody, BodiesAreOne};
-ghost use Rattle.text_words.specs.declared.TextRefusal.TheVariants.{NoMemory};
+ghost use Rattle.text_body.specs.declared.unread.Unread.TheVariants.{NoMemory};
 
 use crate::flat::Flat;
 use crate::turns::{Open, Top, Turn, next_turn};
+use crate::unread::Unread;
 use std::alloc::Allocator;
-use text_words::{TextRefusal, Word};
+use text_words::Word;
 
 /// What is open innermost.
 fn innermost<'a, A: Allocator>(stack: &Vec<Open<'a, A>, A>) -> Top<'a>
@@ -54,7 +55,7 @@ fn apply<'a, A: Allocator>(
     turn: Turn<'a, A>,
     stack: &mut Vec<Open<'a, A>, A>,
     flats: &mut Vec<Flat<'a, A>, A>,
-) -> Result<bool, TextRefusal>
+) -> Result<bool, Unread>
     ensures done { IfOk result (λ done. applied done (state_of stack.new.items, flats_of flats.new.items) ≡ step_of (move_of turn.entry) (state_of stack.old.items) (flats_of flats.old.items)) }
     ensures refused { IfErr result (λ refusal. refusal ≡ NoMemory) }
 {
@@ -98,12 +99,12 @@ fn apply<'a, A: Allocator>(
     }
 }
 
-/// Reads the instructions up to a `)`, folded forms unfolded, and goes past that bracket. Where it refuses, the number
-/// is how many words were left, for people to read.
+/// Reads the instructions up to a `)`, folded forms unfolded, and goes past that bracket. Where it refuses, it says
+/// how many words were left.
 pub fn body<'w, 'a, A: Allocator + Clone>(
     alloc: &A,
     rest: &mut &'w [Word<'a>],
-) -> Result<Vec<Flat<'a, A>, A>, TextRefusal>
+) -> Result<Vec<Flat<'a, A>, A>, Unread>
     // The words that were passed are these instructions and the bracket.
     ensures grammar { IfOk result (λ found. IsBody (views rest.old.now) (views rest.new.now) (flats_of found.items)) }
     // It is refused for another cause than memory only where the words do not begin with a body.
@@ -116,12 +117,12 @@ pub fn body<'w, 'a, A: Allocator + Clone>(
         let turn = next_turn(alloc, innermost(&stack), rest)?;
         if ends(&turn) {
             if !stack.is_empty() {
-                return Err(TextRefusal::Unexpected(rest.len()));
+                return Err(Unread::Stuck(rest.len()));
             }
             return Ok(flats);
         }
         if !apply(turn, &mut stack, &mut flats)? {
-            return Err(TextRefusal::Unexpected(rest.len()));
+            return Err(Unread::Stuck(rest.len()));
         }
     }
 }

@@ -2,15 +2,12 @@
 
 use crate::faults::Faults;
 use crate::labels::OpenLabels;
+use module_tree::limit::{LABEL_LIMIT, NESTING_LIMIT};
 use spec_text::Operator;
 use std::alloc::Allocator;
 use text_body::{Flat, Index, TypeUse};
-use text_resolve::{Labels, Space, Spaces, plain, type_number};
+use text_resolve::{Labels, Limit, Space, Spaces, plain, type_number};
 use wtypes::NoMemory;
-
-const NESTING_LIMIT: usize = 128;
-
-const LABEL_LIMIT: usize = 1024;
 
 /// What is known of a text when its fields are looked at.
 #[derive(Drop)]
@@ -42,7 +39,7 @@ fn table_faults<'a, A: Allocator + Clone>(
     faults: &mut Faults,
 ) -> Result<(), NoMemory> {
     if indices.len() > LABEL_LIMIT {
-        faults.pass(5);
+        faults.pass(Limit::Labels);
     }
     for index in indices {
         labels.check(*index, faults)?;
@@ -62,7 +59,7 @@ fn flat_faults<'a, A: Allocator + Clone>(
         Flat::Opens(_, label, _) => {
             labels.enter(*label)?;
             if labels.depth() > NESTING_LIMIT {
-                faults.pass(4);
+                faults.pass(Limit::Nesting);
             }
             Ok(())
         }

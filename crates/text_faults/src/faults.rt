@@ -1,13 +1,13 @@
 //! Faults of a text.
 
-use text_resolve::AsmRefusal;
+use text_resolve::{AsmRefusal, Limit, Unresolved};
 use wtypes::NoMemory;
 
 /// The faults of a text that have been met: the one at the least place, and the least limit that is passed.
 #[derive(Drop)]
 pub struct Faults {
     placed: Option<(usize, AsmRefusal)>,
-    limit: Option<u8>,
+    limit: Option<Limit>,
 }
 
 impl Faults {
@@ -31,10 +31,10 @@ impl Faults {
     }
 
     /// A limit is passed.
-    pub fn pass(&mut self, limit: u8) {
+    pub fn pass(&mut self, limit: Limit) {
         let is_less = match self.limit {
             None => true,
-            Some(least) => limit < least,
+            Some(least) => limit.number() < least.number(),
         };
         if is_less {
             self.limit = Some(limit);
@@ -42,21 +42,21 @@ impl Faults {
     }
 
     /// A fault is met.
-    pub fn note(&mut self, fault: AsmRefusal) -> Result<(), NoMemory> {
+    pub fn note(&mut self, fault: Unresolved) -> Result<(), NoMemory> {
         match fault {
-            AsmRefusal::Unexpected(at) => self.put(at, fault),
-            AsmRefusal::UnknownName(at) => self.put(at, fault),
-            AsmRefusal::RepeatedName(at) => self.put(at, fault),
-            AsmRefusal::NumberRange(at) => self.put(at, fault),
-            AsmRefusal::TooLarge(limit) => self.pass(limit),
-            AsmRefusal::Lex(_) => self.put(0, fault),
-            AsmRefusal::NoMemory => return Err(NoMemory),
+            Unresolved::UnknownName(at) => self.put(at, AsmRefusal::UnknownName(at)),
+            Unresolved::RepeatedName(at) => self.put(at, AsmRefusal::RepeatedName(at)),
+            Unresolved::NumberRange(at) => self.put(at, AsmRefusal::NumberRange(at)),
+            Unresolved::TooLarge(limit) => self.pass(limit),
+            // No place is at fault by itself.
+            Unresolved::Broken => {}
+            Unresolved::NoMemory => return Err(NoMemory),
         }
         Ok(())
     }
 
     /// Notes the fault of an outcome, if it is one.
-    pub fn take<T: Drop>(&mut self, outcome: Result<T, AsmRefusal>) -> Result<(), NoMemory> {
+    pub fn take<T: Drop>(&mut self, outcome: Result<T, Unresolved>) -> Result<(), NoMemory> {
         match outcome {
             Ok(_) => Ok(()),
             Err(fault) => self.note(fault),
@@ -68,7 +68,7 @@ impl Faults {
     pub fn refusal(&self) -> AsmRefusal {
         match self.placed {
             Some((_, fault)) => fault,
-            None => AsmRefusal::TooLarge(self.limit.unwrap_or(1)),
+            None => AsmRefusal::TooLarge(self.limit.unwrap_or(Limit::Bytes)),
         }
     }
 }

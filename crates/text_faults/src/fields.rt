@@ -3,17 +3,14 @@
 use crate::bodies::{Known, body_faults, use_faults};
 use crate::faults::Faults;
 use crate::names::space_of;
+use module_tree::limit::{FUNCTION_LIMIT, LOCAL_LIMIT};
 use std::alloc::Allocator;
 use text_body::{Flat, Index};
 use text_fields::types_of_text;
-use text_resolve::{AsmRefusal, Space, Spaces, index_in, number};
+use text_resolve::{AsmRefusal, Limit, Space, Spaces, index_in, number};
 use text_tree::{Bounds, Desc, ElemField, ExportField, Field, FuncField, ImportField, Kind, Text};
 use text_words::Piece;
 use wtypes::NoMemory;
-
-const FUNCTION_LIMIT: usize = 4096;
-
-const LOCAL_LIMIT: usize = 1024;
 
 // The names of one sort, first to last.
 type Names<'a, A> = Vec<Option<Piece<'a>>, A>;
@@ -114,7 +111,7 @@ fn func_faults<'a, A: Allocator + Clone>(
 ) -> Result<(), NoMemory> {
     use_faults(known, &func.written, faults)?;
     if func.locals.len() > LOCAL_LIMIT {
-        faults.pass(3);
+        faults.pass(Limit::Locals);
     }
     let mut names = Vec::new(known.alloc.clone()?);
     for param in &func.written.params {
@@ -209,7 +206,7 @@ fn has_too_many_funcs<A: Allocator>(text: &Text<'_, A>) -> bool {
 fn faults_of<'a, A: Allocator + Clone>(alloc: &A, text: &Text<'a, A>) -> Result<Faults, NoMemory> {
     let mut faults = Faults::none();
     if has_too_many_funcs(text) {
-        faults.pass(2);
+        faults.pass(Limit::Functions);
     }
     let spaces = spaces_of(alloc, text, &mut faults)?;
     let known = Known {

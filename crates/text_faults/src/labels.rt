@@ -5,7 +5,7 @@ use crate::names::{Counts, count_of};
 use std::alloc::Allocator;
 use std::collections::HashMap;
 use text_body::Index;
-use text_resolve::{AsmRefusal, number};
+use text_resolve::{Unresolved, number};
 use text_words::Piece;
 use wtypes::NoMemory;
 
@@ -63,7 +63,7 @@ impl<'a, A: Allocator + Clone> OpenLabels<'a, A> {
                 return Ok(());
             }
         }
-        faults.note(AsmRefusal::UnknownName(written.at))
+        faults.note(Unresolved::UnknownName(written.at))
     }
 
     /// An index of a branch has to be a number or the name of an open block.
@@ -74,7 +74,7 @@ impl<'a, A: Allocator + Clone> OpenLabels<'a, A> {
                 if count_of(&self.counts, piece.text) > 0 {
                     return Ok(());
                 }
-                faults.note(AsmRefusal::UnknownName(piece.at))
+                faults.note(Unresolved::UnknownName(piece.at))
             }
         }
     }

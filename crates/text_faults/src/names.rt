@@ -4,7 +4,7 @@ use crate::faults::Faults;
 use std::alloc::Allocator;
 use std::collections::HashMap;
 use std::hash::{BuildHasherDefault, FoldHasher};
-use text_resolve::{AsmRefusal, Space};
+use text_resolve::{Space, Unresolved};
 use text_words::Piece;
 use wtypes::NoMemory;
 
@@ -29,7 +29,7 @@ fn first_use<'a, A: Allocator + Clone>(
         return Ok(None);
     };
     if count_of(counts, piece.text) > 0 {
-        faults.note(AsmRefusal::RepeatedName(piece.at))?;
+        faults.note(Unresolved::RepeatedName(piece.at))?;
         return Ok(None);
     }
     counts.insert(piece.text, 1)?;

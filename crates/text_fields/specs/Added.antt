@@ -1,7 +1,7 @@
 -- Types, where each that is not there is put at the end.
 use Rattle.std.specs.Prelude.{◌≡◌, List, [], ◌∷◌, ◌++◌, Option, Some, None, cond, is_some}
 use Rattle.spec_syntax.specs.Syntax.{FuncType}
-use Rattle.spec_text.specs.Resolve.{Adds}
+use Rattle.spec_text.specs.TypeUses.{Adds}
 use Rattle.text_resolve.specs.Types.{first_type}
 
 abbrev pub option_list : {X : Type 0} → Option X → List X

@@ -2,7 +2,8 @@
 use Rattle.std.specs.Prelude.{◌≡◌, List, [], ◌∷◌, Option, Some, None}
 use Rattle.text_words.specs.declared.word.Piece.{Piece}
 use Rattle.spec_text.specs.Named.{Field}
-use Rattle.spec_text.specs.Resolve.{Names, Spaces, AreSpaces, type_name, func_name, table_name, memory_name, global_name}
+use Rattle.spec_text.specs.Spaces.{Names, Spaces}
+use Rattle.spec_text.specs.Fields.{AreSpaces, type_name, func_name, table_name, memory_name, global_name}
 use Rattle.text_body.specs.Views.{text_of}
 use Rattle.text_fields.specs.declared.spaces.Sort.{Sort}
 use Rattle.text_fields.specs.declared.spaces.Sort.TheVariants as sort

@@ -5,7 +5,8 @@ use Rattle.wtypes.specs.declared.ValType.{ValType}
 use Rattle.spec_syntax.specs.Syntax as S
 use Rattle.spec_syntax.specs.Limits.{is_u32, expression_fits, limits_fit, import_fits, global_fits, export_fits, element_fits, data_fits}
 use Rattle.spec_text.specs.Named as N
-use Rattle.spec_text.specs.Resolve.{Names, Spaces, names_of, types_of}
+use Rattle.spec_text.specs.Spaces.{Names, Spaces}
+use Rattle.spec_text.specs.TypeUses.{names_of, types_of}
 use Rattle.text_resolve.specs.Lookup.{find, u32_at, stands_at, all_stand_at}
 use Rattle.text_resolve.specs.Types.{is_bare, use_at}
 use Rattle.text_resolve.specs.Bodies.{Read, body_at}

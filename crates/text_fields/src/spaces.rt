@@ -1,18 +1,19 @@
 //! The names of a text, space by space.
 ghost use Rattle.std.specs.Prelude.{◌≡◌, ◌++◌, map, OnOk, IfOk, IfErr};
 ghost use Rattle.std.specs.List.{flat_map};
-ghost use Rattle.spec_text.specs.Resolve.{AreDistinct, AreSpaces};
-ghost use Rattle.spec_text.specs.Resolve as Resolve;
+ghost use Rattle.spec_text.specs.Spaces.{AreDistinct};
+ghost use Rattle.spec_text.specs.Fields.{AreSpaces};
+ghost use Rattle.spec_text.specs.Fields as Fields;
 ghost use Rattle.text_body.specs.Views.{text_of};
 ghost use Rattle.text_tree.specs.Views.{field_of, fields_of};
 ghost use Rattle.text_resolve.specs.Outcome.{Unless};
-ghost use Rattle.text_resolve.specs.declared.refusal.AsmRefusal.TheVariants.{NoMemory};
+ghost use Rattle.text_resolve.specs.declared.refusal.Unresolved.TheVariants.{NoMemory};
 ghost use Rattle.text_resolve.specs.Views.{spaces_of};
 ghost use Rattle.text_fields.specs.Listed.{listed, names_in, NoSpaces, SpacesAreOne};
 
 use crate::types_of_text;
 use std::alloc::Allocator;
-use text_resolve::{AsmRefusal, Space, Spaces};
+use text_resolve::{Space, Spaces, Unresolved};
 use text_tree::{Desc, Field, Text};
 use text_words::Piece;
 
@@ -31,7 +32,7 @@ type Name<'a> = Option<Piece<'a>>;
 
 // The name of the type that a field declares.
 fn type_name<'a, A: Allocator>(field: &Field<'a, A>) -> Option<Name<'a>>
-    ensures { listed result ≡ Resolve.type_name (field_of field.now) }
+    ensures { listed result ≡ Fields.type_name (field_of field.now) }
 {
     match field {
         Field::Type(own) => Some(own.name),
@@ -41,7 +42,7 @@ fn type_name<'a, A: Allocator>(field: &Field<'a, A>) -> Option<Name<'a>>
 
 // The name of the function that a field imports or defines.
 fn func_name<'a, A: Allocator>(field: &Field<'a, A>) -> Option<Name<'a>>
-    ensures { listed result ≡ Resolve.func_name (field_of field.now) }
+    ensures { listed result ≡ Fields.func_name (field_of field.now) }
 {
     match field {
         Field::Import(import) => match &import.desc {
@@ -55,7 +56,7 @@ fn func_name<'a, A: Allocator>(field: &Field<'a, A>) -> Option<Name<'a>>
 
 // The name of the table that a field imports or defines.
 fn table_name<'a, A: Allocator>(field: &Field<'a, A>) -> Option<Name<'a>>
-    ensures { listed result ≡ Resolve.table_name (field_of field.now) }
+    ensures { listed result ≡ Fields.table_name (field_of field.now) }
 {
     match field {
         Field::Import(import) => match &import.desc {
@@ -69,7 +70,7 @@ fn table_name<'a, A: Allocator>(field: &Field<'a, A>) -> Option<Name<'a>>
 
 // The name of the memory that a field imports or defines.
 fn memory_name<'a, A: Allocator>(field: &Field<'a, A>) -> Option<Name<'a>>
-    ensures { listed result ≡ Resolve.memory_name (field_of field.now) }
+    ensures { listed result ≡ Fields.memory_name (field_of field.now) }
 {
     match field {
         Field::Import(import) => match &import.desc {
@@ -83,7 +84,7 @@ fn memory_name<'a, A: Allocator>(field: &Field<'a, A>) -> Option<Name<'a>>
 
 // The name of the global that a field imports or defines.
 fn global_name<'a, A: Allocator>(field: &Field<'a, A>) -> Option<Name<'a>>
-    ensures { listed result ≡ Resolve.global_name (field_of field.now) }
+    ensures { listed result ≡ Fields.global_name (field_of field.now) }
 {
     match field {
         Field::Import(import) => match &import.desc {
@@ -113,7 +114,7 @@ fn add_name<'a, A: Allocator>(
     names: &mut Vec<Name<'a>, A>,
     sort: Sort,
     field: &Field<'a, A>,
-) -> Result<(), AsmRefusal>
+) -> Result<(), Unresolved>
     ensures added { OnOk result (map text_of names.new.items ≡ map text_of names.old.items ++ names_in sort (field_of field.now)) }
     ensures refused { IfErr result (λ e. e ≡ NoMemory) }
 {
@@ -131,7 +132,7 @@ fn names_of<'a, A: Allocator + Clone>(
     alloc: &A,
     sort: Sort,
     text: &Text<'a, A>,
-) -> Result<Vec<Name<'a>, A>, AsmRefusal>
+) -> Result<Vec<Name<'a>, A>, Unresolved>
     ensures names { IfOk result (λ v. map text_of v.items ≡ flat_map (names_in sort) (fields_of text.now)) }
     ensures refused { IfErr result (λ e. e ≡ NoMemory) }
 {
@@ -147,7 +148,7 @@ fn space_of<'a, A: Allocator + Clone>(
     alloc: &A,
     sort: Sort,
     text: &Text<'a, A>,
-) -> Result<Space<'a, A>, AsmRefusal>
+) -> Result<Space<'a, A>, Unresolved>
     ensures names { IfOk result (λ space. map text_of space.names.items ≡ flat_map (names_in sort) (fields_of text.now)) }
     ensures distinct { IfOk result (λ space. AreDistinct (map text_of space.names.items)) }
     ensures refused { IfErr result (Unless (AreDistinct (flat_map (names_in sort) (fields_of text.now)) → ⊥)) }
@@ -161,7 +162,7 @@ fn space_of<'a, A: Allocator + Clone>(
 pub fn spaces_of_text<'a, A: Allocator + Clone>(
     alloc: &A,
     text: &Text<'a, A>,
-) -> Result<Spaces<'a, A>, AsmRefusal>
+) -> Result<Spaces<'a, A>, Unresolved>
     ensures spaces { IfOk result (λ s. AreSpaces (fields_of text.now) (spaces_of s)) }
     ensures refused { IfErr result (Unless (NoSpaces (fields_of text.now))) }
 {

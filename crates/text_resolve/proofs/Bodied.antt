@@ -11,7 +11,8 @@ use Rattle.spec_syntax.specs.Profile.{nesting_limit}
 use Rattle.spec_syntax.specs.Limits.{instrs_fit, expression_fits, both}
 use Rattle.spec_binary.specs.Spells.{InstrLabelsFit, LabelsFit, ExpressionFits}
 use Rattle.spec_text.specs.Named as N
-use Rattle.spec_text.specs.Resolve.{Names, Spaces, Becomes, simply, with_index, br_table, call_indirect, load, store, const, Closes, not_named, named_again, Body, nothing, plain, block, loop, if_then, if_else}
+use Rattle.spec_text.specs.Spaces.{Names, Spaces}
+use Rattle.spec_text.specs.Instructions.{Becomes, simply, with_index, br_table, call_indirect, load, store, const, Closes, not_named, named_again, Body, nothing, plain, block, loop, if_then, if_else}
 use Rattle.text_resolve.proofs.Lookups.{mapped, picked}
 use Rattle.text_resolve.proofs.Standing.{chained}
 use Rattle.text_resolve.specs.Plain.{plain_at}

@@ -20,7 +20,9 @@ use Rattle.spec_numeric.specs.Operators.{value_of}
 use Rattle.spec_numeric.specs.Storage.{load_width, store_width}
 use Rattle.spec_text.specs.Numbers.{IsU32, IsConstant, constant}
 use Rattle.spec_text.specs.Named as N
-use Rattle.spec_text.specs.Resolve.{Names, Spaces, FirstType, this_type, later_type, Uses, inline, alone, again, written_type, names_of, indexed, names_in, OffsetOf, no_offset, an_offset, AlignOf, no_align, an_align, Becomes, simply, with_index, br_table, call_indirect, load, store, const}
+use Rattle.spec_text.specs.Spaces.{Names, Spaces}
+use Rattle.spec_text.specs.TypeUses.{FirstType, this_type, later_type, Uses, inline, alone, again, written_type, names_of}
+use Rattle.spec_text.specs.Instructions.{indexed, names_in, OffsetOf, no_offset, an_offset, AlignOf, no_align, an_align, Becomes, simply, with_index, br_table, call_indirect, load, store, const}
 use Rattle.text_words.specs.Values.{bits_at}
 use Rattle.text_words.proofs.Amounts.{bits_are_read, read_are_bits}
 use Rattle.text_resolve.specs.Lookup.{u32_at, stands_at, all_stand_at}

@@ -8,10 +8,10 @@ use Rattle.std.proofs.Math.ListN.{drop_of_length-le}
 use Rattle.std.proofs.lemmas.Bool.{eq-eqb}
 use Rattle.spec_syntax.specs.Limits.{instr_fits, instrs_fit, counts_from, both, first, second}
 use Rattle.spec_text.specs.Named as N
-use Rattle.text_resolve.specs.declared.refusal.AsmRefusal.{AsmRefusal}
-use Rattle.text_resolve.specs.declared.refusal.AsmRefusal.TheVariants.{Lex, Unexpected, UnknownName, RepeatedName, NumberRange, TooLarge, NoMemory}
+use Rattle.text_resolve.specs.declared.refusal.Unresolved.{Unresolved}
+use Rattle.text_resolve.specs.declared.refusal.Unresolved.TheVariants.{UnknownName, RepeatedName, NumberRange, TooLarge, Broken, NoMemory}
 use Rattle.text_resolve.specs.Outcome.{Unless, Fails}
-use Rattle.spec_text.specs.Resolve.{Names, Spaces}
+use Rattle.spec_text.specs.Spaces.{Names, Spaces}
 use Rattle.module_tree.specs.declared.instr.Instr.{Instr, Loop, If, the_lemmas}
 use Rattle.module_tree.specs.View.{instr_view, instrs_view, instr_ordinals, ordinals}
 use Rattle.module_tree.specs.Numbering.{Numbered, numbered_under}
@@ -210,10 +210,9 @@ pub numbered_counts : (from to : ℕ) (ns : List ℕ) → Numbered from to ns �
 numbered_counts from to ns p = ap (counts_from from) p.1 ∙ counts from (to - from)
 
 -- a refusal of what is read, as one of what it means
-pub unless_none : {X : Type 0} (e : AsmRefusal) (r : Option X) (P : Type 0) → (r ≡ None → P) → Fails e r → Unless P e
+pub unless_none : {X : Type 0} (e : Unresolved) (r : Option X) (P : Type 0) → (r ≡ None → P) → Fails e r → Unless P e
 unless_none NoMemory r P f h = tt
-unless_none (Lex refusal) r P f h = f h
-unless_none (Unexpected at) r P f h = f h
+unless_none Broken r P f h = f h
 unless_none (UnknownName at) r P f h = f h
 unless_none (RepeatedName at) r P f h = f h
 unless_none (NumberRange at) r P f h = f h

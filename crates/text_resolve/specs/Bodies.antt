@@ -5,7 +5,8 @@ use Rattle.wtypes.specs.declared.ValType.{ValType}
 use Rattle.spec_syntax.specs.Syntax as S
 use Rattle.spec_text.specs.Named as N
 use Rattle.spec_binary.specs.Spells.{ExpressionFits}
-use Rattle.spec_text.specs.Resolve.{Names, Spaces, Body}
+use Rattle.spec_text.specs.Spaces.{Names, Spaces}
+use Rattle.spec_text.specs.Instructions.{Body}
 use Rattle.text_resolve.specs.Plain.{plain_at}
 
 -- what is read, and the flat instructions behind it

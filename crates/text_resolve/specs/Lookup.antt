@@ -1,7 +1,7 @@
 -- What names and indices stand for, as it is looked up.
 use Rattle.std.specs.Prelude.{ℕ, ◌+◌, ◌-◌, ◌^◌, Bool, false, List, [], ◌∷◌, Option, Some, None, option_map, option_and_then, cond}
 use Rattle.std.specs.Str.{bytes_eq}
-use Rattle.spec_text.specs.Resolve.{Names}
+use Rattle.spec_text.specs.Spaces.{Names}
 use Rattle.spec_text.specs.Named as N
 use Rattle.text_words.specs.Values.{magnitude_at, capped}
 

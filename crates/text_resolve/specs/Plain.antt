@@ -11,7 +11,8 @@ use Rattle.spec_numeric.specs.Operators.{word, value_of}
 use Rattle.spec_numeric.specs.Storage.{load_width, store_width}
 use Rattle.spec_text.specs.declared.Operator.{Operator}
 use Rattle.spec_text.specs.Named as N
-use Rattle.spec_text.specs.Resolve.{Names, Spaces, simple, indexed, names_in}
+use Rattle.spec_text.specs.Spaces.{Names, Spaces}
+use Rattle.spec_text.specs.Instructions.{simple, indexed, names_in}
 use Rattle.text_words.specs.Values.{bits_at}
 use Rattle.text_resolve.specs.Lookup.{u32_at, stands_at, all_stand_at}
 use Rattle.text_resolve.specs.Types.{use_at}

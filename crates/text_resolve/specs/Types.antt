@@ -4,7 +4,8 @@ use Rattle.wtypes.specs.declared.ValType.{ValType}
 use Rattle.spec_syntax.specs.Syntax.{FuncType}
 use Rattle.spec_numeric.specs.Operators.{same_type}
 use Rattle.spec_text.specs.Named as N
-use Rattle.spec_text.specs.Resolve.{Names, written_type}
+use Rattle.spec_text.specs.Spaces.{Names}
+use Rattle.spec_text.specs.TypeUses.{written_type}
 use Rattle.text_resolve.specs.Lookup.{first_at, stands_at}
 
 abbrev pub same_types : List ValType → List ValType → Bool

@@ -1,9 +1,9 @@
 //! Bodies and other expressions.
-ghost use Rattle.std.specs.Prelude.{◌≡◌, ◌+◌, ◌-◌, ◌<◌, ◌≤◌, ◌^◌, true, map, length, [], option_map, IfOk, IfErr, IfSome, not};
+ghost use Rattle.std.specs.Prelude.{◌≡◌, ◌+◌, ◌-◌, ◌<◌, ◌≤◌, ◌^◌, true, map, length, [], option_map, Option, IfOk, IfErr, IfSome, not};
 ghost use Rattle.spec_syntax.specs.Limits.{instr_fits, instrs_fit, expression_fits, counts_from};
 ghost use Rattle.spec_syntax.specs.Shape.{instr_depth, instrs_depth};
 ghost use Rattle.spec_binary.specs.Spells.{ExpressionFits};
-ghost use Rattle.spec_text.specs.Resolve.{Body};
+ghost use Rattle.spec_text.specs.Instructions.{Body};
 ghost use Rattle.module_tree.specs.View.{instr_view, instrs_view, instr_ordinals, ordinals};
 ghost use Rattle.module_tree.specs.Numbering.{Numbered};
 ghost use Rattle.text_body.specs.Views.{text_of, flat_of, flats_of};
@@ -13,7 +13,7 @@ ghost use Rattle.text_resolve.specs.Bodies.{closes, behind_end, behind_else, sto
 
 use crate::instrs::plain;
 use crate::spaces::Spaces;
-use crate::{AsmRefusal, Labels, Space};
+use crate::{Labels, Limit, Space, Unresolved};
 use module_tree::instr::Instr;
 use std::alloc::Allocator;
 use text_body::{Flat, Opener};
@@ -32,23 +32,12 @@ struct Scope<'s, 'a, A: Allocator> {
 }
 
 // Whether a name behind `end` or `else` is the label's.
-fn closes(label: Option<Piece<'_>>, closing: Option<Piece<'_>>) -> bool
-    ensures { result ≡ closes (text_of label.entry) (text_of closing.entry) }
+fn is_label(label: Option<Piece<'_>>, written: Piece<'_>) -> bool
+    ensures { result ≡ closes (text_of label.entry) (Option.Some written.entry.text.now) }
 {
-    match closing {
-        None => true,
-        Some(id) => match label {
-            None => false,
-            Some(name) => name.text == id.text,
-        },
-    }
-}
-
-// The place of a name behind `end` or `else`.
-fn place_of(closing: Option<Piece<'_>>) -> usize {
-    match closing {
-        None => 0,
-        Some(piece) => piece.at,
+    match label {
+        None => false,
+        Some(name) => name.text == written.text,
     }
 }
 
@@ -57,18 +46,21 @@ fn end_of<A: Allocator>(
     label: Option<Piece<'_>>,
     flats: &[Flat<'_, A>],
     at: usize,
-) -> Result<usize, AsmRefusal>
+) -> Result<usize, Unresolved>
     ensures value { Gives (λ n. flats_from n flats.now) result (behind_end (text_of label.entry) (flats_from at flats.now)) }
     ensures within { IfOk result (λ n. (at < n) × (n ≤ length flats.now)) }
 {
     let Some(first) = flats.get(at) else {
-        return Err(AsmRefusal::Unexpected(0));
+        return Err(Unresolved::Broken);
     };
     let Flat::End(closing) = first else {
-        return Err(AsmRefusal::Unexpected(0));
+        return Err(Unresolved::Broken);
     };
-    if !closes(label, *closing) {
-        return Err(AsmRefusal::UnknownName(place_of(*closing)));
+    let Some(written) = *closing else {
+        return Ok(at + 1);
+    };
+    if !is_label(label, written) {
+        return Err(Unresolved::UnknownName(written.at));
     }
     Ok(at + 1)
 }
@@ -78,7 +70,7 @@ fn else_of<A: Allocator>(
     label: Option<Piece<'_>>,
     flats: &[Flat<'_, A>],
     at: usize,
-) -> Result<Option<usize>, AsmRefusal>
+) -> Result<Option<usize>, Unresolved>
     ensures value { Gives (λ found. option_map (λ n. flats_from n flats.now) found) result (behind_else (text_of label.entry) (flats_from at flats.now)) }
     ensures within { IfOk result (λ found. IfSome found (λ n. (at < n) × (n ≤ length flats.now))) }
 {
@@ -88,8 +80,11 @@ fn else_of<A: Allocator>(
     let Flat::Else(other) = first else {
         return Ok(None);
     };
-    if !closes(label, *other) {
-        return Err(AsmRefusal::UnknownName(place_of(*other)));
+    let Some(written) = *other else {
+        return Ok(Some(at + 1));
+    };
+    if !is_label(label, written) {
+        return Err(Unresolved::UnknownName(written.at));
     }
     Ok(Some(at + 1))
 }
@@ -121,7 +116,7 @@ fn body_of<'a, A: Allocator + Clone>(
     at: usize,
     depth: u32,
     ordinal: u32,
-) -> Result<(Vec<Instr<A>, A>, usize, u32), AsmRefusal>
+) -> Result<(Vec<Instr<A>, A>, usize, u32), Unresolved>
     requires deep { 0 < depth }
     requires place { at ≤ length flats.now }
     requires few { ordinal + (length flats.now - at) < 2 ^ 32 }
@@ -162,7 +157,7 @@ fn instr_of<'a, A: Allocator + Clone>(
     at: usize,
     depth: u32,
     ordinal: u32,
-) -> Result<(Instr<A>, usize, u32), AsmRefusal>
+) -> Result<(Instr<A>, usize, u32), Unresolved>
     requires place { at ≤ length flats.now }
     requires few { ordinal + (length flats.now - at) + 1 < 2 ^ 32 }
     ensures value { Gives (λ x. (instr_view x.0, flats_from x.1 flats.now)) result (one_at (spaces_of scope.now.spaces.now) (map text_of scope.now.locals.now.names.items) depth (map text_of labels.old.open.items) (flat_of first.now) (flats_from at flats.now)) }
@@ -183,7 +178,7 @@ fn instr_of<'a, A: Allocator + Clone>(
         return Ok((instr, at, ordinal + 1));
     };
     if depth == 0 {
-        return Err(AsmRefusal::TooLarge(4));
+        return Err(Unresolved::TooLarge(Limit::Nesting));
     }
     labels.enter(*label)?;
     let (body, place, next) = body_of(scope, labels, flats, at, depth, ordinal + 1)?;
@@ -222,7 +217,7 @@ pub fn expression<'a, A: Allocator + Clone>(
     spaces: &Spaces<'a, A>,
     locals: &Space<'a, A>,
     flats: &Vec<Flat<'a, A>, A>,
-) -> Result<Vec<Instr<A>, A>, AsmRefusal>
+) -> Result<Vec<Instr<A>, A>, Unresolved>
     ensures body { IfOk result (λ v. Body (spaces_of spaces.now) (map text_of locals.now.names.items) [] (flats_of flats.now.items) [] (instrs_view v.items)) }
     ensures fits { IfOk result (λ v. ExpressionFits (instrs_view v.items)) }
     ensures in_range { IfOk result (λ v. expression_fits (instrs_view v.items) ≡ true) }
@@ -237,11 +232,11 @@ pub fn expression<'a, A: Allocator + Clone>(
     let mut labels = Labels::new(alloc.clone()?);
     // There are never so many in a text within the limit on its bytes.
     if flats.len() >= u32::MAX as usize {
-        return Err(AsmRefusal::NoMemory);
+        return Err(Unresolved::NoMemory);
     }
     let (body, place, _next) = body_of(&scope, &mut labels, flats, 0, LEVELS, 0)?;
     if place != flats.len() {
-        return Err(AsmRefusal::Unexpected(0));
+        return Err(Unresolved::Broken);
     }
     Ok(body)
 }

@@ -2,12 +2,12 @@
 ghost use Rattle.std.specs.Prelude.{◌≡◌, map, true};
 ghost use Rattle.std.specs.List.{list_all};
 ghost use Rattle.spec_syntax.specs.Limits.{is_u32};
-ghost use Rattle.spec_text.specs.Resolve.{Names};
+ghost use Rattle.spec_text.specs.Spaces.{Names};
 ghost use Rattle.text_body.specs.Views.{index_of};
 ghost use Rattle.text_resolve.specs.Outcome.{Gives};
 ghost use Rattle.text_resolve.specs.Lookup.{find, u32_at, stands_at, all_stand_at};
 
-use crate::refusal::AsmRefusal;
+use crate::refusal::Unresolved;
 use std::alloc::Allocator;
 use text_body::Index;
 use text_words::{Piece, unsigned_32};
@@ -17,22 +17,22 @@ pub trait Finds {
     ghost names: { Self → Names };
 
     /// The first index of a name.
-    fn find(&self, piece: Piece<'_>) -> Result<u32, AsmRefusal>
+    fn find(&self, piece: Piece<'_>) -> Result<u32, Unresolved>
         ensures { Gives (λ n. n) result (find piece.entry.text.now (names self.now)) };
 }
 
 /// The number of a `u32`.
-pub fn number(piece: Piece<'_>) -> Result<u32, AsmRefusal>
+pub fn number(piece: Piece<'_>) -> Result<u32, Unresolved>
     ensures { Gives (λ n. n) result (u32_at piece.entry.text.now) }
 {
     match unsigned_32(piece.text) {
         Some(n) => Ok(n),
-        None => Err(AsmRefusal::NumberRange(piece.at)),
+        None => Err(Unresolved::NumberRange(piece.at)),
     }
 }
 
 /// The number that an index stands for among names.
-pub fn index_in<N: Finds>(names: &N, index: Index<'_>) -> Result<u32, AsmRefusal>
+pub fn index_in<N: Finds>(names: &N, index: Index<'_>) -> Result<u32, Unresolved>
     ensures { Gives (λ n. n) result (stands_at (N.names names.now) (index_of index.entry)) }
 {
     match index {
@@ -46,7 +46,7 @@ pub fn indices_in<'a, A: Allocator + Clone, N: Finds>(
     alloc: &A,
     names: &N,
     indices: &Vec<Index<'a>, A>,
-) -> Result<Vec<u32, A>, AsmRefusal>
+) -> Result<Vec<u32, A>, Unresolved>
     ensures { Gives (λ ns. ns.items) result (all_stand_at (stands_at (N.names names.now)) (map index_of indices.now.items)) }
 {
     let mut numbers = Vec::new(alloc.clone()?);

@@ -1,6 +1,6 @@
 //! Instructions that hold no other.
 ghost use Rattle.std.specs.Prelude.{◌≡◌, ◌∷◌, [], true, map, IfOk, IfErr};
-ghost use Rattle.spec_text.specs.Resolve as Resolve;
+ghost use Rattle.spec_text.specs.Instructions as Instructions;
 ghost use Rattle.spec_syntax.specs.Limits.{instr_fits};
 ghost use Rattle.module_tree.specs.View.{instr_view, instr_ordinals};
 ghost use Rattle.text_body.specs.Views.{text_of, index_of, use_of, flat_of};
@@ -10,14 +10,14 @@ ghost use Rattle.text_resolve.specs.Plain.{indexed_at, operator_at, plain_at, ta
 
 use crate::spaces::Spaces;
 use crate::types::type_number;
-use crate::{AsmRefusal, Labels, Space, are_in_range, index_in, indices_in, operators};
+use crate::{Labels, Limit, Space, Unresolved, are_in_range, index_in, indices_in, operators};
 use module_tree::instr::Instr;
+use module_tree::limit::LABEL_LIMIT;
+use module_tree::width::{load_width, store_width};
 use spec_text::Operator;
 use std::alloc::Allocator;
 use text_body::{Flat, Index};
 use wtypes::PlainInstr;
-
-const LABEL_LIMIT: usize = 1024;
 
 // A `br_table`.
 fn table<'a, A: Allocator + Clone>(
@@ -26,14 +26,14 @@ fn table<'a, A: Allocator + Clone>(
     indices: &Vec<Index<'a>, A>,
     last: Index<'a>,
     ordinal: u32,
-) -> Result<Instr<A>, AsmRefusal>
+) -> Result<Instr<A>, Unresolved>
     ensures value { Gives instr_view result (table_at (map text_of labels.now.open.items) (map index_of indices.now.items) (index_of last.entry)) }
     ensures fits { IfOk result (λ i. instr_fits (instr_view i) ≡ true) }
     ensures ordinal { IfOk result (λ i. instr_ordinals i ≡ ordinal ∷ []) }
 {
     let numbers = indices_in(alloc, labels, indices)?;
     if numbers.len() > LABEL_LIMIT {
-        return Err(AsmRefusal::TooLarge(5));
+        return Err(Unresolved::TooLarge(Limit::Labels));
     }
     are_in_range(&numbers);
     let fallback = index_in(labels, last)?;
@@ -42,7 +42,7 @@ fn table<'a, A: Allocator + Clone>(
 
 // An operator with nothing behind its name.
 fn simple(op: Operator) -> Option<PlainInstr>
-    ensures { result ≡ Resolve.simple op }
+    ensures { result ≡ Instructions.simple op }
 {
     match op {
         Operator::Unreachable => Some(PlainInstr::Unreachable),
@@ -68,7 +68,7 @@ fn indexed<'a, A: Allocator>(
     labels: &Labels<'a, A>,
     op: Operator,
     index: Index<'a>,
-) -> Result<PlainInstr, AsmRefusal>
+) -> Result<PlainInstr, Unresolved>
     ensures { Gives (λ i. i) result (indexed_at (spaces_of spaces.now) (map text_of locals.now.names.items) (map text_of labels.now.open.items) op (index_of index.entry)) }
 {
     match op {
@@ -80,7 +80,7 @@ fn indexed<'a, A: Allocator>(
         Operator::LocalTee => Ok(PlainInstr::LocalTee(index_in(locals, index)?)),
         Operator::GlobalGet => Ok(PlainInstr::GlobalGet(index_in(&spaces.globals, index)?)),
         Operator::GlobalSet => Ok(PlainInstr::GlobalSet(index_in(&spaces.globals, index)?)),
-        _ => Err(AsmRefusal::Unexpected(0)),
+        _ => Err(Unresolved::Broken),
     }
 }
 
@@ -91,13 +91,13 @@ fn operator<'a, A: Allocator + Clone>(
     locals: &Space<'a, A>,
     labels: &Labels<'a, A>,
     flat: &Flat<'a, A>,
-) -> Result<PlainInstr, AsmRefusal>
+) -> Result<PlainInstr, Unresolved>
     ensures { Gives (λ i. i) result (operator_at (spaces_of spaces.now) (map text_of locals.now.names.items) (map text_of labels.now.open.items) (flat_of flat.now)) }
 {
     match flat {
         Flat::Simple(op) => match simple(*op) {
             Some(instr) => Ok(instr),
-            None => Err(AsmRefusal::Unexpected(0)),
+            None => Err(Unresolved::Broken),
         },
         Flat::Indexed(op, index) => indexed(spaces, locals, labels, *op, *index),
         Flat::CallIndirect(written) => {
@@ -106,18 +106,18 @@ fn operator<'a, A: Allocator + Clone>(
         }
         Flat::Load(op, offset, align) => {
             let offset = operators::offset(*offset)?;
-            let align = operators::align(operators::load_width(*op), *align)?;
+            let align = operators::align(load_width(*op), *align)?;
             Ok(PlainInstr::Load(*op, align, offset))
         }
         Flat::Store(op, offset, align) => {
             let offset = operators::offset(*offset)?;
-            let align = operators::align(operators::store_width(*op), *align)?;
+            let align = operators::align(store_width(*op), *align)?;
             Ok(PlainInstr::Store(*op, align, offset))
         }
         Flat::Const(value_type, piece) => {
             Ok(PlainInstr::Const(operators::constant(*value_type, *piece)?))
         }
-        _ => Err(AsmRefusal::Unexpected(0)),
+        _ => Err(Unresolved::Broken),
     }
 }
 
@@ -130,7 +130,7 @@ pub fn plain<'a, A: Allocator + Clone>(
     labels: &Labels<'a, A>,
     flat: &Flat<'a, A>,
     ordinal: u32,
-) -> Result<Instr<A>, AsmRefusal>
+) -> Result<Instr<A>, Unresolved>
     ensures value { Gives instr_view result (plain_at (spaces_of spaces.now) (map text_of locals.now.names.items) (map text_of labels.now.open.items) (flat_of flat.now)) }
     ensures fits { IfOk result (λ i. instr_fits (instr_view i) ≡ true) }
     ensures ordinal { IfOk result (λ i. instr_ordinals i ≡ ordinal ∷ []) }

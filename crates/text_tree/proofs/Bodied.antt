@@ -3,7 +3,7 @@ use Rattle.std.proofs.Common.{◌≡◌, ℕ, List, ◌∷◌, Option, Some, Non
 use Rattle.spec_syntax.specs.Syntax as S
 use Rattle.spec_text.specs.declared.KeyWord.TheVariants as k
 use Rattle.spec_text.specs.Words.{Word, LeftBracket, Key}
-use Rattle.spec_text.specs.Named as N
+use Rattle.spec_text.specs.Placed as N
 use Rattle.spec_text.specs.Grammar as G
 use Rattle.spec_text.specs.Grammar.{OptionalId, IsIndex, Indices, Bindings, TypeUses, GlobalTypes, Exports, Strings, FieldWords}
 use Rattle.text_body.specs.declared.parts.Part.TheVariants as part
@@ -104,7 +104,7 @@ func_made ws us vs h fs e b =
 
 -- ---- globals
 
-abbrev pub global_of : Option (List ℕ) × S.GlobalType → List N.Flat → Unit {0} → N.Field
+abbrev pub global_of : Option N.Placed × S.GlobalType → List N.Flat → Unit {0} → N.Field
 global_of h fs t = N.GlobalField h.0 h.1 fs
 
 pub global_splits : Splits (OfField k.Global) global_head_at no_tail global_of
@@ -120,7 +120,7 @@ global_splits ws vs f (G.global_field i t b) = record {
   is = refl;
 }
 
-pub global_made : (ws us vs : List Word) (id : Option (List ℕ)) (t : S.GlobalType) (fs : List N.Flat) → global_head_at ws ≡ Some ((id, t), us) → IsBody us vs fs → OfField k.Global ws vs (N.GlobalField id t fs)
+pub global_made : (ws us vs : List Word) (id : Option N.Placed) (t : S.GlobalType) (fs : List N.Flat) → global_head_at ws ≡ Some ((id, t), us) → IsBody us vs fs → OfField k.Global ws vs (N.GlobalField id t fs)
 global_made ws us vs id t fs e b =
     let p = both_found optional_at global_type_at ws us (id, t) e in
     G.global_field (optional_found ws p.between id p.one) (global_type_found p.between us t p.other) b

@@ -4,7 +4,7 @@ use Rattle.std.specs.Prelude.{IsUtf8}
 use Rattle.spec_text.specs.declared.KeyWord.{KeyWord}
 use Rattle.spec_text.specs.declared.KeyWord.TheVariants as k
 use Rattle.spec_text.specs.Words.{Word, LeftBracket, RightBracket, Key, Str}
-use Rattle.spec_text.specs.Named as N
+use Rattle.spec_text.specs.Placed as N
 use Rattle.spec_text.specs.Grammar as G
 use Rattle.spec_text.specs.Grammar.{OptionalId, TypeUses, GlobalTypes, IsKind, Descs, Exports, Strings}
 use Rattle.text_body.specs.declared.parts.Part.TheVariants as part
@@ -80,13 +80,13 @@ strings_found ws us bs e = subst (λ (p : List ℕ × List Word). Strings ws p.1
 
 -- ---- descriptions
 
-pub desc_read : {ws vs : List Word} {id : Option (List ℕ)} {d : N.Desc} → Descs ws vs id d → desc_at ws ≡ Some ((id, d), vs)
+pub desc_read : {ws vs : List Word} {id : Option N.Placed} {d : N.Desc} → Descs ws vs id d → desc_at ws ≡ Some ((id, d), vs)
 desc_read (G.func_desc i u) = both_read optional_at (desc_of_kind N.OfFunc) (optional_read i) (made_read (λ u. N.FuncDesc u) (closing use_at close_at) (closing_read use_at close_at (use_is_read u) refl))
 desc_read (G.table_desc i l) = both_read optional_at (desc_of_kind N.OfTable) (optional_read i) (made_read (λ b. N.TableDesc b) table_type_at (table_type_read l))
 desc_read (G.memory_desc i l) = both_read optional_at (desc_of_kind N.OfMemory) (optional_read i) (made_read (λ b. N.MemoryDesc b) memory_type_at (memory_type_read l))
 desc_read (G.global_desc i t) = both_read optional_at (desc_of_kind N.OfGlobal) (optional_read i) (made_read (λ t. N.GlobalDesc t) (closing global_type_at close_at) (closing_read global_type_at close_at (global_type_read t) refl))
 
-of_kind : {key : KeyWord} {kind : N.Kind} → IsKind key kind → (ws us vs : List Word) (id : Option (List ℕ)) (d : N.Desc) → OptionalId ws us id → desc_of_kind kind us ≡ Some (d, vs) → Descs (LeftBracket ∷ Key key ∷ ws) vs id d
+of_kind : {key : KeyWord} {kind : N.Kind} → IsKind key kind → (ws us vs : List Word) (id : Option N.Placed) (d : N.Desc) → OptionalId ws us id → desc_of_kind kind us ≡ Some (d, vs) → Descs (LeftBracket ∷ Key key ∷ ws) vs id d
 of_kind G.of_func ws us vs id d i e =
     let m = made_found (λ u. N.FuncDesc u) (closing use_at close_at) us vs d e in
     let c = closing_found use_at close_at us vs m.from m.one in

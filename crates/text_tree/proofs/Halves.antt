@@ -5,7 +5,7 @@ use Rattle.spec_text.specs.declared.KeyWord.{KeyWord}
 use Rattle.spec_text.specs.declared.KeyWord.TheVariants as k
 use Rattle.spec_text.specs.Lexical.{Token}
 use Rattle.spec_text.specs.Words.{Word, LeftBracket, RightBracket, Key, AreWords}
-use Rattle.spec_text.specs.Named as N
+use Rattle.spec_text.specs.Placed as N
 use Rattle.spec_text.specs.Grammar as G
 use Rattle.spec_text.specs.Grammar.{OptionalId, FieldWords, Fields, IsModule}
 use Rattle.text_words.specs.Reading.{WordsAreOne}
@@ -160,14 +160,14 @@ no_module ws e = λ fs t. unopened t.0 e
     unopened : {us : List Word} {fs : List N.Field} → IsModule us fs → opened_at inner.Module us ≡ None → ⊥
     unopened (G.module_is i h) f = cc
 
-pub module_made : (ws us vs : List Word) (id : Option (List ℕ)) (fs : List N.Field) → opened_at inner.Module ws ≡ Some us → OptionalId us vs id → AreFields vs fs → IsTree ws fs
+pub module_made : (ws us vs : List Word) (id : Option N.Placed) (fs : List N.Field) → opened_at inner.Module ws ≡ Some us → OptionalId us vs id → AreFields vs fs → IsTree ws fs
 module_made ws us vs id fs e i a = (subst (λ (xs : List Word). IsModule xs fs) (sym (opened_found inner.Module ws us e)) (G.module_is i a.0), a.1)
 
-pub module_refused : (ws us vs : List Word) (id : Option (List ℕ)) → opened_at inner.Module ws ≡ Some us → OptionalId us vs id → NoFields vs → NoTree ws
+pub module_refused : (ws us vs : List Word) (id : Option N.Placed) → opened_at inner.Module ws ≡ Some us → OptionalId us vs id → NoFields vs → NoTree ws
 module_refused ws us vs id e i n = λ fs t. inside fs (subst (λ (xs : List Word). IsModule xs fs) (opened_found inner.Module ws us e) t.0) t.1
   where
     inside : (fs : List N.Field) → IsModule (LeftBracket ∷ Key k.Module ∷ us) fs → in_order fs ≡ true → ⊥
-    inside fs (G.module_is j h) o = n fs (subst (λ (p : Option (List ℕ) × List Word). Fields p.1 fs) (sym (id_is_read j) ∙ id_is_read i) h, o)
+    inside fs (G.module_is j h) o = n fs (subst (λ (p : Option N.Placed × List Word). Fields p.1 fs) (sym (id_is_read j) ∙ id_is_read i) h, o)
 
 -- ---- no words are two texts
 
@@ -201,7 +201,7 @@ fields_are_one (G.field {vs = vs} {f = f} {fs = fs} h r) (G.field {vs = us} {f =
     ap (λ (x : N.Field). x ∷ fs) one.1 ∙ ap (λ (xs : List N.Field). g ∷ xs) (fields_are_one r (subst (λ (xs : List Word). Fields xs gs) (sym one.0) s))
 
 pub modules_are_one : {ws : List Word} {fs gs : List N.Field} → IsModule ws fs → IsModule ws gs → fs ≡ gs
-modules_are_one {gs = gs} (G.module_is i h) (G.module_is j l) = fields_are_one h (subst (λ (p : Option (List ℕ) × List Word). Fields p.1 gs) (sym (id_is_read j) ∙ id_is_read i) l)
+modules_are_one {gs = gs} (G.module_is i h) (G.module_is j l) = fields_are_one h (subst (λ (p : Option N.Placed × List Word). Fields p.1 gs) (sym (id_is_read j) ∙ id_is_read i) l)
 
 pub texts_are_one : WordsAreOne → TextsAreOne
 texts_are_one one tokens fs gs a b = modules_are_one a.2.0 (subst (λ (ws : List Word). IsModule ws gs) (one tokens b.0 a.0 b.1 a.1) b.2.0)

@@ -5,7 +5,7 @@ use Rattle.wtypes.specs.declared.ValType.{ValType}
 use Rattle.spec_text.specs.declared.KeyWord.{KeyWord}
 use Rattle.spec_text.specs.declared.KeyWord.TheVariants as k
 use Rattle.spec_text.specs.Words.{Word, LeftBracket, RightBracket, Key, Str}
-use Rattle.spec_text.specs.Named as N
+use Rattle.spec_text.specs.Placed as N
 use Rattle.spec_text.specs.Grammar as G
 use Rattle.spec_text.specs.Grammar.{OptionalId, IsIndex, Bindings, Results, Descs, FieldWords}
 use Rattle.text_body.specs.declared.parts.Part.TheVariants as part
@@ -18,7 +18,7 @@ use Rattle.text_tree.proofs.Exports.{desc_read, desc_found}
 
 -- ---- types
 
-abbrev type_of : Option (List ℕ) × Signature → N.Field
+abbrev type_of : Option N.Placed × Signature → N.Field
 type_of p = N.TypeField p.0 p.1.0 p.1.1
 
 signature_read : {ws us vs : List Word} {ps : List N.Binding} {rs : List ValType} → Bindings k.Param ws us ps → Results us (RightBracket ∷ RightBracket ∷ vs) rs → signature_at ws ≡ Some ((ps, rs), vs)
@@ -55,7 +55,7 @@ type_found ws vs f e =
 abbrev import_of : List ℕ × (List ℕ × Described) → N.Field
 import_of p = N.ImportField p.0 p.1.0 p.1.1.0 p.1.1.1
 
-import_read : {ws vs : List Word} {from_module item : List ℕ} {id : Option (List ℕ)} {desc : N.Desc} → IsUtf8 from_module → IsUtf8 item → Descs ws (RightBracket ∷ vs) id desc
+import_read : {ws vs : List Word} {from_module item : List ℕ} {id : Option N.Placed} {desc : N.Desc} → IsUtf8 from_module → IsUtf8 item → Descs ws (RightBracket ∷ vs) id desc
     → import_field_at (Str from_module ∷ Str item ∷ ws) ≡ Some (N.ImportField from_module item id desc, vs)
 import_read {ws} {from_module = from_module} {item = item} m i d =
     made_read import_of (both name_at (both name_at (closing desc_at close_at))) {ws = Str from_module ∷ Str item ∷ ws}
@@ -154,8 +154,8 @@ plain_read p (G.type_field {ws = ws} {us = us} i b r) =
     (both_read optional_at (behind (opened_at inner.Func) signature_at) {ws = ws} (optional_read i) (behind_read (opened_at inner.Func) signature_at {ws = LeftBracket ∷ Key k.Func ∷ us} refl (signature_read b r)))
 plain_read p (G.import_field m i d) = import_read m i d
 plain_read p (G.func_field i x u l b) = absurd (p.no_func refl)
-plain_read p (G.table_field {ws = ws} i l) = made_read (λ (p : Option (List ℕ) × N.Bounds). N.TableField p.0 p.1) (both optional_at table_type_at) {ws = ws} (both_read optional_at table_type_at {ws = ws} (optional_read i) (table_type_read l))
-plain_read p (G.memory_field {ws = ws} i l) = made_read (λ (p : Option (List ℕ) × N.Bounds). N.MemoryField p.0 p.1) (both optional_at memory_type_at) {ws = ws} (both_read optional_at memory_type_at {ws = ws} (optional_read i) (memory_type_read l))
+plain_read p (G.table_field {ws = ws} i l) = made_read (λ (p : Option N.Placed × N.Bounds). N.TableField p.0 p.1) (both optional_at table_type_at) {ws = ws} (both_read optional_at table_type_at {ws = ws} (optional_read i) (table_type_read l))
+plain_read p (G.memory_field {ws = ws} i l) = made_read (λ (p : Option N.Placed × N.Bounds). N.MemoryField p.0 p.1) (both optional_at memory_type_at) {ws = ws} (both_read optional_at memory_type_at {ws = ws} (optional_read i) (memory_type_read l))
 plain_read p (G.global_field i t b) = absurd (p.no_global refl)
 plain_read p (G.export_field {vs = vs} u h i) = export_read vs u h i
 plain_read p (G.start_field {w = w} {vs = vs} i) = made_read (λ i. N.StartField i) (closing index_at close_at) {ws = w ∷ RightBracket ∷ vs} (closing_read index_at close_at {ws = w ∷ RightBracket ∷ vs} (index_read (RightBracket ∷ vs) i) refl)

@@ -9,7 +9,7 @@ use Rattle.spec_syntax.specs.Syntax as S
 use Rattle.spec_text.specs.declared.KeyWord.{KeyWord}
 use Rattle.spec_text.specs.declared.KeyWord.TheVariants as k
 use Rattle.spec_text.specs.Words.{Word, LeftBracket, RightBracket, Key, Number, Str}
-use Rattle.spec_text.specs.Named as N
+use Rattle.spec_text.specs.Placed as N
 use Rattle.spec_text.specs.Grammar as G
 use Rattle.spec_text.specs.Grammar.{OptionalId, IsIndex, Indices, Bindings, Results, TypeUses, Limits, GlobalTypes, IsKind, Descs, Exports, Strings, FieldWords}
 use Rattle.text_body.specs.Reading.{Read, ◌>>=◌, id_at, close_at}
@@ -115,11 +115,11 @@ opened_found p ws us e =
     let b = bind_some (bracket_at ws) (inner_at p) us e in
     bracket_found ws b.0 b.1 ∙ ap (λ (xs : List Word). LeftBracket ∷ xs) (inner_found p b.0 us b.2)
 
-pub optional_read : {ws us : List Word} {id : Option (List ℕ)} → OptionalId ws us id → optional_at ws ≡ Some (id, us)
-optional_read i = ap (λ (p : Option (List ℕ) × List Word). Some p) (id_is_read i)
+pub optional_read : {ws us : List Word} {id : Option N.Placed} → OptionalId ws us id → optional_at ws ≡ Some (id, us)
+optional_read i = ap (λ (p : Option N.Placed × List Word). Some p) (id_is_read i)
 
-pub optional_found : (ws us : List Word) (id : Option (List ℕ)) → optional_at ws ≡ Some (id, us) → OptionalId ws us id
-optional_found ws us id e = subst (λ (p : Option (List ℕ) × List Word). OptionalId ws p.1 p.0) (some_same (id_at ws) (id, us) e) (read_is_id ws)
+pub optional_found : (ws us : List Word) (id : Option N.Placed) → optional_at ws ≡ Some (id, us) → OptionalId ws us id
+optional_found ws us id e = subst (λ (p : Option N.Placed × List Word). OptionalId ws p.1 p.0) (some_same (id_at ws) (id, us) e) (read_is_id ws)
 
 pub typed_found : (ws us : List Word) (t : ValType) → typed_at ws ≡ Some (t, us) → ws ≡ Key (k.Value t) ∷ us
 typed_found (Key (k.Value s) ∷ ws) us t e = ap (λ (p : ValType × List Word). Key (k.Value p.0) ∷ p.1) (some_same (s, ws) (t, us) e)
@@ -175,25 +175,25 @@ kind_found ws us kind e = absurd (none_some (kind, us) e)
 
 -- ---- limits
 
-number_found : (ws us : List Word) (n : List ℕ) → number_at ws ≡ Some (n, us) → ws ≡ Number n ∷ us
-number_found (Number m ∷ ws) us n e = ap (λ (p : List ℕ × List Word). Number p.0 ∷ p.1) (some_same (m, ws) (n, us) e)
+number_found : (ws us : List Word) (n : N.Placed) → number_at ws ≡ Some (n, us) → ws ≡ Number n ∷ us
+number_found (Number m ∷ ws) us n e = ap (λ (p : N.Placed × List Word). Number p.0 ∷ p.1) (some_same (m, ws) (n, us) e)
 number_found ws us n e = absurd (none_some (n, us) e)
 
-no_number : (ws : List Word) → ((n : List ℕ) (rest : List Word) → ws ≡ Number n ∷ rest → ⊥) → next_number_at ws ≡ (None, ws)
+no_number : (ws : List Word) → ((n : N.Placed) (rest : List Word) → ws ≡ Number n ∷ rest → ⊥) → next_number_at ws ≡ (None, ws)
 no_number (Number n ∷ ws) h = absurd (h n ws refl)
 no_number ws h = refl
 
-with_least : (min : List ℕ) (us : List Word) → Limits (Number min ∷ us) (next_number_at us).1 (bounds min (next_number_at us).0)
+with_least : (min : N.Placed) (us : List Word) → Limits (Number min ∷ us) (next_number_at us).1 (bounds min (next_number_at us).0)
 with_least min (Number max ∷ us) = G.both
 with_least min us = G.minimum (λ max rest e. cc)
 
 pub limits_read : {ws us : List Word} {b : N.Bounds} → Limits ws us b → limits_at ws ≡ Some (b, us)
-limits_read (G.minimum {ws} {min} h) = ap (λ (p : Option (List ℕ) × List Word). Some (bounds min p.0, p.1)) (no_number ws h)
+limits_read (G.minimum {ws} {min} h) = ap (λ (p : Option N.Placed × List Word). Some (bounds min p.0, p.1)) (no_number ws h)
 limits_read G.both = refl
 
 pub limits_found : (ws us : List Word) (b : N.Bounds) → limits_at ws ≡ Some (b, us) → Limits ws us b
 limits_found ws us b e =
-    let m = map_some (λ (min : List ℕ × List Word). (bounds min.0 (next_number_at min.1).0, (next_number_at min.1).1)) (number_at ws) (b, us) e in
+    let m = map_some (λ (min : N.Placed × List Word). (bounds min.0 (next_number_at min.1).0, (next_number_at min.1).1)) (number_at ws) (b, us) e in
     subst (λ (p : N.Bounds × List Word). Limits ws p.1 p.0) m.2 (subst (λ (xs : List Word). Limits xs (next_number_at m.0.1).1 (bounds m.0.0 (next_number_at m.0.1).0)) (sym (number_found ws m.0.1 m.0.0 m.1)) (with_least m.0.0 m.0.1))
 
 pub table_type_read : {ws vs : List Word} {b : N.Bounds} → Limits ws (Key k.Funcref ∷ RightBracket ∷ vs) b → table_type_at ws ≡ Some (b, vs)

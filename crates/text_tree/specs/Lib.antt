@@ -1,4 +1,5 @@
 pub mod Views
+pub mod Places
 pub mod Order
 pub mod Texts
 pub mod Reading

@@ -6,7 +6,7 @@ use Rattle.spec_syntax.specs.Syntax as S
 use Rattle.spec_text.specs.declared.KeyWord.{KeyWord}
 use Rattle.spec_text.specs.declared.KeyWord.TheVariants as k
 use Rattle.spec_text.specs.Words.{Word, LeftBracket, RightBracket, Key, Number, Str}
-use Rattle.spec_text.specs.Named as N
+use Rattle.spec_text.specs.Placed as N
 use Rattle.text_body.specs.declared.parts.Part.TheVariants as part
 use Rattle.text_body.specs.Reading.{Read, ◌>>=◌, id_at, index_at, indices_at, close_at, next_at, repeated, bindings_at, results_at, use_at}
 use Rattle.text_tree.specs.declared.parts.Inner.{Inner}
@@ -61,7 +61,7 @@ bracket_at ws = None
 abbrev pub opened_at : Inner → Pass
 opened_at p ws = bracket_at ws >>= inner_at p
 
-abbrev pub optional_at : List Word → Read (Option (List ℕ))
+abbrev pub optional_at : List Word → Read (Option N.Placed)
 optional_at ws = Some (id_at ws)
 
 abbrev pub typed_at : List Word → Read ValType
@@ -89,16 +89,16 @@ kind_at ws = None
 
 -- ---- types
 
-abbrev pub number_at : List Word → Read (List ℕ)
+abbrev pub number_at : List Word → Read N.Placed
 number_at (Number text ∷ ws) = Some (text, ws)
 number_at ws = None
 
 -- a number, if there is one
-abbrev pub next_number_at : List Word → Option (List ℕ) × List Word
+abbrev pub next_number_at : List Word → Option N.Placed × List Word
 next_number_at (Number text ∷ ws) = (Some text, ws)
 next_number_at ws = (None, ws)
 
-abbrev pub bounds : List ℕ → Option (List ℕ) → N.Bounds
+abbrev pub bounds : N.Placed → Option N.Placed → N.Bounds
 bounds min max = record { min = min; max = max }
 
 abbrev pub limits_at : List Word → Read N.Bounds
@@ -162,7 +162,7 @@ desc_of_kind N.OfMemory ws = made (λ b. N.MemoryDesc b) memory_type_at ws
 desc_of_kind N.OfGlobal ws = made (λ t. N.GlobalDesc t) (closing global_type_at close_at) ws
 
 abbrev pub Described : Type 0
-Described = Option (List ℕ) × N.Desc
+Described = Option N.Placed × N.Desc
 
 -- behind a (
 abbrev pub described_at : List Word → Read Described
@@ -217,12 +217,12 @@ plain_field_at key ws = short_field_at key ws
 -- ---- what stands before instructions, and behind them
 
 abbrev pub Head : Type 0
-Head = Option (List ℕ) × (List (List ℕ) × (N.TypeUse × List N.Binding))
+Head = Option N.Placed × (List (List ℕ) × (N.TypeUse × List N.Binding))
 
 abbrev pub func_head_at : List Word → Read Head
 func_head_at ws = both optional_at (both exports_at (both use_at (bindings_at part.Local))) ws
 
-abbrev pub global_head_at : List Word → Read (Option (List ℕ) × S.GlobalType)
+abbrev pub global_head_at : List Word → Read (Option N.Placed × S.GlobalType)
 global_head_at ws = both optional_at global_type_at ws
 
 -- idx ( offset

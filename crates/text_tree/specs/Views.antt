@@ -1,5 +1,5 @@
 -- What contracts see of fields.
-use Rattle.std.specs.Prelude.{ℕ, List, map, Option, string_bytes}
+use Rattle.std.specs.Prelude.{List, map, string_bytes}
 use Rattle.spec_text.specs.Named as N
 use Rattle.module_tree.specs.ModuleView.{global_type_view}
 use Rattle.text_body.specs.Views.{text_of, index_of, binding_of, use_of, flats_of}
@@ -11,7 +11,6 @@ use Rattle.text_tree.specs.declared.field.Desc.TheVariants as desc
 use Rattle.text_tree.specs.declared.field.Field.{Field}
 use Rattle.text_tree.specs.declared.field.Field.TheVariants as field
 use Rattle.text_tree.specs.declared.field.Text.{Text}
-use Rattle.text_tree.specs.declared.parts.Head.{Head}
 
 abbrev pub bounds_of : Bounds → N.Bounds
 bounds_of b = record { min = b.min.text.now; max = text_of b.max }
@@ -27,10 +26,6 @@ desc_of (desc.Func u) = N.FuncDesc (use_of u)
 desc_of (desc.Table b) = N.TableDesc (bounds_of b)
 desc_of (desc.Memory b) = N.MemoryDesc (bounds_of b)
 desc_of (desc.Global t) = N.GlobalDesc (global_type_view t)
-
--- what stands before the instructions of a function
-abbrev pub head_of : {A : Type 0} → Head A → Option (List ℕ) × (List (List ℕ) × (N.TypeUse × List N.Binding))
-head_of h = (text_of h.name, (map string_bytes h.exports.items, (use_of h.written, map binding_of h.locals.items)))
 
 abbrev pub field_of : {A : Type 0} → Field A → N.Field
 field_of (field.Type f) = N.TypeField (text_of f.name) (map binding_of f.params.items) f.results.items

@@ -2,10 +2,10 @@
 ghost use Rattle.std.specs.Prelude.{◌≡◌, length, IfOk, IfErr};
 ghost use Rattle.spec_text.specs.Lexical.{Lexes};
 ghost use Rattle.lexer.specs.Views as listed;
+ghost use Rattle.text_words.specs.Refused.{Unless};
 ghost use Rattle.text_words.specs.Views.{views};
 ghost use Rattle.text_words.specs.declared.TextRefusal.TheVariants.{NoMemory};
-ghost use Rattle.text_body.specs.Outcome.{Unless};
-ghost use Rattle.text_tree.specs.Views.{fields_of};
+ghost use Rattle.text_tree.specs.Places.{fields_of};
 ghost use Rattle.text_tree.specs.Texts.{IsTree, NoTree, IsText, NoText, TextsAreOne};
 
 use crate::field::Text;
@@ -13,6 +13,7 @@ use crate::fields::module;
 use lexer::{LexRefusal, Token, Tokens, tokens};
 use std::alloc::Allocator;
 use std::str::from_utf8;
+use text_body::Unread;
 use text_words::{TextRefusal, Word, no_tokens_are_two_lists_of_words, words};
 
 /// The place of the first of the last `left` tokens, or `end` if there is none.
@@ -35,8 +36,8 @@ fn tree<'a, A: Allocator + Clone>(
 {
     match module(alloc, words) {
         Ok(tree) => Ok(tree),
-        Err(TextRefusal::NoMemory) => Err(TextRefusal::NoMemory),
-        Err(TextRefusal::Unexpected(left)) => {
+        Err(Unread::NoMemory) => Err(TextRefusal::NoMemory),
+        Err(Unread::Stuck(left)) => {
             Err(TextRefusal::Unexpected(place(tokens, text.len(), left)))
         }
     }

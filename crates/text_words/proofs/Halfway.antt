@@ -6,7 +6,7 @@ use Rattle.spec_text.specs.Lexical.{LexesFrom, end, blank, token, IsToken, Lexes
 use Rattle.spec_text.specs.Words.{Word, IsWord, AreWords, no_word, words}
 use Rattle.lexer.specs.declared.list.Token.{Token}
 use Rattle.lexer.specs.Views as listed
-use Rattle.lexer.specs.Reading.{UnsignedIsTested}
+use Rattle.lexer.specs.Reading.{IntegerIsTested}
 use Rattle.text_words.specs.Reading.{word_at}
 use Rattle.text_words.proofs.OneWord.{word_is_read, read_is_word}
 
@@ -18,7 +18,7 @@ pub record Half (text : List ℕ) (tokens rest : List Token) (found : List Word)
   pub lexed : (at : ℕ) × (left : List ℕ) × LexesFrom at left (listed.views text rest)
 
 pub half_start : (text : List ℕ) (tokens : List Token) → Lexes text (listed.views text tokens) → listed.SpansRise 0 tokens (length text) → Half text tokens tokens []
-half_start text tokens l s = record { built = λ ws h. h; only = λ ws h. (ws, h); spans = (0, s); lexed = (0, text, l) }
+half_start text tokens l s = record { built = λ ws h. h; only = λ ws h. (ws, h); spans = (0, s); lexed = (0, text, l.pieces) }
 
 -- the first token's kind and bytes
 first_token : {at : ℕ} {left : List ℕ} {ts : List L.Token} → LexesFrom at left ts → (t : L.Token) (us : List L.Token) → ts ≡ t ∷ us
@@ -44,7 +44,7 @@ half_within {text} {tokens} {ts} {t} {found} h = (omega (arith, h.spans.1.1), up
     upto_within at [] limit s = s
     upto_within at (t ∷ ts) limit s = let l = upto_within t.upto ts limit s.2 in omega (arith, s.0, s.1, l)
 
-pub half_word : (text : List ℕ) (tokens ts : List Token) (t : Token) (found : List Word) (w : Word) → UnsignedIsTested → Half text tokens (t ∷ ts) found → word_at (listed.view text t) ≡ Some w → Half text tokens ts (found ++ w ∷ [])
+pub half_word : (text : List ℕ) (tokens ts : List Token) (t : Token) (found : List Word) (w : Word) → IntegerIsTested → Half text tokens (t ∷ ts) found → word_at (listed.view text t) ≡ Some w → Half text tokens ts (found ++ w ∷ [])
 half_word text tokens ts t found w tested h e =
     let f = first_token h.lexed.2 (listed.view text t) (listed.views text ts) refl in
     let is : IsWord (listed.view text t) w = read_is_word tested t.kind t.from (listed.view text t).text f.0 w f.1 e in
@@ -55,7 +55,7 @@ half_word text tokens ts t found w tested h e =
       lexed = (f.2, f.3, f.4);
     }
 
-pub half_fault : (text : List ℕ) (tokens ts : List Token) (t : Token) (found : List Word) → UnsignedIsTested → Half text tokens (t ∷ ts) found → word_at (listed.view text t) ≡ None → (ws : List Word) → AreWords (listed.views text tokens) ws → ⊥
+pub half_fault : (text : List ℕ) (tokens ts : List Token) (t : Token) (found : List Word) → IntegerIsTested → Half text tokens (t ∷ ts) found → word_at (listed.view text t) ≡ None → (ws : List Word) → AreWords (listed.views text tokens) ws → ⊥
 half_fault text tokens ts t found tested h e ws k =
     let u = h.only ws k in
     let p = first_word u.1 (listed.view text t) (listed.views text ts) refl in

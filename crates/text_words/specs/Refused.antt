@@ -5,7 +5,11 @@ use Rattle.spec_text.specs.Words.{Word, AreWords}
 use Rattle.text_words.specs.declared.TextRefusal.{TextRefusal}
 use Rattle.text_words.specs.declared.TextRefusal.TheVariants.{Unexpected, NoMemory}
 
+-- what every refusal but that of memory says
+abbrev pub Unless : Type 0 → TextRefusal → Type 0
+Unless P NoMemory = ⊤
+Unless P (Unexpected at) = P
+
 -- the tokens are no words, unless memory ran out
 abbrev pub IsRightly : List Token → TextRefusal → Type 0
-IsRightly tokens NoMemory = ⊤
-IsRightly tokens (Unexpected at) = (words : List Word) → AreWords tokens words → ⊥
+IsRightly tokens refusal = Unless ((words : List Word) → AreWords tokens words → ⊥) refusal

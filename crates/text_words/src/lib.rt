@@ -15,15 +15,18 @@ pub use numbers::{bits_32, bits_64, unsigned_32};
 pub use reading::{no_tokens_are_two_lists_of_words, words};
 use std::alloc::{AllocError, AllocFailed};
 pub use strings::put_string;
+use thiserror::Error;
 pub use word::{Piece, Word};
 
 /// Why a text is refused behind its tokens. A place is the number of bytes before it, and is for people to read: no
 /// clause speaks of it.
-#[derive(Clone, Copy, Debug, PartialEq, Eq)]
+#[derive(Clone, Copy, Debug, PartialEq, Eq, Error)]
 pub enum TextRefusal {
     /// What stands at this place may not stand there.
+    #[error("what stands at byte {0} may not stand there")]
     Unexpected(usize),
     /// The allocator refused.
+    #[error("memory was refused")]
     NoMemory,
 }
 

@@ -10,7 +10,7 @@ ghost use Rattle.text_words.specs.Refused.{IsRightly};
 use crate::TextRefusal;
 use crate::tables::{key_word, operator};
 use crate::word::{Piece, Word};
-use lexer::{Token, is_unsigned_integer, unsigned_integers_are_tested};
+use lexer::{Token, integers_are_tested, is_integer};
 use spec_text::TokenKind;
 use std::alloc::Allocator;
 
@@ -33,16 +33,16 @@ fn past<'a>(beginning: &[u8], text: &'a [u8]) -> Option<&'a [u8]>
 
 /// `offset=` or `align=` with an integer.
 fn memory_argument(piece: Piece<'_>) -> Option<Word<'_>>
-    ensures { seen result ≡ memarg_at piece.entry.text.now }
+    ensures { seen result ≡ memarg_at piece.entry.at piece.entry.text.now }
 {
     if let Some(text) = past(OFFSET, piece.text) {
-        if is_unsigned_integer(text) {
+        if is_integer(text) {
             Some(Word::OffsetIs(Piece { at: piece.at, text }))
         } else {
             None
         }
     } else if let Some(text) = past(ALIGN, piece.text) {
-        if is_unsigned_integer(text) {
+        if is_integer(text) {
             Some(Word::AlignIs(Piece { at: piece.at, text }))
         } else {
             None
@@ -54,7 +54,7 @@ fn memory_argument(piece: Piece<'_>) -> Option<Word<'_>>
 
 /// The word of a run that begins with a lower-case letter.
 fn keyword(piece: Piece<'_>) -> Option<Word<'_>>
-    ensures { seen result ≡ keyword_at piece.entry.text.now }
+    ensures { seen result ≡ keyword_at piece.entry.at piece.entry.text.now }
 {
     if let Some(key) = key_word(piece.text) {
         Some(Word::Key(key))
@@ -113,7 +113,7 @@ pub fn words<'a, A: Allocator>(
     // They are refused for another cause than memory only where they are none.
     ensures refused { IfErr result (λ refusal. IsRightly (listed.views text.entry.now tokens.now) refusal) }
 {
-    unsigned_integers_are_tested();
+    integers_are_tested();
     let bytes = text.as_bytes();
     let mut found = Vec::new(alloc);
     for token in tokens {
@@ -129,5 +129,5 @@ pub fn words<'a, A: Allocator>(
 pub fn no_tokens_are_two_lists_of_words()
     ensures { WordsAreOne }
 {
-    unsigned_integers_are_tested();
+    integers_are_tested();
 }

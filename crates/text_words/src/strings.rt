@@ -1,12 +1,10 @@
 //! What strings stand for (Core Specification, 6.3.3 Strings).
-ghost use Rattle.std.specs.Prelude.{◌≡◌, ◌++◌, ◌<◌, List, ℕ, IfOk, IfErr};
+ghost use Rattle.std.specs.Prelude.{◌≡◌, ◌++◌, ◌<◌, List, ℕ, IfOk};
 ghost use Rattle.spec_text.specs.Lexical.{StringBody};
 ghost use Rattle.lexer.specs.Reading.{hex_value, is_short};
 ghost use Rattle.text_words.specs.Strings.{nibble, short_value, next_state, bytes_at, scalar_bytes, decoded, InRange};
-ghost use Rattle.text_words.specs.declared.TextRefusal.TheVariants.{NoMemory};
 
-use crate::TextRefusal;
-use std::alloc::Allocator;
+use std::alloc::{AllocError, Allocator};
 
 /// The first number that is no Unicode scalar value, nor is any from it on.
 const PAST_SCALARS: u32 = 0x110000;
@@ -102,9 +100,8 @@ fn behind(state: InString, b: u8) -> InString
 }
 
 /// Adds the bytes of a Unicode scalar value, in UTF-8.
-fn put_scalar<A: Allocator>(found: &mut Vec<u8, A>, n: u32) -> Result<(), TextRefusal>
+fn put_scalar<A: Allocator>(found: &mut Vec<u8, A>, n: u32) -> Result<(), AllocError>
     ensures added { IfOk result (λ _. found.new.items ≡ found.old.items ++ scalar_bytes n) }
-    ensures refused { IfErr result (λ refusal. refusal ≡ NoMemory) }
 {
     if let Some(character) = char::from_u32(n) {
         let mut room = [0u8; 4];
@@ -118,10 +115,9 @@ fn put_completed<A: Allocator>(
     found: &mut Vec<u8, A>,
     state: InString,
     b: u8,
-) -> Result<(), TextRefusal>
+) -> Result<(), AllocError>
     requires { InRange state }
     ensures added { IfOk result (λ _. found.new.items ≡ found.old.items ++ bytes_at state b) }
-    ensures refused { IfErr result (λ refusal. refusal ≡ NoMemory) }
 {
     match state {
         InString::Plain => {
@@ -153,12 +149,10 @@ fn put_completed<A: Allocator>(
 }
 
 /// Adds the bytes that a string stands for, from what stands between its quotes.
-pub fn put_string<A: Allocator>(found: &mut Vec<u8, A>, body: &[u8]) -> Result<(), TextRefusal>
+pub fn put_string<A: Allocator>(found: &mut Vec<u8, A>, body: &[u8]) -> Result<(), AllocError>
     // What it adds is the string's value.
     ensures stands { IfOk result (λ _. (bytes : List ℕ) → StringBody body.now bytes → found.new.items ≡ found.old.items ++ bytes) }
     ensures added { IfOk result (λ _. found.new.items ≡ found.old.items ++ decoded body.now) }
-    // It is refused for want of memory alone.
-    ensures refused { IfErr result (λ refusal. refusal ≡ NoMemory) }
 {
     let mut state = InString::Plain;
     for b in body {

@@ -3,3 +3,4 @@ pub mod Constants
 pub mod Decides
 pub mod Exported
 pub mod Gathered
+pub mod Kept

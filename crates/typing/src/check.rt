@@ -145,7 +145,7 @@ pub fn check<A: Allocator, W: Allocator + Clone>(
     ensures untyped { IfErr result (λ e. Denies e.1 (ModuleTyped (module_view tree))) }
 {
     match check_module(alloc, &tree) {
-        Ok(()) => Ok(Valid::of_passed(tree)),
+        Ok(()) => Ok(Valid::of_typed(tree)),
         Err(refusal) => Err((tree, refusal)),
     }
 }

@@ -5,20 +5,23 @@ ghost use Rattle.std.specs.List.{list_all};
 ghost use Rattle.module_tree.specs.ModuleView.{func_type_view, limits_view, import_desc_view, import_view, func_view};
 ghost use Rattle.typing.specs.Tests.{type_passes, max_within, table_passes, memory_passes, at_most_one, with_table, with_memory, import_passes, imports_pass, any_table, any_memory, func_passes};
 
+use body_typing::rule::Rule;
 use module_tree::module::{Func, Import, ImportDesc};
 use std::alloc::Allocator;
+use thiserror::Error;
 use wtypes::{FuncType, Limits};
 
 /// The most pages that a memory may have (Core Specification, 3.2.4 Memory Types).
 pub const MOST_PAGES: u32 = 65536;
 
 /// A fault outside bodies: its place in the module's own list, and the rule.
-#[derive(Clone, Copy, Debug, PartialEq, Eq)]
+#[derive(Clone, Copy, Debug, PartialEq, Eq, Error)]
+#[error("{rule}, at {place}")]
 pub struct Fault {
     /// The place, from 0.
     pub place: u32,
-    /// The number of the rule.
-    pub rule: u8,
+    /// The rule.
+    pub rule: Rule,
 }
 
 /// What imports have brought so far.
@@ -57,7 +60,10 @@ pub fn type_fault<A: Allocator>(types: &Vec<FuncType<A>, A>) -> Option<Fault>
     let mut place: u32 = 0;
     for t in types {
         if t.results.len() > 1 {
-            return Some(Fault { place, rule: 2 });
+            return Some(Fault {
+                place,
+                rule: Rule::SeveralResults,
+            });
         }
         place = place.saturating_add(1);
     }
@@ -93,12 +99,18 @@ fn limits_fault(there: bool, fits: bool, place: u32) -> Option<Fault>
     ensures { is_none result ≡ (not there && fits) }
 {
     if there {
-        return Some(Fault { place, rule: 3 });
+        return Some(Fault {
+            place,
+            rule: Rule::SecondOne,
+        });
     }
     if fits {
         None
     } else {
-        Some(Fault { place, rule: 4 })
+        Some(Fault {
+            place,
+            rule: Rule::SizeLimits,
+        })
     }
 }
 
@@ -111,7 +123,10 @@ fn import_fault(types: usize, seen: Seen, desc: ImportDesc, place: u32) -> Optio
             if (index as usize) < types {
                 None
             } else {
-                Some(Fault { place, rule: 1 })
+                Some(Fault {
+                    place,
+                    rule: Rule::TypeIndex,
+                })
             }
         }
         ImportDesc::Table(limits) => limits_fault(seen.table, table_fits(limits), place),
@@ -148,7 +163,10 @@ pub fn func_fault<A: Allocator>(types: usize, funcs: &Vec<Func<A>, A>) -> Option
     let mut place: u32 = 0;
     for f in funcs {
         if f.type_index as usize >= types {
-            return Some(Fault { place, rule: 1 });
+            return Some(Fault {
+                place,
+                rule: Rule::TypeIndex,
+            });
         }
         place = place.saturating_add(1);
     }

@@ -4,8 +4,6 @@ ghost use Rattle.std.specs.Prelude.{◌≡◌, ◌||◌, ℕ, nat_lt, map, lengt
 ghost use Rattle.std.specs.List.{list_all};
 ghost use Rattle.std.specs.Str.{bytes_eq};
 ghost use Rattle.spec_syntax.specs.Syntax as syntax;
-ghost use Rattle.spec_numeric.specs.Operators;
-ghost use Rattle.spec_typing.specs.Principal;
 ghost use Rattle.module_tree.specs.View.{instrs_view};
 ghost use Rattle.module_tree.specs.ModuleView.{func_type_view, global_type_view, global_view, element_view, data_view, export_view, export_desc_view};
 ghost use Rattle.typing.specs.Names.{has_name};
@@ -13,41 +11,25 @@ ghost use Rattle.typing.specs.Tests;
 ghost use Rattle.typing.specs.Tests.{constant_passes, global_passes, element_passes, data_passes, start_passes, export_passes, exports_pass};
 
 use crate::rules::Fault;
+use body_typing::operators::{same, type_of};
+use body_typing::rule::Rule;
 use body_typing::spaces::Spaces;
 use module_tree::instr::Instr;
+use module_tree::lone::lone_plain;
 use module_tree::module::{DataSegment, Element, Export, ExportDesc, Global, GlobalType};
 use std::alloc::{AllocError, Allocator};
 use std::collections::BTreeSet;
-use wtypes::{FuncType, PlainInstr, ValType, Value};
-
-fn same_type(a: ValType, b: ValType) -> bool
-    ensures { result ≡ Principal.same_type a b }
-{
-    match (a, b) {
-        (ValType::I32, ValType::I32) => true,
-        (ValType::I64, ValType::I64) => true,
-        _ => false,
-    }
-}
-
-fn type_of(v: Value) -> ValType
-    ensures { result ≡ Operators.type_of v }
-{
-    match v {
-        Value::I32(_) => ValType::I32,
-        Value::I64(_) => ValType::I64,
-    }
-}
+use wtypes::{FuncType, PlainInstr, ValType};
 
 // Whether the instruction alone is a constant expression of this type.
 fn is_constant_op(imported: &[GlobalType], op: PlainInstr, t: ValType) -> bool
     ensures { result ≡ constant_passes (map global_type_view imported.now) (syntax.seq (syntax.Plain op) syntax.nothing) t }
 {
     match op {
-        PlainInstr::Const(v) => same_type(type_of(v), t),
+        PlainInstr::Const(v) => same(type_of(v), t),
         PlainInstr::GlobalGet(index) => match imported.get(index as usize) {
             None => false,
-            Some(g) => same_type(g.value_type, t) && !g.is_mutable,
+            Some(g) => same(g.value_type, t) && !g.is_mutable,
         },
         _ => false,
     }
@@ -57,15 +39,9 @@ fn is_constant_op(imported: &[GlobalType], op: PlainInstr, t: ValType) -> bool
 fn is_constant<A: Allocator>(imported: &[GlobalType], init: &Vec<Instr<A>, A>, t: ValType) -> bool
     ensures { result ≡ constant_passes (map global_type_view imported.now) (instrs_view init.now.items) t }
 {
-    if init.len() != 1 {
-        return false;
-    }
-    match &init[0] {
-        Instr::Plain(_, op) => is_constant_op(imported, *op, t),
-        Instr::BrTable(_, _, _) => false,
-        Instr::Block(_, _, _) => false,
-        Instr::Loop(_, _, _) => false,
-        Instr::If(_, _, _, _) => false,
+    match lone_plain(init) {
+        None => false,
+        Some(op) => is_constant_op(imported, op, t),
     }
 }
 
@@ -79,7 +55,10 @@ pub fn global_fault<A: Allocator>(
     let mut place: u32 = 0;
     for g in globals {
         if !is_constant(imported, &g.init, g.global_type.value_type) {
-            return Some(Fault { place, rule: 5 });
+            return Some(Fault {
+                place,
+                rule: Rule::GlobalInit,
+            });
         }
         place = place.saturating_add(1);
     }
@@ -124,7 +103,10 @@ pub fn element_fault<A: Allocator>(
     let mut place: u32 = 0;
     for element in elements {
         if !element_fits(tables, funcs, imported, element) {
-            return Some(Fault { place, rule: 9 });
+            return Some(Fault {
+                place,
+                rule: Rule::ElementSegment,
+            });
         }
         place = place.saturating_add(1);
     }
@@ -152,7 +134,10 @@ pub fn data_fault<A: Allocator>(
     let mut place: u32 = 0;
     for segment in datas {
         if !data_fits(memories, imported, segment) {
-            return Some(Fault { place, rule: 10 });
+            return Some(Fault {
+                place,
+                rule: Rule::DataSegment,
+            });
         }
         place = place.saturating_add(1);
     }
@@ -173,7 +158,10 @@ pub fn start_fault<A: Allocator, W: Allocator>(
 ) -> Option<Fault>
     ensures { is_none result ≡ start_passes (map func_type_view types.now.items) funcs.now.items start }
 {
-    let fault = Some(Fault { place: 0, rule: 8 });
+    let fault = Some(Fault {
+        place: 0,
+        rule: Rule::StartFunction,
+    });
     let Some(func) = start else {
         return None;
     };
@@ -223,10 +211,16 @@ pub fn export_fault<A: Allocator, W: Allocator + Clone>(
     for export in exports {
         let is_new = add_name(&mut names, export.name.as_str())?;
         if !is_new {
-            return Ok(Some(Fault { place, rule: 6 }));
+            return Ok(Some(Fault {
+                place,
+                rule: Rule::ExportName,
+            }));
         }
         if !is_there(spaces, export.desc) {
-            return Ok(Some(Fault { place, rule: 7 }));
+            return Ok(Some(Fault {
+                place,
+                rule: Rule::ExportIndex,
+            }));
         }
         place = place.saturating_add(1);
     }

@@ -1,7 +1,6 @@
 // Modules that are typed.
-ghost use Rattle.std.specs.Prelude.{◌≡◌, true, IfOk};
 ghost use Rattle.module_tree.specs.Modules.{module_view};
-ghost use Rattle.typing.specs.Tests.{module_passes};
+ghost use Rattle.spec_typing.specs.Modules.{ModuleTyped};
 
 use module_tree::module::Module;
 use std::alloc::Allocator;
@@ -11,16 +10,16 @@ use wtypes::NoMemory;
 #[derive(Drop)]
 pub struct Valid<A: Allocator> {
     tree: Module<A>,
-    pub ghost passes: { module_passes (module_view tree) ≡ true },
+    pub ghost typed: { ∥ ModuleTyped (module_view tree) ∥₁ },
 }
 
 impl<A: Allocator> Valid<A> {
-    ghost use Rattle.spec_typing.specs.Modules.{ModuleTyped};
+    ghost use Rattle.std.specs.Prelude.{◌≡◌, IfOk};
     ghost use Rattle.typing.specs.Parts.{tree_of};
 
-    /// A module that has passed.
-    pub fn of_passed(tree: Module<A>) -> Valid<A>
-        requires { module_passes (module_view tree) ≡ true }
+    /// A module that is typed.
+    pub fn of_typed(tree: Module<A>) -> Valid<A>
+        requires { ModuleTyped (module_view tree) }
         ensures { tree_of result ≡ tree }
     {
         Valid { tree }

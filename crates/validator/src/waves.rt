@@ -9,7 +9,7 @@ ghost use Rattle.validator.specs.Handed.{AreFound, AreMade, ArePartsMade, IsMade
 use crate::attempt::attempt;
 use crate::job::{Job, Made, Part};
 use pace::Pace;
-use schedule::Graph;
+use schedule::waves_of;
 use serial::replay;
 use spec_ledger::NoMemory;
 use std::alloc::Allocator;
@@ -172,8 +172,7 @@ pub(crate) fn run_waves<'a, R: Threads + Sync, A: Allocator + Copy + Send + Sync
     ensures runs { IfOk result (λ runs. AreFound (contracts_view job.now.contracts.now) job.now.calls.now runs.items) }
     ensures size { IfOk result (λ runs. length runs.items ≡ length job.now.order.now) }
 {
-    let graph = Graph::of(job.alloc, job.profiles)?;
-    let waves = by_waves(job.alloc, graph.waves())?;
+    let waves = by_waves(job.alloc, &waves_of(job.alloc, job.profiles)?)?;
     let mut ahead = cells.copy(job.alloc)?;
     let mut runs = no_runs(job)?;
     for wave in &waves {

@@ -2,6 +2,7 @@
 #![tactic(auto)]
 
 use codec::put_all;
+use pace::NoPace;
 use std::alloc::{AllocError, Global};
 use std::io;
 use std::process::ExitCode;
@@ -34,6 +35,7 @@ fn run<R: Threads + Wait + Sync>(rt: &HostRuntime, threads: &R) -> Result<u8, Al
         &mut files,
         &mut out,
         &mut err,
+        &NoPace,
     );
     Ok(status as u8)
 }

@@ -59,6 +59,10 @@ TellsRefusal holds world calls line =
     Holds holds world (λ bytes. TellsNoWorld bytes line)
     ⊎ ((w : World) × HoldsWorld holds world w × Holds holds calls (λ text. TellsNoCalls text line))
 
+-- the file of the world is read, and then that of the calls, where the first holds a world
+abbrev pub IsNextInput : Holding → List ℕ → List ℕ → List ℕ → Type 0
+IsNextInput holds world calls name = (name ≡ world) ⊎ ((w : World) × HoldsWorld holds world w × (name ≡ calls))
+
 -- a text has at most 65,535 calls
 abbrev pub HasFew : Inputs → Type 0
 HasFew (Read w cs) = vec_len cs ≤ 65535

@@ -9,7 +9,7 @@ use Rattle.block_judge.specs.Judging.{place_in}
 use Rattle.wblock_io.specs.Holding.{Holding}
 use Rattle.wblock_line.specs.declared.answer.Answer.{Answer}
 use Rattle.wblock_line.specs.declared.answer.Answer.TheVariants.{Done, Refused}
-use Rattle.wblock_blocks.specs.Inputs.{HoldsWorld, HoldsCalls, TellsRefusal}
+use Rattle.wblock_blocks.specs.Inputs.{HoldsWorld, HoldsCalls, IsNextInput, TellsRefusal}
 use Rattle.wblock_blocks.specs.declared.validate.Validation.{Validation}
 
 -- `accept` and `after HEX`, a line each, where HEX is the digest of the world after the block
@@ -61,6 +61,17 @@ pub record IsJudged (holds : Holding) (task : Validation) (a : Answer) : Type 0 
 abbrev pub IsRefused : Holding → Validation → Answer → Type 0
 IsRefused holds task (Done writes text) = ⊥
 IsRefused holds task (Refused line) = TellsRefusal holds task.world.now task.calls.now (string_bytes line)
+
+-- the files of the world and of the calls give both
+pub record GivesBoth (holds : Holding) (task : Validation) : Type 0 where
+  pub world : World
+  pub held_world : HoldsWorld holds task.world.now world
+  pub calls : List Call
+  pub held_calls : HoldsCalls holds task.calls.now calls
+
+-- the file of the world is read, then that of the calls, and then that of the block, each where those before it give what they have to
+abbrev pub IsNextFile : Holding → Validation → List ℕ → Type 0
+IsNextFile holds task name = IsNextInput holds task.world.now task.calls.now name ⊎ (GivesBoth holds task × (name ≡ task.block.now))
 
 abbrev pub Validates : Holding → Validation → Answer → Type 0
 Validates holds task a = IsRefused holds task a ⊎ IsJudged holds task a

@@ -4,8 +4,8 @@ ghost use Rattle.std.specs.Prelude.{◌≡◌, ◌≤◌, IsTrue, IfOk, IfErr, O
 ghost use Rattle.spec_block.specs.Bytes.{SpellsWorld};
 ghost use Rattle.world.specs.Views.{world_view};
 ghost use Rattle.calls_text.specs.Texts.{SpellsCalls};
-ghost use Rattle.wblock_line.specs.Answers.{CountsFault};
-ghost use Rattle.wblock_blocks.specs.Inputs.{IsWorldLine, IsCallsLine, TellsNoWorld, TellsNoCalls, HasFew, Gives};
+ghost use Rattle.wblock_line.specs.Answers.{CountsFault, IsOfFile};
+ghost use Rattle.wblock_blocks.specs.Inputs.{IsWorldLine, IsCallsLine, TellsNoWorld, TellsNoCalls, HasFew, Gives, IsNextInput};
 
 use call::Call;
 use calls_text::{CallsRefusal, read_calls};
@@ -87,6 +87,7 @@ pub fn read_inputs<'a, F: Files>(
     ensures kept { IsTrue F.tells → F.holds files.new ≡ F.holds files.old }
     ensures calm { OnOk result (F.failures files.new ≡ F.failures files.old) }
     ensures counted { IfErr result (λ f. CountsFault f (F.failures files.old) (F.failures files.new)) }
+    ensures next { IfErr result (IsOfFile (λ name. IsTrue F.tells → IsNextInput (F.holds files.old) world.entry.now calls.entry.now name)) }
 {
     let bytes = read_file(alloc, files, world)?;
     let world = match judge_world(alloc, bytes.as_slice()) {

@@ -5,7 +5,8 @@ ghost use Rattle.spec_block.specs.Worlds.{order_of};
 ghost use Rattle.spec_block.specs.Bytes.{block_bytes};
 ghost use Rattle.spec_block.specs.Headline.{Headline, IsLeft};
 ghost use Rattle.world.specs.Views.{world_view};
-ghost use Rattle.wblock_line.specs.Answers.{CountsFault};
+ghost use Rattle.wblock_line.specs.Answers.{CountsFault, IsOfFile};
+ghost use Rattle.wblock_blocks.specs.Inputs.{IsNextInput};
 ghost use Rattle.wblock_blocks.specs.Mines.{IsDone, Mines};
 
 use crate::text::block_text_of;
@@ -14,7 +15,7 @@ use block::{Block, write_block};
 use call::Call;
 use codec::{Failures, MemorySink};
 use mining::{Mined, mine};
-use pace::NoPace;
+use pace::Pace;
 use std::alloc::Global;
 use std::sync::Wait;
 use std::thread::Threads;
@@ -43,12 +44,13 @@ pub struct Mining<'a> {
 }
 
 /// What is mined of calls over a world.
-fn mine_calls<R: Threads + Wait + Sync>(
+fn mine_calls<R: Threads + Wait + Sync, P: Pace>(
     rt: &R,
     alloc: Global,
     world: &World,
     calls: &[Call],
     task: Mining,
+    pace: &P,
 ) -> Result<Mined, NoMemory>
     requires calls { length calls.now ≤ 65535 }
     requires workers { (1 ≤ task.workers) × (task.workers ≤ 64) }
@@ -64,7 +66,7 @@ fn mine_calls<R: Threads + Wait + Sync>(
         task.fuel,
         task.workers,
         task.tries,
-        &NoPace,
+        pace,
     )
 }
 
@@ -100,12 +102,13 @@ fn done<'a>(alloc: Global, task: Mining<'a>, mined: &Mined) -> Result<Answer<'a>
 }
 
 /// What `mine` comes to: a block of the calls over the world is to be written, and then the world after it, and the block's lines are to be
-/// printed; or the line that says why the world or the calls are refused. No file is written yet.
-pub fn mine_block<'a, R: Threads + Wait + Sync, F: Files>(
+/// printed; or the line that says why the world or the calls are refused. No file is written yet. The pace is told each step of the workers.
+pub fn mine_block<'a, R: Threads + Wait + Sync, F: Files, P: Pace>(
     rt: &R,
     alloc: Global,
     files: &mut F,
     task: Mining<'a>,
+    pace: &P,
 ) -> Result<Answer<'a>, Fault<'a>>
     requires workers { (1 ≤ task.workers) × (task.workers ≤ 64) }
     requires tries { (1 ≤ task.tries) × (task.tries ≤ 16) }
@@ -113,12 +116,13 @@ pub fn mine_block<'a, R: Threads + Wait + Sync, F: Files>(
     ensures kept { IsTrue F.tells → F.holds files.new ≡ F.holds files.old }
     ensures calm { OnOk result (F.failures files.new ≡ F.failures files.old) }
     ensures counted { IfErr result (λ f. CountsFault f (F.failures files.old) (F.failures files.new)) }
+    ensures next { IfErr result (IsOfFile (λ name. IsTrue F.tells → IsNextInput (F.holds files.old) task.entry.world.now task.entry.calls.now name)) }
 {
     let (world, calls) = match read_inputs(alloc, files, task.world, task.calls)? {
         Inputs::Read(world, calls) => (world, calls),
         Inputs::Refused(line) => return Ok(Answer::Refused(line)),
     };
-    let Ok(mined) = mine_calls(rt, alloc, &world, &calls, task) else {
+    let Ok(mined) = mine_calls(rt, alloc, &world, &calls, task, pace) else {
         return Err(Fault::NoMemory);
     };
     match done(alloc, task, &mined) {

@@ -9,7 +9,7 @@ use std::alloc::{AllocError, Global};
 
 /// A line for each position.
 fn position_lines_of(alloc: Global, positions: &[Position]) -> Result<String, AllocError>
-    requires { length positions.now ≤ Block.MOST_POSITIONS }
+    requires { length positions.now ≤ 65535 }
     ensures { IfOk result (λ text. string_bytes text ≡ position_lines 0 positions.now) }
 {
     let mut text = String::new(alloc);

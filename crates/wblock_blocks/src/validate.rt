@@ -5,13 +5,13 @@ ghost use Rattle.spec_block.specs.Verdicts.{IsVerdictOf};
 ghost use Rattle.block_judge.specs.Judging.{told};
 ghost use Rattle.validator.specs.Judged.{told_by};
 ghost use Rattle.world.specs.Views.{world_view};
-ghost use Rattle.wblock_line.specs.Answers.{CountsFault};
-ghost use Rattle.wblock_blocks.specs.Validates.{accept_text, reject_line, TellsVerdict, Validates};
+ghost use Rattle.wblock_line.specs.Answers.{CountsFault, IsOfFile};
+ghost use Rattle.wblock_blocks.specs.Validates.{accept_text, reject_line, TellsVerdict, Validates, IsNextFile};
 
 use crate::{Inputs, read_inputs};
 use block_judge::Reason;
 use call::Call;
-use pace::NoPace;
+use pace::Pace;
 use std::alloc::{AllocError, Global};
 use std::sync::Wait;
 use std::thread::Threads;
@@ -37,13 +37,14 @@ pub struct Validation<'a> {
 }
 
 /// The verdict on the bytes of a block.
-fn judge<R: Threads + Wait + Sync>(
+fn judge<R: Threads + Wait + Sync, P: Pace>(
     rt: &R,
     alloc: Global,
     world: &World,
     calls: &[Call],
     task: Validation,
     bytes: &[u8],
+    pace: &P,
 ) -> Result<Verdict, NoMemory>
     requires calls { length calls.now ≤ 65535 }
     requires workers { (1 ≤ task.workers) × (task.workers ≤ 64) }
@@ -57,7 +58,7 @@ fn judge<R: Threads + Wait + Sync>(
         task.fuel,
         bytes,
         task.workers,
-        &NoPace,
+        pace,
     )
 }
 
@@ -100,25 +101,27 @@ fn tell<'a>(alloc: Global, verdict: &Verdict) -> Result<Answer<'a>, NoMemory>
 }
 
 /// What `validate` comes to: `accept` and the digest of the world after the block, or `reject` with the first of the nine reasons that holds; or
-/// the line that says why the world or the calls are refused. No file is written.
-pub fn validate_block<'a, R: Threads + Wait + Sync, F: Files>(
+/// the line that says why the world or the calls are refused. No file is written. The pace is told each step of the workers.
+pub fn validate_block<'a, R: Threads + Wait + Sync, F: Files, P: Pace>(
     rt: &R,
     alloc: Global,
     files: &mut F,
     task: Validation<'a>,
+    pace: &P,
 ) -> Result<Answer<'a>, Fault<'a>>
     requires workers { (1 ≤ task.workers) × (task.workers ≤ 64) }
     ensures answers { IfOk result (λ a. IsTrue F.tells → Validates (F.holds files.old) task.entry a) }
     ensures kept { IsTrue F.tells → F.holds files.new ≡ F.holds files.old }
     ensures calm { OnOk result (F.failures files.new ≡ F.failures files.old) }
     ensures counted { IfErr result (λ f. CountsFault f (F.failures files.old) (F.failures files.new)) }
+    ensures next { IfErr result (IsOfFile (λ name. IsTrue F.tells → IsNextFile (F.holds files.old) task.entry name)) }
 {
     let (world, calls) = match read_inputs(alloc, files, task.world, task.calls)? {
         Inputs::Read(world, calls) => (world, calls),
         Inputs::Refused(line) => return Ok(Answer::Refused(line)),
     };
     let bytes = read_file(alloc, files, task.block)?;
-    let Ok(verdict) = judge(rt, alloc, &world, &calls, task, &bytes) else {
+    let Ok(verdict) = judge(rt, alloc, &world, &calls, task, &bytes, pace) else {
         return Err(Fault::NoMemory);
     };
     match tell(alloc, &verdict) {

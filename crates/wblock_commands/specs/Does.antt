@@ -1,18 +1,20 @@
 -- What a command does.
-use Rattle.std.specs.Prelude.{◌≡◌, ℕ, List}
+use Rattle.std.specs.Prelude.{◌≡◌, ℕ, ◌⊎◌, List}
 use Rattle.wblock_io.specs.Holding.{Holding}
 use Rattle.wblock_line.specs.declared.answer.Answer.{Answer}
 use Rattle.wblock_line.specs.declared.perform.Status.{Status}
-use Rattle.wblock_line.specs.Answers.{status_of, IsPerformed, IsCut}
+use Rattle.wblock_line.specs.Answers.{status_of, IsPerformed, IsCut, IsSaid}
 use Rattle.wblock_commands.specs.Stored.{ShowsStored}
 use Rattle.wblock_modules.specs.Assembles.{Assembles}
 use Rattle.wblock_modules.specs.Checks.{Checks}
-use Rattle.wblock_modules.specs.Deploys.{Deploys}
+use Rattle.wblock_modules.specs.Deploys.{Deploys, IsNextModule}
+use Rattle.wblock_blocks.specs.Inputs.{IsNextInput}
 use Rattle.wblock_blocks.specs.Mines.{Mines}
-use Rattle.wblock_blocks.specs.Validates.{Validates}
+use Rattle.wblock_blocks.specs.Validates.{Validates, IsNextFile}
 use Rattle.wblock_debug.specs.Debugs.{Debugs, IsNotListed}
 use Rattle.wblock_commands.specs.declared.command.Command.{Command}
 use Rattle.wblock_commands.specs.declared.command.Command.TheVariants.{Stored, Asm, Check, Deploy, Mine, Validate, Debug}
+use Rattle.wblock_commands.specs.Lines.{EndsLine}
 use Rattle.wblock_commands.specs.Words.{texts}
 
 -- what a command comes to over files
@@ -42,13 +44,38 @@ pub record Does (c : Command) (status : Status) (old new : Holding) (before afte
   pub status_is : status_of answer ≡ status
   pub performed : IsPerformed answer old new before after
 
--- an answer was written or printed in part
-pub record Cuts (c : Command) (old new : Holding) (before after : List ℕ) : Type 0 where
+-- an answer was written or printed in part: the file of this name, or the output, was cut short
+pub record Cuts (c : Command) (name : List ℕ) (old new : Holding) (before after : List ℕ) : Type 0 where
   pub answer : Answer
   pub answers : Answers c old answer
-  pub cut : IsCut answer old new before after
+  pub cut : IsCut name answer old new before after
+
+-- the command reads the file of this name, once those that it reads before give what they have to
+abbrev pub Reads : Command → Holding → List ℕ → Type 0
+Reads Stored holds name = ⊥
+Reads (Asm text target) holds name = name ≡ text.now
+Reads (Check target heap) holds name = name ≡ target.now
+Reads (Deploy world modules) holds name = IsNextModule holds (texts modules.now) name
+Reads (Mine task) holds name = IsNextInput holds task.world.now task.calls.now name
+Reads (Validate task) holds name = IsNextFile holds task name
+Reads (Debug task) holds name = IsNextInput holds task.world.now task.calls.now name
 
 -- nothing was written or printed
 pub record IsKept (old new : Holding) (before after : List ℕ) : Type 0 where
   pub files : new ≡ old
   pub text : after ≡ before
+
+-- the file of this name was to be read, and nothing was written or printed
+pub record Stops (c : Command) (name : List ℕ) (old new : Holding) (before after : List ℕ) : Type 0 where
+  pub reads : Reads c old name
+  pub kept : IsKept old new before after
+
+-- the file of this name failed where it was read or written, or the output did
+abbrev pub Fails : Command → List ℕ → Holding → Holding → List ℕ → List ℕ → Type 0
+Fails c name old new before after = Stops c name old new before after ⊎ Cuts c name old new before after
+
+-- a text that ends with a newline was said
+pub record SaysUsage (old new : List ℕ) (failed fails : ℕ) : Type 0 where
+  pub text : List ℕ
+  pub ends_line : EndsLine text
+  pub said : IsSaid text old new failed fails

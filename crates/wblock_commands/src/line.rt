@@ -1,15 +1,16 @@
 //! The run of a line of words.
 
-ghost use Rattle.std.specs.Prelude.{◌≡◌, ◌≢◌, ◌≤◌, ◌⊎◌, IsTrue, IfOk, IfErr, OnOk, MatchOption, map};
+ghost use Rattle.std.specs.Prelude.{◌≡◌, ◌≢◌, ◌≤◌, ◌⊎◌, ℕ, List, IsTrue, IfOk, IfErr, OnOk, MatchOption, map};
 ghost use Rattle.codec.specs.Putting.{IsRaised};
-ghost use Rattle.wblock_line.specs.Answers.{CountsFault};
+ghost use Rattle.wblock_line.specs.Answers.{CountsFault, IsOfFile, IsSaid, file_line, memory_line};
 ghost use Rattle.wblock_commands.specs.Words.{Says, HasFew};
-ghost use Rattle.wblock_commands.specs.Does.{Answers, AsksCall, Misses, Does, Cuts, IsKept};
+ghost use Rattle.wblock_commands.specs.Does.{Answers, AsksCall, Misses, Does, Reads, Fails, IsKept, SaysUsage};
 ghost use Rattle.wblock_commands.specs.declared.command.Command.{Command as Asked};
 
 use crate::command::{Command, command_of};
 use crate::{show_stored, usage_text};
 use codec::{Sink, put_all};
+use pace::Pace;
 use std::alloc::{AllocError, Global};
 use std::sync::Wait;
 use std::thread::Threads;
@@ -20,11 +21,12 @@ use wblock_line::{Answer, Fault, Status, carry_out, split_words, tell_fault};
 use wblock_modules::{assemble_file, check_module, deploy_modules};
 
 /// What a command comes to, or None where a call is asked for that is not there. No file is written yet.
-fn answer_of<'l, 'w, R: Threads + Wait + Sync, F: Files>(
+fn answer_of<'l, 'w, R: Threads + Wait + Sync, F: Files, P: Pace>(
     rt: &R,
     alloc: Global,
     command: Command<'l, 'w>,
     files: &mut F,
+    pace: &P,
 ) -> Result<Option<Answer<'w>>, Fault<'w>>
     requires { HasFew command }
     ensures answers { IfOk result (λ found. IsTrue F.tells → MatchOption found (Misses command.entry (F.holds files.old)) (Answers command.entry (F.holds files.old))) }
@@ -32,22 +34,25 @@ fn answer_of<'l, 'w, R: Threads + Wait + Sync, F: Files>(
     ensures kept { IsTrue F.tells → F.holds files.new ≡ F.holds files.old }
     ensures calm { OnOk result (F.failures files.new ≡ F.failures files.old) }
     ensures counted { IfErr result (λ f. CountsFault f (F.failures files.old) (F.failures files.new)) }
+    ensures reads { IfErr result (IsOfFile (λ name. IsTrue F.tells → Reads command.entry (F.holds files.old) name)) }
 {
     let answer = match command {
         Command::Stored => show_stored(alloc)?,
         Command::Asm(text, target) => assemble_file(alloc, files, text, target)?,
         Command::Check(target, heap) => check_module(alloc, files, target, heap)?,
         Command::Deploy(world, modules) => deploy_modules(alloc, files, world, modules)?,
-        Command::Mine(task) => mine_block(rt, alloc, files, task)?,
-        Command::Validate(task) => validate_block(rt, alloc, files, task)?,
+        Command::Mine(task) => mine_block(rt, alloc, files, task, pace)?,
+        Command::Validate(task) => validate_block(rt, alloc, files, task, pace)?,
         Command::Debug(task) => return debug_world(alloc, files, &task),
     };
     Ok(Some(answer))
 }
 
-/// Says what is wrong with words that ask for nothing.
+/// Says what is wrong with words that ask for nothing, or that memory was refused.
 fn refuse_words<'a, E: Sink>(alloc: Global, words: &'a [&'a str], err: &mut E) -> Status
-    ensures { (result ≡ Status.Usage) ⊎ (result ≡ Status.Memory) }
+    ensures status { (result ≡ Status.Usage) ⊎ (result ≡ Status.Memory) }
+    ensures usage_said { result ≡ Status.Usage → IsTrue E.tells → SaysUsage (E.told err.old) (E.told err.new) (E.failures err.old) (E.failures err.new) }
+    ensures memory_said { result ≡ Status.Memory → IsTrue E.tells → IsSaid memory_line (E.told err.old) (E.told err.new) (E.failures err.old) (E.failures err.new) }
 {
     match usage_text(alloc, words) {
         Ok(text) => {
@@ -59,7 +64,7 @@ fn refuse_words<'a, E: Sink>(alloc: Global, words: &'a [&'a str], err: &mut E) -
 }
 
 /// Writes and prints what a command comes to.
-fn run_command<'a, R: Threads + Wait + Sync, F: Files, O: Sink, E: Sink>(
+fn run_command<'a, R: Threads + Wait + Sync, F: Files, O: Sink, E: Sink, P: Pace>(
     rt: &R,
     alloc: Global,
     words: &'a [&'a str],
@@ -67,17 +72,23 @@ fn run_command<'a, R: Threads + Wait + Sync, F: Files, O: Sink, E: Sink>(
     files: &mut F,
     out: &mut O,
     err: &mut E,
+    pace: &P,
 ) -> Status
     requires { HasFew command }
     ensures done { result ≡ Status.Done → IsTrue F.tells → IsTrue O.tells → Does command.entry Status.Done (F.holds files.old) (F.holds files.new) (O.told out.old) (O.told out.new) }
     ensures refused { result ≡ Status.Refused → IsTrue F.tells → IsTrue O.tells → Does command.entry Status.Refused (F.holds files.old) (F.holds files.new) (O.told out.old) (O.told out.new) }
-    ensures cut { result ≡ Status.File → IsTrue F.tells → IsTrue O.tells → IsKept (F.holds files.old) (F.holds files.new) (O.told out.old) (O.told out.new) ⊎ Cuts command.entry (F.holds files.old) (F.holds files.new) (O.told out.old) (O.told out.new) }
+    ensures cut { result ≡ Status.File → IsTrue F.tells → IsTrue O.tells → (name : List ℕ) × Fails command.entry name (F.holds files.old) (F.holds files.new) (O.told out.old) (O.told out.new) × (IsTrue E.tells → IsSaid (file_line name) (E.told err.old) (E.told err.new) (E.failures err.old) (E.failures err.new)) }
     ensures counted { result ≡ Status.File → IsRaised (F.failures files.old) (F.failures files.new) ⊎ IsRaised (O.failures out.old) (O.failures out.new) }
     ensures silent { (result ≡ Status.Usage) ⊎ (result ≡ Status.Memory) → IsTrue F.tells → IsKept (F.holds files.old) (F.holds files.new) (O.told out.old) (O.told out.new) }
+    ensures usage_said { result ≡ Status.Usage → IsTrue E.tells → SaysUsage (E.told err.old) (E.told err.new) (E.failures err.old) (E.failures err.new) }
+    ensures memory_said { result ≡ Status.Memory → IsTrue E.tells → IsSaid memory_line (E.told err.old) (E.told err.new) (E.failures err.old) (E.failures err.new) }
+    ensures quiet { (result ≡ Status.Done) ⊎ (result ≡ Status.Refused) → err.new ≡ err.old }
+    ensures calm_files { (result ≡ Status.Done) ⊎ (result ≡ Status.Refused) → F.failures files.new ≡ F.failures files.old }
+    ensures calm_output { (result ≡ Status.Done) ⊎ (result ≡ Status.Refused) → O.failures out.new ≡ O.failures out.old }
     ensures asked { result ≡ Status.Usage → AsksCall command.entry }
     ensures missed { result ≡ Status.Usage → IsTrue F.tells → Misses command.entry (F.holds files.old) }
 {
-    match answer_of(rt, alloc, command, files) {
+    match answer_of(rt, alloc, command, files, pace) {
         Ok(Some(answer)) => carry_out(answer, files, out, err),
         Ok(None) => refuse_words(alloc, words, err),
         Err(fault) => tell_fault(fault, err),
@@ -86,21 +97,28 @@ fn run_command<'a, R: Threads + Wait + Sync, F: Files, O: Sink, E: Sink>(
 
 /// Runs one line of words and gives its status: 0 done, 1 refused, 2 where the words ask for nothing or for a call that is not there, 3 where a file or
 /// the output failed, 4 where memory was refused. Answers and refusals go to `out`, and what else is wrong is said to
-/// `err`, whose own failures change no status. All that is written and printed is made before the first write.
-pub fn run_line<'a, R: Threads + Wait + Sync, F: Files, O: Sink, E: Sink>(
+/// `err`, whose own failures change no status: a text that ends with a newline with status 2, `file NAME` with 3 (`file stdout` for the output), `memory` with 4.
+/// All that is written and printed is made before the first write. The pace is told each step of the workers of `mine` and `validate`.
+pub fn run_line<'a, R: Threads + Wait + Sync, F: Files, O: Sink, E: Sink, P: Pace>(
     rt: &R,
     alloc: Global,
     words: &'a [&'a str],
     files: &mut F,
     out: &mut O,
     err: &mut E,
+    pace: &P,
 ) -> Status
     ensures done { result ≡ Status.Done → (c : Asked) × Says (map (λ w. w.now) words.entry.now) c × (IsTrue F.tells → IsTrue O.tells → Does c Status.Done (F.holds files.old) (F.holds files.new) (O.told out.old) (O.told out.new)) }
     ensures refused { result ≡ Status.Refused → (c : Asked) × Says (map (λ w. w.now) words.entry.now) c × (IsTrue F.tells → IsTrue O.tells → Does c Status.Refused (F.holds files.old) (F.holds files.new) (O.told out.old) (O.told out.new)) }
     ensures usage { result ≡ Status.Usage → ((c : Asked) → ¬ Says (map (λ w. w.now) words.entry.now) c) ⊎ ((c : Asked) × Says (map (λ w. w.now) words.entry.now) c × AsksCall c × (IsTrue F.tells → Misses c (F.holds files.old))) }
-    ensures cut { result ≡ Status.File → (c : Asked) × Says (map (λ w. w.now) words.entry.now) c × (IsTrue F.tells → IsTrue O.tells → IsKept (F.holds files.old) (F.holds files.new) (O.told out.old) (O.told out.new) ⊎ Cuts c (F.holds files.old) (F.holds files.new) (O.told out.old) (O.told out.new)) }
+    ensures cut { result ≡ Status.File → (c : Asked) × Says (map (λ w. w.now) words.entry.now) c × (IsTrue F.tells → IsTrue O.tells → (name : List ℕ) × Fails c name (F.holds files.old) (F.holds files.new) (O.told out.old) (O.told out.new) × (IsTrue E.tells → IsSaid (file_line name) (E.told err.old) (E.told err.new) (E.failures err.old) (E.failures err.new))) }
     ensures counted { result ≡ Status.File → IsRaised (F.failures files.old) (F.failures files.new) ⊎ IsRaised (O.failures out.old) (O.failures out.new) }
     ensures silent { (result ≡ Status.Usage) ⊎ (result ≡ Status.Memory) → IsTrue F.tells → IsKept (F.holds files.old) (F.holds files.new) (O.told out.old) (O.told out.new) }
+    ensures usage_said { result ≡ Status.Usage → IsTrue E.tells → SaysUsage (E.told err.old) (E.told err.new) (E.failures err.old) (E.failures err.new) }
+    ensures memory_said { result ≡ Status.Memory → IsTrue E.tells → IsSaid memory_line (E.told err.old) (E.told err.new) (E.failures err.old) (E.failures err.new) }
+    ensures quiet { (result ≡ Status.Done) ⊎ (result ≡ Status.Refused) → err.new ≡ err.old }
+    ensures calm_files { (result ≡ Status.Done) ⊎ (result ≡ Status.Refused) → F.failures files.new ≡ F.failures files.old }
+    ensures calm_output { (result ≡ Status.Done) ⊎ (result ≡ Status.Refused) → O.failures out.new ≡ O.failures out.old }
 {
     let Ok(split) = split_words(alloc, words) else {
         return tell_fault(Fault::NoMemory, err);
@@ -109,7 +127,7 @@ pub fn run_line<'a, R: Threads + Wait + Sync, F: Files, O: Sink, E: Sink>(
         return refuse_words(alloc, words, err);
     };
     match command_of(alloc, &line) {
-        Ok(Some(command)) => run_command(rt, alloc, words, command, files, out, err),
+        Ok(Some(command)) => run_command(rt, alloc, words, command, files, out, err, pace),
         Ok(None) => refuse_words(alloc, words, err),
         Err(AllocError) => tell_fault(Fault::NoMemory, err),
     }

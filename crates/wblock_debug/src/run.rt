@@ -5,7 +5,6 @@ ghost use Rattle.spec_execution.specs.Configuration.{Deployed as ADeployed};
 ghost use Rattle.spec_execution.specs.Run.{ContractCall, Opening, Refused, opening};
 ghost use Rattle.interp.specs.Lent.{contracts_view};
 ghost use Rattle.interp.specs.Starting.{IsOpened, IsRefusedFor};
-ghost use Rattle.debugger.specs.Sight.{IsSight};
 ghost use Rattle.wblock_debug.specs.Lines.{refusal_line};
 ghost use Rattle.wblock_debug.specs.Prints.{IsPrinted, AddsCommand, IsNotStarted, IsDebugged};
 
@@ -29,13 +28,6 @@ fn refusal_line_of<A: Allocator>(alloc: A, refusal: Refusal) -> Result<String<A>
     Ok(line)
 }
 
-/// A session is at a state of its call.
-fn hold<A: Allocator + Copy>(session: &Session<'_, A>)
-    ensures { IsSight session.now }
-{
-    let _turns = session.turns();
-}
-
 /// Does a command, and appends what it prints.
 fn append<A: Allocator + Copy>(
     alloc: A,
@@ -47,7 +39,7 @@ fn append<A: Allocator + Copy>(
 {
     match perform(alloc, session, command)? {
         Said::Line(line) => {
-            hold(session);
+            session.is_sight();
             printed.text.push_str(line.as_str())?;
             Ok(())
         }
@@ -124,7 +116,7 @@ pub fn debug_call<A: Allocator + Copy>(
 {
     match Session::open(alloc, contracts, cells, call) {
         Ok(mut session) => {
-            hold(&session);
+            session.is_sight();
             perform_all(alloc, &mut session, commands)
         }
         Err(refusal) => refuse_start(alloc, refusal),

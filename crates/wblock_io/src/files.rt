@@ -7,18 +7,22 @@ ghost use Rattle.wblock_io.specs.declared.files.ReadFault.{ReadFault as Why};
 
 use codec::SinkFault;
 use std::alloc::Global;
+use thiserror::Error;
 
 /// Why a file was not read.
-#[derive(Clone, Copy, Debug, PartialEq, Eq)]
+#[derive(Clone, Copy, Debug, PartialEq, Eq, Error)]
 pub enum ReadFault {
     /// The read failed.
+    #[error("the file could not be read")]
     Failed,
     /// Memory was refused.
+    #[error("memory was refused")]
     NoMemory,
 }
 
 /// A file was not made or emptied.
-#[derive(Clone, Copy, Debug, PartialEq, Eq)]
+#[derive(Clone, Copy, Debug, PartialEq, Eq, Error)]
+#[error("the file could not be made or emptied")]
 pub struct StartFault;
 
 /// Files that are read whole, made or emptied, and written at their ends. Each failure is counted, and a call
@@ -30,7 +34,7 @@ pub trait Files {
     /// What the file of a name holds, where there is one.
     ghost holds: { Self → List ℕ → Option (List ℕ) };
 
-    /// How many calls have failed, as a number of 64 bits.
+    /// How many calls have failed: a whole number without bound.
     ghost failures: { Self → ℕ };
 
     /// The bytes of a file.

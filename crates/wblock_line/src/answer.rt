@@ -1,7 +1,7 @@
 //! What a command comes to before anything is written or printed.
 
 ghost use Rattle.std.specs.Prelude.{◌≡◌, IsTrue, IfOk, IfErr, OnOk, Some};
-ghost use Rattle.wblock_line.specs.Answers.{CountsFault};
+ghost use Rattle.wblock_line.specs.Answers.{CountsFault, IsOfFile};
 
 use std::alloc::Global;
 use wblock_io::{Files, ReadFault};
@@ -43,6 +43,7 @@ pub fn read_file<'a, F: Files>(
     ensures kept { IsTrue F.tells → F.holds files.new ≡ F.holds files.old }
     ensures calm { OnOk result (F.failures files.new ≡ F.failures files.old) }
     ensures counted { IfErr result (λ f. CountsFault f (F.failures files.old) (F.failures files.new)) }
+    ensures named { IfErr result (IsOfFile (λ other. other ≡ name.entry.now)) }
 {
     match files.read_all(alloc, name) {
         Ok(bytes) => Ok(bytes),

@@ -1,11 +1,11 @@
 //! What a command comes to is written and printed.
 
-ghost use Rattle.std.specs.Prelude.{◌≡◌, ◌≢◌, ◌⊎◌, ◌++◌, IsTrue, IfOk, IfErr, OnOk, OnErr, map};
+ghost use Rattle.std.specs.Prelude.{◌≡◌, ◌≢◌, ◌⊎◌, ℕ, List, [], ◌∷◌, ◌++◌, codes, IsTrue, IfOk, IfErr, OnOk, OnErr, map};
 ghost use Rattle.codec.specs.Putting.{IsRaised, IsCutShort};
-ghost use Rattle.wblock_line.specs.Answers.{Wrote, WroteSome, IsPerformed, IsCut, write_of, writes_of, text_of, status_of, status_of_fault};
+ghost use Rattle.wblock_line.specs.Answers.{Wrote, WroteSome, IsPerformed, IsCut, IsSaid, write_of, writes_of, text_of, status_of, status_of_fault, file_line, fault_line};
 
 use crate::answer::{Answer, Fault, Write};
-use codec::{Sink, put_all};
+use codec::{Sink, SinkFault, put_all};
 use wblock_io::{Files, write_file};
 
 /// How a line ended.
@@ -23,12 +23,17 @@ pub enum Status {
     Memory = 4,
 }
 
-/// Puts words on one line. A failure is counted by the sink and changes nothing else.
-fn put_line<E: Sink>(err: &mut E, words: &[&str]) {
-    for word in words {
-        let _ = put_all(err, word.as_bytes());
-    }
-    let _ = put_all(err, b"\n");
+/// Puts a word and a name and ends the line. Where a call fails, a beginning of the line was put.
+fn put_line<E: Sink>(err: &mut E, word: &str, name: &str) -> Result<(), SinkFault>
+    ensures put { OnOk result (IsTrue E.tells → E.told err.new ≡ E.told err.old ++ word.now ++ name.now ++ 10 ∷ []) }
+    ensures calm { OnOk result (E.failures err.new ≡ E.failures err.old) }
+    ensures counted { OnErr result (IsRaised (E.failures err.old) (E.failures err.new)) }
+    ensures cut_short { OnErr result (IsTrue E.tells → IsCutShort (E.told err.old) (E.told err.new) (word.now ++ name.now ++ 10 ∷ [])) }
+{
+    put_all(err, word.as_bytes())?;
+    put_all(err, name.as_bytes())?;
+    put_all(err, b"\n")?;
+    Ok(())
 }
 
 /// Writes files, one after another, up to the first that fails.
@@ -36,7 +41,7 @@ fn write_files<'a, F: Files>(files: &mut F, writes: &[Write<'a>]) -> Result<(), 
     ensures wrote { OnOk result (IsTrue F.tells → Wrote (map write_of writes.now) (F.holds files.old) (F.holds files.new)) }
     ensures calm { OnOk result (F.failures files.new ≡ F.failures files.old) }
     ensures counted { OnErr result (IsRaised (F.failures files.old) (F.failures files.new)) }
-    ensures some { OnErr result (IsTrue F.tells → WroteSome (map write_of writes.now) (F.holds files.old) (F.holds files.new)) }
+    ensures some { IfErr result (λ name. IsTrue F.tells → WroteSome name.now (map write_of writes.now) (F.holds files.old) (F.holds files.new)) }
 {
     match writes {
         [] => Ok(()),
@@ -55,7 +60,10 @@ fn print_text<O: Sink, E: Sink>(text: &str, status: Status, out: &mut O, err: &m
     ensures status { result ≢ Status.File → result ≡ status }
     ensures printed { result ≢ Status.File → IsTrue O.tells → O.told out.new ≡ O.told out.old ++ text.now }
     ensures cut { result ≡ Status.File → IsTrue O.tells → IsCutShort (O.told out.old) (O.told out.new) text.now }
+    ensures calm { result ≢ Status.File → O.failures out.new ≡ O.failures out.old }
     ensures counted { result ≡ Status.File → IsRaised (O.failures out.old) (O.failures out.new) }
+    ensures quiet { result ≢ Status.File → err.new ≡ err.old }
+    ensures said { result ≡ Status.File → IsTrue E.tells → IsSaid (file_line (codes "stdout")) (E.told err.old) (E.told err.new) (E.failures err.old) (E.failures err.new) }
 {
     match put_all(out, text.as_bytes()) {
         Ok(()) => status,
@@ -63,29 +71,31 @@ fn print_text<O: Sink, E: Sink>(text: &str, status: Status, out: &mut O, err: &m
     }
 }
 
-/// Says that a file failed.
+/// Says `file NAME`.
 fn tell_file<E: Sink>(name: &str, err: &mut E) -> Status
-    ensures { result ≡ Status.File }
+    ensures status { result ≡ Status.File }
+    ensures said { IsTrue E.tells → IsSaid (file_line name.now) (E.told err.old) (E.told err.new) (E.failures err.old) (E.failures err.new) }
 {
-    put_line(err, ["file ", name].as_slice());
+    let _ = put_line(err, "file ", name);
     Status::File
 }
 
-/// Says on standard error which file failed, or that memory was refused, and gives the status.
+/// Says on standard error which file failed, `file NAME`, or that memory was refused, `memory`, and gives the status.
 pub fn tell_fault<E: Sink>(fault: Fault, err: &mut E) -> Status
-    ensures { result ≡ status_of_fault fault.entry }
+    ensures status { result ≡ status_of_fault fault.entry }
+    ensures said { IsTrue E.tells → IsSaid (fault_line fault.entry) (E.told err.old) (E.told err.new) (E.failures err.old) (E.failures err.new) }
 {
     match fault {
         Fault::File(name) => tell_file(name, err),
         Fault::NoMemory => {
-            put_line(err, ["memory"].as_slice());
+            let _ = put_line(err, "memory", "");
             Status::Memory
         }
     }
 }
 
-/// Writes the files of an answer and then prints its text, and gives the status; or says on standard error which file failed. Failures of
-/// standard error change no status.
+/// Writes the files of an answer and then prints its text, and gives the status; or says on standard error which file failed, or `file stdout`
+/// for the output. Failures of standard error change no status.
 pub fn carry_out<F: Files, O: Sink, E: Sink>(
     answer: Answer,
     files: &mut F,
@@ -94,7 +104,10 @@ pub fn carry_out<F: Files, O: Sink, E: Sink>(
 ) -> Status
     ensures status { result ≢ Status.File → result ≡ status_of answer.entry }
     ensures performed { result ≢ Status.File → IsTrue F.tells → IsTrue O.tells → IsPerformed answer.entry (F.holds files.old) (F.holds files.new) (O.told out.old) (O.told out.new) }
-    ensures cut { result ≡ Status.File → IsTrue F.tells → IsTrue O.tells → IsCut answer.entry (F.holds files.old) (F.holds files.new) (O.told out.old) (O.told out.new) }
+    ensures cut { result ≡ Status.File → IsTrue F.tells → IsTrue O.tells → (name : List ℕ) × IsCut name answer.entry (F.holds files.old) (F.holds files.new) (O.told out.old) (O.told out.new) × (IsTrue E.tells → IsSaid (file_line name) (E.told err.old) (E.told err.new) (E.failures err.old) (E.failures err.new)) }
+    ensures calm_files { result ≢ Status.File → F.failures files.new ≡ F.failures files.old }
+    ensures calm_output { result ≢ Status.File → O.failures out.new ≡ O.failures out.old }
+    ensures quiet { result ≢ Status.File → err.new ≡ err.old }
     ensures counted { result ≡ Status.File → IsRaised (F.failures files.old) (F.failures files.new) ⊎ IsRaised (O.failures out.old) (O.failures out.new) }
 {
     match answer {

@@ -1,11 +1,11 @@
 -- What `asm` answers.
-use Rattle.std.specs.Prelude.{◌≡◌, ℕ, ◌⊎◌, List, [], ◌∷◌, ◌++◌, Option, Some, None, codes, decimal, length, string_bytes}
-use Rattle.std.specs.Str.{IsUtf8}
+use Rattle.std.specs.Prelude.{◌≡◌, ℕ, List, [], ◌∷◌, ◌++◌, Option, Some, None, codes, decimal, length, string_bytes}
 use Rattle.spec_syntax.specs.Syntax.{Module}
 use Rattle.spec_binary.specs.Shortest.{shortest}
 use Rattle.spec_binary.specs.Spells.{Spells}
 use Rattle.spec_text.specs.Names.{Names}
 use Rattle.lexer.specs.declared.LexRefusal.TheVariants as lexical
+use Rattle.module_tree.specs.LimitNumbers.{number_of}
 use Rattle.text_resolve.specs.declared.refusal.AsmRefusal.{AsmRefusal}
 use Rattle.text_resolve.specs.declared.refusal.AsmRefusal.TheVariants.{Lex, Unexpected, UnknownName, RepeatedName, NumberRange, TooLarge, NoMemory}
 use Rattle.assembler.specs.Named.{NamesNothing}
@@ -26,7 +26,7 @@ told (Unexpected at) = Some (2, at)
 told (UnknownName at) = Some (3, at)
 told (RepeatedName at) = Some (4, at)
 told (NumberRange at) = Some (5, at)
-told (TooLarge limit) = Some (6, limit)
+told (TooLarge limit) = Some (6, number_of limit)
 told NoMemory = None
 
 -- `refused assemble N P`
@@ -44,18 +44,10 @@ abbrev pub IsRefusalOf : AsmRefusal → Answer → Type 0
 IsRefusalOf refusal (Done writes text) = ⊥
 IsRefusalOf refusal (Refused line) = IsLineOf refusal (string_bytes line)
 
-abbrev pub IsBadToken : AsmRefusal → Type 0
-IsBadToken (Lex (lexical.BadToken at)) = Unit {0}
-IsBadToken _ = ⊥
-
--- the bytes are a text that names no module; or they are no text, which is told as a bad token
-abbrev pub IsWhy : List ℕ → AsmRefusal → Type 0
-IsWhy bytes refusal = (IsUtf8 bytes × NamesNothing bytes) ⊎ ((¬ IsUtf8 bytes) × IsBadToken refusal)
-
--- the line says why the bytes give no module
+-- the bytes name no module, and the line is that of a refusal
 pub record TellsRefusal (bytes line : List ℕ) : Type 0 where
+  pub names_nothing : NamesNothing bytes
   pub refusal : AsmRefusal
-  pub why : IsWhy bytes refusal
   pub is_line : IsLineOf refusal line
 
 -- ---- modules
@@ -76,7 +68,6 @@ pub record IsDone (target bytes : List ℕ) (a : Answer) : Type 0 where
 -- the file is to hold the module that the text names
 pub record TellsModule (text target : List ℕ) (a : Answer) : Type 0 where
   pub bytes : List ℕ
-  pub utf8 : IsUtf8 text
   pub spelled : IsSpelled text bytes
   pub is_done : IsDone target bytes a
 

@@ -34,6 +34,13 @@ fresh_world contracts = record { contracts = contracts; cells = empty }
 abbrev pub refusal_line : ModuleRefusal → ℕ → List ℕ
 refusal_line refusal number = refusal_text refusal ++ codes " module " ++ decimal number ++ 10 ∷ []
 
+-- the file of this name is read once those before it hold contracts
+pub record IsNextModule (holds : Holding) (names : List (List ℕ)) (name : List ℕ) : Type 0 where
+  pub number : ℕ
+  pub before : List Contract
+  pub held_before : AreHeld holds (take number names) before
+  pub there : slice_get names number ≡ Some name
+
 -- the line says why the first of the files that hold no contract holds none, and its number
 pub record TellsRefusal (holds : Holding) (names : List (List ℕ)) (line : List ℕ) : Type 0 where
   pub number : ℕ

@@ -1,9 +1,9 @@
 //! The command `asm TEXT MODULE`: the module that a text names, in its shortest spelling.
 
 ghost use Rattle.std.specs.Prelude.{◌≡◌, IsTrue, IfOk, IfErr, OnOk, string_bytes};
-ghost use Rattle.text_resolve.specs.Outcome.{Unless};
+ghost use Rattle.text_resolve.specs.Refused.{Unless};
 ghost use Rattle.assembler.specs.Named.{NamesNothing};
-ghost use Rattle.wblock_line.specs.Answers.{CountsFault};
+ghost use Rattle.wblock_line.specs.Answers.{CountsFault, IsOfFile};
 ghost use Rattle.wblock_modules.specs.Assembles.{told, refusal_line, IsSpelled, IsRefusalOf, IsDone, IsAnswer, Assembles};
 
 use crate::places::place_of_fault;
@@ -40,7 +40,7 @@ fn numbered(refusal: AsmRefusal) -> Option<(u8, usize)>
         AsmRefusal::UnknownName(at) => Some((3, at)),
         AsmRefusal::RepeatedName(at) => Some((4, at)),
         AsmRefusal::NumberRange(at) => Some((5, at)),
-        AsmRefusal::TooLarge(limit) => Some((6, limit as usize)),
+        AsmRefusal::TooLarge(limit) => Some((6, limit.number() as usize)),
         AsmRefusal::NoMemory => None,
     }
 }
@@ -113,6 +113,7 @@ pub fn assemble_file<'a, F: Files>(
     ensures kept { IsTrue F.tells → F.holds files.new ≡ F.holds files.old }
     ensures calm { OnOk result (F.failures files.new ≡ F.failures files.old) }
     ensures counted { IfErr result (λ f. CountsFault f (F.failures files.old) (F.failures files.new)) }
+    ensures named { IfErr result (IsOfFile (λ name. name ≡ text.entry.now)) }
 {
     let bytes = read_file(alloc, files, text)?;
     answer_bytes(alloc, target, bytes.as_slice())

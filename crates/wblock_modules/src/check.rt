@@ -1,7 +1,7 @@
 //! The command `check MODULE [--heap N]`: whether a module is valid. Its tree stands in an arena, or in a heap of N bytes.
 
 ghost use Rattle.std.specs.Prelude.{◌≡◌, IsTrue, IfOk, IfErr, OnOk, string_bytes};
-ghost use Rattle.wblock_line.specs.Answers.{CountsFault};
+ghost use Rattle.wblock_line.specs.Answers.{CountsFault, IsOfFile};
 ghost use Rattle.wblock_line.specs.Modules.{StopsAt};
 ghost use Rattle.wblock_modules.specs.Checks.{CountsFunctions, IsAnswer, Checks, valid_line};
 
@@ -79,6 +79,7 @@ pub fn check_module<'a, F: Files>(
     ensures kept { IsTrue F.tells → F.holds files.new ≡ F.holds files.old }
     ensures calm { OnOk result (F.failures files.new ≡ F.failures files.old) }
     ensures counted { IfErr result (λ f. CountsFault f (F.failures files.old) (F.failures files.new)) }
+    ensures named { IfErr result (IsOfFile (λ name. name ≡ target.entry.now)) }
 {
     let bytes = read_file(alloc, files, target)?;
     answer_bytes(alloc, heap, bytes.as_slice())

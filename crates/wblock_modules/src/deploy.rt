@@ -2,9 +2,9 @@
 
 ghost use Rattle.std.specs.Prelude.{◌≡◌, ◌≤◌, IsTrue, IfOk, IfErr, OnOk, length, vec_len, map};
 ghost use Rattle.spec_block.specs.Bytes.{world_bytes};
-ghost use Rattle.wblock_line.specs.Answers.{CountsFault};
+ghost use Rattle.wblock_line.specs.Answers.{CountsFault, IsOfFile};
 ghost use Rattle.world.specs.Views.{contract_view};
-ghost use Rattle.wblock_modules.specs.Deploys.{HasCount, IsRead, IsRefusalLine, IsDone, fresh_world, Deploys};
+ghost use Rattle.wblock_modules.specs.Deploys.{HasCount, IsRead, IsRefusalLine, IsNextModule, IsDone, fresh_world, Deploys};
 
 use link::deployed::Deployed;
 use std::alloc::{AllocError, Global};
@@ -45,6 +45,7 @@ fn read_modules<'a, F: Files>(
     ensures kept { IsTrue F.tells → F.holds files.new ≡ F.holds files.old }
     ensures calm { OnOk result (F.failures files.new ≡ F.failures files.old) }
     ensures counted { IfErr result (λ f. CountsFault f (F.failures files.old) (F.failures files.new)) }
+    ensures next { IfErr result (IsOfFile (λ name. IsTrue F.tells → IsNextModule (F.holds files.old) (map (λ w. w.now) names.now) name)) }
 {
     let mut contracts = Vec::new(alloc);
     let mut number = 0;
@@ -64,7 +65,7 @@ fn read_modules<'a, F: Files>(
 
 /// The bytes of the world of these contracts, with no cells.
 fn encode_contracts(alloc: Global, contracts: Vec<Deployed<Global>>) -> Result<Vec<u8>, NoMemory>
-    requires { vec_len contracts ≤ World.MOST_CONTRACTS }
+    requires { vec_len contracts ≤ 1024 }
     ensures { IfOk result (λ bytes. bytes.items ≡ world_bytes (fresh_world (map contract_view contracts.items))) }
 {
     let world = World::new(contracts, Cells::new(alloc));
@@ -94,11 +95,12 @@ pub fn deploy_modules<'a, F: Files>(
     world: &'a str,
     modules: &[&'a str],
 ) -> Result<Answer<'a>, Fault<'a>>
-    requires { length modules.now ≤ World.MOST_CONTRACTS }
+    requires { length modules.now ≤ 1024 }
     ensures answers { IfOk result (λ a. IsTrue F.tells → Deploys (F.holds files.old) world.entry.now (map (λ w. w.now) modules.now) a) }
     ensures kept { IsTrue F.tells → F.holds files.new ≡ F.holds files.old }
     ensures calm { OnOk result (F.failures files.new ≡ F.failures files.old) }
     ensures counted { IfErr result (λ f. CountsFault f (F.failures files.old) (F.failures files.new)) }
+    ensures next { IfErr result (IsOfFile (λ name. IsTrue F.tells → IsNextModule (F.holds files.old) (map (λ w. w.now) modules.now) name)) }
 {
     match read_modules(alloc, files, modules)? {
         Modules::Refused(line) => Ok(Answer::Refused(line)),

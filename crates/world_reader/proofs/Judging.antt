@@ -9,7 +9,7 @@ use Rattle.spec_typing.specs.Modules.{ModuleTyped}
 use Rattle.spec_typing.specs.Linking.{IsLinked}
 use Rattle.spec_typing.specs.Laws.{Refuses}
 use Rattle.spec_block.specs.Worlds.{Contract}
-use Rattle.spec_block.specs.Bytes.{TreesAreUnique}
+use Rattle.spec_block.proofs.OneWorld.{TreesAreUnique}
 use Rattle.loader.specs.Refusals.{NoModule}
 use Rattle.body_typing.specs.declared.scope.TypeRefusal.{TypeRefusal}
 use Rattle.body_typing.specs.declared.scope.TypeRefusal.TheVariants.{At, NoMemory}

@@ -7,8 +7,8 @@ use Rattle.std.proofs.lemmas.List.{length-append, nil_from_length}
 use Rattle.spec_typing.specs.Laws.{IsResolvedOnce}
 use Rattle.spec_ledger.specs.Cells.{Cells}
 use Rattle.spec_block.specs.Worlds.{Contract, World}
-use Rattle.spec_block.specs.Bytes.{contract_bytes, counted, cells_bytes, is_map, is_counter, world_bytes, IsTree, IsWorld, SpellsWorld, TreesAreUnique}
-use Rattle.spec_block.proofs.OneWorld.{contract_code}
+use Rattle.spec_block.specs.Bytes.{contract_bytes, counted, cells_bytes, is_map, is_counter, world_bytes, IsTree, IsWorld, SpellsWorld}
+use Rattle.spec_block.proofs.OneWorld.{TreesAreUnique, contract_code}
 use Rattle.records.specs.declared.fault.Fault.{Fault}
 use Rattle.records.specs.declared.fault.Fault.TheVariants.{Malformed, TooLarge, NoMemory}
 use Rattle.records.specs.Reading.{Read, ◌>>=◌, Fails, number_at, tag_at}

@@ -1,4 +1,4 @@
-// The plain types of the integer profile of WebAssembly 1.0, shared by code and definitions.
+// The plain types of the integer profile of WebAssembly 1.0 with the sign extensions of 2.0, shared by code and definitions.
 #![tactic(auto)]
 
 ghost use Rattle.std.specs.Prelude.{◌≡◌};
@@ -177,7 +177,8 @@ pub enum RelOp {
     GeU(ValType),
 }
 
-/// A conversion (Core Specification, 2.4.1 Numeric Instructions: `cvtop`, between the integer types).
+/// A conversion (Core Specification, 2.4.1 Numeric Instructions: `cvtop`, between the integer types), or an extension of
+/// the sign, which keeps the type (Core Specification 2.0, 2.4.1 Numeric Instructions: `extendN_s`).
 #[derive(Clone, Copy, Debug, PartialEq, Eq)]
 pub enum CvtOp {
     /// The low 32 bits.
@@ -186,6 +187,16 @@ pub enum CvtOp {
     I64ExtendI32S,
     /// The same number in 64 bits.
     I64ExtendI32U,
+    /// The signed reading of the low 8 bits.
+    I32Extend8S,
+    /// The signed reading of the low 16 bits.
+    I32Extend16S,
+    /// The signed reading of the low 8 bits.
+    I64Extend8S,
+    /// The signed reading of the low 16 bits.
+    I64Extend16S,
+    /// The signed reading of the low 32 bits.
+    I64Extend32S,
 }
 
 /// A load (Core Specification, 2.4.4 Memory Instructions).

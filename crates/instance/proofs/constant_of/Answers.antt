@@ -1,55 +1,10 @@
-use Rattle.std.proofs.Common.{◌≡◌, length, get_or, refl, ap, ◌∙◌, arith, rules}
-use Rattle.module_tree.specs.View.{instr_view}
-use Rattle.instance.proofs.Constants.{not_one, constant_at, table_view, block_view, loop_view, if_view, plain_view}
+use Rattle.module_tree.specs.View.{instrs_view}
+use Rattle.instance.proofs.Constants.{value_some, value_none}
 use Rattle.instance.proofs.constant_of.Goals as goal
 
-pub returns-then-len-ne1 : goal.returns-then-len-ne1
-returns-then-len-ne1 g c =
-    let is = c.args.expression.now.items in
-    let n : c.len.result ≡ length is = search rules in
-    not_one is (λ e. c.if-len-ne1.true (n ∙ e))
+pub returns-in-Some : goal.returns-in-Some
+returns-in-Some g c =
+    value_some (instrs_view c.args.expression.now.items) c.in-Some.op c.value_of_const.result c.in-Some.ensures c.value_of_const.ensures
 
-pub returns-in-Plain : goal.returns-in-Plain
-returns-in-Plain g c =
-    let is = c.args.expression.now.items in
-    let x = c.index.result.now in
-    let n : c.len.result ≡ length is = search rules in
-    let one : length is ≡ 1 = omega (arith, n, c.if-len-ne1.false) in
-    let at : x ≡ get_or is 0 x = search rules in
-    constant_at is x _ c.value_of_const.result one at (ap instr_view c.in-Plain.is ∙ plain_view g.row.A.Denot c.in-Plain.field-0 c.in-Plain.op) c.value_of_const.ensures
-
-pub returns-in-BrTable : goal.returns-in-BrTable
-returns-in-BrTable g c =
-    let is = c.args.expression.now.items in
-    let x = c.index.result.now in
-    let n : c.len.result ≡ length is = search rules in
-    let one : length is ≡ 1 = omega (arith, n, c.if-len-ne1.false) in
-    let at : x ≡ get_or is 0 x = search rules in
-    constant_at is x _ _ one at (ap instr_view c.in-BrTable.is ∙ table_view g.row.A.Denot c.in-BrTable.field-0 c.in-BrTable.field-1 c.in-BrTable.field-2) refl
-
-pub returns-in-Block : goal.returns-in-Block
-returns-in-Block g c =
-    let is = c.args.expression.now.items in
-    let x = c.index.result.now in
-    let n : c.len.result ≡ length is = search rules in
-    let one : length is ≡ 1 = omega (arith, n, c.if-len-ne1.false) in
-    let at : x ≡ get_or is 0 x = search rules in
-    constant_at is x _ _ one at (ap instr_view c.in-Block.is ∙ block_view g.row.A.Denot c.in-Block.field-0 c.in-Block.field-1 c.in-Block.field-2) refl
-
-pub returns-in-Loop : goal.returns-in-Loop
-returns-in-Loop g c =
-    let is = c.args.expression.now.items in
-    let x = c.index.result.now in
-    let n : c.len.result ≡ length is = search rules in
-    let one : length is ≡ 1 = omega (arith, n, c.if-len-ne1.false) in
-    let at : x ≡ get_or is 0 x = search rules in
-    constant_at is x _ _ one at (ap instr_view c.in-Loop.is ∙ loop_view g.row.A.Denot c.in-Loop.field-0 c.in-Loop.field-1 c.in-Loop.field-2) refl
-
-pub returns-in-If : goal.returns-in-If
-returns-in-If g c =
-    let is = c.args.expression.now.items in
-    let x = c.index.result.now in
-    let n : c.len.result ≡ length is = search rules in
-    let one : length is ≡ 1 = omega (arith, n, c.if-len-ne1.false) in
-    let at : x ≡ get_or is 0 x = search rules in
-    constant_at is x _ _ one at (ap instr_view c.in-If.is ∙ if_view g.row.A.Denot c.in-If.field-0 c.in-If.field-1 c.in-If.field-2 c.in-If.field-3) refl
+pub returns-in-None : goal.returns-in-None
+returns-in-None g c = value_none (instrs_view c.args.expression.now.items) c.in-None.ensures

@@ -51,7 +51,7 @@ unreachable-requires g c =
     let is : x ≡ slice_index_or t.datas.items i x = subst (λ xs. x ≡ slice_index_or xs i x) items c.segment-item.is in
     let at_is : c.bits-at.result ≡ bits_of (constant (data_view x).offset) = c.bits-at.ensures ∙ ap bits_of c.constant_of.ensures in
     let fits = segment_fits t (hosts_of c.args.deployed.now) c.is_linked.ensures i x lt is in
-    let stored = subst (λ (r : StoreRefusal). Stored {U = Unit {0}} (Err r) c.loop-segment.memory c.bits-at.result c.deref-in-loop-segment.result.now c.write_all.new.self) c.in-Err-Trap.field-0-is c.in-Err-Trap.ensures in
+    let stored = subst (λ (r : StoreRefusal). Stored {U = Unit {0}} (Err r) c.loop-segment.memory c.bits-at.result c.deref-in-loop-segment.result.now c.write_all.new.self) c.in-Err-Trap.field-0-is c.in-Err-Trap.ensures.stored in
     omega (arith, fits, at_is, stored.1, ap length c.deref-in-loop-segment.ensures.value, c.loop-segment.invariant.len)
 
 pub loop-segment-preserved : goal.loop-segment-preserved
@@ -66,7 +66,7 @@ loop-segment-preserved g c =
     let old = c.loop-segment.memory in
     let at = c.bits-at.result in
     let fits = segment_fits t (hosts_of c.args.deployed.now) c.is_linked.ensures i x lt is in
-    let new : c.write_all.new.self ≡ record old { bytes = written at c.deref-in-loop-segment.result.now old.bytes } = c.in-Ok.ensures.1 in
+    let new : c.write_all.new.self ≡ record old { bytes = written at c.deref-in-loop-segment.result.now old.bytes } = c.in-Ok.ensures.stored.1 in
     let bytes : c.write_all.new.self.bytes ≡ written at x.bytes.items old.bytes = ap (λ m. m.bytes) new ∙ ap (λ bs. written at bs old.bytes) c.deref-in-loop-segment.ensures.value in
     record {
       bytes = bytes ∙ ap (λ n. written n x.bytes.items old.bytes) at_is ∙ ap (written (bits_of (constant (data_view x).offset)) x.bytes.items) c.loop-segment.invariant.bytes

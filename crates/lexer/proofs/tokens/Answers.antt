@@ -1,6 +1,6 @@
 use Rattle.std.proofs.Common.{◌≡◌, ◌<◌, ◌-◌, List, ℕ, length, sym, ap, ◌∙◌, subst, arith}
 use Rattle.std.proofs.lemmas.List.{map_push}
-use Rattle.spec_text.specs.Lexical.{Lexes}
+use Rattle.spec_text.specs.Lexical.{LexesFrom}
 use Rattle.spec_text.specs.Lexical as T
 use Rattle.lexer.specs.Views.{view, views, SpansRise}
 use Rattle.lexer.specs.declared.list.Token.{Token}
@@ -16,12 +16,12 @@ loop-bytes-init g c =
 pub returns-in-Err-Bad-clause-refused : goal.returns-in-Err-Bad-clause-refused
 returns-in-Err-Bad-clause-refused g c = λ ts l.
     half_fault c.as_bytes-bytes.result.now c.loop-bytes.rest.now (views c.as_bytes-bytes.result.now c.loop-bytes.items.items) c.in-Err-Bad.field-0 c.loop-bytes.invariant.0 (sym c.in-Err-Bad.ensures)
-    (grind arith) ts (subst (λ (xs : List ℕ). Lexes xs ts) (sym c.as_bytes-bytes.ensures.value) l)
+    (grind arith) ts (subst (λ (xs : List ℕ). LexesFrom 0 xs ts) (sym c.as_bytes-bytes.ensures.value) l.pieces)
 
 pub returns-in-Err-Unclosed-clause-refused : goal.returns-in-Err-Unclosed-clause-refused
 returns-in-Err-Unclosed-clause-refused g c = λ ts l.
     half_fault c.as_bytes-bytes.result.now c.loop-bytes.rest.now (views c.as_bytes-bytes.result.now c.loop-bytes.items.items) c.in-Err-Unclosed.field-0 c.loop-bytes.invariant.0 (sym c.in-Err-Unclosed.ensures)
-    (grind arith) ts (subst (λ (xs : List ℕ). Lexes xs ts) (sym c.as_bytes-bytes.ensures.value) l)
+    (grind arith) ts (subst (λ (xs : List ℕ). LexesFrom 0 xs ts) (sym c.as_bytes-bytes.ensures.value) l.pieces)
 
 pub loop-bytes-smaller-in-Ok-None-default : goal.loop-bytes-smaller-in-Ok-None-default
 loop-bytes-smaller-in-Ok-None-default g c = piece_shorter c.loop-bytes.rest.now c.in-Ok-None-default.field-0-0 c.in-Ok-None-default.after.now (sym c.in-Ok-None-default.ensures)
@@ -63,8 +63,11 @@ pub returns-clause-lexes : goal.returns-clause-lexes
 returns-clause-lexes g c =
     let bytes = c.as_bytes-bytes.result.now in
     let none : length c.loop-bytes.rest.now ≡ 0 = grind arith in
-    subst (λ (xs : List ℕ). Lexes xs (views xs c.loop-bytes.items.items)) c.as_bytes-bytes.ensures.value
-    (half_all bytes c.loop-bytes.rest.now (views bytes c.loop-bytes.items.items) c.loop-bytes.invariant.0 none)
+    record {
+      utf8 = c.utf8.text;
+      pieces = subst (λ (xs : List ℕ). LexesFrom 0 xs (views xs c.loop-bytes.items.items)) c.as_bytes-bytes.ensures.value
+          (half_all bytes c.loop-bytes.rest.now (views bytes c.loop-bytes.items.items) c.loop-bytes.invariant.0 none);
+    }
 
 pub returns-clause-spans : goal.returns-clause-spans
 returns-clause-spans g c =

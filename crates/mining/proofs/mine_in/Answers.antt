@@ -7,6 +7,7 @@ use Rattle.spec_block.specs.Blocks.{Admissible}
 use Rattle.spec_block.specs.Headline.{IsLeft}
 use Rattle.serial.specs.Positions.{positions as ran_of}
 use Rattle.world.specs.Views.{world_view}
+use Rattle.serial_block.proofs.Causes.{are_possible}
 use Rattle.serial_block.proofs.Limits.{used_within}
 use Rattle.mining.proofs.Orders.{few, left_is, order_again}
 use Rattle.mining.proofs.mine_in.Goals as goal
@@ -16,6 +17,11 @@ seal-requires-clause-order g c =
     let core = c.in_ok-order.field-0 in
     let at_most = few (limits c.args.calls.now) core.order.items c.args.block_fuel c.in_ok-order.ensures.admissible in
     omega (arith, at_most, length-map c.args.calls.now (λ call. call.fuel), ap length c.deref.ensures.value, c.requires.calls)
+
+pub seal-requires-clause-possible : goal.seal-requires-clause-possible
+seal-requires-clause-possible g c =
+    let core = c.in_ok-order.field-0 in
+    are_possible _ _ _ _ core.receipts.items core.touched.items _ (c.in_ok-order.ensures.receipts ∙ sym c.in_ok-order.ensures.touched) c.in_ok-order.ensures.serial
 
 pub seal-requires-clause-fuel : goal.seal-requires-clause-fuel
 seal-requires-clause-fuel g c =

@@ -4,6 +4,7 @@ use Rattle.spec_execution.specs.Serial.{Serial}
 use Rattle.spec_block.specs.Worlds.{Contract}
 use Rattle.serial.specs.Positions.{positions as ran_of}
 use Rattle.world.specs.Views.{world_view}
+use Rattle.serial_block.proofs.Causes.{are_possible}
 use Rattle.serial_block.proofs.Limits.{used_within}
 use Rattle.serial_block.proofs.run.Goals as goal
 
@@ -12,6 +13,11 @@ seal-requires-clause-fuel g c =
     let core = c.in_ok-core.core in
     let within = used_within _ _ _ _ core.receipts.items core.touched.items _ (c.in_ok-core.ensures.receipts ∙ sym c.in_ok-core.ensures.touched) c.in_ok-core.ensures.serial in
     omega (arith, within, c.requires.limits)
+
+pub seal-requires-clause-possible : goal.seal-requires-clause-possible
+seal-requires-clause-possible g c =
+    let core = c.in_ok-core.core in
+    are_possible _ _ _ _ core.receipts.items core.touched.items _ (c.in_ok-core.ensures.receipts ∙ sym c.in_ok-core.ensures.touched) c.in_ok-core.ensures.serial
 
 pub returns : goal.returns
 returns g c =

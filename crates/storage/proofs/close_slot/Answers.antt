@@ -1,10 +1,60 @@
-use Rattle.std.proofs.Common.{None}
-use Rattle.storage.specs.Slots.{cells_in}
-use Rattle.storage.proofs.Slots.{types_written}
+use Rattle.std.proofs.Common.{◌-◌, None, Some, refl, sym, ap, subst, ◌∙◌, arith}
+use Rattle.std.specs.Option.{IsSome}
+use Rattle.spec_ledger.specs.Cells.{counter, number, set_at}
+use Rattle.storage.specs.declared.Slot.{Slot}
+use Rattle.storage.specs.Slots.{cells_in, counts_in, cell_back}
+use Rattle.storage.proofs.Slots.{count_found, slot_cell, slot_number, cells_changed, counts_changed, cells_kept, counts_kept, cells_written, types_written}
 use Rattle.storage.proofs.close_slot.Goals as goal
 
-pub returns-in-None-eq0-clause-types : goal.returns-in-None-eq0-clause-types
-returns-in-None-eq0-clause-types g c = types_written (cells_in c.args.slots.now.entries) (cells_in c.drop_slot.new.slots.entries) c.args.lock None c.drop_slot.ensures.cells (λ v e. cc)
+pub unreachable-requires : goal.unreachable-requires
+unreachable-requires g c = let none = ap number (count_found c.args.slots.now c.args.lock None c.in_default.ensures.value) in omega (arith, none, c.requires)
 
-pub returns-in_default-clause-types : goal.returns-in_default-clause-types
-returns-in_default-clause-types g c = types_written (cells_in c.args.slots.now.entries) (cells_in c.write_slot.new.slots.entries) c.args.lock c.args.slot.cell c.write_slot.ensures.cells c.note_types.ensures
+pub overflow_sub-next : goal.overflow_sub-next
+overflow_sub-next g c = omega (arith, slot_number c.args.slots.now c.args.lock (Some c.in-Some.slot.now) c.in-Some.slot.now refl c.in-Some.ensures.value, c.requires)
+
+pub returns-in-None-eq0-clause-cells : goal.returns-in-None-eq0-clause-cells
+returns-in-None-eq0-clause-cells g c =
+    let slot = c.in-Some.slot.now in
+    let there = subst (λ o. IsSome o) c.in-Some.ensures.value refl in
+    let kept = cells_kept c.args.slots.now c.args.lock (Some slot) slot refl c.in-Some.ensures.value (c.get_mut.follows.lender slot) ((c.get_mut.follows.holds slot).3 there).0 in
+    c.drop_slot.ensures.cells
+    ∙ ap (λ m. set_at m c.args.lock None) kept
+    ∙ ap (λ o. set_at (cells_in c.args.slots.now.entries) c.args.lock o) (sym c.in-None-eq0.is-0 ∙ c.former_cell.ensures ∙ ap (cell_back c.args.inverse) (slot_cell c.args.slots.now c.args.lock (Some slot) slot refl c.in-Some.ensures.value))
+
+pub returns-in-None-eq0-clause-counts : goal.returns-in-None-eq0-clause-counts
+returns-in-None-eq0-clause-counts g c =
+    let slot = c.in-Some.slot.now in
+    let there = subst (λ o. IsSome o) c.in-Some.ensures.value refl in
+    let kept = counts_kept c.args.slots.now c.args.lock (Some slot) slot refl c.in-Some.ensures.value (c.get_mut.follows.lender slot) ((c.get_mut.follows.holds slot).3 there).0 in
+    c.drop_slot.ensures.counts
+    ∙ ap (λ m. set_at m c.args.lock None) kept
+    ∙ ap (λ n. set_at (counts_in c.args.slots.now.entries) c.args.lock (counter n)) (sym c.in-None-eq0.is-1 ∙ ap (λ n. n - 1) (slot_number c.args.slots.now c.args.lock (Some slot) slot refl c.in-Some.ensures.value))
+
+pub returns-in-None-eq0-clause-types : goal.returns-in-None-eq0-clause-types
+returns-in-None-eq0-clause-types g c =
+    let slot = c.in-Some.slot.now in
+    let there = subst (λ o. IsSome o) c.in-Some.ensures.value refl in
+    let kept = cells_kept c.args.slots.now c.args.lock (Some slot) slot refl c.in-Some.ensures.value (c.get_mut.follows.lender slot) ((c.get_mut.follows.holds slot).3 there).0 in
+    types_written (cells_in c.args.slots.now.entries) (cells_in c.drop_slot.new.slots.entries) c.args.lock None (c.drop_slot.ensures.cells ∙ ap (λ m. set_at m c.args.lock None) kept) (λ v e. cc)
+
+pub returns-in_default-2-clause-cells : goal.returns-in_default-2-clause-cells
+returns-in_default-2-clause-cells g c =
+    let slot = c.in-Some.slot.now in
+    let there = subst (λ o. IsSome o) c.in-Some.ensures.value refl in
+    let next : Slot = record { cell = c.former_cell.result; unsettled = slot.unsettled - 1 } in
+    cells_changed c.args.slots.now c.args.lock (Some slot) slot refl c.in-Some.ensures.value (c.get_mut.follows.lender next) next ((c.get_mut.follows.holds next).3 there).0 (cell_back c.args.inverse) c.former_cell.ensures
+
+pub returns-in_default-2-clause-counts : goal.returns-in_default-2-clause-counts
+returns-in_default-2-clause-counts g c =
+    let slot = c.in-Some.slot.now in
+    let there = subst (λ o. IsSome o) c.in-Some.ensures.value refl in
+    let next : Slot = record { cell = c.former_cell.result; unsettled = slot.unsettled - 1 } in
+    counts_changed c.args.slots.now c.args.lock (Some slot) slot refl c.in-Some.ensures.value (c.get_mut.follows.lender next) next ((c.get_mut.follows.holds next).3 there).0 (λ n. n - 1) refl
+
+pub returns-in_default-2-clause-types : goal.returns-in_default-2-clause-types
+returns-in_default-2-clause-types g c =
+    let slot = c.in-Some.slot.now in
+    let there = subst (λ o. IsSome o) c.in-Some.ensures.value refl in
+    let next : Slot = record { cell = c.former_cell.result; unsettled = slot.unsettled - 1 } in
+    types_written (cells_in c.args.slots.now.entries) (cells_in (c.get_mut.follows.lender next).entries) c.args.lock next.cell
+    (cells_written c.args.slots.now (c.get_mut.follows.lender next) c.args.lock (Some next) ((c.get_mut.follows.holds next).3 there).0) c.note_types.ensures

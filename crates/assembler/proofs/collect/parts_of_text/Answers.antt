@@ -1,6 +1,6 @@
 use Rattle.std.proofs.Common.{◌≡◌, ◌+◌, ◌-◌, ◌<◌, Some, length, get_or, drop, map, refl, sym, ap, ◌∙◌, subst, arith, rules}
 use Rattle.std.proofs.lemmas.Result.{err_from_is_err_and}
-use Rattle.spec_text.specs.Resolve.{count_imported}
+use Rattle.spec_text.specs.Fields.{count_imported}
 use Rattle.module_tree.specs.ModuleView.{func_type_view}
 use Rattle.text_tree.specs.Views.{field_of}
 use Rattle.text_resolve.specs.Views.{spaces_of}

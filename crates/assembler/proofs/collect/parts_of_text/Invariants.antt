@@ -1,5 +1,5 @@
 use Rattle.std.proofs.Common.{◌≡◌, ◌+◌, ◌≤◌, true, map, drop, length, Some}
-use Rattle.spec_text.specs.Resolve.{count_imported}
+use Rattle.spec_text.specs.Fields.{count_imported}
 use Rattle.module_tree.specs.ModuleView.{func_type_view}
 use Rattle.text_tree.specs.Views.{field_of}
 use Rattle.text_resolve.specs.Views.{spaces_of}

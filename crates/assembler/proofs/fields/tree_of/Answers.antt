@@ -1,5 +1,5 @@
 use Rattle.lexer.specs.Views.{views}
-use Rattle.text_tree.specs.Views.{fields_of}
+use Rattle.text_tree.specs.Places.{fields_of}
 use Rattle.assembler.proofs.Naming.{has_fields, no_fields}
 use Rattle.assembler.proofs.fields.tree_of.Goals as goal
 

@@ -8,7 +8,7 @@ use Rattle.operands.specs.Lent.{contract_of}
 use Rattle.execute.specs.Steps.{Led}
 use Rattle.frames.specs.Steps.{IsCounted}
 use Rattle.frames.specs.Views.{view, items_of}
-use Rattle.execute.proofs.Acting.{ready_plain, led_first, if_ok, operator_runs, not_on_instance, counted_rest}
+use Rattle.execute.proofs.Acting.{ready_plain, led_first, if_ok, wanted, operator_runs, not_on_instance, counted_rest}
 use Rattle.execute.proofs.Controlling.{popped, br_target, br_charged, out_target, out_charged, br_if_choice, br_if_one, br_if_stays, free_target, free_charged}
 use Rattle.execute.proofs.steps.execute_operator.Goals as goal
 
@@ -114,8 +114,9 @@ returns-in_default g c =
     let on = operator_runs c.args.op.now c.in_default.not-Br c.in_default.not-BrIf c.in_default.not-Return c.in_default.not-CallIndirect (not_on_instance c.args.op.now c.in_default.not-GlobalGet c.in_default.not-GlobalSet c.in_default.not-Load c.in_default.not-Store c.in_default.not-MemorySize c.in_default.not-MemoryGrow) in
     record {
       led = if_ok c.execute_plain.result (λ a. Did c.args.op.now p.stack.items p.locals.items a q.stack.items q.locals.items) (λ a. Led c.args.lent.now p a q)
-          (led_first c.args.lent.now p q c.args.rest.now r c.requires.here.ordinal c.args.op.now c.requires.here.here on refl refl refl) c.execute_plain.ensures;
+          (led_first c.args.lent.now p q c.args.rest.now r c.requires.here.ordinal c.args.op.now c.requires.here.here on refl refl refl) c.execute_plain.ensures.did;
       counted = if_ok c.execute_plain.result (λ a. Did c.args.op.now p.stack.items p.locals.items a q.stack.items q.locals.items) (λ a. IsCounted q)
-          (λ a d. counted_rest p q refl refl c.requires.here.rest_numbered c.requires.counted) c.execute_plain.ensures;
+          (λ a d. counted_rest p q refl refl c.requires.here.rest_numbered c.requires.counted) c.execute_plain.ensures.did;
       max = refl;
+      takes = wanted c.args.op.now p.stack.items p.locals.items q.stack.items q.locals.items c.execute_plain.result c.execute_plain.ensures.did c.execute_plain.ensures.takes;
     }

@@ -5,7 +5,8 @@ use Rattle.std.proofs.Math.Seq.{take-length}
 use Rattle.spec_numeric.specs.Operators.{bits_of}
 use Rattle.module_tree.specs.ModuleView.{limits_view, element_view}
 use Rattle.link.specs.Parts.{tree_of, hosts_of}
-use Rattle.spec_execution.specs.Configuration.{size_of, constant, in_place, with_elements}
+use Rattle.spec_numeric.specs.Memory.{written}
+use Rattle.spec_execution.specs.Configuration.{size_of, constant, with_elements}
 use Rattle.instance.proofs.Segments.{length_in_place, length_map}
 use Rattle.instance.proofs.Elements.{segment_fits, one_segment_more}
 use Rattle.instance.proofs.tables.open_table.Goals as goal
@@ -43,9 +44,9 @@ loop-segment-preserved g c =
     let at = c.bits-at.result in
     let funcs = map Some x.funcs.items in
     let there : at + length funcs ≤ length old = omega (arith, fits, at_is, length_map {X = ℕ} {Y = Option ℕ} Some x.funcs.items, c.loop-segment.invariant.len) in
-    let new : c.put_functions.new.table.items ≡ in_place at funcs old = c.put_functions.ensures ∙ ap (λ fs. in_place at (map Some fs) old) c.deref-in-loop-segment.ensures.value in
+    let new : c.put_functions.new.table.items ≡ written at funcs old = c.put_functions.ensures ∙ ap (λ fs. written at (map Some fs) old) c.deref-in-loop-segment.ensures.value in
     record {
-      items = new ∙ ap (λ n. in_place n funcs old) at_is ∙ ap (in_place (bits_of (constant (element_view x).offset)) funcs) c.loop-segment.invariant.items
+      items = new ∙ ap (λ n. written n funcs old) at_is ∙ ap (written (bits_of (constant (element_view x).offset)) funcs) c.loop-segment.invariant.items
           ∙ sym (one_segment_more t (hosts_of c.args.deployed.now) c.is_linked.ensures i x lt is _);
       len = ap length new ∙ length_in_place at funcs old there ∙ c.loop-segment.invariant.len;
     }

@@ -1,6 +1,6 @@
 use Rattle.std.proofs.Common.{◌≡◌, ◌+◌, ◌∙◌, ap, map, length, slice_set, slice_index_or, Some, arith, take}
 use Rattle.std.proofs.Math.Seq.{take-length}
-use Rattle.spec_execution.specs.Configuration.{in_place}
+use Rattle.spec_numeric.specs.Memory.{written}
 use Rattle.instance.proofs.Elements.{put_function}
 use Rattle.instance.proofs.tables.put_functions.Goals as goal
 
@@ -13,4 +13,4 @@ loop-i-preserved g c =
 pub returns : goal.returns
 returns g c =
     let whole : c.loop-i.i ≡ length c.args.funcs.now = omega arith in
-    c.loop-i.invariant ∙ ap (λ fs. in_place c.args.at (map Some fs) c.args.table.now.items) (ap (λ n. take n c.args.funcs.now) whole ∙ take-length c.args.funcs.now)
+    c.loop-i.invariant ∙ ap (λ fs. written c.args.at (map Some fs) c.args.table.now.items) (ap (λ n. take n c.args.funcs.now) whole ∙ take-length c.args.funcs.now)

@@ -1,15 +1,16 @@
-use Rattle.std.proofs.Common.{ap, ◌∙◌, sym, subst, true≢false, length}
+use Rattle.std.proofs.Common.{ap, ◌∙◌, sym, subst, true≢false, length, Ok}
 use Rattle.std.specs.Prelude.{◌==◌}
 use Rattle.operands.specs.declared.plain.After.{After}
 use Rattle.operands.specs.Lent.{base_of}
 use Rattle.frames.specs.Views.{view}
 use Rattle.frames.specs.Waiting.{tail_of}
-use Rattle.execute.specs.Steps.{Led}
+use Rattle.execute.specs.Steps.{Led, Wants}
 use Rattle.interp.specs.Run.{seen}
 use Rattle.frames.specs.ViewLaws.{items_nil, ordered_any, last_of}
 use Rattle.interp.proofs.Turning.{live_of, safe_at, machine_exhausted, has_exhausted, machine_stepped, has_stepped, machine_fell, has_fallen}
 use Rattle.sequences.specs.Rest.{Frees_join}
 use Rattle.sequences.specs.Joining.{frees_joined}
+use Rattle.interp.proofs.Wanting.{may_take}
 use Rattle.interp.proofs.Asking.{calling_of, asked_turn, started_turn}
 use Rattle.interp.proofs.machine.make_turn.Goals as goal
 
@@ -144,3 +145,17 @@ returns-else-f-run-clause-turn g c =
     let b = base_of r.lent in
     started_turn (seen r) c.in-Ok-Calls.f (view b c.execute.new.parts) c.start_function.result (seen c.start_function.new.run) c.requires.running
     (subst (λ (a : After). Led r.lent r.parts a c.execute.new.parts) c.in-Ok-Calls.field-0-is c.in-Ok-Calls.ensures.led b (safe_at (seen r) c.requires.kept.machine c.requires.running (λ e. c.if-run-fuel.false (e ∙ sym c.fuel.ensures))) c.requires.kept.suits) c.start_function.ensures.turn
+
+pub returns-then-f-run-clause-no_memory : goal.returns-then-f-run-clause-no_memory
+returns-then-f-run-clause-no_memory g c h =
+    may_take (seen c.args.run.now) c.requires.kept.machine c.requires.running (λ e. c.if-run-fuel.false (e ∙ sym c.fuel.ensures))
+    (c.in-Ok-Calls.ensures.takes (subst (λ (a : After). Wants {E = Unit {0}} (Ok a)) (sym c.in-Ok-Calls.field-0-is) tt))
+
+pub returns-else-f-run-clause-no_memory : goal.returns-else-f-run-clause-no_memory
+returns-else-f-run-clause-no_memory g c h =
+    may_take (seen c.args.run.now) c.requires.kept.machine c.requires.running (λ e. c.if-run-fuel.false (e ∙ sym c.fuel.ensures))
+    (c.in-Ok-Calls.ensures.takes (subst (λ (a : After). Wants {E = Unit {0}} (Ok a)) (sym c.in-Ok-Calls.field-0-is) tt))
+
+pub returns-in-Err-clause-no_memory : goal.returns-in-Err-clause-no_memory
+returns-in-Err-clause-no_memory g c h =
+    may_take (seen c.args.run.now) c.requires.kept.machine c.requires.running (λ e. c.if-run-fuel.false (e ∙ sym c.fuel.ensures)) (c.in-Err.ensures.takes tt)

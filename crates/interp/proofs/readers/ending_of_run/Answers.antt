@@ -5,7 +5,7 @@ use Rattle.interp.specs.Run.{seen}
 use Rattle.frames.specs.Views.{items_of}
 use Rattle.frames.specs.ViewLaws.{items_nil}
 use Rattle.interp.proofs.Turning.{result_last}
-use Rattle.interp.proofs.Outlook.{no_items, ends_returned, ends_exhausted, goes_on, asks_on}
+use Rattle.interp.proofs.Outlook.{no_items, ends_returned, ends_exhausted, goes_on, asks_on, tells_end}
 use Rattle.interp.proofs.readers.ending_of_run.Goals as goal
 
 pub returns-then-is_empty : goal.returns-then-is_empty
@@ -28,3 +28,6 @@ returns-else-run-fuel g c o =
 
 pub returns-in-Asking : goal.returns-in-Asking
 returns-in-Asking g c o = sym (asks_on (seen c.args.run.now) c.requires.machine c.in-Asking.field-0 c.in-Asking.is)
+
+pub returns-in-Ended : goal.returns-in-Ended
+returns-in-Ended g c o = sym (tells_end (seen c.args.run.now) c.requires.machine c.in-Ended.outcome c.in-Ended.is)

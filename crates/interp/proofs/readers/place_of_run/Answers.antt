@@ -1,6 +1,6 @@
 use Rattle.std.proofs.Common.{◌∙◌, sym}
 use Rattle.interp.specs.Run.{seen}
-use Rattle.interp.proofs.Outlook.{running_place, no_place}
+use Rattle.interp.proofs.Outlook.{running_place, no_place, ended_place}
 use Rattle.interp.proofs.readers.place_of_run.Goals as goal
 
 pub returns-in-Running : goal.returns-in-Running
@@ -11,3 +11,6 @@ returns-in-Running-2 g c o = c.place_in_code.ensures ∙ running_place (seen c.a
 
 pub returns-in-Asking : goal.returns-in-Asking
 returns-in-Asking g c o = no_place (seen c.args.run.now) c.requires.machine _ tt c.in-Asking.is (λ q. absurd (cc))
+
+pub returns-in-Ended : goal.returns-in-Ended
+returns-in-Ended g c o = ended_place (seen c.args.run.now) c.requires.machine c.in-Ended.field-0 c.in-Ended.is

@@ -1,10 +1,11 @@
-use Rattle.std.proofs.Common.{◌≡◌, Some, length, option_map, slice_get, refl, sym, ap, ◌∙◌}
+use Rattle.std.proofs.Common.{◌≡◌, Option, Some, length, option_map, slice_get, refl, sym, ap, ◌∙◌, subst}
+use Rattle.std.specs.Prelude.{option_and_then}
 use Rattle.std.proofs.lemmas.Bool.{ltb-false}
 use Rattle.std.proofs.lemmas.Option.{slice_get-map, slice_get_read}
-use Rattle.spec_execution.specs.Configuration.{Contract}
+use Rattle.spec_execution.specs.Configuration.{Contract, Deployed}
 use Rattle.spec_execution.specs.Run.{by_contract}
 use Rattle.link.specs.Parts.{hosts_of}
-use Rattle.opening.specs.Views.{deployed_view}
+use Rattle.opening.specs.Views.{deployed_view, wrong_of, HasPlace}
 use Rattle.interp.specs.Lent.{contract_view, contracts_view}
 use Rattle.interp.proofs.Opened.{entry_defined}
 use Rattle.interp.proofs.start.open_call.Goals as goal
@@ -24,3 +25,13 @@ returns-in-Err-clause-refused g c =
     let seen : slice_get (contracts_view lent) call.contract ≡ Some (contract_view c.in-Some.deployed.now) =
     slice_get-map contract_view lent call.contract ∙ ap (option_map contract_view) (ap (slice_get lent) (sym c.contract.ensures) ∙ found) in
     ap (by_contract call) seen ∙ c.in-Err.ensures.refused
+
+pub returns-in-Err-clause-place : goal.returns-in-Err-clause-place
+returns-in-Err-clause-place g c =
+    let lent = c.args.contracts.now in
+    let call = c.args.call.now in
+    let item = c.in-Some.ensures.lookup in
+    let found : slice_get lent c.contract.result ≡ Some c.in-Some.deployed.now = slice_get_read lent (length lent) c.contract.result c.in-Some.deployed.now refl item.3.0 item.1 in
+    let seen : slice_get (contracts_view lent) call.contract ≡ Some (contract_view c.in-Some.deployed.now) =
+    slice_get-map contract_view lent call.contract ∙ ap (option_map contract_view) (ap (slice_get lent) (sym c.contract.ensures) ∙ found) in
+    subst (λ (d : Option Deployed). HasPlace (option_and_then (wrong_of call) d) c.in-Err.refusal) (sym seen) c.in-Err.ensures.place

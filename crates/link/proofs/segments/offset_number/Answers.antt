@@ -1,55 +1,10 @@
-use Rattle.std.proofs.Common.{◌≡◌, length, get_or, refl, ap, ◌∙◌, arith, rules}
-use Rattle.module_tree.specs.View.{instr_view}
-use Rattle.link.proofs.Constants.{not_one, number_at, view_Plain, view_BrTable, view_Block, view_Loop, view_If}
+use Rattle.module_tree.specs.View.{instrs_view}
+use Rattle.link.proofs.Constants.{number_some, number_none}
 use Rattle.link.proofs.segments.offset_number.Goals as goal
 
-pub returns-then-len-ne1 : goal.returns-then-len-ne1
-returns-then-len-ne1 g c =
-    let is = c.args.offset.now.items in
-    let n : c.len.result ≡ length is = search rules in
-    not_one is (λ e. c.if-len-ne1.true (n ∙ e))
+pub returns-in-Some : goal.returns-in-Some
+returns-in-Some g c =
+    number_some (instrs_view c.args.offset.now.items) c.in-Some.op c.const_number.result c.in-Some.ensures c.const_number.ensures
 
-pub returns-in-Plain : goal.returns-in-Plain
-returns-in-Plain g c =
-    let is = c.args.offset.now.items in
-    let x = c.index.result.now in
-    let n : c.len.result ≡ length is = search rules in
-    let one : length is ≡ 1 = omega (arith, n, c.if-len-ne1.false) in
-    let at : x ≡ get_or is 0 x = search rules in
-    number_at is x _ c.const_number.result one at (ap instr_view c.in-Plain.is ∙ view_Plain _ c.in-Plain.field-0 c.in-Plain.op) c.const_number.ensures
-
-pub returns-in-BrTable : goal.returns-in-BrTable
-returns-in-BrTable g c =
-    let is = c.args.offset.now.items in
-    let x = c.index.result.now in
-    let n : c.len.result ≡ length is = search rules in
-    let one : length is ≡ 1 = omega (arith, n, c.if-len-ne1.false) in
-    let at : x ≡ get_or is 0 x = search rules in
-    number_at is x _ _ one at (ap instr_view c.in-BrTable.is ∙ view_BrTable c.in-BrTable.field-0 c.in-BrTable.field-1 c.in-BrTable.field-2) refl
-
-pub returns-in-Block : goal.returns-in-Block
-returns-in-Block g c =
-    let is = c.args.offset.now.items in
-    let x = c.index.result.now in
-    let n : c.len.result ≡ length is = search rules in
-    let one : length is ≡ 1 = omega (arith, n, c.if-len-ne1.false) in
-    let at : x ≡ get_or is 0 x = search rules in
-    number_at is x _ _ one at (ap instr_view c.in-Block.is ∙ view_Block c.in-Block.field-0 c.in-Block.field-1 c.in-Block.field-2) refl
-
-pub returns-in-Loop : goal.returns-in-Loop
-returns-in-Loop g c =
-    let is = c.args.offset.now.items in
-    let x = c.index.result.now in
-    let n : c.len.result ≡ length is = search rules in
-    let one : length is ≡ 1 = omega (arith, n, c.if-len-ne1.false) in
-    let at : x ≡ get_or is 0 x = search rules in
-    number_at is x _ _ one at (ap instr_view c.in-Loop.is ∙ view_Loop c.in-Loop.field-0 c.in-Loop.field-1 c.in-Loop.field-2) refl
-
-pub returns-in-If : goal.returns-in-If
-returns-in-If g c =
-    let is = c.args.offset.now.items in
-    let x = c.index.result.now in
-    let n : c.len.result ≡ length is = search rules in
-    let one : length is ≡ 1 = omega (arith, n, c.if-len-ne1.false) in
-    let at : x ≡ get_or is 0 x = search rules in
-    number_at is x _ _ one at (ap instr_view c.in-If.is ∙ view_If c.in-If.field-0 c.in-If.field-1 c.in-If.field-2 c.in-If.field-3) refl
+pub returns-in-None : goal.returns-in-None
+returns-in-None g c = number_none (instrs_view c.args.offset.now.items) c.in-None.ensures

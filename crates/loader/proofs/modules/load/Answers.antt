@@ -1,16 +1,14 @@
-use Rattle.std.proofs.Common.{arith}
+use Rattle.std.proofs.Common.{length, arith}
 use Rattle.module_tree.specs.Modules.{module_view}
-use Rattle.loader.proofs.Spelled.{spelled_is, no_module}
+use Rattle.loader.proofs.Ranges.{all_bytes}
+use Rattle.loader.proofs.Spelled.{spelled_is, told_before, told_within}
 use Rattle.loader.proofs.modules.load.Goals as goal
 
 pub returns-in-Ok-clause-spelled : goal.returns-in-Ok-clause-spelled
-returns-in-Ok-clause-spelled g c = spelled_is c.args.bytes.now (module_view c.in-Ok.module) (omega arith) c.in-Ok.ensures.value c.in-Ok.module.short
+returns-in-Ok-clause-spelled g c = spelled_is c.args.bytes.now (module_view c.in-Ok.module) (all_bytes c.args.bytes.now c.type_inv.bytes) (omega arith) c.in-Ok.ensures.value c.in-Ok.module.short
 
-pub returns-in-Err-Malformed-clause-only : goal.returns-in-Err-Malformed-clause-only
-returns-in-Err-Malformed-clause-only g c = no_module c.args.bytes.now (rw c.in-Err-Malformed.field-0-is at c.in-Err-Malformed.ensures.value)
+pub returns-clause-only : goal.returns-clause-only
+returns-clause-only g c = rw c.ending_at.ensures (told_before c.args.bytes.now (length c.args.bytes.now) c.in-Err.unread c.in-Err.ensures.value)
 
-pub returns-in-Err-Unsupported-clause-only : goal.returns-in-Err-Unsupported-clause-only
-returns-in-Err-Unsupported-clause-only g c = no_module c.args.bytes.now (rw c.in-Err-Unsupported.field-0-is at c.in-Err-Unsupported.ensures.value)
-
-pub returns-in-Err-TooLarge-clause-only : goal.returns-in-Err-TooLarge-clause-only
-returns-in-Err-TooLarge-clause-only g c = no_module c.args.bytes.now (rw c.in-Err-TooLarge.field-0-is at c.in-Err-TooLarge.ensures.value)
+pub returns-clause-place : goal.returns-clause-place
+returns-clause-place g c = rw c.ending_at.ensures (told_within (length c.args.bytes.now) (length c.args.bytes.now) c.in-Err.unread (omega arith))

@@ -32,7 +32,7 @@ returns-in-Err-clause-value c =
     let after = c.in-Some.after.now in
     let s = c.in_ok-content in
     let is : l.rest.now ≡ 0 ∷ after = grind arith in
-    handed_on c.in-Err.refusal c.behind.result (name_at s.content.now) (skip c.args.bytes.now) c.behind.ensures
+    handed_on c.in-Err.unread c.with_more.result (name_at s.content.now) (skip c.args.bytes.now) c.with_more.ensures
     (λ none. l.invariant.3 ∙ skip_unnamed l.invariant.0 l.rest.now after s.content.now s.following.now is l.invariant.1 s.ensures.value none)
     c.in-Err.ensures.value
 

@@ -9,7 +9,8 @@ use Rattle.wtypes.specs.contracts.NoMemory as no_memory_row
 use Rattle.mining.specs.contracts.attempt.Job as job_row
 use Rattle.mining.specs.contracts.worker.Worked as worked_row
 use Rattle.mining.specs.contracts.mined_core.run_workers as rows
-use Rattle.mining.proofs.Crossing.{crosses, handed_send, job_sync}
+use Rattle.serial_block.proofs.Crossing.{crosses}
+use Rattle.mining.proofs.Crossing.{handed_send, job_sync}
 use Rattle.mining.proofs.mined_core.run_workers.Goals as goal
 
 pub map_vec-requires-send-X : goal.map_vec-requires-send-X

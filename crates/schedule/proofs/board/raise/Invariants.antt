@@ -2,5 +2,5 @@ use Rattle.std.proofs.Common.{◌≡◌, ◌+◌, ◌<◌, ℕ, length, take, ge
 use Rattle.schedule.specs.Board.{count_of}
 use Rattle.schedule.proofs.board.raise.Given as goal
 
-abbrev pub invariant-loop-j : goal.invariant-loop-j
-invariant-loop-j g l = (length l.waiting.items ≡ length l.initial.waiting.items) × ((k : ℕ) → k < length l.initial.waiting.items → get_or l.waiting.items k 0 ≡ get_or l.initial.waiting.items k 0 + count_of k (take l.j-index l.successors))
+abbrev pub invariant-loop-number : goal.invariant-loop-number
+invariant-loop-number g l = (length l.counts.items ≡ length l.initial.counts.items) × ((k : ℕ) → k < length l.initial.counts.items → get_or l.counts.items k 0 ≡ get_or l.initial.counts.items k 0 + count_of k (take l.number-index l.numbers))

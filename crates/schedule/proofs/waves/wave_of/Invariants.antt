@@ -1,8 +1,8 @@
 use Rattle.std.proofs.Common.{take}
 use Rattle.std.specs.BTreeMap.{get}
-use Rattle.schedule.specs.Index.{turn_cmp, IsBefore}
-use Rattle.schedule.specs.Waves.{IsTop}
+use Rattle.schedule.specs.Turns.{turn_cmp}
+use Rattle.schedule.specs.Waves.{least_of, IsGreatest}
 use Rattle.schedule.proofs.waves.wave_of.Given as goal
 
 abbrev pub invariant-loop-entry : goal.invariant-loop-entry
-invariant-loop-entry g l = IsTop l.waves (IsBefore (get turn_cmp l.index) (take l.entry-index l.entries)) l.wave
+invariant-loop-entry g l = IsGreatest (least_of (get turn_cmp l.least)) (take l.entry-index l.entries) l.wave

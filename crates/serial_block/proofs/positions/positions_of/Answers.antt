@@ -37,14 +37,14 @@ loop-profile-preserved g c =
     let even = c.loop-profile.invariant.1 in
     let profile_is : c.in-Some.profile ≡ profile_at all n (get_or all n empty) =
     get_or_read profiles (length c.loop-profile.yielded) c.in-Some.profile turn.0 turn.1 [] ∙ (c.in_ok-profiles.ensures.1 (length c.loop-profile.yielded) below ∙ sym (ap (λ k. profile_at all k (get_or all k empty)) even)) in
-    let len : length c.push.new.self.items ≡ n + 1 = ap length c.in_ok-push.ensures.items ∙ length_push made c.in-Some-new.position in
+    let len : length c.push.new.self.items ≡ n + 1 = ap length c.in_ok-push.ensures.items ∙ length_push made c.in_ok-position.position in
     let place : c.len-place.result ≡ n = omega (arith, c.len-place.ensures, c.loop-profile.made.ok.0) in
     let nothing : Receipt = record { outcome = Returned None; used = 0 } in
-    let is : c.in-Some-new.position ≡ record { call = get_or order n 0; receipt = get_or receipts n nothing; profile = profile_at all n (get_or all n empty) } =
-    c.in-Some-new.ensures.is ∙ (λ k. record { call = get_or order (place k) 0; receipt = get_or receipts (place k) nothing; profile = profile_is k }) in (
+    let is : c.in_ok-position.position ≡ record { call = get_or order n 0; receipt = get_or receipts n nothing; profile = profile_at all n (get_or all n empty) } =
+    c.in_ok-position.ensures ∙ (λ k. record { call = get_or order (place k) 0; receipt = get_or receipts (place k) nothing; profile = profile_is k }) in (
       (tt, tt),
       len ∙ (ap (λ k. k + 1) even ∙ sym (length_push c.loop-profile.yielded c.in-Some.profile)),
       ap (λ k. c.push.new.self.items ++ left_from all order receipts all k) len
-          ∙ one_made all order receipts all n 0 nothing made c.push.new.self.items c.in-Some-new.position (positions order (ran_of receipts all)) (omega (arith, below, even, c.requires.touched))
+          ∙ one_made all order receipts all n 0 nothing made c.push.new.self.items c.in_ok-position.position (positions order (ran_of receipts all)) (omega (arith, below, even, c.requires.touched))
           (omega (arith, below, even, c.requires.touched, c.requires.receipts)) (omega (arith, below, even)) is c.in_ok-push.ensures.items c.loop-profile.invariant.2,
     )

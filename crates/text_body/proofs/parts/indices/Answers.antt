@@ -1,8 +1,8 @@
 use Rattle.std.proofs.Common.{◌<◌, List, length, map, sym, ap, ◌∙◌, subst, arith}
 use Rattle.std.proofs.lemmas.List.{map_push, length-map}
-use Rattle.spec_text.specs.Named as N
+use Rattle.spec_text.specs.Placed as N
 use Rattle.text_words.specs.Views.{view, views}
-use Rattle.text_body.specs.Views.{index_of}
+use Rattle.text_body.specs.Places.{index_of}
 use Rattle.text_body.specs.Reading.{next_index_at, indices_at}
 use Rattle.text_body.proofs.Repeats.{Halfway, halfway_end, halfway_more}
 use Rattle.text_body.proofs.parts.indices.Goals as goal

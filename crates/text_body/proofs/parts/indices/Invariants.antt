@@ -1,6 +1,6 @@
 use Rattle.std.proofs.Common.{◌≤◌, length, map}
 use Rattle.text_words.specs.Views.{views}
-use Rattle.text_body.specs.Views.{index_of}
+use Rattle.text_body.specs.Places.{index_of}
 use Rattle.text_body.specs.Reading.{next_index_at, indices_at}
 use Rattle.text_body.proofs.Repeats.{Halfway}
 use Rattle.text_body.proofs.parts.indices.Given as goal

@@ -1,6 +1,6 @@
 use Rattle.std.proofs.Common.{◌≡◌, length, map}
 use Rattle.spec_text.specs.Grammar.{are_unnamed}
-use Rattle.text_body.specs.Views.{binding_of}
+use Rattle.text_body.specs.Places.{binding_of}
 use Rattle.text_body.proofs.parts.unnamed.Given as goal
 
 abbrev pub invariant-loop-rest : goal.invariant-loop-rest

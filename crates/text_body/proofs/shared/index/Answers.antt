@@ -1,8 +1,8 @@
 use Rattle.std.proofs.Common.{List}
 use Rattle.spec_text.specs.Words.{Word}
-use Rattle.spec_text.specs.Named as N
+use Rattle.spec_text.specs.Placed as N
 use Rattle.text_words.specs.Views.{views}
-use Rattle.text_body.specs.Views.{index_of}
+use Rattle.text_body.specs.Places.{index_of}
 use Rattle.text_body.specs.Shared.{OneIndex, NoneOf}
 use Rattle.text_body.specs.Reading.{index_at}
 use Rattle.text_body.proofs.Pieces.{index_found}

@@ -1,9 +1,9 @@
 use Rattle.std.proofs.Common.{List, map}
 use Rattle.spec_text.specs.Words.{Word}
-use Rattle.spec_text.specs.Named as N
+use Rattle.spec_text.specs.Placed as N
 use Rattle.spec_text.specs.Grammar.{Indices}
 use Rattle.text_words.specs.Views.{views}
-use Rattle.text_body.specs.Views.{index_of}
+use Rattle.text_body.specs.Places.{index_of}
 use Rattle.text_body.specs.Shared.{NoneOf}
 use Rattle.text_body.specs.Reading.{indices_at}
 use Rattle.text_body.proofs.Pieces.{indices_read, indices_found}

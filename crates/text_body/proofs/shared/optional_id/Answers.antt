@@ -1,5 +1,5 @@
-use Rattle.std.proofs.Common.{ℕ, List, Option, sym, subst}
-use Rattle.spec_text.specs.Words.{Word}
+use Rattle.std.proofs.Common.{List, Option, sym, subst}
+use Rattle.spec_text.specs.Words.{Placed, Word}
 use Rattle.spec_text.specs.Grammar.{OptionalId}
 use Rattle.text_words.specs.Views.{views}
 use Rattle.text_body.proofs.Pieces.{read_is_id}
@@ -8,4 +8,4 @@ use Rattle.text_body.proofs.shared.optional_id.Goals as goal
 pub returns-clause-grammar : goal.returns-clause-grammar
 returns-clause-grammar c =
     let old = views c.args.rest.now.now in
-    subst (λ (p : Option (List ℕ) × List Word). OptionalId old p.1 p.0) (sym c.optional_id.ensures.is) (read_is_id old)
+    subst (λ (p : Option Placed × List Word). OptionalId old p.1 p.0) (sym c.optional_id.ensures.is) (read_is_id old)

@@ -1,9 +1,9 @@
 use Rattle.std.proofs.Common.{List}
 use Rattle.spec_text.specs.Words.{Word}
-use Rattle.spec_text.specs.Named as N
+use Rattle.spec_text.specs.Placed as N
 use Rattle.spec_text.specs.Grammar.{TypeUses}
 use Rattle.text_words.specs.Views.{views}
-use Rattle.text_body.specs.Views.{use_of}
+use Rattle.text_body.specs.Places.{use_of}
 use Rattle.text_body.specs.Shared.{NoneOf}
 use Rattle.text_body.specs.Reading.{use_at}
 use Rattle.text_body.proofs.Pieces.{use_is_read, use_found}

@@ -2,7 +2,7 @@ use Rattle.std.proofs.Common.{◌≡◌, ◌≤◌, [], length, reverse, sym, ap
 use Rattle.std.proofs.lemmas.List.{length-map, length-reverse}
 use Rattle.std.proofs.lemmas.Result.{err_from_is_err_and}
 use Rattle.text_words.specs.Views.{views}
-use Rattle.text_body.specs.Views.{flats_of}
+use Rattle.text_body.specs.Places.{flats_of}
 use Rattle.text_body.specs.Turns.{state_of, open_of, move_of, move_at, applied}
 use Rattle.text_body.proofs.Repeats.{hand_on}
 use Rattle.text_body.proofs.Halfway.{Parsing, parsing_start, advance, stuck, ended_early, ended, faulty}

@@ -1,6 +1,6 @@
 use Rattle.std.proofs.Common.{◌≤◌, length}
 use Rattle.text_words.specs.Views.{views}
-use Rattle.text_body.specs.Views.{flats_of}
+use Rattle.text_body.specs.Places.{flats_of}
 use Rattle.text_body.specs.Turns.{state_of}
 use Rattle.text_body.proofs.Halfway.{Parsing}
 use Rattle.text_body.proofs.whole.body.Given as goal

@@ -1,6 +1,6 @@
 use Rattle.std.proofs.Common.{◌≡◌, map, drop}
 use Rattle.std.specs.List.{flat_map}
-use Rattle.spec_text.specs.Resolve.{inline_of_flat}
+use Rattle.spec_text.specs.TypeUses.{inline_of_flat}
 use Rattle.module_tree.specs.ModuleView.{func_type_view}
 use Rattle.text_body.specs.Views.{flat_of}
 use Rattle.text_fields.specs.Added.{added}

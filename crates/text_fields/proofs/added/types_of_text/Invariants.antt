@@ -1,6 +1,7 @@
 use Rattle.std.proofs.Common.{◌≡◌, ◌++◌, map, drop}
 use Rattle.std.specs.List.{flat_map, filter_map}
-use Rattle.spec_text.specs.Resolve.{inline_of_field, declared_type}
+use Rattle.spec_text.specs.TypeUses.{inline_of_field}
+use Rattle.spec_text.specs.Fields.{declared_type}
 use Rattle.module_tree.specs.ModuleView.{func_type_view}
 use Rattle.text_tree.specs.Views.{field_of}
 use Rattle.text_fields.specs.Added.{added}

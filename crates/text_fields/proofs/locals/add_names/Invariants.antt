@@ -1,5 +1,5 @@
 use Rattle.std.proofs.Common.{◌≡◌, ◌++◌, map, take}
-use Rattle.spec_text.specs.Resolve.{names_of}
+use Rattle.spec_text.specs.TypeUses.{names_of}
 use Rattle.text_body.specs.Views.{text_of, binding_of}
 use Rattle.text_fields.proofs.locals.add_names.Given as goal
 

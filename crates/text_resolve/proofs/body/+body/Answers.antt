@@ -4,7 +4,7 @@ use Rattle.std.proofs.lemmas.Result.{err_from_is_err_and}
 use Rattle.module_tree.specs.View.{ordinals, instr_view, instrs_view}
 use Rattle.module_tree.specs.Numbering.{numbered_none, numbered_push, numbered_Block, numbered_If}
 use Rattle.spec_syntax.specs.Limits.{instrs_fit}
-use Rattle.spec_text.specs.Resolve.{Names}
+use Rattle.spec_text.specs.Spaces.{Names}
 use Rattle.text_body.specs.Views.{text_of, flat_of, opener_of}
 use Rattle.text_body.specs.declared.flat.Flat.TheVariants as flat
 use Rattle.text_body.specs.declared.flat.Opener.TheVariants as opener

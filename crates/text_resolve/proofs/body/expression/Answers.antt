@@ -1,7 +1,7 @@
 use Rattle.std.proofs.Common.{◌≡◌, ◌<◌, ◌≤◌, [], length, map, arith, rules, ap, subst}
 use Rattle.std.proofs.lemmas.Result.{err_from_is_err_and}
 use Rattle.module_tree.specs.View.{instrs_view, ordinals}
-use Rattle.spec_text.specs.Resolve.{Body}
+use Rattle.spec_text.specs.Instructions.{Body}
 use Rattle.text_body.specs.Views.{text_of, flats_of}
 use Rattle.text_resolve.specs.Views.{spaces_of, flats_from}
 use Rattle.text_resolve.specs.Bodies.{body_at, NoBody}

@@ -1,7 +1,7 @@
 use Rattle.std.proofs.Common.{◌≡◌, ◌<◌, ◌∙◌, map, take, length, get_or, Some, None, true, false, cond, ap, sym, subst, arith, rules}
 use Rattle.std.specs.Prelude.{is_some}
 use Rattle.std.specs.Str.{bytes_eq}
-use Rattle.spec_text.specs.Resolve.{AreDistinct, no_names}
+use Rattle.spec_text.specs.Spaces.{AreDistinct, no_names}
 use Rattle.text_body.specs.Views.{text_of}
 use Rattle.text_resolve.specs.Lookup.{find}
 use Rattle.text_resolve.specs.Firsts.{first_of}

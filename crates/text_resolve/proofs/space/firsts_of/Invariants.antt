@@ -1,5 +1,5 @@
 use Rattle.std.proofs.Common.{◌≡◌, ℕ, List, map, take}
-use Rattle.spec_text.specs.Resolve.{AreDistinct}
+use Rattle.spec_text.specs.Spaces.{AreDistinct}
 use Rattle.text_body.specs.Views.{text_of}
 use Rattle.text_resolve.specs.Lookup.{find}
 use Rattle.text_resolve.specs.Firsts.{first_of}

@@ -1,5 +1,5 @@
 use Rattle.std.proofs.Common.{◌≡◌, map, take}
-use Rattle.spec_text.specs.Resolve.{types_of}
+use Rattle.spec_text.specs.TypeUses.{types_of}
 use Rattle.text_body.specs.Views.{binding_of}
 use Rattle.text_resolve.proofs.types.written_type.Given as goal
 

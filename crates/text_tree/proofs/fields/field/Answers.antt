@@ -1,11 +1,11 @@
 use Rattle.std.proofs.Common.{List, sym, ◌∙◌}
 use Rattle.spec_text.specs.Words.{Word}
-use Rattle.spec_text.specs.Named as N
+use Rattle.spec_text.specs.Placed as N
 use Rattle.text_words.specs.Views.{views}
 use Rattle.text_body.specs.Shared.{NoneOf}
 use Rattle.text_body.proofs.Pieces.{some_none}
 use Rattle.text_body.proofs.Sharing.{granted, denied}
-use Rattle.text_tree.specs.Views.{field_of}
+use Rattle.text_tree.specs.Places.{field_of}
 use Rattle.text_tree.specs.Reading.{plain_field_at}
 use Rattle.text_tree.specs.Texts.{OfField}
 use Rattle.text_tree.proofs.Plain.{plain_found, plain_read}

@@ -4,11 +4,11 @@ use Rattle.std.proofs.lemmas.Bool.{eqb-true}
 use Rattle.std.proofs.lemmas.List.{map_push}
 use Rattle.std.proofs.lemmas.Result.{err_from_is_err_and}
 use Rattle.spec_text.specs.Words as W
-use Rattle.spec_text.specs.Named as N
+use Rattle.spec_text.specs.Placed as N
 use Rattle.text_words.specs.declared.word.Word.{Word}
 use Rattle.text_words.specs.Views.{view, views}
 use Rattle.text_body.proofs.Repeats.{hand_on}
-use Rattle.text_tree.specs.Views.{field_of}
+use Rattle.text_tree.specs.Places.{field_of}
 use Rattle.text_tree.proofs.Halves.{Halves, halves_start, halves_end, halves_fault, halves_behind, halves_late, halves_refused, halves_more, halves_same}
 use Rattle.text_tree.proofs.fields.fields.Goals as goal
 

@@ -1,9 +1,9 @@
 use Rattle.std.proofs.lemmas.Result.{err_from_is_err_and}
 use Rattle.spec_text.specs.declared.KeyWord.TheVariants as k
 use Rattle.text_words.specs.Views.{views}
-use Rattle.text_body.specs.Views.{flats_of}
+use Rattle.text_body.specs.Places.{flats_of}
 use Rattle.text_body.proofs.Repeats.{hand_on}
-use Rattle.text_tree.specs.Views.{head_of}
+use Rattle.text_tree.specs.Places.{head_of}
 use Rattle.text_tree.specs.Reading.{func_head_at}
 use Rattle.text_tree.specs.Texts.{OfField}
 use Rattle.text_tree.proofs.Bodied.{no_tail, headless, bodiless, func_of, func_splits, func_made}

@@ -1,8 +1,8 @@
 use Rattle.std.proofs.lemmas.Result.{err_from_is_err_and}
 use Rattle.text_words.specs.Views.{views}
-use Rattle.text_body.specs.Views.{text_of}
+use Rattle.text_body.specs.Places.{text_of}
 use Rattle.text_body.proofs.Repeats.{hand_on}
-use Rattle.text_tree.specs.Views.{fields_of}
+use Rattle.text_tree.specs.Places.{fields_of}
 use Rattle.text_tree.proofs.Halves.{module_made, module_refused}
 use Rattle.text_tree.proofs.fields.module.Goals as goal
 

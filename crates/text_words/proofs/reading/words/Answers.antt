@@ -25,7 +25,7 @@ pub returns-in_default-clause-refused : goal.returns-in_default-clause-refused
 returns-in_default-clause-refused g c =
     let l = c.loop-token in
     let bytes = c.as_bytes-bytes.result.now in
-    let fault = half_fault bytes c.args.tokens.now (drop (l.token-index + 1) c.args.tokens.now) (get_or c.args.tokens.now l.token-index nothing) (views l.found.items) c.unsigned_integers_are_tested.ensures
+    let fault = half_fault bytes c.args.tokens.now (drop (l.token-index + 1) c.args.tokens.now) (get_or c.args.tokens.now l.token-index nothing) (views l.found.items) c.integers_are_tested.ensures
     (front bytes c.args.tokens.now l.token-index (views l.found.items) c.loop-token-test.true l.invariant) (sym c.in_default.ensures) in
     subst (λ (xs : List ℕ). (ws : List W.Word) → AreWords (listed.views xs c.args.tokens.now) ws → ⊥) c.as_bytes-bytes.ensures.value fault
 
@@ -34,7 +34,7 @@ loop-token-preserved g c =
     let l = c.loop-token in
     let bytes = c.as_bytes-bytes.result.now in
     subst (λ (xs : List W.Word). Half bytes c.args.tokens.now (drop (l.token-index + 1) c.args.tokens.now) xs) (sym (ap views c.in_ok-push.ensures.items ∙ map_push view l.found.items c.in-Some.next))
-    (half_word bytes c.args.tokens.now (drop (l.token-index + 1) c.args.tokens.now) (get_or c.args.tokens.now l.token-index nothing) (views l.found.items) (view c.in-Some.next) c.unsigned_integers_are_tested.ensures
+    (half_word bytes c.args.tokens.now (drop (l.token-index + 1) c.args.tokens.now) (get_or c.args.tokens.now l.token-index nothing) (views l.found.items) (view c.in-Some.next) c.integers_are_tested.ensures
     (front bytes c.args.tokens.now l.token-index (views l.found.items) c.loop-token-test.true l.invariant) (sym c.in-Some.ensures))
 
 pub returns-clause-words : goal.returns-clause-words

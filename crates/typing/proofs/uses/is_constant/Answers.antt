@@ -1,56 +1,13 @@
-use Rattle.std.proofs.Common.{◌≡◌, length, get_or, map, refl, ap, ◌∙◌, arith, rules}
-use Rattle.module_tree.specs.View.{instr_view}
+use Rattle.std.proofs.Common.{map}
+use Rattle.module_tree.specs.View.{instrs_view}
 use Rattle.module_tree.specs.ModuleView.{global_type_view}
-use Rattle.typing.proofs.Constants.{not_one, constant_at, view_Plain, view_BrTable, view_Block, view_Loop, view_If}
+use Rattle.typing.proofs.Constants.{constant_some, constant_none}
 use Rattle.typing.proofs.uses.is_constant.Goals as goal
 
-pub returns-then-len-ne1 : goal.returns-then-len-ne1
-returns-then-len-ne1 g c =
-    let is = c.args.init.now.items in
-    let n : c.len.result ≡ length is = search rules in
-    not_one (map global_type_view c.args.imported.now) is c.args.t (λ e. c.if-len-ne1.true (n ∙ e))
+pub returns-in-None : goal.returns-in-None
+returns-in-None g c =
+    constant_none (map global_type_view c.args.imported.now) (instrs_view c.args.init.now.items) c.args.t c.in-None.ensures
 
-pub returns-in-Plain : goal.returns-in-Plain
-returns-in-Plain g c =
-    let is = c.args.init.now.items in
-    let x = c.index.result.now in
-    let n : c.len.result ≡ length is = search rules in
-    let one : length is ≡ 1 = omega (arith, n, c.if-len-ne1.false) in
-    let at : x ≡ get_or is 0 x = search rules in
-    constant_at (map global_type_view c.args.imported.now) is x _ c.args.t c.is_constant_op.result one at (ap instr_view c.in-Plain.is ∙ view_Plain _ c.in-Plain.field-0 c.in-Plain.op) c.is_constant_op.ensures
-
-pub returns-in-BrTable : goal.returns-in-BrTable
-returns-in-BrTable g c =
-    let is = c.args.init.now.items in
-    let x = c.index.result.now in
-    let n : c.len.result ≡ length is = search rules in
-    let one : length is ≡ 1 = omega (arith, n, c.if-len-ne1.false) in
-    let at : x ≡ get_or is 0 x = search rules in
-    constant_at (map global_type_view c.args.imported.now) is x _ c.args.t _ one at (ap instr_view c.in-BrTable.is ∙ view_BrTable c.in-BrTable.field-0 c.in-BrTable.field-1 c.in-BrTable.field-2) refl
-
-pub returns-in-Block : goal.returns-in-Block
-returns-in-Block g c =
-    let is = c.args.init.now.items in
-    let x = c.index.result.now in
-    let n : c.len.result ≡ length is = search rules in
-    let one : length is ≡ 1 = omega (arith, n, c.if-len-ne1.false) in
-    let at : x ≡ get_or is 0 x = search rules in
-    constant_at (map global_type_view c.args.imported.now) is x _ c.args.t _ one at (ap instr_view c.in-Block.is ∙ view_Block c.in-Block.field-0 c.in-Block.field-1 c.in-Block.field-2) refl
-
-pub returns-in-Loop : goal.returns-in-Loop
-returns-in-Loop g c =
-    let is = c.args.init.now.items in
-    let x = c.index.result.now in
-    let n : c.len.result ≡ length is = search rules in
-    let one : length is ≡ 1 = omega (arith, n, c.if-len-ne1.false) in
-    let at : x ≡ get_or is 0 x = search rules in
-    constant_at (map global_type_view c.args.imported.now) is x _ c.args.t _ one at (ap instr_view c.in-Loop.is ∙ view_Loop c.in-Loop.field-0 c.in-Loop.field-1 c.in-Loop.field-2) refl
-
-pub returns-in-If : goal.returns-in-If
-returns-in-If g c =
-    let is = c.args.init.now.items in
-    let x = c.index.result.now in
-    let n : c.len.result ≡ length is = search rules in
-    let one : length is ≡ 1 = omega (arith, n, c.if-len-ne1.false) in
-    let at : x ≡ get_or is 0 x = search rules in
-    constant_at (map global_type_view c.args.imported.now) is x _ c.args.t _ one at (ap instr_view c.in-If.is ∙ view_If c.in-If.field-0 c.in-If.field-1 c.in-If.field-2 c.in-If.field-3) refl
+pub returns-in-Some : goal.returns-in-Some
+returns-in-Some g c =
+    constant_some (map global_type_view c.args.imported.now) (instrs_view c.args.init.now.items) c.args.t c.in-Some.op c.is_constant_op.result c.in-Some.ensures c.is_constant_op.ensures

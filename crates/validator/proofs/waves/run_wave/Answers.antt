@@ -6,7 +6,8 @@ use Rattle.storage.specs.contracts.Cells as cells_row
 use Rattle.validator.specs.contracts.job.Job as job_row
 use Rattle.validator.specs.contracts.job.Part as part_row
 use Rattle.validator.specs.contracts.waves.run_wave as rows
-use Rattle.validator.proofs.Crossing.{crosses, part_send, cells_sync, job_sync}
+use Rattle.serial_block.proofs.Crossing.{crosses, cells_sync}
+use Rattle.validator.proofs.Crossing.{part_send, job_sync}
 use Rattle.validator.proofs.waves.run_wave.Goals as goal
 
 pub map_chunks-requires-send-X : goal.map_chunks-requires-send-X

@@ -1,7 +1,10 @@
-use Rattle.std.proofs.Common.{◌≡◌, Some, inr, subst}
+use Rattle.std.proofs.Common.{◌≡◌, IsTrue, Some, inl, inr, subst}
+use Rattle.std.proofs.lemmas.Result.{err_from_is_err_and}
 use Rattle.spec_block.specs.Verdicts.{IsVerdictOf}
 use Rattle.validator.specs.Judged.{told_by}
-use Rattle.wblock_blocks.specs.Inputs.{HoldsWorld, HoldsCalls, Gives}
+use Rattle.wblock_blocks.specs.Inputs.{HoldsWorld, HoldsCalls, Gives, IsNextInput}
+use Rattle.wblock_blocks.specs.Validates.{IsNextFile}
+use Rattle.wblock_blocks.proofs.Faults.{of_file_weaker}
 use Rattle.world.specs.Views.{world_view}
 use Rattle.wblock_blocks.proofs.validate.validate_block.Goals as goal
 
@@ -25,3 +28,27 @@ returns-in-Ok-tell-clause-answers g c = λ t.
           (subst (λ b. IsVerdictOf world c.deref.result.now c.args.task.fuel b verdict) c.deref-2.ensures.value c.in-Ok.ensures);
       tells = c.in-Ok-tell.ensures;
     })
+
+pub returns-in_err-world-clause-next : goal.returns-in_err-world-clause-next
+returns-in_err-world-clause-next g c =
+    let holds = g.F.Files.holds c.args.files.now in
+    let p = err_from_is_err_and c.from_residual.result c.from_residual.ensures.1 in
+    rw (p.1, p.2) (of_file_weaker (λ name. IsTrue g.F.Files.tells → IsNextInput holds c.args.task.world.now c.args.task.calls.now name) (λ name. IsTrue g.F.Files.tells → IsNextFile holds c.args.task name) c.in_err-world.field-0.0
+    (λ name next t. inl (next t)) c.in_err-world.ensures.next)
+
+pub returns-in_err-bytes-clause-next : goal.returns-in_err-bytes-clause-next
+returns-in_err-bytes-clause-next g c =
+    let holds = g.F.Files.holds c.args.files.now in
+    let world = world_view c.in-Read.world in
+    let p = err_from_is_err_and c.from_residual-in_err-bytes.result c.from_residual-in_err-bytes.ensures.1 in
+    rw (p.1, p.2) (of_file_weaker (λ other. other ≡ c.args.task.block.now) (λ name. IsTrue g.F.Files.tells → IsNextFile holds c.args.task name) c.in_err-bytes.field-0.0 (λ name same t.
+    let held : HoldsWorld holds c.args.task.world.now world × HoldsCalls holds c.args.task.calls.now c.in-Read.calls.items =
+    subst (λ inputs. Gives holds c.args.task.world.now c.args.task.calls.now inputs) c.in-Read.is (c.in_ok-world.ensures.gives t) in inr (
+      record {
+        world = world;
+        held_world = held.0;
+        calls = c.in-Read.calls.items;
+        held_calls = held.1;
+      },
+      same,
+    )) c.in_err-bytes.ensures.named)

@@ -20,8 +20,13 @@ returns-in-Ok-Some-clause-refused g c = λ d f t. record {
 }
 
 pub returns-in-Ok-Some-clause-cut : goal.returns-in-Ok-Some-clause-cut
-returns-in-Ok-Some-clause-cut g c = λ d f t. inr (record {
-  answer = c.in-Ok-Some.answer;
-  answers = subst (λ o. MatchOption o (Misses c.args.command (g.F.Files.holds c.args.files.now)) (Answers c.args.command (g.F.Files.holds c.args.files.now))) c.in-Ok-Some.field-0-is (c.in-Ok-Some.ensures.answers f);
-  cut = subst (λ h. IsCut c.in-Ok-Some.answer h (g.F.Files.holds c.carry_out.new.files) (g.O.Sink.told c.args.out.now) (g.O.Sink.told c.carry_out.new.out)) (c.in-Ok-Some.ensures.kept f) (c.carry_out.ensures.cut d f t);
-})
+returns-in-Ok-Some-clause-cut g c = λ d f t.
+    let it = c.carry_out.ensures.cut d f t in (
+      it.0,
+      inr (record {
+        answer = c.in-Ok-Some.answer;
+        answers = subst (λ o. MatchOption o (Misses c.args.command (g.F.Files.holds c.args.files.now)) (Answers c.args.command (g.F.Files.holds c.args.files.now))) c.in-Ok-Some.field-0-is (c.in-Ok-Some.ensures.answers f);
+        cut = subst (λ h. IsCut it.0 c.in-Ok-Some.answer h (g.F.Files.holds c.carry_out.new.files) (g.O.Sink.told c.args.out.now) (g.O.Sink.told c.carry_out.new.out)) (c.in-Ok-Some.ensures.kept f) it.1;
+      }),
+      it.2,
+    )

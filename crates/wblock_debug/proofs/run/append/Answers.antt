@@ -8,7 +8,7 @@ returns-in_ok-push_str-in-Line g c =
     let does : Does c.args.command c.args.session.now c.perform.new.session (string_bytes c.in-Line.line) =
     subst (λ said. Performs c.args.command c.args.session.now c.perform.new.session said) c.in-Line.is c.in_ok-line.ensures in
     let pushed : string_bytes c.push_str.new.self ≡ string_bytes c.args.printed.now.text ++ string_bytes c.in-Line.line = search rules in
-    adds_line c.args.command c.args.session.now c.perform.new.session c.args.printed.now (record { text = c.push_str.new.self; refused = c.args.printed.now.refused }) (string_bytes c.in-Line.line) does c.hold.ensures refl pushed
+    adds_line c.args.command c.args.session.now c.perform.new.session c.args.printed.now (record { text = c.push_str.new.self; refused = c.args.printed.now.refused }) (string_bytes c.in-Line.line) does c.is_sight.ensures refl pushed
 
 pub returns-in_ok-push_str-in-Refused : goal.returns-in_ok-push_str-in-Refused
 returns-in_ok-push_str-in-Refused g c =

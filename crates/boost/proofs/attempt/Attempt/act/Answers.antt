@@ -2,7 +2,7 @@ use Rattle.std.proofs.Common.{◌≡◌, ◌∙◌, ap}
 use Rattle.spec_ledger.specs.Cells.{Cells, back}
 use Rattle.spec_ledger.proofs.Ops.{back-inverse}
 use Rattle.storage.specs.Counts.{Counts, closed}
-use Rattle.boost.proofs.Counted.{closed-opened}
+use Rattle.storage.proofs.Counted.{closed-opened}
 use Rattle.boost.proofs.attempt.Attempt.act.Goals as goal
 
 pub returns-in_default-clause-err_cells : goal.returns-in_default-clause-err_cells

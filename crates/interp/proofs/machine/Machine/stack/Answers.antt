@@ -1,6 +1,6 @@
 use Rattle.std.proofs.Common.{ap, ◌∙◌, sym, subst}
-use Rattle.interp.specs.Shown.{stack_shown, IsOpen}
+use Rattle.interp.specs.Shown.{stack_shown, IsShown}
 use Rattle.interp.proofs.machine.Machine.stack.Goals as goal
 
 pub returns : goal.returns
-returns g c o = c.stack_of_call.ensures (subst (λ p. IsOpen p.status) (sym c.self.view_is) o) ∙ ap stack_shown c.self.view_is
+returns g c o = c.stack_of_call.ensures (subst (λ p. IsShown p.status) (sym c.self.view_is) o) ∙ ap stack_shown c.self.view_is

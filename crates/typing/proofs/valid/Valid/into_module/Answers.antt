@@ -1,6 +1,6 @@
 use Rattle.module_tree.specs.Modules.{module_view}
-use Rattle.typing.proofs.Decides.{typed_of}
+use Rattle.typing.proofs.Kept.{typed_kept}
 use Rattle.typing.proofs.valid.Valid.into_module.Goals as goal
 
 pub returns-clause-typed : goal.returns-clause-typed
-returns-clause-typed g c = typed_of (module_view c.args.self.tree) c.args.self.passes
+returns-clause-typed g c = typed_kept (module_view c.args.self.tree) c.args.self.typed

@@ -1,0 +1,34 @@
+//! What a book hands out at its end.
+
+ghost use Rattle.std.specs.Prelude.{◌≡◌};
+ghost use Rattle.std.specs.FinMap as finite;
+ghost use Rattle.spec_ledger.specs.Book.{settled};
+
+use boost::attempt::Entry;
+use boost::book::{Book, Closed};
+use spec_ledger::{Lock, Mode, Step};
+use std::alloc::Allocator;
+
+/// As [`Book::close`].
+pub fn close<A: Allocator + Copy>(book: Book<A>) -> Closed<A>
+    ensures opening { result.opening.cells ≡ book.opening }
+    ensures entries { result.entries.items ≡ book.entries }
+    ensures cells { result.cells.cells ≡ settled book.opening book.entries }
+    ensures settled { result.cells.unsettled ≡ finite.empty }
+{
+    book.close()
+}
+
+/// As [`Entry::trace`].
+pub fn trace<A: Allocator>(entry: &Entry<A>) -> &[Step]
+    ensures { result.now ≡ entry.now.trace }
+{
+    entry.trace()
+}
+
+/// As [`Entry::mode`].
+pub fn mode<A: Allocator>(entry: &Entry<A>, lock: Lock) -> Option<Mode>
+    ensures { result ≡ finite.get entry.now.modes lock }
+{
+    entry.mode(lock)
+}

@@ -1,0 +1,67 @@
+// Why a reader of what stands at the front of bytes stopped.
+ghost use Rattle.std.specs.Prelude.{◌≡◌};
+ghost use Rattle.expr_reader.specs.Outcome.{is_memory, refusal_before};
+
+use crate::LoadRefusal;
+use module_tree::limit::Limit;
+use std::alloc::{AllocError, AllocFailed};
+
+/// Why a reader stopped, by how many bytes were left from the first byte of the item at fault on. Where these stand in
+/// the input is not known to it: [`Unread::ending_at`] makes the refusal of it.
+#[derive(Clone, Copy, Debug, PartialEq, Eq)]
+pub enum Unread {
+    /// The grammar has no such form, and so many bytes were left.
+    Malformed(usize),
+    /// A form that this profile leaves out, and so many bytes were left.
+    Unsupported(usize),
+    /// A limit is passed.
+    TooLarge(Limit),
+    /// Memory was refused.
+    NoMemory,
+}
+
+impl Unread {
+    /// The refusal, where the bytes that were read end at this offset.
+    pub fn ending_at(self, end: usize) -> LoadRefusal
+        ensures { result ≡ refusal_before end self }
+    {
+        match self {
+            Unread::Malformed(left) => LoadRefusal::Malformed(end.saturating_sub(left)),
+            Unread::Unsupported(left) => LoadRefusal::Unsupported(end.saturating_sub(left)),
+            Unread::TooLarge(limit) => LoadRefusal::TooLarge(limit),
+            Unread::NoMemory => LoadRefusal::NoMemory,
+        }
+    }
+
+    /// The same of an enclosure that so many more bytes stand behind.
+    pub fn with_more(self, more: usize) -> Unread
+        ensures { is_memory result ≡ is_memory self }
+    {
+        match self {
+            Unread::Malformed(left) => Unread::Malformed(left.saturating_add(more)),
+            Unread::Unsupported(left) => Unread::Unsupported(left.saturating_add(more)),
+            Unread::TooLarge(limit) => Unread::TooLarge(limit),
+            Unread::NoMemory => Unread::NoMemory,
+        }
+    }
+}
+
+impl From<AllocError> for Unread {
+    ghost use Rattle.expr_reader.specs.declared.unread.Unread.TheVariants.{NoMemory};
+
+    ghost from_gives = { λ _ e. e ≡ NoMemory };
+
+    fn from(_e: AllocError) -> Unread {
+        Unread::NoMemory
+    }
+}
+
+impl<T: Drop> From<AllocFailed<T>> for Unread {
+    ghost use Rattle.expr_reader.specs.declared.unread.Unread.TheVariants.{NoMemory};
+
+    ghost from_gives = { λ _ e. e ≡ NoMemory };
+
+    fn from(_e: AllocFailed<T>) -> Unread {
+        Unread::NoMemory
+    }
+}

@@ -1,0 +1,33 @@
+//! Profiles that are kept.
+
+ghost use Rattle.std.specs.Prelude.{◌≡◌, IfOk};
+
+use lock_profile::Profile;
+use std::alloc::Allocator;
+use wtypes::NoMemory;
+
+/// The same profile once more.
+fn profile_of<A: Allocator + Copy>(alloc: A, profile: &Profile<A>) -> Result<Profile<A>, NoMemory>
+    ensures { IfOk result (λ copy. copy ≡ profile.now) }
+{
+    profile.hold();
+    let entries = Vec::from_slice(alloc, profile.entries())?;
+    let Some(copy) = Profile::from_sorted(entries) else {
+        unreachable!()
+    };
+    Ok(copy)
+}
+
+/// The same profiles once more.
+pub(crate) fn profiles_of<A: Allocator + Copy>(
+    alloc: A,
+    profiles: &[Profile<A>],
+) -> Result<Vec<Profile<A>, A>, NoMemory>
+    ensures { IfOk result (λ copy. copy.items ≡ profiles.now) }
+{
+    let mut copy = Vec::new(alloc);
+    for profile in profiles {
+        copy.push(profile_of(alloc, profile)?)?;
+    }
+    Ok(copy)
+}

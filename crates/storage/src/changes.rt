@@ -1,0 +1,53 @@
+// The end of a call's changes: they stand, or are taken back.
+ghost use Rattle.std.specs.Prelude.{◌≡◌, if◌then◌else◌};
+ghost use Rattle.spec_ledger.specs.Book.{back_all, has_returned};
+ghost use Rattle.storage.specs.Counts.{AreUnsettled, closed_all};
+
+use crate::Cells;
+use spec_ledger::{Inverse, Outcome};
+use std::alloc::Allocator;
+
+/// Takes changes back, last first, for which it takes no memory.
+pub fn take_all_back<A: Allocator + Copy>(cells: &mut Cells<A>, mut inverses: Vec<Inverse, A>)
+    requires { AreUnsettled inverses.items cells.old.unsettled }
+    ensures cells { cells.new.cells ≡ back_all inverses.items cells.old.cells }
+    ensures unsettled { cells.new.unsettled ≡ closed_all inverses.items cells.old.unsettled }
+{
+    while let Some(inverse) = inverses.pop() {
+        cells.take_back(inverse);
+    }
+}
+
+/// Lets changes stand, for which it takes no memory.
+pub fn settle_all<A: Allocator + Copy>(cells: &mut Cells<A>, mut inverses: Vec<Inverse, A>)
+    requires { AreUnsettled inverses.items cells.old.unsettled }
+    ensures cells { cells.new.cells ≡ cells.old.cells }
+    ensures unsettled { cells.new.unsettled ≡ closed_all inverses.items cells.old.unsettled }
+{
+    while let Some(inverse) = inverses.pop() {
+        cells.settle(inverse);
+    }
+}
+
+/// Ends the changes of a call: they stand, or are taken back, last first. Either takes no memory.
+pub fn end_all<A: Allocator + Copy>(cells: &mut Cells<A>, inverses: Vec<Inverse, A>, stand: bool)
+    requires { AreUnsettled inverses.items cells.old.unsettled }
+    ensures cells { cells.new.cells ≡ (if stand then cells.old.cells else back_all inverses.items cells.old.cells) }
+    ensures unsettled { cells.new.unsettled ≡ closed_all inverses.items cells.old.unsettled }
+{
+    if stand {
+        settle_all(cells, inverses);
+    } else {
+        take_all_back(cells, inverses);
+    }
+}
+
+/// Whether a call that ended so returned: then its changes stand.
+pub fn returned(outcome: Outcome) -> bool
+    ensures { result ≡ has_returned outcome }
+{
+    match outcome {
+        Outcome::Returned(_) => true,
+        Outcome::Trapped(_) | Outcome::OutOfFuel | Outcome::Rejected(_) => false,
+    }
+}

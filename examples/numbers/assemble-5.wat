@@ -1,0 +1,1 @@
+(module (func (drop (i32.const 4294967296))))

@@ -1,0 +1,1 @@
+(module (export "a" (func 0)))

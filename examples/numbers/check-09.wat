@@ -1,0 +1,1 @@
+(module (func $f) (elem 0 (offset (i32.const 0)) $f))

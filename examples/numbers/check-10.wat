@@ -1,0 +1,1 @@
+(module (data 0 (offset (i32.const 0)) "a"))

@@ -1,0 +1,1 @@
+(module (func (result i64) (i32.const 1)))

@@ -1,0 +1,1 @@
+(module (import "boost" "get" (func (param i32) (result i64))))

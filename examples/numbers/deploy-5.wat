@@ -1,0 +1,1 @@
+(module (table 65537 funcref))

@@ -1,0 +1,79 @@
+#!/usr/bin/env bash
+# Runs the session of each example with the built program, and compares what is printed and each status.
+#
+#   examples/run.sh [PROGRAM]     PROGRAM: crates/wblock/out/wblock of this repository if it is not given
+#
+# A session is the file session.txt of an example's folder. A line `$ wblock WORD...` is a command. Below it stands what it prints on
+# standard output, and last `status N` where the status is not 0. `...` as the last line stands for any lines, with status 0. Empty lines
+# and lines that begin with `#` are for readers. Commands run in a copy of the folder. The status is 0 where all passed, 1 where
+# one failed, 2 where there is no program.
+set -u
+here=$(cd "$(dirname "${BASH_SOURCE[0]}")" && pwd)
+program=${1:-$here/../crates/wblock/out/wblock}
+if [ ! -f "$program" ] || [ ! -x "$program" ]; then
+    echo "examples: there is no program $program" >&2
+    exit 2
+fi
+program=$(cd "$(dirname "$program")" && pwd)/$(basename "$program")
+work=$(mktemp -d)
+trap 'rm -rf "$work"' EXIT
+passed=0
+failed=0
+
+# Runs the command of a session and compares: $1 the example's name, $2 the command, $3 what it is to print.
+compare() {
+    local words status printed wanted
+    read -r -a words <<<"$2"
+    if [ "${words[0]}" != wblock ]; then
+        echo "$1: '$2' is no command of wblock"
+        failed=$((failed + 1))
+        return
+    fi
+    printed=$(cd "$work/$1" && "$program" "${words[@]:1}" 2>"$work/said")
+    status=$?
+    if [ "$status" != 0 ]; then
+        printed=${printed:+$printed$'\n'}"status $status"
+    fi
+    wanted=$3
+    if [ "$status" = 0 ] && [ "${wanted##*$'\n'}" = "..." ]; then
+        # what stands before `...` has to come first
+        wanted=${wanted%...}
+        case "$printed" in
+            "$wanted"*) printed=$wanted ;;
+        esac
+    fi
+    if [ "$printed" = "$wanted" ]; then
+        passed=$((passed + 1))
+        return
+    fi
+    failed=$((failed + 1))
+    echo "$1: $2"
+    diff <(echo "$wanted") <(echo "$printed") | sed 's/^/    /'
+    sed 's/^/    said: /' "$work/said"
+}
+
+# Runs a session: $1 the example's name.
+run_session() {
+    local line command="" wanted="" has=0
+    while IFS= read -r line || [ -n "$line" ]; do
+        case "$line" in
+            '$ '*)
+                [ "$has" = 1 ] && compare "$1" "$command" "$wanted"
+                command=${line#\$ }
+                wanted=""
+                has=1
+                ;;
+            '' | '#'*) ;;
+            *) wanted=${wanted:+$wanted$'\n'}$line ;;
+        esac
+    done <"$here/$1/session.txt"
+    [ "$has" = 1 ] && compare "$1" "$command" "$wanted"
+}
+
+for session in "$here"/*/session.txt; do
+    name=$(basename "$(dirname "$session")")
+    cp -r "$here/$name" "$work/$name"
+    run_session "$name"
+done
+echo "$passed passed, $failed failed"
+[ "$failed" = 0 ] && [ "$passed" != 0 ]
