@@ -1,6 +1,5 @@
 -- A map of the program from locks as a finite map.
-use Rattle.std.proofs.Common.{◌≡◌, ◌<◌, cond, Option, Some, List, [], ◌∷◌, length, refl, sym, ◌∙◌, ap, subst, arith}
-use Rattle.std.specs.declared.cmp.Ordering.{Ordering}
+use Rattle.std.proofs.Common.{◌≡◌, ◌<◌, cond, Option, Some, List, [], ◌∷◌, length, refl, sym, ◌∙◌, ap, arith}
 use Rattle.std.specs.Ordering.{eq_by_cmp, is_eq}
 use Rattle.std.specs.Cmp.{eq_by_cmp_equiv}
 use Rattle.std.specs.Map.{lookup}
@@ -9,8 +8,6 @@ use Rattle.std.specs.BTreeMap as tree
 use Rattle.std.specs.BTreeMap.{BTreeMap}
 use Rattle.spec_ledger.specs.declared.Lock.{Lock}
 use Rattle.spec_ledger.specs.Cells.{lock_cmp, set_at}
-use Rattle.spec_ledger.specs.contracts.LockOrd.TheImpl as derived
-use Rattle.spec_ledger.proofs.Locks.{derived_is}
 use Rattle.spec_ledger.proofs.Maps.{get-set_at, lock_cmp_total, lock_cmp-IsAntisymmetric}
 
 module _ {X : Type 0} where
@@ -21,16 +18,14 @@ module _ {X : Type 0} where
   get-view : (es : List (Lock × X)) (q : Lock) → get (from_entries {R = lock_cmp} es) q ≡ lookup (λ k. is_eq (lock_cmp q k)) es
   get-view es q = get-from_entries lock_cmp_total es q ∙ find_lookup es q
 
-  pub found : (m : BTreeMap Lock X) (lock : Lock) (o : Option X) → o ≡ tree.get derived.cmp-value.it m lock → o ≡ get (from_entries {R = lock_cmp} m.entries) lock
-  found m lock o is = is ∙ ap (λ R. tree.get R m lock) derived_is ∙ sym (get-view m.entries lock)
+  pub found : (m : BTreeMap Lock X) (lock : Lock) (o : Option X) → o ≡ tree.get lock_cmp m lock → o ≡ get (from_entries {R = lock_cmp} m.entries) lock
+  found m lock o is = is ∙ sym (get-view m.entries lock)
 
-  pub written : (m n : BTreeMap Lock X) (lock : Lock) (o : Option X) → ((q : Lock) → tree.get derived.cmp-value.it n q ≡ cond (eq_by_cmp derived.cmp-value.it lock q) o (tree.get derived.cmp-value.it m q))
+  pub written : (m n : BTreeMap Lock X) (lock : Lock) (o : Option X) → ((q : Lock) → tree.get lock_cmp n q ≡ cond (eq_by_cmp lock_cmp lock q) o (tree.get lock_cmp m q))
       → from_entries {R = lock_cmp} n.entries ≡ set_at (from_entries m.entries) lock o
   written m n lock o h =
-      let by_order : (q : Lock) → tree.get lock_cmp n q ≡ cond (eq_by_cmp lock_cmp lock q) o (tree.get lock_cmp m q) =
-      let P : (Lock → Lock → Ordering) → Type 0 = λ R. (q : Lock) → tree.get R n q ≡ cond (eq_by_cmp R lock q) o (tree.get R m q) in subst P derived_is h in
       same_map lock_cmp_total lock_cmp-IsAntisymmetric _ _ (λ q.
-      get-view n.entries q ∙ by_order q
+      get-view n.entries q ∙ h q
       ∙ ap (λ x. cond (eq_by_cmp lock_cmp lock q) o x) (sym (get-view m.entries q))
       ∙ ap (λ b. cond b o (get (from_entries {R = lock_cmp} m.entries) q)) ((eq_by_cmp_equiv lock_cmp_total).symm lock q)
       ∙ sym (get-set_at lock_cmp_total (from_entries m.entries) lock o q))

@@ -1,13 +1,13 @@
 //! Measures what makes a block: drawing numbers, operations of a book, calls one after another, mining and validating.
 #![tactic(auto)]
 
-mod adder_load;
 mod blocks;
 mod book_load;
 mod book_work;
 mod draw_plan;
 mod draws;
 mod example_load;
+mod inputs;
 mod mined;
 mod operations;
 mod orders;
@@ -26,11 +26,11 @@ use std::{env, io};
 const USAGE: &str = "usage: bench_blocks draw THREADS DRAWS
        bench_blocks operate KEYS
        bench_blocks serial CALLS
-       bench_blocks mine WORKERS SHARED short|long
-       bench_blocks block serial|mine|validate WORKERS";
+       bench_blocks mine WORKERS WORLD CALLS
+       bench_blocks block serial|mine|validate WORKERS WORLD CALLS";
 
 /// The line of what the words ask to measure. `None` where they ask for nothing.
-fn measured<R: Threads + Wait + Clock + Sync>(
+fn measured<R: Threads + Wait + Clock + std::rt::Files + Sync>(
     rt: &R,
     alloc: Global,
     words: &[String],

@@ -1,8 +1,9 @@
 //! How many calls a second run one after another, are mined and are validated, with their block.
 
-ghost use Rattle.std.specs.Prelude.{◌≤◌, length};
+ghost use Rattle.std.specs.Prelude.{◌≤◌, length, vec_len};
 
-use crate::adder_load::Load;
+use crate::inputs::{Inputs, read_inputs, refused};
+use crate::rates::a_second;
 use crate::sealed::sealed;
 use block::{Block, write_block};
 use call::Call;
@@ -13,10 +14,9 @@ use std::alloc::Global;
 use std::io;
 use std::sync::Wait;
 use std::thread::Threads;
-use std::time::{Clock, Instant};
-use storage::Cells;
+use std::time::{Clock, Duration, Instant};
 use validator::{Verdict, validate};
-use world::World;
+use world::{World, digest_world};
 
 /// How often a worker of the miner tries a call.
 const TRIES: u32 = 3;
@@ -28,7 +28,7 @@ enum Work {
     Serial,
     /// They are mined.
     Mine,
-    /// Their block is validated.
+    /// The block of the calls one after another is validated.
     Validate,
 }
 
@@ -42,17 +42,14 @@ struct Task {
 
 impl Task {
     /// The task that two words give.
-    fn of_words(words: &[String]) -> Option<Task> {
-        let [work, workers] = words else {
-            return None;
-        };
-        let work = match work.as_str() {
+    fn of_words(work: &str, workers: &str) -> Option<Task> {
+        let work = match work {
             "serial" => Work::Serial,
             "mine" => Work::Mine,
             "validate" => Work::Validate,
             _ => return None,
         };
-        let workers = workers.as_str().parse::<u32>().ok()?;
+        let workers = workers.parse::<u32>().ok()?;
         if workers < 1 || workers > 64 {
             return None;
         }
@@ -60,7 +57,15 @@ impl Task {
     }
 }
 
-/// The block that workers mine. `None` where memory was refused.
+/// The block of the calls one after another. `None` where memory was refused.
+fn one_by_one(alloc: Global, world: &World, calls: &[Call]) -> Option<Block>
+    requires { length calls.now ≤ 65535 }
+{
+    let (block, _) = sealed(alloc, world, calls)?;
+    Some(block)
+}
+
+/// The block that workers mine of all calls. `None` where memory was refused, or where a call is left out.
 fn mined<R: Threads + Wait + Sync>(
     rt: &R,
     alloc: Global,
@@ -71,102 +76,123 @@ fn mined<R: Threads + Wait + Sync>(
     requires calls { length calls.now ≤ 65535 }
     requires workers { (1 ≤ workers) × (workers ≤ 64) }
 {
-    let mined = mine(rt, alloc, world, calls, u64::MAX, workers, TRIES, &NoPace);
-    Some(mined.ok()?.block)
+    let mined = mine(rt, alloc, world, calls, u64::MAX, workers, TRIES, &NoPace).ok()?;
+    if mined.left.is_empty() {
+        Some(mined.block)
+    } else {
+        None
+    }
 }
 
-/// Whether workers accept the bytes of a block. `None` where memory was refused.
-fn is_accepted<R: Threads + Wait + Sync>(
+/// The world after a block that workers accept. `None` where they reject it, or where memory was refused.
+fn accepted<R: Threads + Wait + Sync>(
     rt: &R,
     alloc: Global,
     world: &World,
     calls: &[Call],
     bytes: &[u8],
     workers: u32,
-) -> Option<bool>
+) -> Option<World>
     requires calls { length calls.now ≤ 65535 }
     requires workers { (1 ≤ workers) × (workers ≤ 64) }
 {
     let verdict = validate(rt, alloc, world, calls, u64::MAX, bytes, workers, &NoPace);
-    Some(matches!(verdict.ok()?, Verdict::Accept(_)))
+    match verdict.ok()? {
+        Verdict::Accept(next) => Some(next),
+        Verdict::Reject(_) => None,
+    }
 }
 
-/// The bytes of the block of the calls. `None` where memory was refused.
-fn bytes_of(alloc: Global, world: &World, calls: &[Call]) -> Option<MemorySink>
-    requires { length calls.now ≤ 65535 }
-{
-    let (block, _) = sealed(alloc, world, calls)?;
-    let mut sink = MemorySink::new(alloc, 1_000_000, Failures::none());
-    write_block(alloc, &block, &mut sink).ok()?;
+/// The bytes of a block. `None` where memory was refused.
+fn bytes_of(alloc: Global, block: &Block) -> Option<MemorySink> {
+    let mut sink = MemorySink::new(alloc, usize::MAX, Failures::none());
+    write_block(alloc, block, &mut sink).ok()?;
     Some(sink)
 }
 
-/// Does the work, and answers whether it was done.
-fn is_done<R: Threads + Wait + Sync>(
+/// The time of making the block of the calls, and the block: by workers, or one call after another.
+fn time_block<R: Threads + Wait + Clock + Sync>(
     rt: &R,
     alloc: Global,
-    world: &World,
-    calls: &[Call],
-    bytes: &[u8],
+    inputs: &Inputs,
     task: Task,
-) -> bool
-    requires { length calls.now ≤ 65535 }
+) -> io::Result<(Duration, Block)> {
+    let start = Instant::now(rt)?;
+    let block = match task.work {
+        Work::Mine => mined(rt, alloc, &inputs.world, &inputs.calls, task.workers),
+        Work::Serial | Work::Validate => one_by_one(alloc, &inputs.world, &inputs.calls),
+    };
+    let time = start.elapsed(rt)?;
+    match block {
+        Some(block) => Ok((time, block)),
+        None => Err(refused()),
+    }
+}
+
+/// The time in which workers accept a block of the calls, and the world after it.
+fn time_verdict<R: Threads + Wait + Clock + Sync>(
+    rt: &R,
+    alloc: Global,
+    inputs: &Inputs,
+    block: &Block,
+    workers: u32,
+) -> io::Result<(Duration, World)>
+    requires { (1 ≤ workers) × (workers ≤ 64) }
 {
-    let workers = task.workers;
-    match task.work {
-        Work::Serial => sealed(alloc, world, calls).is_some(),
-        Work::Mine => mined(rt, alloc, world, calls, workers).is_some(),
-        Work::Validate => is_accepted(rt, alloc, world, calls, bytes, workers) == Some(true),
-    }
-}
-
-/// The world of the contract, without cells. `None` where memory was refused.
-fn world_of(alloc: Global) -> Option<World> {
-    let contract = Load::contract(alloc)?;
-    Some(World::new(vec![in alloc; contract].ok()?, Cells::new(alloc)))
-}
-
-/// What a refusal of memory, or of a block, is told as.
-fn refused() -> io::Error {
-    io::Error::from(io::ErrorKind::OutOfMemory)
-}
-
-/// The line of the calls a second: 2,000 of 10,005 instructions, which use no cell in common.
-fn line_of<R: Threads + Wait + Clock + Sync>(
-    rt: &R,
-    alloc: Global,
-    load: Load,
-    task: Task,
-) -> io::Result<String> {
-    let Some(world) = world_of(alloc) else {
-        return Err(refused());
-    };
-    let Ok(calls) = load.calls(alloc) else {
-        return Err(refused());
-    };
-    if calls.len() > 65_535 {
-        return Err(refused());
-    }
-    let Some(block) = bytes_of(alloc, &world, &calls) else {
+    let Some(bytes) = bytes_of(alloc, block) else {
         return Err(refused());
     };
     let start = Instant::now(rt)?;
-    if !is_done(rt, alloc, &world, &calls, block.bytes(), task) {
-        return Err(refused());
+    let next = accepted(
+        rt,
+        alloc,
+        &inputs.world,
+        &inputs.calls,
+        bytes.bytes(),
+        workers,
+    );
+    let time = start.elapsed(rt)?;
+    match next {
+        Some(next) => Ok((time, next)),
+        None => Err(refused()),
     }
-    let nanoseconds = start.elapsed(rt)?.as_nanos().max(1);
-    let rate = (calls.len() as u128) * 1_000_000_000 / nanoseconds;
-    Ok(format!(in alloc; "a second {rate}")?)
+}
+
+/// The line of the calls a second. Each block that is made is validated, too.
+fn line_of<R: Threads + Wait + Clock + Sync>(
+    rt: &R,
+    alloc: Global,
+    inputs: &Inputs,
+    task: Task,
+) -> io::Result<String> {
+    let (making, block) = time_block(rt, alloc, inputs, task)?;
+    let (judging, next) = time_verdict(rt, alloc, inputs, &block, task.workers)?;
+    let time = match task.work {
+        Work::Serial | Work::Mine => making,
+        Work::Validate => judging,
+    };
+    let rate = a_second(inputs.calls.len() as u32, time);
+    let Ok(digest) = digest_world(alloc, &next) else {
+        return Err(refused());
+    };
+    let after = hex::encode(alloc, digest)?;
+    Ok(format!(in alloc; "left 0 after {after} a second {rate}")?)
 }
 
 /// The line of the task that the words give.
-pub fn measured<R: Threads + Wait + Clock + Sync>(
+pub fn measured<R: Threads + Wait + Clock + std::rt::Files + Sync>(
     rt: &R,
     alloc: Global,
     words: &[String],
 ) -> io::Result<Option<String>> {
-    match (Task::of_words(words), Load::of_words("0", "0", "long")) {
-        (Some(task), Some(load)) => Ok(Some(line_of(rt, alloc, load, task)?)),
-        _ => Ok(None),
+    let [work, workers, world, calls] = words else {
+        return Ok(None);
+    };
+    match Task::of_words(work.as_str(), workers.as_str()) {
+        Some(task) => {
+            let inputs = read_inputs(rt, alloc, world.as_str(), calls.as_str())?;
+            Ok(Some(line_of(rt, alloc, &inputs, task)?))
+        }
+        None => Ok(None),
     }
 }

@@ -7,3 +7,4 @@ pub mod readers;
 pub mod runs;
 pub mod steps;
 pub mod tells;
+pub mod turning;

@@ -1,12 +1,28 @@
 //! The book.
 
-ghost use Rattle.std.specs.Prelude.{◌≡◌, ◌↔◌, IfOk, OnErr, Err, IfErr, ◌≤◌, length};
+ghost use Rattle.std.specs.Prelude.{◌≡◌, ◌↔◌, IfOk, OnErr, Err, IfErr, ◌≤◌, [], length, replicate};
 ghost use Rattle.spec_ledger.specs.Events.{IsStale, OpDone, IsConflict, CommitDone, IsOther, BeginDone, HasNoAttempt};
 ghost use Rattle.spec_ledger.specs.Book.{call_is_new};
 
 use boost::book::{BeginRefusal, Book, CommitRefusal, OpRefusal, Run, Ticket};
-use spec_ledger::{Op, Reply};
+use spec_ledger::{NoMemory, Op, Reply};
 use std::alloc::Allocator;
+use storage::Cells;
+
+/// As [`Book::open`].
+pub fn open<A: Allocator + Copy>(
+    alloc: A,
+    opening: Cells<A>,
+    calls: u32,
+) -> Result<Book<A>, NoMemory>
+    ensures opening { IfOk result (λ book. book.opening ≡ opening.cells) }
+    ensures now { IfOk result (λ book. book.now ≡ opening.cells) }
+    ensures entries { IfOk result (λ book. book.entries ≡ []) }
+    ensures attempts { IfOk result (λ book. book.attempts ≡ []) }
+    ensures begun { IfOk result (λ book. book.begun ≡ replicate calls 0) }
+{
+    Book::open(alloc, opening, calls)
+}
 
 /// As [`Book::op`].
 pub fn op<A: Allocator + Copy>(

@@ -3,5 +3,6 @@
 
 pub mod books;
 pub mod intakes;
+pub mod lanes_and_cells;
 pub mod mined;
 pub mod verdicts;

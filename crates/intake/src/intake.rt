@@ -7,16 +7,7 @@ use crate::seat::Seat;
 use atomic_table::Table;
 use std::alloc::{AllocError, Allocator};
 use std::sync::Wait;
-
-/// There was no memory.
-#[derive(Clone, Copy, Debug, PartialEq, Eq)]
-pub struct NoMemory;
-
-impl From<AllocError> for NoMemory {
-    fn from(_error: AllocError) -> NoMemory {
-        NoMemory
-    }
-}
+use wtypes::NoMemory;
 
 /// Numbers to draw and fuel to reserve, which threads share by a `&`. Each thread calls with a seat of its own.
 pub struct Intake<A: Allocator> {

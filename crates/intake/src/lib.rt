@@ -7,5 +7,5 @@ mod rule;
 mod seat;
 
 pub use account::{Account, Limits};
-pub use intake::{Intake, NoMemory};
+pub use intake::Intake;
 pub use seat::Seat;

@@ -52,6 +52,24 @@ fn next_turn<'a, A: Allocator + Copy>(run: &mut Run<'a, A>) -> Turn
     ensures same { result ≡ Turn.NoMemory → IsSameCall (progress (seen run.old)) (progress (seen run.new)) }
 {
     match run.status {
+        Status::Running => make_turn(run),
+        _ => tell(run),
+    }
+}
+
+// Tells how the run ended, or that memory was refused. It is a function of its own so that the turns before pay nothing for it.
+#[inline(always)]
+fn tell<'a, A: Allocator + Copy>(run: &mut Run<'a, A>) -> Turn
+    requires kept { IsKept run.old }
+    requires free { IsFree run.old.status }
+    requires stopped { run.old.status ≢ Status.Running }
+    ensures kept { IsKept run.new }
+    ensures turn { NextIs (progress (seen run.old)) result (progress (seen run.new)) }
+    ensures told { IsTold (progress (seen run.old)) result (progress (seen run.new)) }
+    ensures no_memory { result ≡ Turn.NoMemory → WantsMemory (progress (seen run.old)) run.old.status }
+    ensures same { result ≡ Turn.NoMemory → IsSameCall (progress (seen run.old)) (progress (seen run.new)) }
+{
+    match run.status {
         Status::Ended(outcome) => Turn::Done(outcome),
         Status::NoMemory => Turn::NoMemory,
         Status::Asking(_) => unreachable!(),
@@ -59,7 +77,7 @@ fn next_turn<'a, A: Allocator + Copy>(run: &mut Run<'a, A>) -> Turn
             run.status = Status::Ended(Outcome::Trapped(code));
             Turn::Done(Outcome::Trapped(code))
         }
-        Status::Running => make_turn(run),
+        Status::Running => unreachable!(),
     }
 }
 
@@ -77,8 +95,7 @@ fn make_turn<'a, A: Allocator + Copy>(run: &mut Run<'a, A>) -> Turn
         return give_result(run);
     }
     if run.used == run.call.fuel() {
-        run.status = Status::Ended(Outcome::OutOfFuel);
-        return Turn::Done(Outcome::OutOfFuel);
+        return run_out(run);
     }
     match execute(&run.lent, &mut run.parts) {
         Ok(After::Ran) => {
@@ -103,7 +120,23 @@ fn make_turn<'a, A: Allocator + Copy>(run: &mut Run<'a, A>) -> Turn
     }
 }
 
+// The fuel is out, and an instruction is to come.
+#[inline(always)]
+fn run_out<'a, A: Allocator + Copy>(run: &mut Run<'a, A>) -> Turn
+    requires kept { IsKept run.old }
+    requires running { run.old.status ≡ Status.Running }
+    requires some { run.old.parts.code.now ≢ [] }
+    requires out { run.old.used ≡ run.old.call.now.fuel }
+    ensures done { result ≢ Turn.NoMemory }
+    ensures kept { IsKept run.new }
+    ensures turn { NextIs (progress (seen run.old)) result (progress (seen run.new)) }
+{
+    run.status = Status::Ended(Outcome::OutOfFuel);
+    Turn::Done(Outcome::OutOfFuel)
+}
+
 // Memory was refused: what is open is let go.
+#[inline(always)]
 fn give_up<'a, A: Allocator + Copy>(run: &mut Run<'a, A>) -> Turn
     requires beginning { IsBegun run.old }
     ensures kept { IsKept run.new }
@@ -119,6 +152,7 @@ fn give_up<'a, A: Allocator + Copy>(run: &mut Run<'a, A>) -> Turn
 }
 
 // The run has ended, with what is left.
+#[inline(always)]
 fn give_result<'a, A: Allocator + Copy>(run: &mut Run<'a, A>) -> Turn
     requires kept { IsKept run.old }
     requires running { run.old.status ≡ Status.Running }
@@ -135,6 +169,7 @@ fn give_result<'a, A: Allocator + Copy>(run: &mut Run<'a, A>) -> Turn
 ghost use Rattle.interp.specs.Run.{IsToCall};
 
 // A function of the module is called.
+#[inline(always)]
 fn start_function<'a, A: Allocator + Copy>(run: &mut Run<'a, A>, func: u32) -> Turn
     requires call { IsToCall run.old func }
     requires defined { length run.old.lent.hosts.now ≤ func }
@@ -172,6 +207,7 @@ fn start_run<'a, A: Allocator + Copy>(run: &mut Run<'a, A>) -> Turn
 }
 
 // An import is called: the run waits for the reply to the operation.
+#[inline(always)]
 fn ask<'a, A: Allocator + Copy>(run: &mut Run<'a, A>, func: u32) -> Turn
     requires call { IsToCall run.old func }
     requires hosted { func < length run.old.lent.hosts.now }

@@ -13,6 +13,7 @@ use Rattle.intake.proofs.intake.Intake.TheSendSync as intake
 use Rattle.shared_book.specs.contracts.shared.SharedBook as book_row
 use Rattle.shared_book.proofs.Crossing as book
 use Rattle.serial_block.proofs.Crossing.{crosses, vec_send, contract_sync, cells_sync, finished_send}
+use Rattle.mining.proofs.brake.Brake.TheSendSync as brake
 use Rattle.mining.specs.contracts.attempt.Committed as committed_row
 use Rattle.mining.specs.contracts.attempt.Job as job_row
 use Rattle.mining.specs.contracts.worker.Worked as worked_row
@@ -48,7 +49,7 @@ module _ (B : RattleType) (g : Ghosts B.Denot) (send : IsSend B) (sync : IsSync 
               search (crosses, book_sync) depth 60 fits 100000,
               (
                 search (crosses, intake_sync) depth 60 fits 100000,
-                (as_row_sync (row_field (ShrRef a.mir a.lft P)) (shr_sync a.mir a.lft P pace), (search crosses depth 60 fits 100000, tt)),
+                (as_row_sync (row_field (ShrRef a.mir a.lft P)) (shr_sync a.mir a.lft P pace), (search crosses depth 60 fits 100000, (search (crosses, brake.the_sync) depth 60 fits 100000, tt))),
               ),
             ),
           ),

@@ -5,22 +5,23 @@ ghost use Rattle.spec_execution.specs.Run.{opening};
 ghost use Rattle.interp.specs.Lent.{contracts_view};
 ghost use Rattle.interp.specs.Starting.{IsOpened, IsRejection};
 ghost use Rattle.interp.specs.Progress.{IsFree, IsSameCall};
-ghost use Rattle.serial.specs.Playing.{HasTurned, IsEnded};
+ghost use Rattle.turn_loop.specs.Going.{MayGoOn, IsEnded};
 ghost use Rattle.mining.specs.Handed.{IsRunOf, IsCommitted};
 
+use crate::brake::Brake;
 use boost::book::{BeginRefusal, CommitRefusal, OpRefusal, Run, Ticket};
 use call::Call;
 use intake::Intake;
 use interp::finished::Finished;
 use interp::machine::Machine;
 use interp::start::StartRefusal;
-use interp::turns::Turn;
 use link::deployed::Deployed as Contract;
 use pace::{Pace, Step};
 use shared_book::SharedBook;
 use spec_ledger::{NoMemory, Op, Reply};
 use std::alloc::Allocator;
 use std::sync::Wait;
+use turn_loop::next_op;
 
 /// What the workers share.
 #[derive(Drop)]
@@ -33,6 +34,8 @@ pub(crate) struct Job<'s, 'a, A: Allocator, P: Pace> {
     pub(crate) pace: &'s P,
     /// How often a call is tried.
     pub(crate) tries: u32,
+    /// How many attempts may run at once.
+    pub(crate) brake: &'s Brake,
 }
 
 /// A run that was committed.
@@ -82,8 +85,8 @@ fn ask<A: Allocator + Copy, R: Wait, P: Pace>(
     }
 }
 
-/// Makes a turn, with the operation that it asks for. Answers whether the run goes on.
-fn make_turn<'a, A: Allocator + Copy, R: Wait, P: Pace>(
+/// Goes on to the next operation, and asks the book for it. Answers whether there was one.
+fn ask_next<'a, A: Allocator + Copy, R: Wait, P: Pace>(
     rt: &R,
     job: &Job<'_, 'a, A, P>,
     ticket: &Ticket,
@@ -95,24 +98,23 @@ fn make_turn<'a, A: Allocator + Copy, R: Wait, P: Pace>(
     requires limit { machine.old.call.fuel < 2 ^ 64 }
     requires asked { asked.old ≤ machine.old.used }
     ensures same { OnOk result (IsSameCall machine.old machine.new) }
-    ensures goes_on { result ≡ Ok true → HasTurned machine.old machine.new }
+    ensures goes_on { result ≡ Ok true → MayGoOn machine.old machine.new }
     ensures ended { result ≡ Ok false → IsEnded machine.new.status }
     ensures asked { OnOk result (asked.new ≤ machine.new.used) }
 {
-    match machine.next() {
-        Turn::Stepped => Ok(true),
-        Turn::Host(op) => {
+    match next_op(machine) {
+        Ok(Some(op)) => {
             let reply = ask(rt, job, ticket, call, *asked, op)?;
             machine.answer(reply);
             *asked += 1;
             Ok(true)
         }
-        Turn::Done(_) => Ok(false),
-        Turn::NoMemory => Err(Stop::NoMemory),
+        Ok(None) => Ok(false),
+        Err(NoMemory) => Err(Stop::NoMemory),
     }
 }
 
-/// Makes the turns of a call that starts.
+/// Runs a call that starts to its end.
 fn run<'a, A: Allocator + Copy, R: Wait, P: Pace>(
     rt: &R,
     job: &Job<'_, 'a, A, P>,
@@ -126,7 +128,7 @@ fn run<'a, A: Allocator + Copy, R: Wait, P: Pace>(
     ensures call { IfOk result (λ finished. finished.call ≡ machine.entry.call) }
 {
     let mut asked = 0;
-    'turns: while make_turn(rt, job, ticket, call, &mut machine, &mut asked)? {}
+    'operations: while ask_next(rt, job, ticket, call, &mut machine, &mut asked)? {}
     match machine.finish() {
         Ok(finished) => Ok(finished),
         Err(_) => unreachable!(),
@@ -237,10 +239,17 @@ pub(crate) fn try_call<'a, A: Allocator + Copy, R: Wait, P: Pace>(
     ensures { IfOk result (λ o. IfSome o (IsCommitted (contracts_view job.now.contracts.now) job.now.calls.now)) }
 {
     for nth in 0..job.tries {
+        job.brake.begin();
         match attempt(rt, job, call, nth) {
-            Ok(committed) => return Ok(Some(committed)),
-            Err(Stop::NoMemory) => return Err(NoMemory),
-            Err(Stop::Refused) => {}
+            Ok(committed) => {
+                job.brake.commit();
+                return Ok(Some(committed));
+            }
+            Err(Stop::NoMemory) => {
+                job.brake.undo();
+                return Err(NoMemory);
+            }
+            Err(Stop::Refused) => job.brake.undo(),
         }
     }
     Ok(None)

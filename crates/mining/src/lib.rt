@@ -4,6 +4,7 @@
 #![tactic(auto)]
 
 mod attempt;
+mod brake;
 mod mined_core;
 mod outcome;
 mod worker;

@@ -10,6 +10,7 @@ ghost use Rattle.publish.specs.Publication.{AreLeft, limits, fuel_used};
 ghost use Rattle.mining.specs.Handed.{AreRuns};
 
 use crate::attempt::Job;
+use crate::brake::Brake;
 use crate::outcome::publish;
 use crate::worker::{Worked, work};
 use call::Call;
@@ -83,6 +84,7 @@ pub fn mine_core<'a, R: Threads + Wait + Sync, A: Allocator + Copy + Send + Sync
     let Ok((intake, seats)) = Intake::open(alloc, count, block_fuel, workers) else {
         return Err(NoMemory);
     };
+    let brake = Brake::new(workers);
     let job = Job {
         alloc,
         contracts,
@@ -91,6 +93,7 @@ pub fn mine_core<'a, R: Threads + Wait + Sync, A: Allocator + Copy + Send + Sync
         intake: &intake,
         pace,
         tries,
+        brake: &brake,
     };
     let worked = run_workers(rt, &job, seats)?;
     publish(alloc, contracts, calls, cells, block_fuel, worked)

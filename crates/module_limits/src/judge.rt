@@ -16,14 +16,17 @@ use encoder::{ModuleLists, encode_lists};
 use module_tree::limit::{BYTE_LIMIT, FUNCTION_LIMIT};
 use module_tree::module::{Func, Module};
 use std::alloc::{AllocError, Allocator};
+use thiserror::Error;
 use wtypes::NoMemory;
 
 /// Why lists are no `Module`.
-#[derive(Clone, Copy, Debug, PartialEq, Eq)]
+#[derive(Clone, Copy, Debug, PartialEq, Eq, Error)]
 pub enum Unsealed {
     /// They do not keep the limits of this profile.
+    #[error("the module does not keep the limits of this profile")]
     TooLarge,
     /// Memory ran out.
+    #[error("memory was refused")]
     NoMemory,
 }
 

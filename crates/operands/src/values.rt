@@ -40,8 +40,5 @@ pub fn put_back<A: Allocator + Copy>(stack: &mut Vec<Value, A>, value: Value)
     requires { vec_len stack.old < vec_capacity stack.old }
     ensures { stack.new.items ≡ stack.old.items ++ value ∷ [] }
 {
-    match stack.push(value) {
-        Ok(()) => {}
-        Err(_) => unreachable!(),
-    }
+    stack.push_reserved(value);
 }

@@ -70,9 +70,6 @@ put_at at wave old new less is =
 pub kept_at : (at : LockTurn) (wave : ℕ) (old new : LockTurn → ℕ) → wave ≤ old at → new ≡ old → IsRaisedAt at wave old new
 kept_at at wave old new enough same = subst (IsRaisedAt at wave old) (sym same) (record { up = λ q. omega arith; there = enough; alone = λ q. inl refl })
 
-pub raised_none : (wave : ℕ) (old : LockTurn → ℕ) → AreRaised [] wave old old
-raised_none wave old = record { up = λ q. omega arith; there = λ q a. let lt = a.1.1 in absurd (omega (arith, lt)); alone = λ q. inl refl }
-
 pub raised_more : (es : List Entry) (i : ℕ) (d : Entry) (wave : ℕ) (old mid new : LockTurn → ℕ) → i < length es → AreRaised (take i es) wave old mid → IsRaisedAt (next_turn (get_or es i d)) wave mid new
     → AreRaised (take (i + 1) es) wave old new
 raised_more es i d wave old mid new below so_far step =

@@ -104,19 +104,6 @@ holders_more profiles i q p mid new es there profile so_far step =
 
 -- ---- the numbers of gates
 
--- with no position yet
-pub none_numbered : (numbers : LockTurn → Option ℕ) → ((q : LockTurn) → numbers q ≡ None) → AreNumbered numbers [] 0
-none_numbered numbers none = record {
-  few = omega arith;
-  within = λ q gate is. absurd (let no : None ≡ Some gate = sym (none q) ∙ is in cc no);
-  own = λ q r gate is _. absurd (let no : None ≡ Some gate = sym (none q) ∙ is in cc no);
-  rising = λ gate. let Rises : List ℕ → Type 0 = λ xs. IsStrictlyIncreasing xs in subst Rises (sym (empty gate)) rising_none;
-  below = λ gate j c. absurd (nothing j (subst (λ xs. Contains xs j) (empty gate) c));
-}
-  where
-    empty : (gate : ℕ) → list_at [] gate ≡ []
-    empty gate = get_or_past [] gate [] (omega arith)
-
 -- before one position more
 pub more_positions : (numbers : LockTurn → Option ℕ) (behind : List (List ℕ)) (n : ℕ) → AreNumbered numbers behind n → AreNumbered numbers behind (n + 1)
 more_positions numbers behind n are = record {
@@ -280,13 +267,6 @@ next_none numbers es i d gate mid below none so_far =
 
 pub fits_next : (es : List Entry) (i : ℕ) (d : Entry) → ((e : Entry) → Contains es e → e.turn < 2 ^ 16) → i < length es → Fits w32 ((get_or es i d).turn + 1)
 fits_next es i d small below = let h = small (get_or es i d) (Contains-get_or es i d below) in omega (arith, h)
-
-pub none_held : (profiles : List (List Entry)) (numbers : LockTurn → Option ℕ) → AreHeld profiles numbers [] 0
-none_held profiles numbers = record {
-  each = refl;
-  rising = λ i. let Rises : List ℕ → Type 0 = λ xs. IsStrictlyIncreasing xs in let empty : list_at [] i ≡ [] = get_or_past [] i [] (omega arith) in subst Rises (sym empty) rising_none;
-  exact = λ i gate lt. absurd (omega (arith, lt));
-}
 
 -- one position more
 pub held_more : (profiles : List (List Entry)) (numbers : LockTurn → Option ℕ) (n : ℕ) (es : List Entry) (old new : List (List ℕ)) (next : List ℕ) → slice_get profiles n ≡ Some es → IsProfile es → new ≡ old ++ next ∷ [] → IsStrictlyIncreasing next

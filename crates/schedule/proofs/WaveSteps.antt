@@ -58,11 +58,5 @@ waves_more profiles n old new w step forward top so_far =
       ];
     }
 
-pub low_waves : (ws : List ℕ) (n j : ℕ) → length ws ≡ n → ((i : ℕ) → get_or ws i 0 ≤ i) → n < 2 ^ 16 → get_or ws j 0 < 2 ^ 16
-low_waves ws n j len low few = elim (cases_lt j n) [
-  | inl lt ↦ let a = low j in omega (arith, a, lt, few)
-  | inr ge ↦ let e : get_or ws j 0 ≡ 0 = get_or_past ws j 0 (omega (arith, ge, len)) in omega (arith, e)
-]
-
 pub none_so_far : (profiles : List (List Entry)) (waves : List ℕ) → waves ≡ [] → AreSoFar profiles waves 0
 none_so_far profiles waves none = subst (λ ws. AreSoFar profiles ws 0) (sym none) (record { each = refl; low = λ i. omega arith; exact = λ i lt. absurd (omega (arith, lt)) })

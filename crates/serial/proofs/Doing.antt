@@ -13,7 +13,8 @@ use Rattle.storage.specs.Counts.{opened_all}
 use Rattle.storage.proofs.Counted.{opened_all-push}
 use Rattle.interp.specs.declared.turns.Status.{Status}
 use Rattle.interp.specs.declared.turns.Status.TheVariants as status
-use Rattle.interp.specs.Progress.{Progress, HasAsked, HasReplied, HasAnswered, AnsweredAt, GoesOn, IsFree}
+use Rattle.interp.specs.Progress.{Progress, HasReplied, HasAnswered, AnsweredAt, GoesOn, IsFree}
+use Rattle.turn_loop.specs.Going.{HasComeTo}
 use Rattle.serial.specs.Playing.{AreDone, AreSomeDone, IsOnItsWay}
 
 pub done_none : (start : Store) → AreDone start [] start []
@@ -34,7 +35,7 @@ module _ (start now next : Store) (t u : List Step) (is js : List Inverse) (op :
   }
 
 -- an operation that the run asked for
-pub asked_more : (start now next : Store) (p q s : Progress) (is js : List Inverse) (op : Op) (r : Reply) → HasAsked p op q → HasAnswered q r s → r ≡ reply_to op now.cells → next.cells ≡ cells_after op now.cells
+pub asked_more : (start now next : Store) (p q s : Progress) (is js : List Inverse) (op : Op) (r : Reply) → HasComeTo p op q → HasAnswered q r s → r ≡ reply_to op now.cells → next.cells ≡ cells_after op now.cells
     → next.unsettled ≡ opened (inverse_to op now.cells) now.unsettled → js ≡ is ++ inverse_to op now.cells ∷ [] → IsOnItsWay start p now is → IsOnItsWay start s next js
 asked_more start now next p q s is js op r asks answers reply cells unsettled inverses d =
     let replied : HasReplied q op r s = subst (λ x. AnsweredAt q r s x) asks.asking answers in

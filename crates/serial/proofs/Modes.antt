@@ -13,8 +13,6 @@ use Rattle.spec_ledger.specs.declared.Mode.{Mode}
 use Rattle.spec_ledger.specs.declared.Step.{Step}
 use Rattle.spec_ledger.specs.Cells.{lock_cmp, lock_of}
 use Rattle.spec_ledger.specs.Modes.{Modes, mode_of, join_held, mode_at, touched}
-use Rattle.spec_ledger.specs.contracts.LockOrd.TheImpl as derived
-use Rattle.spec_ledger.proofs.Locks.{derived_is}
 use Rattle.spec_ledger.proofs.Maps.{is_key, lock_cmp_total, lock_cmp-IsAntisymmetric}
 use Rattle.spec_ledger.proofs.Traces.{get-touched, mode_at-push}
 use Rattle.lock_profile.specs.declared.Held.{Held}
@@ -56,8 +54,8 @@ is_true : (b : Bool) → T b → b ≡ true
 is_true true h = refl
 is_true false h = absurd h
 
-pub in_order : (es : List (Lock × Mode)) → IsStrictlySortedBy derived.cmp-value.it (map (λ e. e.0) es) → is_sorted lock_cmp es ≡ true
-in_order es h = is_true _ (sorted_keys es (let P : (Lock → Lock → Ordering) → Type 0 = λ R. IsStrictlySortedBy R (map (λ e. e.0) es) in subst P derived_is h))
+pub in_order : (es : List (Lock × Mode)) → IsStrictlySortedBy lock_cmp (map (λ e. e.0) es) → is_sorted lock_cmp es ≡ true
+in_order es h = is_true _ (sorted_keys es h)
 
 pub listed_is : (es : List (Lock × Mode)) (m : Modes) → entries m ≡ es → m ≡ modes_in es
 listed_is es m is = same_map lock_cmp_total lock_cmp-IsAntisymmetric _ _ (λ q. get-entries m q ∙ ap (find lock_cmp q) is ∙ sym (get-from_entries lock_cmp_total es q))

@@ -1,15 +1,13 @@
 -- How far a call has come over cells that answer its operations.
-use Rattle.std.specs.Prelude.{◌≡◌, ◌+◌, ◌≤◌, List}
+use Rattle.std.specs.Prelude.{◌≡◌, List}
 use Rattle.spec_ledger.specs.declared.Inverse.{Inverse}
 use Rattle.spec_ledger.specs.Book.{after, GetsReplies, inverses_of}
 use Rattle.storage.specs.Counts.{Store}
 use Rattle.storage.specs.Counts.{opened_all}
 use Rattle.spec_execution.specs.Configuration.{Deployed}
 use Rattle.spec_execution.specs.Run.{ContractCall}
-use Rattle.interp.specs.declared.turns.Status.{Status}
-use Rattle.interp.specs.declared.turns.Status.TheVariants as status
 use Rattle.interp.specs.Played.{Played}
-use Rattle.interp.specs.Progress.{Progress, IsFree}
+use Rattle.interp.specs.Progress.{Progress}
 use Rattle.spec_ledger.specs.declared.Step.{Step}
 
 -- the steps of a trace got their replies from the cells at the start, which they made these, and their inverses are these
@@ -26,16 +24,6 @@ pub record AreSomeDone (start now : Store) (inverses : List Inverse) : Type 0 wh
 
 abbrev pub IsOnItsWay : Store → Progress → Store → List Inverse → Type 0
 IsOnItsWay start p now inverses = AreDone start p.trace now inverses
-
--- one turn more, which a run may go on from
-pub record HasTurned (p q : Progress) : Type 0 where
-  pub free : IsFree q.status
-  pub used : q.used ≡ p.used + 1
-  pub within : q.used ≤ q.call.fuel
-
-abbrev pub IsEnded : Status → Type 0
-IsEnded (status.Ended o) = Unit {0}
-IsEnded _ = ⊥
 
 -- the run of a call over lent contracts, whose operations were done on these cells
 pub record IsPlayedOver (contracts : List Deployed) (call : ContractCall) (start : Store) (f : Played) (now : Store) (inverses : List Inverse) : Type 0 where

@@ -7,17 +7,18 @@ ghost use Rattle.storage.specs.Counts.{Store, opened};
 ghost use Rattle.interp.specs.Lent.{contracts_view};
 ghost use Rattle.interp.specs.Starting.{IsOpened, IsRejection};
 ghost use Rattle.interp.specs.Progress.{IsFree, IsSameCall};
-ghost use Rattle.serial.specs.Playing.{HasTurned, IsOnItsWay, IsPlayedOver, IsEnded, AreDone, AreSomeDone};
+ghost use Rattle.turn_loop.specs.Going.{MayGoOn, IsEnded};
+ghost use Rattle.serial.specs.Playing.{IsOnItsWay, IsPlayedOver, AreDone, AreSomeDone};
 
 use call::Call;
 use interp::finished::Finished;
 use interp::machine::Machine;
 use interp::start::StartRefusal;
-use interp::turns::Turn;
 use link::deployed::Deployed as Contract;
 use spec_ledger::{Inverse, NoMemory, Op, Reply};
 use std::alloc::Allocator;
 use storage::{Cells, end_all};
+use turn_loop::next_op;
 
 /// Does an operation, and keeps its inverse. Where memory is refused all is as it was.
 pub(crate) fn act<A: Allocator + Copy>(
@@ -40,8 +41,8 @@ pub(crate) fn act<A: Allocator + Copy>(
     Ok(reply)
 }
 
-/// Makes a turn, with the operation that it asks for. Answers whether the run goes on.
-fn make_turn<'a, A: Allocator + Copy>(
+/// Goes on to the next operation, and does it. Answers whether there was one.
+fn do_next<'a, A: Allocator + Copy>(
     machine: &mut Machine<'a, A>,
     cells: &mut Cells<A>,
     inverses: &mut Vec<Inverse, A>,
@@ -49,25 +50,21 @@ fn make_turn<'a, A: Allocator + Copy>(
     requires { IsFree machine.old.status }
     ensures same { OnOk result (IsSameCall machine.old machine.new) }
     ensures way { OnOk result ((start : Store) → IsOnItsWay start machine.old cells.old inverses.old.items → IsOnItsWay start machine.new cells.new inverses.new.items) }
-    ensures goes_on { result ≡ Ok true → HasTurned machine.old machine.new }
+    ensures goes_on { result ≡ Ok true → MayGoOn machine.old machine.new }
     ensures ended { result ≡ Ok false → IsEnded machine.new.status }
     ensures err { OnErr result (cells.new ≡ cells.old) }
     ensures err_inverses { OnErr result (inverses.new.items ≡ inverses.old.items) }
 {
-    match machine.next() {
-        Turn::Stepped => Ok(true),
-        Turn::Host(op) => {
-            let reply = act(cells, inverses, op)?;
-            machine.answer(reply);
-            Ok(true)
-        }
-        Turn::Done(_) => Ok(false),
-        Turn::NoMemory => Err(NoMemory),
-    }
+    let Some(op) = next_op(machine)? else {
+        return Ok(false);
+    };
+    let reply = act(cells, inverses, op)?;
+    machine.answer(reply);
+    Ok(true)
 }
 
-/// Makes the turns of a run.
-fn make_turns<'a, A: Allocator + Copy>(
+/// Runs a call to its end.
+fn run_on<'a, A: Allocator + Copy>(
     machine: &mut Machine<'a, A>,
     cells: &mut Cells<A>,
     inverses: &mut Vec<Inverse, A>,
@@ -80,7 +77,7 @@ fn make_turns<'a, A: Allocator + Copy>(
     ensures done { OnOk result (AreDone cells.old machine.new.trace cells.new inverses.new.items) }
     ensures err { OnErr result (AreSomeDone cells.old cells.new inverses.new.items) }
 {
-    'turns: while make_turn(machine, cells, inverses)? {}
+    'operations: while do_next(machine, cells, inverses)? {}
     Ok(())
 }
 
@@ -98,7 +95,7 @@ fn run<'a, A: Allocator + Copy>(
 {
     cells.hold();
     let mut inverses = Vec::new(alloc);
-    let Ok(()) = make_turns(&mut machine, cells, &mut inverses) else {
+    let Ok(()) = run_on(&mut machine, cells, &mut inverses) else {
         end_all(cells, inverses, false);
         return Err(NoMemory);
     };

@@ -13,8 +13,6 @@ use Rattle.spec_ledger.specs.declared.Lock.{Lock}
 use Rattle.spec_ledger.specs.declared.Place.{Place}
 use Rattle.spec_ledger.specs.Cells.{Cells, lock_cmp, set_at, counter_at, AreCells, IsCounter}
 use Rattle.spec_ledger.proofs.Maps.{key_itself, lock_cmp_total, lock_cmp-IsAntisymmetric}
-use Rattle.spec_ledger.specs.contracts.LockOrd.TheImpl as derived
-use Rattle.spec_ledger.proofs.Locks.{derived_is}
 use Rattle.storage.specs.declared.Slot.{Slot}
 use Rattle.storage.specs.Slots.{cells_in, held_in, with_cell}
 
@@ -76,8 +74,8 @@ unfolding IsStrictlySortedBy
 entries-cells_in [] h = no_length (entries empty) (sym (len-entries empty) ∙ len-empty lock_cmp ℕ)
 entries-cells_in (e ∷ es) h = entries-with (cells_in es) e.0 e.1.cell (held_in es) (entries-cells_in es h.1) (below_held e.0 es h.0)
 
-pub entries_held : (es : List (Lock × Slot)) → IsStrictlySortedBy derived.cmp-value.it (map (λ e. e.0) es) → held_in es ≡ entries (cells_in es)
-entries_held es h = sym (entries-cells_in es (let P : (Lock → Lock → Ordering) → Type 0 = λ R. IsStrictlySortedBy R (map (λ e. e.0) es) in subst P derived_is h))
+pub entries_held : (es : List (Lock × Slot)) → IsStrictlySortedBy lock_cmp (map (λ e. e.0) es) → held_in es ≡ entries (cells_in es)
+entries_held es h = sym (entries-cells_in es h)
 
 -- ---- a copy, entry by entry
 

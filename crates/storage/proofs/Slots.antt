@@ -1,6 +1,5 @@
 -- What slots hold, key by key.
 use Rattle.std.proofs.Common.{◌≡◌, ℕ, zero, suc, ◌+◌, ◌<◌, ◌^◌, arith, Bool, true, false, cond, Option, Some, None, unwrap_or, List, [], ◌∷◌, refl, sym, ◌∙◌, ap, subst}
-use Rattle.std.specs.declared.cmp.Ordering.{Ordering}
 use Rattle.std.specs.Ordering.{eq_by_cmp, is_eq}
 use Rattle.std.specs.Map.{lookup}
 use Rattle.std.specs.Cmp.{eq_by_cmp_equiv}
@@ -20,8 +19,6 @@ use Rattle.spec_ledger.specs.declared.Kind.TheVariants.{Counter}
 use Rattle.spec_ledger.proofs.Ops.{AreCells-back, AreCells-empty}
 use Rattle.storage.specs.Counts.{Counts, opened, count_at, IsUnsettled}
 use Rattle.spec_ledger.proofs.Maps.{get-set_at, lock_cmp_total, lock_cmp-IsAntisymmetric}
-use Rattle.spec_ledger.specs.contracts.LockOrd.TheImpl as derived
-use Rattle.spec_ledger.proofs.Locks.{derived_is}
 use Rattle.storage.specs.declared.Slot.{Slot}
 use Rattle.storage.specs.Slots.{cells_in, counts_in, cell_in, count_in, cell_back}
 
@@ -49,8 +46,8 @@ get-counts_in (e ∷ es) q =
 
 -- what a map of slots means after one is written or dropped
 module _ (m n : BTreeMap Lock Slot) (lock : Lock) (o : Option Slot) (h : (q : Lock) → tree.get lock_cmp n q ≡ cond (eq_by_cmp lock_cmp lock q) o (tree.get lock_cmp m q)) where
-  pub cells_in_written : cells_in n.entries ≡ set_at (cells_in m.entries) lock (cell_in o)
-  cells_in_written = finite.same_map lock_cmp_total lock_cmp-IsAntisymmetric _ _ (λ q.
+  pub cells_written : cells_in n.entries ≡ set_at (cells_in m.entries) lock (cell_in o)
+  cells_written = finite.same_map lock_cmp_total lock_cmp-IsAntisymmetric _ _ (λ q.
       get-cells_in n.entries q
       ∙ ap cell_in (h q)
       ∙ elim (eq_by_cmp lock_cmp lock q) as (λ b. cell_in (cond b o (tree.get lock_cmp m q)) ≡ cond b (cell_in o) (cell_in (tree.get lock_cmp m q))) [ true ↦ refl | false ↦ refl ]
@@ -58,8 +55,8 @@ module _ (m n : BTreeMap Lock Slot) (lock : Lock) (o : Option Slot) (h : (q : Lo
       ∙ ap (λ b. cond b (cell_in o) (finite.get (cells_in m.entries) q)) ((eq_by_cmp_equiv lock_cmp_total).symm lock q)
       ∙ sym (get-set_at lock_cmp_total (cells_in m.entries) lock (cell_in o) q))
 
-  pub counts_in_written : counts_in n.entries ≡ set_at (counts_in m.entries) lock (counter (count_in o))
-  counts_in_written = finite.same_map lock_cmp_total lock_cmp-IsAntisymmetric _ _ (λ q.
+  pub counts_written : counts_in n.entries ≡ set_at (counts_in m.entries) lock (counter (count_in o))
+  counts_written = finite.same_map lock_cmp_total lock_cmp-IsAntisymmetric _ _ (λ q.
       get-counts_in n.entries q
       ∙ ap (λ x. counter (count_in x)) (h q)
       ∙ elim (eq_by_cmp lock_cmp lock q) as (λ b. counter (count_in (cond b o (tree.get lock_cmp m q))) ≡ cond b (counter (count_in o)) (counter (count_in (tree.get lock_cmp m q)))) [ true ↦ refl | false ↦ refl ]
@@ -67,29 +64,13 @@ module _ (m n : BTreeMap Lock Slot) (lock : Lock) (o : Option Slot) (h : (q : Lo
       ∙ ap (λ b. cond b (counter (count_in o)) (finite.get (counts_in m.entries) q)) ((eq_by_cmp_equiv lock_cmp_total).symm lock q)
       ∙ sym (get-set_at lock_cmp_total (counts_in m.entries) lock (counter (count_in o)) q))
 
--- the same, by the order that the derive gives
-module _ (m n : BTreeMap Lock Slot) (lock : Lock) (o : Option Slot) (h : (q : Lock) → tree.get derived.cmp-value.it n q ≡ cond (eq_by_cmp derived.cmp-value.it lock q) o (tree.get derived.cmp-value.it m q)) where
-  by_order : (q : Lock) → tree.get lock_cmp n q ≡ cond (eq_by_cmp lock_cmp lock q) o (tree.get lock_cmp m q)
-  by_order =
-      let P : (Lock → Lock → Ordering) → Type 0 = λ R. (q : Lock) → tree.get R n q ≡ cond (eq_by_cmp R lock q) o (tree.get R m q) in
-      subst P derived_is h
-
-  pub cells_written : cells_in n.entries ≡ set_at (cells_in m.entries) lock (cell_in o)
-  cells_written = cells_in_written m n lock o by_order
-
-  pub counts_written : counts_in n.entries ≡ set_at (counts_in m.entries) lock (counter (count_in o))
-  counts_written = counts_in_written m n lock o by_order
-
 -- what a look-up finds
-module _ (m : BTreeMap Lock Slot) (lock : Lock) (o : Option Slot) (is : o ≡ tree.get derived.cmp-value.it m lock) where
-  there : o ≡ tree.get lock_cmp m lock
-  there = is ∙ ap (λ R. tree.get R m lock) derived_is
-
+module _ (m : BTreeMap Lock Slot) (lock : Lock) (o : Option Slot) (is : o ≡ tree.get lock_cmp m lock) where
   pub cell_found : cell_in o ≡ finite.get (cells_in m.entries) lock
-  cell_found = ap cell_in there ∙ sym (get-cells_in m.entries lock)
+  cell_found = ap cell_in is ∙ sym (get-cells_in m.entries lock)
 
   pub count_found : counter (count_in o) ≡ finite.get (counts_in m.entries) lock
-  count_found = ap (λ x. counter (count_in x)) there ∙ sym (get-counts_in m.entries lock)
+  count_found = ap (λ x. counter (count_in x)) is ∙ sym (get-counts_in m.entries lock)
 
 number-counter : (n : ℕ) → number (counter n) ≡ n
 number-counter zero = refl
@@ -110,7 +91,7 @@ count_of_slot None s e = ap (λ (x : Slot). x.unsettled) e
 count_of_slot (Some v) s e = ap (λ (x : Slot). x.unsettled) e
 
 -- a slot that is there, or an empty one where there is none
-module _ (m : BTreeMap Lock Slot) (lock : Lock) (o : Option Slot) (s : Slot) (was : s ≡ unwrap_or o (record { cell = None; unsettled = 0 })) (is : o ≡ tree.get derived.cmp-value.it m lock) where
+module _ (m : BTreeMap Lock Slot) (lock : Lock) (o : Option Slot) (s : Slot) (was : s ≡ unwrap_or o (record { cell = None; unsettled = 0 })) (is : o ≡ tree.get lock_cmp m lock) where
   pub slot_cell : s.cell ≡ finite.get (cells_in m.entries) lock
   slot_cell = cell_of_slot o s was ∙ cell_found m lock o is
 
@@ -121,7 +102,7 @@ module _ (m : BTreeMap Lock Slot) (lock : Lock) (o : Option Slot) (s : Slot) (wa
   slot_number = sym (number-counter s.unsettled) ∙ ap number slot_count
 
   -- after another is written in its place
-  module _ (n : BTreeMap Lock Slot) (next : Slot) (h : (q : Lock) → tree.get derived.cmp-value.it n q ≡ cond (eq_by_cmp derived.cmp-value.it lock q) (Some next) (tree.get derived.cmp-value.it m q)) where
+  module _ (n : BTreeMap Lock Slot) (next : Slot) (h : (q : Lock) → tree.get lock_cmp n q ≡ cond (eq_by_cmp lock_cmp lock q) (Some next) (tree.get lock_cmp m q)) where
     pub cells_changed : (f : Option ℕ → Option ℕ) → next.cell ≡ f s.cell → cells_in n.entries ≡ update (cells_in m.entries) lock f
     cells_changed f e = cells_written m n lock (Some next) h ∙ ap (λ c. set_at (cells_in m.entries) lock c) (e ∙ ap f slot_cell)
 
@@ -129,7 +110,7 @@ module _ (m : BTreeMap Lock Slot) (lock : Lock) (o : Option Slot) (s : Slot) (wa
     counts_changed f e = counts_written m n lock (Some next) h ∙ ap (λ c. set_at (counts_in m.entries) lock (counter c)) (e ∙ ap f slot_number)
 
   -- after the same is written
-  module _ (n : BTreeMap Lock Slot) (h : (q : Lock) → tree.get derived.cmp-value.it n q ≡ cond (eq_by_cmp derived.cmp-value.it lock q) (Some s) (tree.get derived.cmp-value.it m q)) where
+  module _ (n : BTreeMap Lock Slot) (h : (q : Lock) → tree.get lock_cmp n q ≡ cond (eq_by_cmp lock_cmp lock q) (Some s) (tree.get lock_cmp m q)) where
     pub cells_kept : cells_in n.entries ≡ cells_in m.entries
     cells_kept = same_cells (cells_in m.entries) (cells_in n.entries) lock s.cell (cells_written m n lock (Some s) h) slot_cell
 

@@ -205,22 +205,28 @@ fn close_slot<A: Allocator + Copy>(
     }
 }
 
-/// Writes a slot.
-fn put_slot<A: Allocator + Copy>(
+/// Puts a number into a lock's slot, in place or in a new one. Its unsettled changes stay.
+fn fill_slot<A: Allocator + Copy>(
     slots: &mut BTreeMap<Lock, Slot, A>,
     lock: Lock,
-    slot: Slot,
+    value: u64,
 ) -> Result<(), NoMemory>
-    ensures cells { OnOk result (cells_in slots.new.entries ≡ set_at (cells_in slots.old.entries) lock slot.cell) }
-    ensures counts { OnOk result (counts_in slots.new.entries ≡ set_at (counts_in slots.old.entries) lock (counter slot.unsettled)) }
+    ensures cells { OnOk result (cells_in slots.new.entries ≡ finite.insert (cells_in slots.old.entries) lock value) }
+    ensures counts { OnOk result (counts_in slots.new.entries ≡ counts_in slots.old.entries) }
     ensures types { OnOk result (AreOfTheirTypes (cells_in slots.old.entries) → AreOfTheirTypes (cells_in slots.new.entries)) }
-    ensures err { OnErr result (slots.new.entries ≡ slots.old.entries) }
+    ensures cells_at_err { OnErr result (cells_in slots.new.entries ≡ cells_in slots.old.entries) }
+    ensures counts_at_err { OnErr result (counts_in slots.new.entries ≡ counts_in slots.old.entries) }
 {
-    note_types(lock, slot.cell);
-    match slots.insert(lock, slot) {
-        Ok(_) => Ok(()),
-        Err(_) => Err(NoMemory),
-    }
+    let slot = slots.entry(lock)?.or_insert(Slot {
+        cell: None,
+        unsettled: 0,
+    });
+    note_types(lock, Some(value));
+    *slot = Slot {
+        cell: Some(value),
+        unsettled: slot.unsettled,
+    };
+    Ok(())
 }
 
 fn is_same_entry(a: (Lock, u64), b: (Lock, u64)) -> bool
@@ -358,11 +364,7 @@ impl<A: Allocator + Copy> Cells<A> {
         ensures unsettled { OnOk result (self.new.unsettled ≡ self.old.unsettled) }
         ensures err { OnErr result (self.new ≡ self.old) }
     {
-        let slot = Slot {
-            cell: Some(value),
-            unsettled: slot_at(&self.slots, lock).unsettled,
-        };
-        put_slot(&mut self.slots, lock, slot)?;
+        fill_slot(&mut self.slots, lock, value)?;
         Ok(())
     }
 

@@ -97,7 +97,7 @@ const BUMPED: Wanted = All(&[
 /// What is printed where the only call is left.
 const IS_LEFT: Wanted = All(&[(1, b"left 0\nfuel 0\n"), (1, BEFORE), (1, SAME)]);
 
-const CHAINED: [Row; 3] = [
+const CHAINED: [Row; 4] = [
     (
         "mine --workers=1 w c --fuel 100 b n",
         &OF_BUMP,
@@ -110,7 +110,13 @@ const CHAINED: [Row; 3] = [
         All(&[(1, b"accept\n"), (1, WITH_5)]),
         &[],
     ),
-    // the next world is a world
+    // the next world is a world, and may take the place of the one before
+    (
+        "mine w c b w --fuel=100",
+        &OF_BUMP,
+        BUMPED,
+        &[A_BLOCK, ("w", All(&WORLD_WITH_5))],
+    ),
     (
         "mine n c b o --fuel=99 --tries=1",
         &[("n", &WORLD_WITH_5), ("c", &ONE_BUMP)],

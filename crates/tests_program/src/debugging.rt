@@ -1,7 +1,7 @@
 //! Lines of words that debug a call, over modules whose bytes another program made.
 
 use crate::modules::{WORLD, WORLD_OF_LOOP, WORLD_OF_WRITER};
-use crate::rows::Wanted::{self, Text};
+use crate::rows::Wanted::{self, Part as Holds, Text};
 use crate::rows::{File, Line, NOTHING, Part, unlike};
 use std::alloc::Global;
 use std::process::Abort;
@@ -155,7 +155,14 @@ const NOT_THERE: [Session; 3] = [
 #[test]
 fn takes_the_call_of_a_number(rt: HostRuntime) -> Result<(), Fail> {
     for row in NOT_THERE {
-        comes_to(&rt, rt.alloc(), row, None, Usage, Text(b"usage\n"))?;
+        comes_to(
+            &rt,
+            rt.alloc(),
+            row,
+            None,
+            Usage,
+            Holds("usage: there is no call "),
+        )?;
     }
     Ok(())
 }

@@ -1,7 +1,7 @@
 //! Lines of words that assemble, check and deploy modules, at each fault in turn.
 
 use crate::modules::{HEADER, MODULES, WORLD, WORLD_OF_NOPS, WORLD_OF_TWO};
-use crate::rows::Wanted::{self, Absent, All, Cut, Text, Usage};
+use crate::rows::Wanted::{self, Absent, All, Cut, Front, Part as Holds, Text, Usage};
 use crate::rows::{File, Line, NOTHING, Part, unlike};
 use std::alloc::Global;
 use std::process::Abort;
@@ -57,6 +57,97 @@ fn print<R: Abort + Threads + Wait + Sync>(
         let (words, line) = row.split_once(" -> ").ok_or("an arrow")?;
         let out: [Part; 2] = [(1, line.as_bytes()), (1, b"\n")];
         comes_to(rt, alloc, (words, All(&out), NOTHING, OLD), CALM, status)?;
+    }
+    Ok(())
+}
+
+/// Lines that would write over what they read, or over what they wrote, and what is said of each.
+const SLIPS: [(&str, &str); 7] = [
+    ("asm text text", "usage: TEXT and MODULE are both `text`"),
+    ("deploy w w", "usage: MODULE and WORLD are both `w`"),
+    (
+        "deploy w contract w",
+        "usage: MODULE and WORLD are both `w`",
+    ),
+    (
+        "mine w c w n --fuel=5",
+        "usage: WORLD and BLOCK are both `w`",
+    ),
+    (
+        "mine w c c n --fuel=5",
+        "usage: CALLS and BLOCK are both `c`",
+    ),
+    (
+        "mine w c b b --fuel=5",
+        "usage: BLOCK and NEXT are both `b`",
+    ),
+    (
+        "mine w c b c --fuel=5",
+        "usage: CALLS and NEXT are both `c`",
+    ),
+];
+
+#[test]
+fn nothing_is_overwritten_by_a_slip(rt: HostRuntime) -> Result<(), Fail> {
+    for (words, part) in SLIPS {
+        let row = (words, NOTHING, Holds(part), OLD);
+        // no file is read: the first call of the files would fail
+        comes_to(&rt, rt.alloc(), row, (Some(0), None), Misused)?;
+    }
+    Ok(())
+}
+
+/// Lines that ask to be told of the program, and a part of what is printed.
+const TOLD: [(&str, &str); 8] = [
+    ("--help", "Usage: wblock <COMMAND>"),
+    ("-h", "Usage: wblock <COMMAND>"),
+    ("asm -h", "Usage: wblock asm <TEXT> <MODULE>"),
+    ("deploy --help", "Usage: wblock deploy <WORLD> <MODULE>..."),
+    (
+        "mine --help",
+        "--tries <N>    How often a call is tried that meets a conflict, 1 to 16 [default: 3]",
+    ),
+    ("validate w c b --help", "1 to 64 [default: 4]"),
+    ("debug --help", "bytes:FROM:N"),
+    ("--version", "wblock 0.1.0\n"),
+];
+
+#[test]
+fn tells_of_the_program(rt: HostRuntime) -> Result<(), Fail> {
+    for (words, part) in TOLD {
+        let row = (words, Holds(part), NOTHING, OLD);
+        comes_to(&rt, rt.alloc(), row, CALM, Done)?;
+    }
+    Ok(())
+}
+
+/// Numbers at the ends of the ranges that help tells, and past them: the command line's reader and the program's own agree.
+const RANGES: [(&str, Status); 14] = [
+    ("check contract --heap=1023", Misused),
+    ("check nops --heap=16777216", Done),
+    ("check contract --heap=16777217", Misused),
+    ("mine a c b n --fuel=0", NotReached),
+    ("mine a c b n --fuel=18446744073709551615", NotReached),
+    ("mine a c b n --fuel=18446744073709551616", Misused),
+    ("mine a c b n --fuel=5 --workers=0", Misused),
+    ("mine a c b n --fuel=5 --workers=1", NotReached),
+    ("mine a c b n --fuel=5 --workers=64", NotReached),
+    ("validate a c b --fuel=5 --workers=65", Misused),
+    ("mine a c b n --fuel=5 --tries=0", Misused),
+    ("mine a c b n --fuel=5 --tries=1", NotReached),
+    ("mine a c b n --fuel=5 --tries=16", NotReached),
+    ("mine a c b n --fuel=5 --tries=17", Misused),
+];
+
+#[test]
+fn takes_the_ranges_that_help_tells(rt: HostRuntime) -> Result<(), Fail> {
+    for (words, status) in RANGES {
+        let (out, err) = match status {
+            Done => (Front(b"valid "), NOTHING),
+            NotReached => (NOTHING, Text(b"file a\n")),
+            _ => (NOTHING, Holds("error: invalid value")),
+        };
+        comes_to(&rt, rt.alloc(), (words, out, err, OLD), CALM, status)?;
     }
     Ok(())
 }
@@ -188,7 +279,7 @@ fn tells_faults_of_files(rt: HostRuntime) -> Result<(), Fail> {
 }
 
 /// Lines that the command line does not take.
-const NOT_TAKEN: [&str; 18] = [
+const NOT_TAKEN: [&str; 17] = [
     "check",
     "check contract nops",
     "check contract --heap",
@@ -206,7 +297,6 @@ const NOT_TAKEN: [&str; 18] = [
     "validate w c b n --fuel=5",
     "validate w c b --fuel=5 --tries=3",
     "walk",
-    "--help",
 ];
 
 /// Lines that the command line takes and that ask for nothing.
@@ -225,9 +315,6 @@ const NOTHING_ASKED: [&str; 12] = [
     "validate w c b --fuel=5 --workers=65",
 ];
 
-/// What the program says where it has no words of its own.
-const OWN: Wanted = Text(b"usage\n");
-
 /// Lines that ask for nothing leave `w` as it was, print nothing, and say this.
 fn are_misused<R: Abort + Threads + Wait + Sync>(
     rt: &R,
@@ -244,7 +331,7 @@ fn are_misused<R: Abort + Threads + Wait + Sync>(
 #[test]
 fn tells_usage(rt: HostRuntime) -> Result<(), Fail> {
     are_misused(&rt, rt.alloc(), &NOT_TAKEN, Usage)?;
-    are_misused(&rt, rt.alloc(), &NOTHING_ASKED, OWN)
+    are_misused(&rt, rt.alloc(), &NOTHING_ASKED, Usage)
 }
 
 #[test]
@@ -252,7 +339,7 @@ fn a_world_has_at_most_1024_contracts(rt: HostRuntime) -> Result<(), Fail> {
     let alloc = rt.alloc();
     let modules = " contract".repeat(alloc, 1_025)?;
     let words = format!(in alloc; "deploy w{modules}")?;
-    are_misused(&rt, alloc, &[words.as_str()], OWN)
+    are_misused(&rt, alloc, &[words.as_str()], Holds("usage: 1025 modules"))
 }
 
 /// Texts, and the refusal of each.

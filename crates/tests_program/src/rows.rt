@@ -28,8 +28,10 @@ pub(crate) enum Wanted<'a> {
     Front(&'a [u8]),
     /// A beginning of the bytes of these parts that is not all.
     Cut(&'a [Part<'a>]),
-    /// What is wrong with the words, or the usage of a command.
+    /// What is wrong with the words.
     Usage,
+    /// A text that ends with a newline and has this part.
+    Part(&'a str),
     /// There is no such file.
     Absent,
 }
@@ -119,7 +121,11 @@ fn fits(alloc: Global, bytes: &[u8], wanted: Wanted) -> Result<bool, AllocError>
             Ok(whole.starts_with(bytes) && bytes.len() < whole.len())
         }
         Wanted::Usage => match from_utf8(bytes) {
-            Ok(text) => Ok(text.starts_with("error: ") || text.contains("Usage: ")),
+            Ok(text) => Ok(text.starts_with("error: ") || text.starts_with("usage: ")),
+            Err(_) => Ok(false),
+        },
+        Wanted::Part(part) => match from_utf8(bytes) {
+            Ok(text) => Ok(text.ends_with('\n') && text.contains(part)),
             Err(_) => Ok(false),
         },
         Wanted::Absent => Ok(false),

@@ -174,7 +174,7 @@ fn said(alloc: Global, line: &str) -> Result<String, Fail> {
 #[test]
 fn tells_what_is_wrong(rt: HostRuntime) -> Result<(), Fail> {
     for line in TAKEN {
-        assert_eq!(rt; said(rt.alloc(), line)?.as_str(), "usage\n", "{line}");
+        assert!(rt; said(rt.alloc(), line)?.starts_with("usage: "), "{line}");
     }
     for (line, part) in NOT_TAKEN {
         let text = said(rt.alloc(), line)?;

@@ -2,6 +2,8 @@
 #![tactic(auto)]
 
 #[cfg(test)]
+mod dependent_blocks;
+#[cfg(test)]
 mod given;
 #[cfg(test)]
 mod intakes;
@@ -19,3 +21,5 @@ mod paces;
 mod rationed_blocks;
 #[cfg(test)]
 mod shared_books;
+#[cfg(test)]
+mod shared_lanes;

@@ -45,6 +45,8 @@ pub(crate) enum Meeting {
     FourTries,
     /// Each first operation is held until two were told of theirs.
     BothAsk,
+    /// The first try of call 1 is held until call 2 was told of its own.
+    PastAnother,
 }
 
 /// Holds threads so that calls meet.
@@ -150,6 +152,14 @@ impl Meet {
             _ => true,
         }
     }
+
+    fn past_another(&self, step: Step) -> bool {
+        match step {
+            Step::Attempt { call: 1, .. } => self.hold(&self.tried, 1),
+            Step::Attempt { call: 2, .. } => tell(&self.tried),
+            _ => true,
+        }
+    }
 }
 
 impl Pace for Meet {
@@ -162,6 +172,7 @@ impl Pace for Meet {
             Meeting::Clash => self.clash(step),
             Meeting::FourTries => self.four_tries(step),
             Meeting::BothAsk => self.both_ask(step),
+            Meeting::PastAnother => self.past_another(step),
         };
         if !met {
             self.failed.store(true, Ordering::SeqCst);

@@ -2,15 +2,21 @@
 use denote.RattleType.{RattleType}
 use denote.Ref.{NamedLft, ShrRef}
 use denote.Struct.Field.{row_field}
-use denote.Param.Send.{Frees, IsSend, IsSync, shr_sync}
+use denote.Param.Send.{Frees, IsSend, IsSync, shr_sync, sendable}
 use denote.Param.SendFields.{declared_sync, as_row_sync}
 use Rattle.std.specs.declared.alloc.Allocator.{Ghosts}
+use Rattle.std.proofs.Crossing as std
+use Rattle.std.proofs.CrossingOver as over
+use Rattle.std.proofs.MapsCrossingOver as maps_over
 use Rattle.spec_ledger.proofs.Entry.TheSendSync as entry
+use Rattle.schedule.specs.contracts.board.Board as board_row
+use Rattle.ahead.specs.contracts.Ahead as ahead_row
 use Rattle.lock_profile.specs.contracts.Profile as profile_row
 use Rattle.serial_block.proofs.Crossing.{crosses, vec_send, vec_sync, contract_sync, contracts_send, finished_send}
 use Rattle.validator.specs.contracts.job.Made as made_row
 use Rattle.validator.specs.contracts.job.Part as part_row
 use Rattle.validator.specs.contracts.job.Job as job_row
+use Rattle.validator.specs.contracts.shared.Shared as shared_row
 
 module _ (B : RattleType) (g : Ghosts B.Denot) (send : IsSend B) (sync : IsSync B) (frees : Frees g g.dealloc_token) where
   made_send : (a : NamedLft) → IsSend (made_row.the_row a B g)
@@ -23,7 +29,17 @@ module _ (B : RattleType) (g : Ghosts B.Denot) (send : IsSend B) (sync : IsSync 
       search (crosses, vec, contracts, made_send) depth 60 fits 100000
 
   profile_sync : IsSync (profile_row.the_row B g)
-  profile_sync = let vec = vec_sync B g send sync frees in search (crosses, entry.the_field_sync, entry.the_sync, vec) depth 60 fits 100000
+  profile_sync = let vec = vec_sync B g send sync frees in search (crosses, entry.the_sync, vec) depth 60 fits 100000
+
+  board_send : IsSend (board_row.the_row B g)
+  board_send = search (sendable, std.crosses, over.crosses, maps_over.crosses) depth 60 fits 100000
+
+  ahead_send : IsSend (ahead_row.the_row B g)
+  ahead_send = search (sendable, std.crosses, over.crosses, maps_over.crosses) depth 60 fits 100000
+
+  -- the workers may share the board and the cells
+  pub shared_sync : IsSync (shared_row.the_row B g)
+  shared_sync = search (sendable, std.crosses, over.crosses, board_send, ahead_send) depth 60 fits 100000
 
   -- the workers may share the job, where they may share the pace
   pub job_sync : (a b : NamedLft) (P : RattleType) → IsSync P → IsSync (job_row.the_row a b B P g)

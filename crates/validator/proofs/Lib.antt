@@ -1,5 +1,4 @@
 pub mod Agreeing
-pub mod Counters
 pub mod Crossing
 pub mod Ends
 pub mod Fits

@@ -4,7 +4,11 @@ use Rattle.std.proofs.lemmas.List.Elements.{All-push, All-set}
 use Rattle.std.specs.declared.result.Result.{Result}
 use Rattle.std.specs.declared.result.Result.TheVariants.{Ok, Err}
 use Rattle.spec_execution.specs.Configuration.{Deployed}
-use Rattle.spec_execution.specs.Run.{ContractCall}
+use Rattle.spec_ledger.specs.declared.Op.{Op}
+use Rattle.spec_ledger.specs.declared.Reply.{Reply}
+use Rattle.spec_ledger.specs.Cells.{Cells, reply_to}
+use Rattle.spec_execution.specs.Run.{ContractCall, IsReply}
+use Rattle.serial.proofs.Replies.{is_reply}
 use Rattle.interp.specs.Played.{Played}
 use Rattle.validator.specs.declared.job.Made.{Made}
 use Rattle.validator.specs.Handed.{IsRunOf, IsMade, AreMade, AreFound}
@@ -23,3 +27,7 @@ none_yet contracts calls xs zs is all = subst (AreFound contracts calls) (sym is
 
 pub one_noted : {A : Type 0} (contracts : List Deployed) (calls : List ContractCall) (xs : List (Option (Made A))) (i : ℕ) (x : Made A) → AreFound contracts calls xs → IsMade contracts calls x → AreFound contracts calls (set xs i (Some x))
 one_noted contracts calls xs i x all one = All-set (λ o. IfSome o (IsMade contracts calls)) xs i (Some x) one all
+
+-- the reply to an operation, where there is one
+pub reply_of : (op : Op) (cells : Cells) (o : Option Reply) (r : Reply) → IfSome o (λ x. x ≡ reply_to op cells) → o ≡ Some r → IsReply op r
+reply_of op cells o r some is = is_reply op cells r (subst (λ x. IfSome x (λ y. y ≡ reply_to op cells)) is some)

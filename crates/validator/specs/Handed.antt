@@ -21,6 +21,6 @@ AreMade contracts calls ms = All (IsMade contracts calls) ms
 abbrev pub AreFound : {A : Type 0} → List Deployed → List ContractCall → List (Option (Made A)) → Type 0
 AreFound contracts calls os = All (λ o. IfSome o (IsMade contracts calls)) os
 
--- what the workers of a wave hand back
+-- what the workers hand back
 abbrev pub ArePartsMade : {A E : Type 0} → List Deployed → List ContractCall → List (Result (Part A) E) → Type 0
 ArePartsMade contracts calls parts = All (λ part. IfOk part (λ p. AreMade contracts calls p.made.items)) parts

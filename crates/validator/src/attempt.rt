@@ -5,22 +5,24 @@ ghost use Rattle.spec_execution.specs.Run.{IsReply, opening};
 ghost use Rattle.interp.specs.Lent.{contracts_view};
 ghost use Rattle.interp.specs.Starting.{IsOpened, IsRejection};
 ghost use Rattle.interp.specs.Progress.{IsFree, IsSameCall};
-ghost use Rattle.serial.specs.Playing.{HasTurned, IsEnded};
+ghost use Rattle.turn_loop.specs.Going.{MayGoOn, IsEnded};
 ghost use Rattle.validator.specs.Handed.{IsMade, IsRunOf};
 
 use crate::job::{Job, Made};
-use crate::local::{act, allows, cells_of};
+use crate::profile::allows;
+use ahead::Ahead;
 use call::Call;
 use interp::finished::Finished;
 use interp::machine::Machine;
 use interp::start::StartRefusal;
-use interp::turns::Turn;
 use link::deployed::Deployed as Contract;
 use lock_profile::Profile;
 use pace::{Pace, Step};
 use spec_ledger::{NoMemory, Op, Reply};
 use std::alloc::Allocator;
-use storage::Cells;
+use std::sync::{Mutex, Wait};
+use storage::returned;
+use turn_loop::next_op;
 
 /// Why a run is not made.
 #[derive(Drop)]
@@ -31,18 +33,37 @@ enum Stop {
     NoMemory,
 }
 
-/// The number of a call, what it may ask for, and who is told.
+/// A position, the number of its call, what the call may ask for, the cells that it is run over, and who is told.
 #[derive(Drop)]
 struct Place<'s, A: Allocator, P: Pace> {
+    position: u32,
     number: u32,
     profile: &'s Profile<A>,
+    ahead: &'s Mutex<Ahead<A>>,
     pace: &'s P,
 }
 
+/// Does an operation for a position, under the lock of the cells.
+fn act<A: Allocator + Copy>(
+    rt: &impl Wait,
+    ahead: &Mutex<Ahead<A>>,
+    position: u32,
+    op: Op,
+) -> Result<Reply, Stop>
+    ensures { IfOk result (λ reply. IsReply op reply) }
+{
+    let mut ahead = ahead.lock(rt);
+    match ahead.act(position as usize, op) {
+        Ok(Some(reply)) => Ok(reply),
+        Ok(None) => Err(Stop::Outside),
+        Err(_) => Err(Stop::NoMemory),
+    }
+}
+
 /// Does an operation that is within the profile, and tells the pace before it.
-fn ask<A: Allocator + Copy, P: Pace>(
+fn ask<A: Allocator + Copy, R: Wait, P: Pace>(
+    rt: &R,
     place: &Place<'_, A, P>,
-    cells: &mut Cells<A>,
     n: u64,
     op: Op,
 ) -> Result<Reply, Stop>
@@ -55,16 +76,13 @@ fn ask<A: Allocator + Copy, P: Pace>(
     if !allows(place.profile, op) {
         return Err(Stop::Outside);
     }
-    match act(cells, op) {
-        Ok(reply) => Ok(reply),
-        Err(_) => Err(Stop::NoMemory),
-    }
+    act(rt, place.ahead, place.position, op)
 }
 
-/// Makes a turn, with the operation that it asks for. Answers whether the run goes on.
-fn make_turn<'a, A: Allocator + Copy, P: Pace>(
+/// Goes on to the next operation, and does it. Answers whether there was one.
+fn do_next<'a, A: Allocator + Copy, R: Wait, P: Pace>(
+    rt: &R,
     place: &Place<'_, A, P>,
-    cells: &mut Cells<A>,
     machine: &mut Machine<'a, A>,
     asked: &mut u64,
 ) -> Result<bool, Stop>
@@ -72,27 +90,26 @@ fn make_turn<'a, A: Allocator + Copy, P: Pace>(
     requires limit { machine.old.call.fuel < 2 ^ 64 }
     requires asked { asked.old ≤ machine.old.used }
     ensures same { OnOk result (IsSameCall machine.old machine.new) }
-    ensures goes_on { result ≡ Ok true → HasTurned machine.old machine.new }
+    ensures goes_on { result ≡ Ok true → MayGoOn machine.old machine.new }
     ensures ended { result ≡ Ok false → IsEnded machine.new.status }
     ensures asked { OnOk result (asked.new ≤ machine.new.used) }
 {
-    match machine.next() {
-        Turn::Stepped => Ok(true),
-        Turn::Host(op) => {
-            let reply = ask(place, cells, *asked, op)?;
+    match next_op(machine) {
+        Ok(Some(op)) => {
+            let reply = ask(rt, place, *asked, op)?;
             machine.answer(reply);
             *asked += 1;
             Ok(true)
         }
-        Turn::Done(_) => Ok(false),
-        Turn::NoMemory => Err(Stop::NoMemory),
+        Ok(None) => Ok(false),
+        Err(NoMemory) => Err(Stop::NoMemory),
     }
 }
 
-/// Makes the turns of a call that starts.
-fn run<'a, A: Allocator + Copy, P: Pace>(
+/// Runs a call that starts to its end.
+fn run<'a, A: Allocator + Copy, R: Wait, P: Pace>(
+    rt: &R,
     place: &Place<'_, A, P>,
-    cells: &mut Cells<A>,
     mut machine: Machine<'a, A>,
 ) -> Result<Finished<'a, A>, Stop>
     requires free { IsFree machine.status }
@@ -101,7 +118,7 @@ fn run<'a, A: Allocator + Copy, P: Pace>(
     ensures call { IfOk result (λ finished. finished.call ≡ machine.entry.call) }
 {
     let mut asked = 0;
-    'turns: while make_turn(place, cells, &mut machine, &mut asked)? {}
+    'operations: while do_next(rt, place, &mut machine, &mut asked)? {}
     match machine.finish() {
         Ok(finished) => Ok(finished),
         Err(_) => unreachable!(),
@@ -124,10 +141,10 @@ fn rejected<'a, A: Allocator + Copy>(
 }
 
 /// Runs the call of a number to its end.
-fn play<'a, A: Allocator + Copy, P: Pace>(
+fn play<'a, A: Allocator + Copy, R: Wait, P: Pace>(
+    rt: &R,
     job: &Job<'_, 'a, A, P>,
     place: &Place<'_, A, P>,
-    cells: &mut Cells<A>,
     number: u32,
 ) -> Result<Finished<'a, A>, Stop>
     requires { number < length job.now.calls.now }
@@ -136,17 +153,26 @@ fn play<'a, A: Allocator + Copy, P: Pace>(
     let call = &job.calls[number as usize];
     let _limit = call.fuel();
     match Machine::start(job.alloc, job.contracts, call) {
-        Ok(machine) => run(place, cells, machine),
+        Ok(machine) => run(rt, place, machine),
         Err(StartRefusal::NoMemory) => Err(Stop::NoMemory),
         Err(_) => Ok(rejected(job.alloc, job.contracts, call)),
     }
 }
 
-/// Runs the call of a position over its own copy of these cells, as far as its profile has them. None where the call asks for what is not in its
-/// profile.
-pub(crate) fn attempt<'a, A: Allocator + Copy, P: Pace>(
+/// Whether what a call did stands: where it was run to its end, and returned.
+fn stands<A: Allocator + Copy>(played: &Result<Finished<'_, A>, Stop>) -> bool {
+    match played {
+        Ok(finished) => returned(finished.outcome()),
+        Err(_) => false,
+    }
+}
+
+/// Runs the call of a position over the cells that the workers share, as far as its profile has them, and ends what it did: that stands only where
+/// the call returned. None where the call asks for what is not in its profile.
+pub(crate) fn attempt<'a, A: Allocator + Copy, R: Wait, P: Pace>(
+    rt: &R,
     job: &Job<'_, 'a, A, P>,
-    cells: &Cells<A>,
+    ahead: &Mutex<Ahead<A>>,
     position: u32,
 ) -> Result<Option<Made<'a, A>>, NoMemory>
     requires { All (λ number. number < length job.now.calls.now) job.now.order.now }
@@ -157,18 +183,20 @@ pub(crate) fn attempt<'a, A: Allocator + Copy, P: Pace>(
         return Ok(None);
     }
     let number = job.order[at];
-    let profile = &job.profiles[at];
     job.pace.at(Step::Attempt {
         call: number,
         nth: 0,
     });
-    let mut local = cells_of(job.alloc, cells, profile)?;
     let place = Place {
+        position,
         number,
-        profile,
+        profile: &job.profiles[at],
+        ahead,
         pace: job.pace,
     };
-    match play(job, &place, &mut local, number) {
+    let played = play(rt, job, &place, number);
+    ahead.lock(rt).end(at, stands(&played));
+    match played {
         Ok(finished) => Ok(Some(Made {
             position,
             call: number,

@@ -28,7 +28,7 @@ pub(crate) struct Made<'a, A: Allocator> {
     pub(crate) finished: Finished<'a, A>,
 }
 
-/// The runs that a worker made in a wave, and the contracts that they ran over. (Without the contracts at their side, it is not known of a list of
+/// The runs that a worker made, and the contracts that they ran over. (Without the contracts at their side, it is not known of a list of
 /// these that the allocator lives as long as they do, which dropping it asks.)
 #[derive(Drop)]
 pub(crate) struct Part<'a, A: Allocator> {

@@ -1,4 +1,4 @@
-//! Validation of a block: workers run its calls at once, wave by wave, and the verdict is what the calls come to when they run one after another
+//! Validation of a block: workers run its calls at once, each once those that it waits for have ended, and the verdict is what the calls come to when they run one after another
 //! (Dickerson, Gazzillo, Herlihy, Koskinen, "Adding Concurrency to Smart Contracts", PODC 2017, section 4: the fork-join program of a validator).
 #![tactic(auto)]
 
@@ -7,9 +7,10 @@ mod compare;
 mod end;
 mod fold;
 mod job;
-mod local;
+mod profile;
+mod shared;
 mod verdict;
-mod waves;
+mod workers;
 
 ghost use Rattle.std.specs.Prelude.{◌≡◌, ◌≤◌, ◌<◌, ℕ, All, IfOk, length};
 ghost use Rattle.spec_block.specs.Worlds.{order_of};
@@ -23,7 +24,7 @@ use crate::end::conclude;
 use crate::fold::fold;
 use crate::job::Job;
 pub use crate::verdict::Verdict;
-use crate::waves::run_waves;
+use crate::workers::run_ready;
 pub use block_judge::Reason;
 use block_judge::{Fit, Unfit, judge};
 use call::Call;
@@ -44,7 +45,7 @@ pub struct Validated<A: Allocator = Global> {
 }
 
 /// Runs the calls of a block that passes so far, and compares what they come to with what it says.
-fn run<R: Threads + Sync, A: Allocator + Copy + Send + Sync, P: Pace>(
+fn run<R: Threads + Wait + Sync, A: Allocator + Copy + Send + Sync, P: Pace>(
     rt: &R,
     alloc: A,
     world: &World<A>,
@@ -71,7 +72,7 @@ fn run<R: Threads + Sync, A: Allocator + Copy + Send + Sync, P: Pace>(
         profiles: &fit.profiles,
         pace,
     };
-    let runs = run_waves(rt, &job, world.cells(), workers)?;
+    let runs = run_ready(rt, &job, world.cells(), workers)?;
     let folded = fold(&job, world.cells(), &runs)?;
     let verdict = conclude(alloc, world, &fit.block, folded.core)?;
     Ok(Validated {
@@ -85,7 +86,7 @@ fn run<R: Threads + Sync, A: Allocator + Copy + Send + Sync, P: Pace>(
 /// # Errors
 ///
 /// The allocator refused memory to the caller or to a worker.
-pub fn find_verdict<R: Threads + Sync, A: Allocator + Copy + Send + Sync, P: Pace>(
+pub fn find_verdict<R: Threads + Wait + Sync, A: Allocator + Copy + Send + Sync, P: Pace>(
     rt: &R,
     alloc: A,
     world: &World<A>,
@@ -115,8 +116,8 @@ pub fn find_verdict<R: Threads + Sync, A: Allocator + Copy + Send + Sync, P: Pac
 }
 
 /// The verdict on the bytes of a block of these calls over a world, with this fuel for the block: the first of the nine reasons that holds, or else
-/// the world after the block. This many workers, of which the calling thread is one, run the calls of each wave at once; the pace is told each
-/// attempt and each operation of theirs.
+/// the world after the block. This many workers, of which the calling thread is one, run the calls at once, each as soon as those that it waits for have
+/// ended; the pace is told each attempt and each operation of theirs.
 ///
 /// # Errors
 ///

@@ -1,7 +1,8 @@
 -- What a command does.
-use Rattle.std.specs.Prelude.{◌≡◌, ℕ, ◌⊎◌, List}
+use Rattle.std.specs.Prelude.{◌≡◌, ℕ, ◌⊎◌, List, [], string_bytes}
 use Rattle.wblock_io.specs.Holding.{Holding}
 use Rattle.wblock_line.specs.declared.answer.Answer.{Answer}
+use Rattle.wblock_line.specs.declared.answer.Answer.TheVariants.{Done, Refused}
 use Rattle.wblock_line.specs.declared.perform.Status.{Status}
 use Rattle.wblock_line.specs.Answers.{status_of, IsPerformed, IsCut, IsSaid}
 use Rattle.wblock_commands.specs.Stored.{ShowsStored}
@@ -13,13 +14,20 @@ use Rattle.wblock_blocks.specs.Mines.{Mines}
 use Rattle.wblock_blocks.specs.Validates.{Validates, IsNextFile}
 use Rattle.wblock_debug.specs.Debugs.{Debugs, IsNotListed}
 use Rattle.wblock_commands.specs.declared.command.Command.{Command}
-use Rattle.wblock_commands.specs.declared.command.Command.TheVariants.{Stored, Asm, Check, Deploy, Mine, Validate, Debug}
+use Rattle.wblock_commands.specs.declared.command.Command.TheVariants.{Stored, Help, Version, Asm, Check, Deploy, Mine, Validate, Debug}
 use Rattle.wblock_commands.specs.Lines.{EndsLine}
 use Rattle.wblock_commands.specs.Words.{texts}
+
+-- a text that ends with a newline is to be printed, and no file to be written
+abbrev pub TellsText : Answer → Type 0
+TellsText (Done writes text) = (writes.items ≡ []) × EndsLine (string_bytes text)
+TellsText (Refused line) = ⊥
 
 -- what a command comes to over files
 abbrev pub Answers : Command → Holding → Answer → Type 0
 Answers Stored holds answer = ShowsStored answer
+Answers (Help words) holds answer = TellsText answer
+Answers Version holds answer = TellsText answer
 Answers (Asm text target) holds answer = Assembles holds text.now target.now answer
 Answers (Check target heap) holds answer = Checks holds target.now answer
 Answers (Deploy world modules) holds answer = Deploys holds world.now (texts modules.now) answer
@@ -53,6 +61,8 @@ pub record Cuts (c : Command) (name : List ℕ) (old new : Holding) (before afte
 -- the command reads the file of this name, once those that it reads before give what they have to
 abbrev pub Reads : Command → Holding → List ℕ → Type 0
 Reads Stored holds name = ⊥
+Reads (Help words) holds name = ⊥
+Reads Version holds name = ⊥
 Reads (Asm text target) holds name = name ≡ text.now
 Reads (Check target heap) holds name = name ≡ target.now
 Reads (Deploy world modules) holds name = IsNextModule holds (texts modules.now) name

@@ -1,9 +1,9 @@
 -- What the words of a line ask for.
-use Rattle.std.specs.Prelude.{◌≡◌, ℕ, ◌<◌, ◌≤◌, List, [], ◌∷◌, Option, Some, None, codes, decimal, length, map}
+use Rattle.std.specs.Prelude.{◌≡◌, ◌≢◌, ℕ, ◌<◌, ◌≤◌, ◌⊎◌, List, [], ◌∷◌, Option, Some, None, codes, decimal, length, map}
 use Rattle.std.specs.Borrow.{Bor}
 use Rattle.wblock_line.specs.Words.{Line, Choice, split}
 use Rattle.wblock_commands.specs.declared.command.Command.{Command}
-use Rattle.wblock_commands.specs.declared.command.Command.TheVariants.{Stored, Asm, Check, Deploy, Mine, Validate, Debug}
+use Rattle.wblock_commands.specs.declared.command.Command.TheVariants.{Stored, Help, Version, Asm, Check, Deploy, Mine, Validate, Debug}
 use Rattle.wblock_commands.specs.Options.{AsksFuel, AsksWorkers, AsksTries, HasOnlyMining, HasOnlyValidation}
 use Rattle.wblock_debug.specs.Asks.{AsksDebug}
 use Rattle.wblock_debug.specs.declared.asked.Debugging.{Debugging}
@@ -15,6 +15,11 @@ texts words = map (λ w. w.now) words
 
 abbrev pub choices : List (Bor (List ℕ) × Bor (List ℕ)) → List Choice
 choices options = map (λ o. (o.0.now, o.1.now)) options
+
+-- the word is none of these
+abbrev pub IsApart : List ℕ → List (List ℕ) → Type 0
+IsApart word [] = Unit {0}
+IsApart word (other ∷ others) = (other ≢ word) × IsApart word others
 
 -- the word is a number of bytes that a heap may have
 pub record IsSize (word : List ℕ) (n : ℕ) : Type 0 where
@@ -32,22 +37,31 @@ pub record AsksStored (line : Line) : Type 0 where
   pub words : line.words ≡ []
   pub options : line.options ≡ []
 
--- `asm TEXT MODULE`
+-- `asm TEXT MODULE`, of different names
 pub record AsksAsm (line : Line) (text target : List ℕ) : Type 0 where
   pub words : line.words ≡ codes "asm" ∷ text ∷ target ∷ []
   pub options : line.options ≡ []
+  pub apart : text ≢ target
 
 -- `check MODULE [--heap N]`
 pub record AsksCheck (line : Line) (target : List ℕ) (heap : Option ℕ) : Type 0 where
   pub words : line.words ≡ codes "check" ∷ target ∷ []
   pub options : AsksHeap line.options heap
 
--- `deploy WORLD MODULE...`
+-- `deploy WORLD MODULE...`, WORLD of a name that no MODULE has
 pub record AsksDeploy (line : Line) (world : List ℕ) (modules : List (List ℕ)) : Type 0 where
   pub words : line.words ≡ codes "deploy" ∷ world ∷ modules
   pub options : line.options ≡ []
   pub some : 0 < length modules
   pub few : length modules ≤ 1024
+  pub apart : IsApart world modules
+
+-- what is written takes the place of no input and of no other output: BLOCK has a name of its own, and NEXT another than CALLS; NEXT may be WORLD
+pub record KeepsInputs (m : Mining) : Type 0 where
+  pub world : m.world.now ≢ m.block.now
+  pub calls : m.calls.now ≢ m.block.now
+  pub block : m.next.now ≢ m.block.now
+  pub list : m.calls.now ≢ m.next.now
 
 -- `mine WORLD CALLS BLOCK NEXT --fuel N [--workers 4] [--tries 3]`
 pub record AsksMine (line : Line) (m : Mining) : Type 0 where
@@ -56,6 +70,7 @@ pub record AsksMine (line : Line) (m : Mining) : Type 0 where
   pub workers : AsksWorkers line.options m.workers
   pub tries : AsksTries line.options m.tries
   pub only : HasOnlyMining line.options
+  pub apart : KeepsInputs m
 
 -- `validate WORLD CALLS BLOCK --fuel N [--workers 4]`
 pub record AsksValidate (line : Line) (v : Validation) : Type 0 where
@@ -72,6 +87,8 @@ pub record AsksNoTask (line : Line) : Type 0 where
 
 abbrev pub IsLineOf : Line → Command → Type 0
 IsLineOf line Stored = AsksStored line
+IsLineOf line (Help words) = ⊥
+IsLineOf line Version = ⊥
 IsLineOf line (Asm text target) = AsksAsm line text.now target.now
 IsLineOf line (Check target heap) = AsksCheck line target.now heap
 IsLineOf line (Deploy world modules) = AsksDeploy line world.now (texts modules.now)
@@ -79,13 +96,25 @@ IsLineOf line (Mine task) = AsksMine line task
 IsLineOf line (Validate task) = AsksValidate line task
 IsLineOf line (Debug task) = AsksDebug line task
 
--- the words of a line, its options taken out, ask for this
+-- `--help` or `-h` stands among the words
+abbrev pub AsksHelp : List (List ℕ) → Type 0
+AsksHelp words = ¬ (IsApart (codes "--help") words × IsApart (codes "-h") words)
+
+-- the words ask to be told of the program
+abbrev pub IsTold : List (List ℕ) → Command → Type 0
+IsTold words (Help asked) = AsksHelp words
+IsTold words Version = words ≡ codes "--version" ∷ []
+IsTold words c = ⊥
+
+-- the words ask for this: to be told of the program; or so do the words of a line, its options taken out
 abbrev pub Says : List (List ℕ) → Command → Type 0
-Says words c = (line : Line) × (split words ≡ Some line) × IsLineOf line c
+Says words c = IsTold words c ⊎ ((line : Line) × (split words ≡ Some line) × IsLineOf line c)
 
 -- a world has at most 1,024 contracts, 1 to 64 workers run calls, and a worker tries a call at most 1 to 16 times
 abbrev pub HasFew : Command → Type 0
 HasFew Stored = Unit {0}
+HasFew (Help words) = Unit {0}
+HasFew Version = Unit {0}
 HasFew (Asm text target) = Unit {0}
 HasFew (Check target heap) = Unit {0}
 HasFew (Deploy world modules) = length modules.now ≤ 1024

@@ -1,8 +1,8 @@
 //! What a line of words asks for.
 
-ghost use Rattle.std.specs.Prelude.{◌≡◌, ◌≢◌, ◌≤◌, ◌↔◌, ℕ, List, Option, IfOk, IsTrue, MatchOption, decimal};
+ghost use Rattle.std.specs.Prelude.{◌≡◌, ◌≢◌, ◌≤◌, ◌↔◌, ℕ, List, [], ◌∷◌, Option, IfOk, IfSome, IsTrue, MatchOption, codes, decimal};
 ghost use Rattle.wblock_line.specs.Words.{line_of};
-ghost use Rattle.wblock_commands.specs.Words.{AsksStored, AsksAsm, AsksHeap, IsSize, AsksCheck, AsksDeploy, AsksMine, AsksValidate, AsksNoTask, IsLineOf, texts, choices};
+ghost use Rattle.wblock_commands.specs.Words.{AsksStored, AsksAsm, AsksHeap, IsSize, AsksCheck, AsksDeploy, AsksMine, AsksValidate, AsksNoTask, IsLineOf, IsApart, KeepsInputs, AsksHelp, IsTold, HasFew, texts, choices};
 ghost use Rattle.wblock_commands.specs.declared.command.Command.{Command as Asked};
 ghost use Rattle.wblock_blocks.specs.declared.mine.Mining.{Mining as TheMining};
 ghost use Rattle.wblock_blocks.specs.declared.validate.Validation.{Validation as TheValidation};
@@ -24,6 +24,10 @@ const MOST_HEAP: u64 = 16_777_216;
 pub enum Command<'l, 'w> {
     /// No words: the two stored calls of the stored contract.
     Stored,
+    /// `--help` or `-h` among these words: how the program, or the command of the first word, is called.
+    Help(&'l [&'w str]),
+    /// `--version` alone: the program's name and version.
+    Version,
     /// `asm TEXT MODULE`: the module that a text names, in its shortest spelling.
     Asm(&'w str, &'w str),
     /// `check MODULE [--heap N]`: whether a module is valid, its tree in an arena or in a heap of N bytes, 1,024 to 16,777,216.
@@ -59,6 +63,16 @@ fn size_of(alloc: Global, word: &str) -> Result<Option<u32>, AllocError>
         return Ok(None);
     }
     Ok(Some(size as u32))
+}
+
+/// Whether a word is none of these.
+pub(crate) fn is_apart(word: &str, others: &[&str]) -> bool
+    ensures { IsTrue result ↔ IsApart word.now (texts others.now) }
+{
+    match others {
+        [] => true,
+        [other, rest @ ..] => !is_word(*other, word) && is_apart(word, rest),
+    }
 }
 
 /// Whether a word is this one.
@@ -108,6 +122,9 @@ fn asm_of<'w>(words: &[&'w str], options: &[(&str, &str)]) -> Option<(&'w str, &
     if !options.is_empty() || words.len() != 3 || !is_word(words[0], "asm") {
         return None;
     }
+    if is_word(words[1], words[2]) {
+        return None;
+    }
     Some((words[1], words[2]))
 }
 
@@ -125,7 +142,21 @@ fn deploy_of<'l, 'w>(
     {
         return None;
     }
-    Some((words[1], &words[2..]))
+    let modules = &words[2..];
+    if !is_apart(words[1], modules) {
+        return None;
+    }
+    Some((words[1], modules))
+}
+
+/// Whether BLOCK and NEXT take the place of no file that is read, nor of one another; NEXT may be WORLD.
+fn keeps_inputs(mining: Mining) -> bool
+    ensures { IsTrue result ↔ KeepsInputs mining.entry }
+{
+    !is_word(mining.world, mining.block)
+        && !is_word(mining.calls, mining.block)
+        && !is_word(mining.next, mining.block)
+        && !is_word(mining.calls, mining.next)
 }
 
 /// What `mine` is asked for.
@@ -148,7 +179,7 @@ fn mining_of<'w>(
     let Some(tries) = tries_in(alloc, options)? else {
         return Ok(None);
     };
-    Ok(Some(Mining {
+    let mining = Mining {
         world: words[1],
         calls: words[2],
         block: words[3],
@@ -156,7 +187,11 @@ fn mining_of<'w>(
         fuel,
         workers,
         tries,
-    }))
+    };
+    if !keeps_inputs(mining) {
+        return Ok(None);
+    }
+    Ok(Some(mining))
 }
 
 /// What `validate` is asked for.
@@ -228,4 +263,32 @@ pub fn command_of<'l, 'w>(
         Some(task) => Ok(Some(task)),
         None => Ok(None),
     }
+}
+
+/// Whether `--help` or `-h` stands among the words.
+fn asks_help(words: &[&str]) -> bool
+    ensures { IsTrue result ↔ AsksHelp (texts words.now) }
+{
+    !(is_apart("--help", words) && is_apart("-h", words))
+}
+
+/// Whether the words are `--version` alone.
+fn asks_version(words: &[&str]) -> bool
+    ensures { IsTrue result ↔ (texts words.now ≡ codes "--version" ∷ []) }
+{
+    words.len() == 1 && is_word(words[0], "--version")
+}
+
+/// What words ask to be told of the program, or None where they do not.
+pub(crate) fn told_of<'a>(words: &'a [&'a str]) -> Option<Command<'a, 'a>>
+    ensures told { MatchOption result ((c : Asked) → ¬ IsTold (texts words.entry.now) c) (IsTold (texts words.entry.now)) }
+    ensures few { IfSome result HasFew }
+{
+    if asks_help(words) {
+        return Some(Command::Help(words));
+    }
+    if asks_version(words) {
+        return Some(Command::Version);
+    }
+    None
 }

@@ -4,6 +4,7 @@
 mod answer;
 mod command;
 mod line;
+mod misuse;
 mod options;
 mod runs;
 mod stored;

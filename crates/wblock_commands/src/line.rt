@@ -7,7 +7,8 @@ ghost use Rattle.wblock_commands.specs.Words.{Says, HasFew};
 ghost use Rattle.wblock_commands.specs.Does.{Answers, AsksCall, Misses, Does, Reads, Fails, IsKept, SaysUsage};
 ghost use Rattle.wblock_commands.specs.declared.command.Command.{Command as Asked};
 
-use crate::command::{Command, command_of};
+use crate::command::{Command, command_of, told_of};
+use crate::usage::{tell_help, tell_version};
 use crate::{show_stored, usage_text};
 use codec::{Sink, put_all};
 use pace::Pace;
@@ -38,6 +39,8 @@ fn answer_of<'l, 'w, R: Threads + Wait + Sync, F: Files, P: Pace>(
 {
     let answer = match command {
         Command::Stored => show_stored(alloc)?,
+        Command::Help(words) => tell_help(alloc, words)?,
+        Command::Version => tell_version(alloc)?,
         Command::Asm(text, target) => assemble_file(alloc, files, text, target)?,
         Command::Check(target, heap) => check_module(alloc, files, target, heap)?,
         Command::Deploy(world, modules) => deploy_modules(alloc, files, world, modules)?,
@@ -120,6 +123,9 @@ pub fn run_line<'a, R: Threads + Wait + Sync, F: Files, O: Sink, E: Sink, P: Pac
     ensures calm_files { (result ≡ Status.Done) ⊎ (result ≡ Status.Refused) → F.failures files.new ≡ F.failures files.old }
     ensures calm_output { (result ≡ Status.Done) ⊎ (result ≡ Status.Refused) → O.failures out.new ≡ O.failures out.old }
 {
+    if let Some(command) = told_of(words) {
+        return run_command(rt, alloc, words, command, files, out, err, pace);
+    }
     let Ok(split) = split_words(alloc, words) else {
         return tell_fault(Fault::NoMemory, err);
     };

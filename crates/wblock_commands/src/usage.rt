@@ -1,69 +1,162 @@
-//! What is said of a line of words that asks for nothing.
+//! What is said of a line of words that asks for nothing, and what the program says of itself.
 
-ghost use Rattle.std.specs.Prelude.{IfOk, string_bytes};
+ghost use Rattle.std.specs.Prelude.{◌≡◌, IfOk, IfErr, string_bytes};
 ghost use Rattle.wblock_commands.specs.Lines.{EndsLine};
+ghost use Rattle.wblock_commands.specs.Does.{TellsText};
 
+use crate::misuse::misuse_text;
+use clap::builder::ValueParser;
 use clap::{Arg, Command};
 use std::alloc::{AllocError, Global};
+use wblock_line::{Answer, Fault};
 
-fn required<'a>(alloc: Global, name: &'a str) -> Arg<'a> {
-    Arg::new(alloc, name).required(true)
+/// A word that has to stand, and what it means.
+fn required<'a>(alloc: Global, name: &'a str, help: &'a str) -> Arg<'a> {
+    Arg::new(alloc, name).required(true).help(help)
+}
+
+/// An option whose value is a number from the least to the most, and what it means.
+fn number<'a>(alloc: Global, name: &'a str, least: u64, most: u64, help: &'a str) -> Arg<'a> {
+    Arg::new(alloc, name)
+        .long(name)
+        .value_name("N")
+        .value_parser(ValueParser::unsigned(least, most))
+        .help(help)
+}
+
+fn world<'a>(alloc: Global) -> Arg<'a> {
+    required(
+        alloc,
+        "WORLD",
+        "The file of the world, which `deploy` or `mine` wrote",
+    )
+}
+
+fn calls<'a>(alloc: Global) -> Arg<'a> {
+    required(
+        alloc,
+        "CALLS",
+        "The file of the calls: a line `CONTRACT FUEL ENTRY ARG...` for each",
+    )
+}
+
+fn fuel<'a>(alloc: Global, help: &'a str) -> Arg<'a> {
+    number(alloc, "fuel", 0, u64::MAX, help).required(true)
+}
+
+fn workers<'a>(alloc: Global) -> Arg<'a> {
+    number(
+        alloc,
+        "workers",
+        1,
+        64,
+        "How many threads run calls, 1 to 64",
+    )
+    .default_value("4")
 }
 
 fn asm<'a>(alloc: Global) -> Result<Command<'a>, AllocError> {
     Command::new(alloc, "asm")
-        .arg(required(alloc, "TEXT"))?
-        .arg(required(alloc, "MODULE"))
+        .about("Assembles a module in text, and writes it in binary")
+        .arg(required(alloc, "TEXT", "The file of the module in text"))?
+        .arg(required(alloc, "MODULE", "The file to be written; another than TEXT"))
 }
 
 fn check<'a>(alloc: Global) -> Result<Command<'a>, AllocError> {
     Command::new(alloc, "check")
-        .arg(required(alloc, "MODULE"))?
-        .arg(Arg::new(alloc, "heap").long("heap").value_name("N"))
+        .about("Says whether a module is valid")
+        .arg(required(alloc, "MODULE", "The file of the module in binary"))?
+        .arg(number(
+            alloc,
+            "heap",
+            1_024,
+            16_777_216,
+            "The bytes of a heap for the module's tree, 1024 to 16777216; if not given, there is no bound",
+        ))
 }
 
 fn deploy<'a>(alloc: Global) -> Result<Command<'a>, AllocError> {
     Command::new(alloc, "deploy")
-        .arg(required(alloc, "WORLD"))?
-        .arg(required(alloc, "MODULE").num_args(1..))
-}
-
-fn number<'a>(alloc: Global, name: &'a str) -> Arg<'a> {
-    Arg::new(alloc, name).long(name).value_name("N")
+        .about("Makes a world of modules, and writes it")
+        .arg(required(alloc, "WORLD", "The file to be written; no MODULE's"))?
+        .arg(required(
+            alloc,
+            "MODULE",
+            "The files of the modules, 1 to 1024; they are the contracts 0, 1, 2 ..",
+        )
+        .num_args(1..))
 }
 
 fn mine<'a>(alloc: Global) -> Result<Command<'a>, AllocError> {
     Command::new(alloc, "mine")
-        .arg(required(alloc, "WORLD"))?
-        .arg(required(alloc, "CALLS"))?
-        .arg(required(alloc, "BLOCK"))?
-        .arg(required(alloc, "NEXT"))?
-        .arg(number(alloc, "fuel").required(true))?
-        .arg(number(alloc, "workers"))?
-        .arg(number(alloc, "tries"))
+        .about("Runs calls over a world at once, and writes a block of them and the world after it")
+        .arg(world(alloc))?
+        .arg(calls(alloc))?
+        .arg(required(
+            alloc,
+            "BLOCK",
+            "The file of the block, to be written; no other file of the line",
+        ))?
+        .arg(required(
+            alloc,
+            "NEXT",
+            "The file of the world after it, to be written; it may be WORLD",
+        ))?
+        .arg(fuel(
+            alloc,
+            "The block's fuel, 0 to 18446744073709551615: the limits of its calls add up to at most this",
+        ))?
+        .arg(workers(alloc))?
+        .arg(number(
+            alloc,
+            "tries",
+            1,
+            16,
+            "How often a call is tried that meets a conflict, 1 to 16",
+        )
+        .default_value("3"))
 }
 
 fn validate<'a>(alloc: Global) -> Result<Command<'a>, AllocError> {
     Command::new(alloc, "validate")
-        .arg(required(alloc, "WORLD"))?
-        .arg(required(alloc, "CALLS"))?
-        .arg(required(alloc, "BLOCK"))?
-        .arg(number(alloc, "fuel").required(true))?
-        .arg(number(alloc, "workers"))
+        .about("Says whether a block is one of these calls over this world")
+        .arg(world(alloc))?
+        .arg(calls(alloc))?
+        .arg(required(alloc, "BLOCK", "The file of the block"))?
+        .arg(fuel(
+            alloc,
+            "The fuel with which the block was mined, 0 to 18446744073709551615",
+        ))?
+        .arg(workers(alloc))
 }
 
 fn debug<'a>(alloc: Global) -> Result<Command<'a>, AllocError> {
     Command::new(alloc, "debug")
-        .arg(required(alloc, "WORLD"))?
-        .arg(required(alloc, "CALLS"))?
-        .arg(required(alloc, "CALL"))?
-        .arg(required(alloc, "CMD").num_args(1..))
+        .about("Runs one call alone over a world, turn by turn, and shows its states")
+        .arg(world(alloc))?
+        .arg(calls(alloc))?
+        .arg(required(alloc, "CALL", "The number of the call, from 0"))?
+        .arg(required(
+            alloc,
+            "CMD",
+            "step:N, back:N, cont, place, break:F:O, clear:F:O, stack, locals, globals, bytes:FROM:N",
+        )
+        .num_args(1..))
 }
 
 fn program<'a>(alloc: Global) -> Result<Command<'a>, AllocError> {
     Command::new(alloc, "wblock")
         .no_binary_name(true)
+        .bin_name("wblock")?
+        .version("0.1.0")
+        .about(
+            "Runs blocks of calls of smart contracts in parallel, and validates them; without words, a stored example",
+        )
+        .after_help(
+            "Status: 0 done, 1 refused, 2 usage, 3 a file or the output failed, 4 memory was refused. Answers stand on standard output, what explains them on standard error.",
+        )
         .subcommand_required(true)
+        .disable_help_subcommand(true)
         .subcommand(asm(alloc)?)?
         .subcommand(check(alloc)?)?
         .subcommand(deploy(alloc)?)?
@@ -72,16 +165,16 @@ fn program<'a>(alloc: Global) -> Result<Command<'a>, AllocError> {
         .subcommand(debug(alloc)?)
 }
 
-/// What the command line's reader says of these words; `usage` where it does not refuse them.
+/// What the command line's reader says of these words; what is wrong by the program's own reading where it does not refuse them.
 fn said_of<'a>(alloc: Global, words: &'a [&'a str]) -> Result<String, AllocError> {
     match program(alloc)?.try_get_matches_from(words) {
-        Ok(_) => "usage".to_string(alloc),
+        Ok(_) => misuse_text(alloc, words),
         Err(error) => error.to_string(alloc),
     }
 }
 
-/// The text of a refusal of these words, or of the help that they ask for, or `usage` where the command line's reader
-/// does not refuse them. It ends with a newline.
+/// The text of a refusal of these words, or of the help that they ask for; where the command line's reader does not refuse them, `usage` and
+/// what is wrong. It ends with a newline.
 pub fn usage_text<'a>(alloc: Global, words: &'a [&'a str]) -> Result<String, AllocError>
     ensures { IfOk result (λ text. EndsLine (string_bytes text)) }
 {
@@ -90,4 +183,71 @@ pub fn usage_text<'a>(alloc: Global, words: &'a [&'a str]) -> Result<String, All
         text.push('\n')?;
     }
     Ok(text)
+}
+
+const HELP: [&str; 1] = ["--help"];
+
+const ASM: [&str; 2] = ["asm", "--help"];
+
+const CHECK: [&str; 2] = ["check", "--help"];
+
+const DEPLOY: [&str; 2] = ["deploy", "--help"];
+
+const MINE: [&str; 2] = ["mine", "--help"];
+
+const VALIDATE: [&str; 2] = ["validate", "--help"];
+
+const DEBUG: [&str; 2] = ["debug", "--help"];
+
+const VERSION: [&str; 1] = ["--version"];
+
+/// The words that ask for help on what these words begin with.
+fn topic_of(words: &[&str]) -> &'static [&'static str] {
+    let Some(word) = words.first() else {
+        return HELP.as_slice();
+    };
+    match *word {
+        "asm" => ASM.as_slice(),
+        "check" => CHECK.as_slice(),
+        "deploy" => DEPLOY.as_slice(),
+        "mine" => MINE.as_slice(),
+        "validate" => VALIDATE.as_slice(),
+        "debug" => DEBUG.as_slice(),
+        _ => HELP.as_slice(),
+    }
+}
+
+/// The answer that prints what the command line's reader says of these words.
+fn tell_text<'a>(alloc: Global, words: &[&str]) -> Result<Answer<'a>, Fault<'a>>
+    ensures answer { IfOk result TellsText }
+    ensures fault { IfErr result (λ f. f ≡ Fault.NoMemory) }
+{
+    match usage_text(alloc, words) {
+        Ok(text) => Ok(Answer::Done(Vec::new(alloc), text)),
+        Err(AllocError) => Err(Fault::NoMemory),
+    }
+}
+
+/// The answer to `--help` among these words: how the command of the first word is called, or the program.
+///
+/// # Errors
+///
+/// `NoMemory` alone.
+pub(crate) fn tell_help<'a>(alloc: Global, words: &[&str]) -> Result<Answer<'a>, Fault<'a>>
+    ensures answer { IfOk result TellsText }
+    ensures fault { IfErr result (λ f. f ≡ Fault.NoMemory) }
+{
+    tell_text(alloc, topic_of(words))
+}
+
+/// The answer to `--version`.
+///
+/// # Errors
+///
+/// `NoMemory` alone.
+pub(crate) fn tell_version<'a>(alloc: Global) -> Result<Answer<'a>, Fault<'a>>
+    ensures answer { IfOk result TellsText }
+    ensures fault { IfErr result (λ f. f ≡ Fault.NoMemory) }
+{
+    tell_text(alloc, VERSION.as_slice())
 }

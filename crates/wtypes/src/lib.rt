@@ -4,9 +4,11 @@
 ghost use Rattle.std.specs.Prelude.{◌≡◌};
 
 use std::alloc::{AllocError, AllocFailed, Allocator};
+use thiserror::Error;
 
 /// Memory ran out, or a counter is full.
-#[derive(Clone, Copy, Debug, PartialEq, Eq)]
+#[derive(Clone, Copy, Debug, PartialEq, Eq, Error)]
+#[error("memory was refused")]
 pub struct NoMemory;
 
 impl From<AllocError> for NoMemory {

@@ -7,32 +7,18 @@ use Rattle.frames.specs.Waiting.{tail_of}
 use Rattle.execute.specs.Steps.{Led, Wants}
 use Rattle.interp.specs.Run.{seen}
 use Rattle.frames.specs.ViewLaws.{items_nil, ordered_any, last_of}
-use Rattle.interp.proofs.Turning.{live_of, safe_at, machine_exhausted, has_exhausted, machine_stepped, has_stepped, machine_fell, has_fallen}
+use Rattle.interp.proofs.Turning.{live_of, safe_at, machine_stepped, has_stepped, machine_fell, has_fallen}
 use Rattle.sequences.specs.Rest.{Frees_join}
 use Rattle.sequences.specs.Joining.{frees_joined}
 use Rattle.interp.proofs.Wanting.{may_take}
 use Rattle.interp.proofs.Asking.{calling_of, asked_turn, started_turn}
 use Rattle.interp.proofs.machine.make_turn.Goals as goal
 
-pub returns-then-run-fuel-clause-kept : goal.returns-then-run-fuel-clause-kept
-returns-then-run-fuel-clause-kept g c =
-    let r = c.args.run.now in
-    let k = c.requires.kept in
-    record {
-      machine = machine_exhausted (seen r) k.machine c.requires.running
-          (λ e. true≢false (sym (ap (λ xs. length xs == 0) (items_nil r.parts.code.now e)) ∙ (sym c.is_empty.ensures ∙ c.if-is_empty.false))) (c.if-run-fuel.true ∙ c.fuel.ensures);
-      counted = k.counted;
-      suits = k.suits;
-      waits = k.waits;
-      place = k.place;
-      room = tt;
-    }
+pub run_out-requires-clause-some : goal.run_out-requires-clause-some
+run_out-requires-clause-some g c = λ e. true≢false (sym (ap (λ xs. length xs == 0) e) ∙ (sym c.is_empty.ensures ∙ c.if-is_empty.false))
 
-pub returns-then-run-fuel-clause-turn : goal.returns-then-run-fuel-clause-turn
-returns-then-run-fuel-clause-turn g c =
-    let r = c.args.run.now in
-    has_exhausted (seen r) c.requires.kept.machine c.requires.running
-    (λ e. true≢false (sym (ap (λ xs. length xs == 0) (items_nil r.parts.code.now e)) ∙ (sym c.is_empty.ensures ∙ c.if-is_empty.false))) (c.if-run-fuel.true ∙ c.fuel.ensures)
+pub run_out-requires-clause-out : goal.run_out-requires-clause-out
+run_out-requires-clause-out g c = c.if-run-fuel.true ∙ c.fuel.ensures
 
 pub execute-requires : goal.execute-requires
 execute-requires g c =

@@ -1,10 +1,10 @@
-use Rattle.storage.specs.Slots.{cells_in, counts_in}
 use Rattle.std.proofs.Common.{ap, ◌∙◌}
-use Rattle.storage.proofs.Slots.{same_cells, AreCells-inserted}
+use Rattle.storage.specs.Slots.{cells_in}
+use Rattle.storage.proofs.Slots.{AreCells-inserted}
 use Rattle.storage.proofs.Cells.insert.Goals as goal
 
 pub returns-clause-unsettled : goal.returns-clause-unsettled
-returns-clause-unsettled g c = same_cells (counts_in c.self.inside.slots.entries) (counts_in c.put_slot.new.slots.entries) c.args.lock _ c.in_ok-put_slot.ensures.counts c.slot_at.ensures.count ∙ ap (λ s. s.unsettled) c.self.view_is
+returns-clause-unsettled g c = c.in_ok-fill_slot.ensures.counts ∙ ap (λ s. s.unsettled) c.self.view_is
 
 pub invariant_of-self-2 : goal.invariant_of-self-2
-invariant_of-self-2 g c = record { are = AreCells-inserted (cells_in c.self.inside.slots.entries) (cells_in c.put_slot.new.slots.entries) c.args.lock c.args.value c.in_ok-put_slot.ensures.cells c.requires c.ranges.value.fits c.self.invariant.are; types = c.in_ok-put_slot.ensures.types c.self.invariant.types }
+invariant_of-self-2 g c = record { are = AreCells-inserted (cells_in c.self.inside.slots.entries) (cells_in c.fill_slot.new.slots.entries) c.args.lock c.args.value c.in_ok-fill_slot.ensures.cells c.requires c.ranges.value.fits c.self.invariant.are; types = c.in_ok-fill_slot.ensures.types c.self.invariant.types }

@@ -1,0 +1,100 @@
+//! Cells that several calls change at once, with the inverses of what each did.
+#![tactic(auto)]
+
+mod changes;
+
+ghost use Rattle.std.specs.Prelude.{◌≡◌, ◌≤◌, [], IfNone, IfOk, IfSome, OnErr, length, replicate};
+ghost use Rattle.spec_ledger.specs.Cells.{reply_to};
+ghost use Rattle.ahead.specs.Changing.{acted, ended};
+
+use crate::changes::Changes;
+use spec_ledger::{NoMemory, Op, Reply};
+use std::alloc::{Allocator, Global};
+use std::marker::Model;
+use std::mem;
+use storage::{Cells, end_all};
+
+/// Cells that the calls of an order change at once, ahead of what they come to one after another. Contracts see the cells, and by position the
+/// inverses of what its call did and has not ended. The type keeps that the unsettled changes of the cells are those of these inverses.
+#[derive(Drop)]
+pub struct Ahead<A: Allocator = Global> {
+    alloc: A,
+    cells: Cells<A>,
+    inverses: Vec<Changes<A>, A>,
+}
+
+impl<A: Allocator> Model for Ahead<A> {
+    ghost use Rattle.std.specs.Prelude.{◌≡◌};
+    ghost use Rattle.std.specs.FinMap.{empty};
+    ghost use Rattle.ahead.specs.Changing.{Changing, changing_code, counts_of};
+
+    ghost Value = { Changing };
+
+    ghost coded = { changing_code };
+
+    ghost view = { λ a. record { cells = a.cells.cells; inverses = a.inverses.items } };
+
+    ghost invariant = { λ a. a.cells.unsettled ≡ counts_of a.inverses.items empty };
+}
+
+/// No changes, of so many positions.
+fn no_changes<A: Allocator + Copy>(
+    alloc: A,
+    positions: usize,
+) -> Result<Vec<Changes<A>, A>, NoMemory>
+    ensures { IfOk result (λ all. all.items ≡ replicate positions []) }
+{
+    let mut all = Vec::new(alloc);
+    for _position in 0..positions {
+        all.push(Changes::new(alloc))?;
+    }
+    Ok(all)
+}
+
+impl<A: Allocator + Copy> Ahead<A> {
+    /// A copy of the cells, in which no position has changed anything.
+    ///
+    /// # Errors
+    ///
+    /// The allocator refused memory.
+    pub fn open(alloc: A, cells: &Cells<A>, positions: usize) -> Result<Self, NoMemory>
+        ensures { IfOk result (λ ahead. ahead ≡ record { cells = cells.now.cells; inverses = replicate positions [] }) }
+    {
+        let inverses = no_changes(alloc, positions)?;
+        let cells = cells.copy(alloc)?;
+        Ok(Ahead {
+            alloc,
+            cells,
+            inverses,
+        })
+    }
+
+    /// Does an operation for a position, and keeps its inverse. None where there is no such position.
+    ///
+    /// # Errors
+    ///
+    /// The allocator refused memory. All is as it was.
+    pub fn act(&mut self, position: usize, op: Op) -> Result<Option<Reply>, NoMemory>
+        ensures reply { IfOk result (λ o. IfSome o (λ reply. reply ≡ reply_to op self.old.cells)) }
+        ensures done { IfOk result (λ o. IfSome o (λ _. self.new ≡ acted self.old position op)) }
+        ensures none { IfOk result (λ o. IfNone o ((length self.old.inverses ≤ position) × (self.new ≡ self.old))) }
+        ensures err { OnErr result (self.new ≡ self.old) }
+    {
+        if position >= self.inverses.len() {
+            return Ok(None);
+        }
+        let reply = self.inverses[position].act(&mut self.cells, op)?;
+        Ok(Some(reply))
+    }
+
+    /// Ends what a position did: it stands, or is taken back, last first. This takes no memory.
+    pub fn end(&mut self, position: usize, stand: bool)
+        ensures { self.new ≡ ended self.old position stand }
+    {
+        if position >= self.inverses.len() {
+            return;
+        }
+        let changes = mem::replace(&mut self.inverses[position], Changes::new(self.alloc));
+        end_all(&mut self.cells, changes.into_inverses(), stand);
+    }
+}

@@ -1,0 +1,40 @@
+-- A book in shards: which shard a lock belongs to, and what a shard sees of traces, entries and cells (Dickerson, Gazzillo, Herlihy, Koskinen, "Adding Concurrency to Smart Contracts",
+-- PODC 2017, section 3, where each object keeps its own locks and inverse logs; the shards are own).
+use Rattle.std.specs.Prelude.{◌≡◌, ◌==◌, ℕ, ◌+◌, ◌%◌, ◌^◌, ◌<◌, if◌then◌else◌, List, [], ◌∷◌}
+use Rattle.std.specs.FinMap.{get}
+use Rattle.spec_ledger.specs.declared.Lock.{Lock}
+use Rattle.spec_ledger.specs.declared.Step.{Step}
+use Rattle.spec_ledger.specs.Cells.{Cells, lock_of}
+use Rattle.spec_ledger.specs.Modes.{touched}
+use Rattle.spec_ledger.specs.Book.{Entry}
+
+-- the shard of a lock, of so many: contract and key added modulo 2^64, then modulo the number of shards; maps and counters alike
+abbrev pub shard_of : ℕ → Lock → ℕ
+shard_of shards lock = ((lock.contract + lock.key) % 2 ^ 64) % shards
+
+-- each lock belongs to one of so many shards
+abbrev pub IsHome : (Lock → ℕ) → ℕ → Type 0
+IsHome home shards = (lock : Lock) → home lock < shards
+
+-- a shard's part of a trace
+abbrev pub part : (Lock → ℕ) → ℕ → List Step → List Step
+part home i [] = []
+part home i (s ∷ t) = if home (lock_of s.op) == i then s ∷ part home i t else part home i t
+
+-- an entry with this trace in place of its own
+abbrev pub with_trace : Entry → List Step → Entry
+with_trace e t = record { call = e.call; trace = t; outcome = e.outcome; modes = touched t }
+
+-- an entry with this trace before others, unless it has no step
+abbrev pub before_others : Entry → List Step → List Entry → List Entry
+before_others e [] es = es
+before_others e (s ∷ t) es = with_trace e (s ∷ t) ∷ es
+
+-- the entries that touch a shard, in order, each with that shard's part of its trace and modes, and the same outcome
+abbrev pub entries_in : (Lock → ℕ) → ℕ → List Entry → List Entry
+entries_in home i [] = []
+entries_in home i (e ∷ es) = before_others e (part home i e.trace) (entries_in home i es)
+
+-- a shard's own cells are, at its locks, those of all
+abbrev pub AreCellsOf : (Lock → ℕ) → ℕ → Cells → Cells → Type 0
+AreCellsOf home i all own = (lock : Lock) → home lock ≡ i → get own lock ≡ get all lock

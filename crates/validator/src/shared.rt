@@ -1,0 +1,86 @@
+// What the workers share beside the job.
+
+use ahead::Ahead;
+use lanes::Lane;
+use schedule::{Board, EndRefusal};
+use spec_ledger::NoMemory;
+use std::alloc::Allocator;
+use std::sync::atomic::{AtomicBool, AtomicU64, Ordering};
+use std::sync::{Mutex, Wait};
+
+/// The board, the cells, and when to leave. The two locks are never held at once. No fact rests on the last two.
+#[derive(Drop)]
+pub(crate) struct Shared<A: Allocator> {
+    pub(crate) board: Mutex<Board<A>>,
+    pub(crate) ahead: Mutex<Ahead<A>>,
+    /// How many positions have not ended.
+    pub(crate) rest: AtomicU64,
+    /// Whether a worker met want of memory.
+    pub(crate) lacked: AtomicBool,
+}
+
+impl<A: Allocator + Copy> Shared<A> {
+    /// Whether there is nothing left to do: every position has ended, or some worker met want of memory.
+    pub(crate) fn is_over(&self) -> bool {
+        self.rest.load(Ordering::SeqCst) == 0 || self.lacked.load(Ordering::SeqCst)
+    }
+
+    /// Ends a position on the board, and gives those that may start now.
+    fn end(&self, rt: &impl Wait, alloc: A, position: u32) -> Result<Vec<u32, A>, NoMemory> {
+        let mut board = self.board.lock(rt);
+        match board.end(position) {
+            Ok(freed) => {
+                self.rest.fetch_sub(1, Ordering::SeqCst);
+                Ok(freed)
+            }
+            Err(EndRefusal::NoMemory) => Err(NoMemory),
+            Err(_) => Ok(Vec::new(alloc)),
+        }
+    }
+
+    /// Puts positions that may start into a lane. One that the lane refuses is ended without a run, and what that frees is put there too.
+    pub(crate) fn put(
+        &self,
+        rt: &impl Wait,
+        alloc: A,
+        lane: &mut Lane<A>,
+        positions: &[u32],
+    ) -> Result<(), NoMemory> {
+        let mut refused = Vec::new(alloc);
+        put_each(lane, positions, &mut refused)?;
+        for _ in rt.forever() {
+            let Some(position) = refused.pop() else {
+                break;
+            };
+            let freed = self.end(rt, alloc, position)?;
+            put_each(lane, &freed, &mut refused)?;
+        }
+        Ok(())
+    }
+
+    /// Ends a position, and puts those that may start now into a lane.
+    pub(crate) fn pass_on(
+        &self,
+        rt: &impl Wait,
+        alloc: A,
+        lane: &mut Lane<A>,
+        position: u32,
+    ) -> Result<(), NoMemory> {
+        let freed = self.end(rt, alloc, position)?;
+        self.put(rt, alloc, lane, &freed)
+    }
+}
+
+/// Puts positions into a lane, and gathers those that it refuses.
+fn put_each<A: Allocator + Copy>(
+    lane: &mut Lane<A>,
+    positions: &[u32],
+    refused: &mut Vec<u32, A>,
+) -> Result<(), NoMemory> {
+    for position in positions {
+        if let Err(back) = lane.push(*position) {
+            refused.push(back)?;
+        }
+    }
+    Ok(())
+}

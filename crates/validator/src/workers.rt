@@ -1,0 +1,235 @@
+//! The calls of a block, each run once its predecessors have ended.
+
+ghost use Rattle.std.specs.Prelude.{◌≡◌, ◌≤◌, ◌<◌, All, IfOk, OnOk, length};
+ghost use Rattle.spec_block.specs.Schedule.{HaveTurns};
+ghost use Rattle.interp.specs.Lent.{contracts_view};
+ghost use Rattle.validator.specs.Handed.{AreFound, AreMade, ArePartsMade, IsMade};
+
+use crate::attempt::attempt;
+use crate::job::{Job, Made, Part};
+use crate::shared::Shared;
+use ahead::Ahead;
+use lanes::{Lane, Thief, lanes};
+use pace::Pace;
+use schedule::{Board, Graph};
+use spec_ledger::NoMemory;
+use std::alloc::Allocator;
+use std::sync::atomic::{AtomicBool, AtomicU64, Ordering};
+use std::sync::{Mutex, Wait};
+use std::thread;
+use std::thread::Threads;
+use storage::Cells;
+
+/// What the workers hand back.
+type Parts<'a, A> = Vec<Result<Part<'a, A>, NoMemory>, A>;
+
+/// A position that may start: of the worker's own lane, and else of another.
+fn find<A: Allocator>(lane: &mut Lane<A>, thief: &mut Thief<A>) -> Option<u32> {
+    if let Some(position) = lane.take() {
+        return Some(position);
+    }
+    thief.steal()
+}
+
+/// Runs the call of a position, keeps the run, and ends the position.
+#[tactic(auto, using(crate::proofs::Runs::one_more_made))]
+fn work_on<'a, R: Wait, A: Allocator + Copy, P: Pace>(
+    rt: &R,
+    job: &Job<'_, 'a, A, P>,
+    shared: &Shared<A>,
+    lane: &mut Lane<A>,
+    made: &mut Vec<Made<'a, A>, A>,
+    position: u32,
+) -> Result<(), NoMemory>
+    requires known { All (λ number. number < length job.now.calls.now) job.now.order.now }
+    requires made { AreMade (contracts_view job.now.contracts.now) job.now.calls.now made.old.items }
+    ensures { OnOk result (AreMade (contracts_view job.now.contracts.now) job.now.calls.now made.new.items) }
+{
+    if let Some(run) = attempt(rt, job, &shared.ahead, position)? {
+        made.push(run)?;
+    }
+    shared.pass_on(rt, job.alloc, lane, position)?;
+    Ok(())
+}
+
+/// Runs the calls of positions that may start, until every position has ended or some worker met want of memory. With nothing to do it looks again.
+fn work_through<'a, R: Wait, A: Allocator + Copy, P: Pace>(
+    rt: &R,
+    job: &Job<'_, 'a, A, P>,
+    shared: &Shared<A>,
+    mut lane: Lane<A>,
+    mut thief: Thief<A>,
+) -> Result<Part<'a, A>, NoMemory>
+    requires { All (λ number. number < length job.now.calls.now) job.now.order.now }
+    ensures { IfOk result (λ part. AreMade (contracts_view job.now.contracts.now) job.now.calls.now part.made.items) }
+{
+    let mut made = Vec::new(job.alloc);
+    for _ in rt.forever() {
+        if shared.is_over() {
+            break;
+        }
+        match find(&mut lane, &mut thief) {
+            Some(position) => work_on(rt, job, shared, &mut lane, &mut made, position)?,
+            None => thread::yield_now(),
+        }
+    }
+    Ok(Part {
+        contracts: job.contracts,
+        made,
+    })
+}
+
+/// The same. Want of memory is told to the others.
+fn work<'a, R: Wait, A: Allocator + Copy, P: Pace>(
+    rt: &R,
+    job: &Job<'_, 'a, A, P>,
+    shared: &Shared<A>,
+    lane: Lane<A>,
+    thief: Thief<A>,
+) -> Result<Part<'a, A>, NoMemory>
+    requires { All (λ number. number < length job.now.calls.now) job.now.order.now }
+    ensures { IfOk result (λ part. AreMade (contracts_view job.now.contracts.now) job.now.calls.now part.made.items) }
+{
+    let worked = work_through(rt, job, shared, lane, thief);
+    if worked.is_err() {
+        shared.lacked.store(true, Ordering::SeqCst);
+    }
+    worked
+}
+
+/// Notes a run by its position.
+fn note<'a, A: Allocator + Copy, P: Pace>(
+    _job: &Job<'_, 'a, A, P>,
+    runs: &mut Vec<Option<Made<'a, A>>, A>,
+    made: Made<'a, A>,
+)
+    requires runs { AreFound (contracts_view _job.now.contracts.now) _job.now.calls.now runs.old.items }
+    requires made { IsMade (contracts_view _job.now.contracts.now) _job.now.calls.now made }
+    ensures runs { AreFound (contracts_view _job.now.contracts.now) _job.now.calls.now runs.new.items }
+    ensures size { length runs.new.items ≡ length runs.old.items }
+{
+    let position = made.position as usize;
+    if position < runs.len() {
+        runs[position] = Some(made);
+    }
+}
+
+/// Notes a worker's runs.
+fn take_part<'a, A: Allocator + Copy, P: Pace>(
+    job: &Job<'_, 'a, A, P>,
+    runs: &mut Vec<Option<Made<'a, A>>, A>,
+    mut part: Vec<Made<'a, A>, A>,
+)
+    requires runs { AreFound (contracts_view job.now.contracts.now) job.now.calls.now runs.old.items }
+    requires part { AreMade (contracts_view job.now.contracts.now) job.now.calls.now part.items }
+    ensures runs { AreFound (contracts_view job.now.contracts.now) job.now.calls.now runs.new.items }
+    ensures size { length runs.new.items ≡ length runs.old.items }
+{
+    while let Some(made) = part.pop() {
+        note(job, runs, made);
+    }
+}
+
+/// Notes the runs of all workers. An Err of one is that of all.
+fn take_in<'a, A: Allocator + Copy, P: Pace>(
+    job: &Job<'_, 'a, A, P>,
+    runs: &mut Vec<Option<Made<'a, A>>, A>,
+    mut parts: Parts<'a, A>,
+) -> Result<(), NoMemory>
+    requires runs { AreFound (contracts_view job.now.contracts.now) job.now.calls.now runs.old.items }
+    requires parts { ArePartsMade (contracts_view job.now.contracts.now) job.now.calls.now parts.items }
+    ensures runs { OnOk result (AreFound (contracts_view job.now.contracts.now) job.now.calls.now runs.new.items) }
+    ensures size { OnOk result (length runs.new.items ≡ length runs.old.items) }
+{
+    while let Some(part) = parts.pop() {
+        take_part(job, runs, part?.made);
+    }
+    Ok(())
+}
+
+/// No runs yet, of so many positions.
+fn no_runs<'a, A: Allocator + Copy, P: Pace>(
+    job: &Job<'_, 'a, A, P>,
+) -> Result<Vec<Option<Made<'a, A>>, A>, NoMemory>
+    ensures runs { IfOk result (λ runs. AreFound (contracts_view job.now.contracts.now) job.now.calls.now runs.items) }
+    ensures size { IfOk result (λ runs. length runs.items ≡ length job.now.order.now) }
+{
+    let mut runs = Vec::new(job.alloc);
+    for _number in job.order {
+        runs.push(None)?;
+    }
+    Ok(runs)
+}
+
+/// Deals positions out to the lanes in turn.
+fn deal<A: Allocator + Copy>(
+    rt: &impl Wait,
+    alloc: A,
+    shared: &Shared<A>,
+    pairs: &mut Vec<(Lane<A>, Thief<A>), A>,
+    positions: &[u32],
+) -> Result<(), NoMemory>
+    requires { 1 ≤ length pairs.old.items }
+{
+    let lanes = pairs.len();
+    for (at, position) in positions.iter().enumerate() {
+        let (lane, _) = &mut pairs[at % lanes];
+        shared.put(rt, alloc, lane, &[*position])?;
+    }
+    Ok(())
+}
+
+/// Runs the workers, each with its own lane.
+fn run_workers<'a, R: Threads + Wait + Sync, A: Allocator + Copy + Send + Sync, P: Pace>(
+    rt: &R,
+    job: &Job<'_, 'a, A, P>,
+    shared: &Shared<A>,
+    pairs: Vec<(Lane<A>, Thief<A>), A>,
+) -> Result<Parts<'a, A>, NoMemory>
+    requires { All (λ number. number < length job.now.calls.now) job.now.order.now }
+    ensures { IfOk result (λ parts. ArePartsMade (contracts_view job.now.contracts.now) job.now.calls.now parts.items) }
+{
+    let parts = thread::map_vec(
+        rt,
+        pairs,
+        &|pair: (Lane<A>, Thief<A>)| -> Result<Part<A>, NoMemory>
+            requires { All (λ number. number < length job.now.calls.now) job.now.order.now }
+            ensures { IfOk result (λ part. AreMade (contracts_view job.entry.now.contracts.now) job.entry.now.calls.now part.made.items) }
+        {
+            let (lane, thief) = pair;
+            work(rt, job, shared, lane, thief)
+        },
+    )?;
+    Ok(parts)
+}
+
+/// Runs the calls of a block at once, each over what its predecessors left, and gives the runs by position. A call that asks for an operation outside
+/// its published locks and modes has none.
+pub(crate) fn run_ready<'a, R: Threads + Wait + Sync, A: Allocator + Copy + Send + Sync, P: Pace>(
+    rt: &R,
+    job: &Job<'_, 'a, A, P>,
+    cells: &Cells<A>,
+    workers: u32,
+) -> Result<Vec<Option<Made<'a, A>>, A>, NoMemory>
+    requires few { length job.now.profiles.now ≤ 65535 }
+    requires known { All (λ number. number < length job.now.calls.now) job.now.order.now }
+    requires turns { HaveTurns job.now.profiles.now }
+    requires workers { 1 ≤ workers }
+    ensures runs { IfOk result (λ runs. AreFound (contracts_view job.now.contracts.now) job.now.calls.now runs.items) }
+    ensures size { IfOk result (λ runs. length runs.items ≡ length job.now.order.now) }
+{
+    let board = Board::open(job.alloc, &Graph::of(job.alloc, job.profiles)?)?;
+    let ready = Vec::from_slice(job.alloc, board.ready())?;
+    let shared = Shared {
+        board: Mutex::new(board),
+        ahead: Mutex::new(Ahead::open(job.alloc, cells, job.profiles.len())?),
+        rest: AtomicU64::new(job.profiles.len() as u64),
+        lacked: AtomicBool::new(false),
+    };
+    let mut pairs = lanes(job.alloc, workers)?;
+    deal(rt, job.alloc, &shared, &mut pairs, &ready)?;
+    let parts = run_workers(rt, job, &shared, pairs)?;
+    let mut runs = no_runs(job)?;
+    take_in(job, &mut runs, parts)?;
+    Ok(runs)
+}

@@ -1,0 +1,99 @@
+//! What is wrong with words that the command line's reader takes and that ask for nothing, for people.
+
+use calls_text::number_of;
+use std::alloc::{AllocError, Global};
+use wblock_debug::command_of;
+use wblock_line::split_words;
+
+/// Two words of a line that name one file, the second of which would be written.
+fn clash(alloc: Global, first: &str, second: &str, name: &str) -> Result<String, AllocError> {
+    format!(in alloc;
+        "usage: {first} and {second} are both `{name}`: {second} would take its place; name another file"
+    )
+}
+
+/// What is wrong with the words of `mine`.
+fn mining_misuse(
+    alloc: Global,
+    names: (&str, &str, &str, &str),
+) -> Result<Option<String>, AllocError> {
+    let (world, calls, block, next) = names;
+    if block == world {
+        return Ok(Some(clash(alloc, "WORLD", "BLOCK", block)?));
+    }
+    if block == calls {
+        return Ok(Some(clash(alloc, "CALLS", "BLOCK", block)?));
+    }
+    if block == next {
+        return Ok(Some(clash(alloc, "BLOCK", "NEXT", block)?));
+    }
+    if next == calls {
+        return Ok(Some(clash(alloc, "CALLS", "NEXT", next)?));
+    }
+    Ok(None)
+}
+
+/// What is wrong with the words of `debug` behind the files.
+fn debugging_misuse(alloc: Global, call: &str, commands: &[&str]) -> Result<String, AllocError> {
+    if number_of(alloc, call)?.is_none() {
+        return format!(in alloc;
+            "usage: `{call}` is no call's number: from 0 to 18446744073709551615, decimal without needless zeros"
+        );
+    }
+    for command in commands {
+        if command_of(alloc, *command)?.is_none() {
+            return format!(in alloc;
+                "usage: `{command}` is no CMD: step:N, back:N, cont, place, break:F:O, clear:F:O, stack, locals, globals, bytes:FROM:N, each number decimal without needless zeros"
+            );
+        }
+    }
+    format!(in alloc; "usage: there is no call {call} in CALLS: its lines count from 0")
+}
+
+/// What is wrong with the words that are no options, or None.
+fn names_misuse(alloc: Global, words: &[&str]) -> Result<Option<String>, AllocError> {
+    match words {
+        ["asm", text, target] if *text == *target => {
+            Ok(Some(clash(alloc, "TEXT", "MODULE", *text)?))
+        }
+        ["deploy", world, modules @ ..] => {
+            let count = modules.len();
+            if count > 1_024 {
+                return Ok(Some(format!(in alloc;
+                    "usage: {count} modules: a world has 1 to 1024 contracts"
+                )?));
+            }
+            if modules.iter().any(|m| *m == *world) {
+                return Ok(Some(clash(alloc, "MODULE", "WORLD", *world)?));
+            }
+            Ok(None)
+        }
+        ["mine", world, calls, block, next] => {
+            mining_misuse(alloc, (*world, *calls, *block, *next))
+        }
+        ["debug", _, _, call, commands @ ..] => {
+            Ok(Some(debugging_misuse(alloc, *call, commands)?))
+        }
+        _ => Ok(None),
+    }
+}
+
+/// `usage`, and what is wrong with words that the command line's reader takes.
+pub(crate) fn misuse_text(alloc: Global, words: &[&str]) -> Result<String, AllocError> {
+    let Some(line) = split_words(alloc, words)? else {
+        return "usage: the value of the last option is missing".to_string(alloc);
+    };
+    if let Some(text) = names_misuse(alloc, line.words.as_slice())? {
+        return Ok(text);
+    }
+    for (name, value) in &line.options {
+        if number_of(alloc, *value)?.is_none() {
+            return format!(in alloc;
+                "usage: `{value}` of `{name}` is no number: decimal without sign and needless zeros"
+            );
+        }
+    }
+    "usage: an option stands once, and where its command takes it; `wblock --help` says more".to_string(
+        alloc,
+    )
+}
