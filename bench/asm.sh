@@ -4,7 +4,7 @@
 # least of seven runs in turn. A time that doubles as the text does is one that grows linearly. Run it anywhere in the repository:
 #
 #   bench/asm.sh
-source "$(dirname "${BASH_SOURCE[0]}")/common.sh" bench_modules wat2wasm
+source "$(dirname "${BASH_SOURCE[0]}")/common.sh" bench wat2wasm
 build
 
 for size in 450000 900000; do

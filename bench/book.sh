@@ -6,7 +6,7 @@
 #   bench/book.sh [KEYS..]
 #
 # With words it measures each of these numbers of keys instead.
-source "$(dirname "${BASH_SOURCE[0]}")/common.sh" bench_blocks
+source "$(dirname "${BASH_SOURCE[0]}")/common.sh" bench
 
 if (($# == 0)); then
   set -- 1000 100000

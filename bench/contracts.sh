@@ -10,7 +10,7 @@
 #   bench/contracts.sh [--quick]
 #
 # With --quick it measures few rows of few calls, once, which says nothing of speed.
-source "$(dirname "${BASH_SOURCE[0]}")/common.sh" bench_blocks python3
+source "$(dirname "${BASH_SOURCE[0]}")/common.sh" bench python3
 
 runs=5
 blocks=("1000 15" "10000 15" "65535 15" "10000 0" "10000 50" "10000 100")

@@ -3,7 +3,7 @@
 # and below them the load of the machine. It fails where going back takes a tenth of the run or more. Run it anywhere in the repository:
 #
 #   bench/debug.sh
-source "$(dirname "${BASH_SOURCE[0]}")/common.sh" bench_machine wat2wasm
+source "$(dirname "${BASH_SOURCE[0]}")/common.sh" bench wat2wasm
 
 if (($# > 0)); then
   usage

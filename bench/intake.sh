@@ -5,7 +5,7 @@
 #   bench/intake.sh [DRAWS]
 #
 # DRAWS, 4,000,000 if left out and at most 4,294,967,295, is how many numbers the threads of a run draw together.
-source "$(dirname "${BASH_SOURCE[0]}")/common.sh" bench_blocks
+source "$(dirname "${BASH_SOURCE[0]}")/common.sh" bench
 draws=${1:-4000000}
 
 if ! [[ $draws =~ ^[0-9]{1,10}$ ]] || ((10#$draws > 4294967295)); then

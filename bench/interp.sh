@@ -12,7 +12,7 @@
 #   bench/interp.sh [ROUNDS|--quick]
 #
 # ROUNDS is 5 if left out. With --quick each is run once, and the C files do less, which says nothing of speed.
-source "$(dirname "${BASH_SOURCE[0]}")/common.sh" bench_machine wat2wasm wasm-interp clang wasm-ld
+source "$(dirname "${BASH_SOURCE[0]}")/common.sh" bench wat2wasm wasm-interp clang wasm-ld
 rounds=${1:-5}
 
 # how often the files do their work, for about 25 million instructions each

@@ -4,7 +4,7 @@
 # as the size doubles is a time that grows linearly. Run it anywhere in the repository:
 #
 #   bench/load.sh
-source "$(dirname "${BASH_SOURCE[0]}")/common.sh" bench_modules wasm-validate
+source "$(dirname "${BASH_SOURCE[0]}")/common.sh" bench wasm-validate
 build
 
 for size in 262144 524288 1048000; do

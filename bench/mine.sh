@@ -7,7 +7,7 @@
 #   bench/mine.sh [--quick]
 #
 # With --quick it measures few rows, once, which says nothing of speed.
-source "$(dirname "${BASH_SOURCE[0]}")/common.sh" bench_blocks python3
+source "$(dirname "${BASH_SOURCE[0]}")/common.sh" bench python3
 source bench/loads.sh
 
 build wblock

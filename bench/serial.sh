@@ -5,7 +5,7 @@
 # anywhere in the repository:
 #
 #   bench/serial.sh
-source "$(dirname "${BASH_SOURCE[0]}")/common.sh" bench_blocks
+source "$(dirname "${BASH_SOURCE[0]}")/common.sh" bench
 
 if (($# > 0)); then
   usage

@@ -21,7 +21,8 @@ use Rattle.text_fields.specs.Listed.{NoSpaces, SpacesAreOne}
 use Rattle.assembler.specs.Made.{make_at, ExpressionsFit, ReadingIsExact}
 use Rattle.assembler.proofs.Ordered.{made_in_order}
 use Rattle.assembler.proofs.Unplaced.{order_kept}
-use Rattle.assembler.specs.Named.{HasFields, NamesNothing, LexesToNothing, ResolveToNothing}
+use Rattle.text_faults.specs.OfFields.{IsOfFields}
+use Rattle.assembler.specs.Named.{HasFields, NamesNothing, LexesToNothing, ResolveToNothing, MakesNothing, IsWhy}
 
 -- ---- tokens and fields
 
@@ -81,6 +82,32 @@ told (unresolved.UnknownName at) r same f p = rightly r (f p)
 told (unresolved.RepeatedName at) r same f p = rightly r (f p)
 told (unresolved.NumberRange at) r same f p = rightly r (f p)
 told (unresolved.TooLarge limit) r same f p = rightly r (f p)
+
+-- a refusal of fields is why the text names nothing
+of_fields : (text : List ℕ) (r : AsmRefusal) → IsOfFields r → MakesNothing text → IsWhy text r
+of_fields text NoMemory is none = tt
+of_fields text (Lex refusal) is none = absurd is
+of_fields text (Unexpected at) is none = absurd is
+of_fields text (UnknownName at) is none = none
+of_fields text (RepeatedName at) is none = none
+of_fields text (NumberRange at) is none = none
+of_fields text (TooLarge limit) is none = none
+
+-- and so it is in place of another refusal
+pub why_of_fields : {P : Type 0} (text : List ℕ) (e : Unresolved) (r : AsmRefusal) → (e ≡ unresolved.NoMemory → r ≡ NoMemory) → IsOfFields r → (P → MakesNothing text) → inner.Unless P e → IsWhy text r
+why_of_fields text unresolved.NoMemory r same is f p = rw (same refl) tt
+why_of_fields text unresolved.Broken r same is f p = of_fields text r is (f p)
+why_of_fields text (unresolved.UnknownName at) r same is f p = of_fields text r is (f p)
+why_of_fields text (unresolved.RepeatedName at) r same is f p = of_fields text r is (f p)
+why_of_fields text (unresolved.NumberRange at) r same is f p = of_fields text r is (f p)
+why_of_fields text (unresolved.TooLarge limit) r same is f p = of_fields text r is (f p)
+
+pub makes_nothing : (text : List ℕ) (fields : List P.Field) → HasFields text fields → ResolveToNothing (P.without_places fields) → MakesNothing text
+makes_nothing text fields has none = record { fields = fields; has = has; names_nothing = not_named text fields has none }
+
+-- a text that is too long names nothing
+pub too_long : (text : List ℕ) (fields : List P.Field) → HasFields text fields → ¬ (length text ≤ byte_limit) → MakesNothing text
+too_long text fields has long = record { fields = fields; has = has; names_nothing = λ m n. long n.text_fits }
 
 -- ---- modules
 

@@ -4,7 +4,7 @@ ghost use Rattle.lexer.specs.Views.{views, SpansRise};
 ghost use Rattle.spec_text.specs.Lexical.{Lexes};
 ghost use Rattle.text_resolve.specs.Refused.{Unless};
 ghost use Rattle.text_tree.specs.Places.{fields_of};
-ghost use Rattle.assembler.specs.Named.{HasFields, NamesNothing, LexesToNothing};
+ghost use Rattle.assembler.specs.Named.{HasFields, NamesNothing, LexesToNothing, IsWhy};
 
 use lexer::{LexRefusal, Tokens, no_text_lexes_to_two_lists, tokens};
 use std::alloc::Allocator;
@@ -17,6 +17,7 @@ fn tokens_of<A: Allocator>(alloc: A, text: &str) -> Result<Tokens<A>, AsmRefusal
     ensures lexes { IfOk result (λ tokens. Lexes text.now (views text.now tokens.items.items)) }
     ensures spans { IfOk result (λ tokens. SpansRise 0 tokens.items.items (length text.now)) }
     ensures refused { IfErr result (Unless (LexesToNothing text.now)) }
+    ensures why { IfErr result (IsWhy text.now) }
 {
     match tokens(alloc, text) {
         Ok(tokens) => Ok(tokens),
@@ -32,6 +33,7 @@ pub fn tree_of<'a, A: Allocator + Clone>(
 ) -> Result<Text<'a, A>, AsmRefusal>
     ensures fields { IfOk result (λ tree. HasFields text.entry.now (fields_of tree)) }
     ensures refused { IfErr result (Unless (NamesNothing text.entry.now)) }
+    ensures why { IfErr result (IsWhy text.entry.now) }
 {
     no_text_lexes_to_two_lists();
     no_words_are_two_texts();

@@ -8,7 +8,8 @@ ghost use Rattle.spec_text.specs.Names.{Names};
 ghost use Rattle.text_resolve.specs.Refused.{Unless};
 ghost use Rattle.text_resolve.specs.declared.refusal.AsmRefusal.TheVariants as refusal;
 ghost use Rattle.text_resolve.specs.declared.refusal.Unresolved.TheVariants as unresolved;
-ghost use Rattle.assembler.specs.Named.{NamesNothing};
+ghost use Rattle.text_faults.specs.OfFields.{IsOfFields};
+ghost use Rattle.assembler.specs.Named.{NamesNothing, IsWhy};
 
 mod collect;
 mod fields;
@@ -38,6 +39,7 @@ fn fault_of<A: Allocator + Clone>(
     met: Unresolved,
 ) -> AsmRefusal
     ensures memory { met ≡ unresolved.NoMemory → result ≡ refusal.NoMemory }
+    ensures of_fields { IsOfFields result }
 {
     match met {
         Unresolved::NoMemory => AsmRefusal::NoMemory,
@@ -52,7 +54,8 @@ fn fault_of<A: Allocator + Clone>(
 
 /// The module that a text names (Core Specification, 6 Text Format): its tokens are words, whose fields make the module, and
 /// text and module are within the limits of this profile. It is refused for another cause than memory only where the text
-/// names no module. Which refusal is answered, and its place, are for people to read, and no clause speaks of them.
+/// names no module: `Lex` only where it lexes to no tokens, `Unexpected` only where its tokens are no fields, and another only where it has fields. Its
+/// place, and which it is of those that fields get, are for people to read, and no clause speaks of them.
 ///
 /// # Errors
 ///
@@ -62,6 +65,7 @@ fn fault_of<A: Allocator + Clone>(
 pub fn assemble<A: Allocator + Clone>(alloc: A, text: &str) -> Result<Module<A>, AsmRefusal>
     ensures names { IfOk result (λ m. Names text.now (module_view m)) }
     ensures refused { IfErr result (Unless (NamesNothing text.now)) }
+    ensures why { IfErr result (IsWhy text.now) }
 {
     let tree = tree_of(&alloc, text)?;
     let module = match module_of(&alloc, &tree) {

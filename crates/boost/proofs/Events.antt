@@ -30,6 +30,7 @@ use Rattle.boost.specs.Counted.{live_counts}
 use Rattle.boost.specs.declared.standing.Standing.{Standing}
 use Rattle.boost.specs.declared.standing.Standing.TheVariants.{Idle, Live, Committed}
 use Rattle.boost.specs.Kept.{IsBook, IsPlace, AreStanding, rows_with, committed_with, live_with}
+use Rattle.boost.specs.Numbered.{HasTrace}
 use Rattle.boost.proofs.Held.{AreBelow, no_other, rows_out, rows_with-append, length-rows_with, emptied, empty_row, own_row, share_to, share_from, touched-push}
 use Rattle.boost.proofs.Standings.{found_at, none_there, wide_standings, AreStanding-book, stands_idle, stands_live, stands_committed, left_standing, still_idle, apart_right, same_standing, live_with-append, committed_with-append}
 use Rattle.storage.proofs.Counted.{opened_all-push, closed_all-opened_all, AreUnsettled-opened_all, AreCounts-empty}
@@ -208,6 +209,19 @@ module _ (b : Content) (counts : Counts) (rows : List Modes) (standings : List S
   not_other z z_is trace e other =
       let h = only_here other.before other.attempt other.later other.found in
       other.other_trace (ap (λ (a : Attempt). a.trace) (sym h.1 ∙ at_split b.attempts i place.attempt z below_here z_is split) ∙ e)
+
+  pub trace_at : (z : Attempt) → z ≡ get_or b.attempts i z → (t : List Step) → t ≡ z.trace → HasTrace b call number t
+  trace_at z z_is t e = record {
+    before = take i b.attempts;
+    attempt = place.attempt;
+    later = drop (i + 1) b.attempts;
+    found = found_here;
+    trace_is = ap (λ (a : Attempt). a.trace) (at_split b.attempts i place.attempt z below_here z_is split) ∙ sym e;
+  }
+
+  pub kept_trace : (z : Attempt) → z ≡ get_or b.attempts i z → (trace : List Step) → HasTrace b call number trace → z.trace ≡ trace
+  kept_trace z z_is trace h =
+      ap (λ (a : Attempt). a.trace) (sym (at_split b.attempts i place.attempt z below_here z_is split) ∙ (only_here h.before h.attempt h.later h.found).1) ∙ h.trace_is
 
   module _ (op : Op) (granted : IsGranted place.attempt op (take i b.attempts ++ drop (i + 1) b.attempts)) (y : Attempt) (is : y ≡ extended place.attempt op b.now) (now : Cells) (now_is : now ≡ cells_after op b.now) where
     moved : ◌≡◌ {A = Content} (record b { now = now; attempts = set b.attempts i y }) (after_op b (take i b.attempts) place.attempt (drop (i + 1) b.attempts) op)

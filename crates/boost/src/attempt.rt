@@ -52,6 +52,13 @@ impl<A: Allocator> Entry<A> {
         &self.trace
     }
 
+    /// Whether these are the operations that the call did, with their replies, in order.
+    pub fn has_trace(&self, trace: &[Step]) -> bool
+        ensures { IsTrue result ↔ (self.now.trace ≡ trace.now) }
+    {
+        same_trace(&self.trace, trace)
+    }
+
     /// How the run ended.
     pub fn outcome(&self) -> Outcome
         ensures { result ≡ self.now.outcome }
@@ -215,9 +222,19 @@ impl<A: Allocator + Copy> Attempt<A> {
         self.number
     }
 
-    pub(crate) fn has_trace(&self, trace: &[Step]) -> bool
-        ensures { IsTrue result ↔ (self.now.trace ≡ trace.now) }
+    pub(crate) fn trace(&self) -> &[Step]
+        ensures { result.now ≡ self.now.trace }
     {
-        same_trace(&self.trace, trace)
+        &self.trace
+    }
+
+    /// Whether this is the attempt of that call and number, and has done nothing.
+    pub(crate) fn is_fresh(&self, call: u32, number: u64) -> bool
+        ensures { IsTrue result ↔ (self.now ≡ fresh_of call number) }
+    {
+        self.call == call
+            && self.number == number
+            && self.trace.is_empty()
+            && self.inverses.is_empty()
     }
 }

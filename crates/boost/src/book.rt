@@ -1,14 +1,16 @@
 // The book: what is settled, and the live attempts of calls.
-ghost use Rattle.std.specs.Prelude.{◌≡◌, ◌+◌, ◌<◌, ◌≤◌, ℕ, ◌∷◌, [], ◌++◌, true, false, IsTrue, ◌↔◌, Some, Option, IfSome, IfNone, IfOk, OnOk, OnErr, length, take, drop, vec_len, vec_capacity, slice_get, Err, replicate, IfErr, ◌⊎◌};
+ghost use Rattle.std.specs.Prelude.{◌≡◌, ◌+◌, ◌<◌, ◌≤◌, ℕ, List, ◌∷◌, [], ◌++◌, true, false, IsTrue, ◌↔◌, Some, Option, IfSome, IfNone, IfOk, OnOk, OnErr, length, take, drop, vec_len, vec_capacity, slice_get, Err, replicate, slice_index, IfErr, ◌≢◌, ◌⊎◌};
 ghost use Rattle.std.specs.List.{AllByRecursion};
-ghost use Rattle.spec_ledger.specs.Book.{IsKept, IsGranted, extended, after_undo, after_commit, entry_of, call_is_new, settled};
+ghost use Rattle.spec_ledger.specs.Book.{Content, IsKept, IsGranted, extended, after_undo, after_commit, entry_of, call_is_new, settled};
 ghost use Rattle.spec_ledger.specs.Facts.{CellsAreSettledButForHolders, EntriesAreSerialRun, LiveAttemptsGoTogether, LiveTracesGetReplies};
 ghost use Rattle.spec_ledger.specs.Events.{IsStale, BeginDone, HasNoAttempt, OpDone, IsConflict, UndoDone, CommitDone, IsOther, IsUndoneLast};
 ghost use Rattle.boost.specs.Kept.{AreStanding, IsBook, IsPlace};
+ghost use Rattle.boost.specs.Numbered.{BegunAs, HasTrace, IsPassed};
 ghost use Rattle.std.specs.FinMap as finite;
 
 use crate::attempt::{Attempt, Entry, mode};
 use crate::standing::{Standing, note_places, place_of};
+use crate::trace::same_trace;
 use abstract_locks::Table;
 use spec_ledger::{Lock, Op, Outcome, Reply, Step};
 use std::alloc::{Allocator, Global};
@@ -21,6 +23,15 @@ use thiserror::Error;
 pub struct Ticket {
     pub(crate) call: u32,
     pub(crate) number: u64,
+}
+
+impl Ticket {
+    /// The number of its attempt.
+    pub fn number(&self) -> u64
+        ensures { result ≡ self.now.number }
+    {
+        self.number
+    }
 }
 
 /// What a book asks of the finished run of a call: its trace, lent, and its outcome.
@@ -77,6 +88,26 @@ pub enum BeginRefusal {
     NoMemory,
 }
 
+/// Why no attempt of a call is begun under a number.
+#[derive(Clone, Copy, Debug, PartialEq, Eq, Error)]
+pub enum BeginAsRefusal {
+    /// The book has no call of this number.
+    #[error("the book has no call of this number")]
+    NoSuchCall,
+    /// The call has a live attempt.
+    #[error("the call has a live attempt")]
+    Live,
+    /// The call has an entry.
+    #[error("the call has an entry")]
+    Committed,
+    /// The number is below the count of the call's attempts.
+    #[error("the number is below the count of the call's attempts")]
+    Passed,
+    /// Memory was refused, or the number is the greatest of 64 bits, which no count exceeds.
+    #[error("memory was refused, or the number is the greatest of 64 bits")]
+    NoMemory,
+}
+
 /// What is left of a book.
 #[derive(Drop)]
 pub struct Closed<A: Allocator = Global> {
@@ -88,7 +119,7 @@ pub struct Closed<A: Allocator = Global> {
     pub entries: Vec<Entry<A>, A>,
 }
 
-/// The committed calls, which are a serial run from the opening cells, and the live attempts, whose operations go together (Dickerson, Gazzillo, Herlihy, Koskinen, "Adding Concurrency to Smart Contracts", PODC 2017, sections 3 and 4).
+/// The committed calls, which are a serial run from the opening cells, and the live attempts, whose operations go together (Dickerson, Gazzillo, Herlihy, Koskinen, "Adding Concurrency to Smart Contracts", PODC 2017, sections 3 and 4). There is room for the entry of each live attempt, so that a commit takes no memory.
 pub struct Book<A: Allocator = Global> {
     alloc: A,
     opening: Cells<A>,
@@ -104,6 +135,7 @@ impl<A: Allocator> Model for Book<A> {
     ghost use Rattle.spec_ledger.specs.Book.{Content};
     ghost use Rattle.spec_ledger.specs.Codes.{coded_content};
     ghost use Rattle.boost.specs.Kept.{IsBook};
+    ghost use Rattle.std.specs.Prelude.{◌+◌, ◌≤◌, vec_len, vec_capacity};
 
     ghost Value = { Content };
 
@@ -111,7 +143,7 @@ impl<A: Allocator> Model for Book<A> {
 
     ghost view = { λ b. record { opening = b.opening.cells; now = b.cells.cells; entries = b.entries.items; attempts = b.attempts.items; begun = b.begun.items } };
 
-    ghost invariant = { λ b. IsBook (record { opening = b.opening.cells; now = b.cells.cells; entries = b.entries.items; attempts = b.attempts.items; begun = b.begun.items }) b.cells.unsettled b.locks b.standings.items };
+    ghost invariant = { λ b. IsBook (record { opening = b.opening.cells; now = b.cells.cells; entries = b.entries.items; attempts = b.attempts.items; begun = b.begun.items }) b.cells.unsettled b.locks b.standings.items × (vec_len b.entries + vec_len b.attempts ≤ vec_capacity b.entries) };
 }
 
 /// Where the attempt of a ticket stands, if it lives.
@@ -168,6 +200,41 @@ impl<A: Allocator + Copy> Book<A> {
         note_places(&mut self.standings, &self.attempts, i);
     }
 
+    /// The operations that a live attempt did, with their replies, in order. None where the ticket is stale.
+    pub fn trace_of(&self, ticket: &Ticket) -> Option<&[Step]>
+        ensures found { IfSome result (λ trace. HasTrace self.now ticket.now.call ticket.now.number trace.now) }
+        ensures stale { IfNone result (IsStale self.now ticket.now.call ticket.now.number) }
+    {
+        let Some(i) = find(&self.attempts, &self.standings, ticket) else {
+            return None;
+        };
+        Some(self.attempts[i].trace())
+    }
+
+    /// Commits a live attempt with the trace that the book kept, for which it takes no memory, and answers its position. A stale ticket changes nothing.
+    pub fn end(&mut self, ticket: Ticket, outcome: Outcome) -> Result<u32, Ticket>
+        ensures ok { IfOk result (λ position. (trace : List Step) × CommitDone self.old self.new ticket.call ticket.number trace outcome position) }
+        ensures kept { IfOk result (λ position. (trace : List Step) → HasTrace self.old ticket.call ticket.number trace → CommitDone self.old self.new ticket.call ticket.number trace outcome position) }
+        ensures stale { (result ≡ Err ticket) ↔ IsStale self.old ticket.call ticket.number }
+        ensures ticket { IfErr result (λ back. back ≡ ticket) }
+        ensures err { OnErr result (self.new ≡ self.old) }
+    {
+        let Some(i) = find(&self.attempts, &self.standings, &ticket) else {
+            return Err(ticket);
+        };
+        let position = self.entries.len() as u32;
+        let attempt = self.attempts.remove(i);
+        let (entry, inverses) = attempt.into_entry(outcome);
+        end_all(&mut self.cells, inverses, returned(outcome));
+        self.locks.release(ticket.call);
+        self.standings[ticket.call as usize] = Standing::Committed;
+        note_places(&mut self.standings, &self.attempts, i);
+        match self.entries.push(entry) {
+            Ok(()) => Ok(position),
+            Err(_) => unreachable!(),
+        }
+    }
+
     /// Commits a live attempt, whose trace is that of the run, and answers its position.
     pub fn commit(&mut self, ticket: Ticket, run: &Run<'_>) -> Result<u32, (Ticket, CommitRefusal)>
         ensures ok { IfOk result (λ position. CommitDone self.old self.new ticket.call ticket.number run.now.trace.now run.now.outcome position) }
@@ -176,24 +243,14 @@ impl<A: Allocator + Copy> Book<A> {
         ensures ticket { IfErr result (λ e. e.0 ≡ ticket) }
         ensures err { OnErr result (self.new ≡ self.old) }
     {
-        let Some(i) = find(&self.attempts, &self.standings, &ticket) else {
+        let Some(trace) = self.trace_of(&ticket) else {
             return Err((ticket, CommitRefusal::Stale));
         };
-        if !self.attempts[i].has_trace(run.trace) {
+        if !same_trace(trace, run.trace) {
             return Err((ticket, CommitRefusal::Differs));
         }
-        if self.entries.reserve(1).is_err() {
-            return Err((ticket, CommitRefusal::NoMemory));
-        }
-        let position = self.entries.len() as u32;
-        let attempt = self.attempts.remove(i);
-        let (entry, inverses) = attempt.into_entry(run.outcome);
-        end_all(&mut self.cells, inverses, returned(run.outcome));
-        self.locks.release(ticket.call);
-        self.standings[ticket.call as usize] = Standing::Committed;
-        note_places(&mut self.standings, &self.attempts, i);
-        match self.entries.push(entry) {
-            Ok(()) => Ok(position),
+        match self.end(ticket, run.outcome) {
+            Ok(position) => Ok(position),
             Err(_) => unreachable!(),
         }
     }
@@ -267,8 +324,8 @@ impl<A: Allocator + Copy> Book<A> {
         }
     }
 
-    /// The ticket of a call's live attempt.
-    pub(crate) fn ticket_of(&self, call: u32) -> Option<Ticket>
+    /// The ticket of a call's live attempt, or None where it has none.
+    pub fn ticket_of(&self, call: u32) -> Option<Ticket>
         ensures found { IfSome result (λ t. (t.call ≡ call) × ¬ (IsStale self.now call t.number)) }
         ensures none { IfNone result (HasNoAttempt call self.now.attempts) }
     {
@@ -292,6 +349,13 @@ impl<A: Allocator + Copy> Book<A> {
         let _cells = &self.cells;
     }
 
+    /// How many attempts of a call were begun, or None where the book has no call of this number.
+    pub fn begun_of(&self, call: u32) -> Option<u64>
+        ensures { result ≡ slice_get self.now.begun call }
+    {
+        self.begun.get(call as usize).copied()
+    }
+
     /// Begins an attempt of a call.
     pub fn begin(&mut self, call: u32) -> Result<Ticket, BeginRefusal>
         ensures ok { IfOk result (λ ticket. (ticket.call ≡ call) × BeginDone self.old self.new call ticket.number) }
@@ -300,22 +364,47 @@ impl<A: Allocator + Copy> Book<A> {
         ensures committed { (result ≡ Err BeginRefusal.Committed) ↔ ¬ (call_is_new call self.old.entries) }
         ensures err { OnErr result (self.new ≡ self.old) }
     {
+        let number = self.begun_of(call).unwrap_or(0);
+        match self.begin_as(call, number) {
+            Ok(ticket) => Ok(ticket),
+            Err(BeginAsRefusal::NoSuchCall) => Err(BeginRefusal::NoSuchCall),
+            Err(BeginAsRefusal::Live) => Err(BeginRefusal::Live),
+            Err(BeginAsRefusal::Committed) => Err(BeginRefusal::Committed),
+            Err(BeginAsRefusal::NoMemory) => Err(BeginRefusal::NoMemory),
+            Err(BeginAsRefusal::Passed) => unreachable!(),
+        }
+    }
+
+    /// Begins an attempt of a call under this number, and counts it and all numbers below it as begun.
+    pub fn begin_as(&mut self, call: u32, number: u64) -> Result<Ticket, BeginAsRefusal>
+        ensures ok { IfOk result (λ ticket. (ticket.call ≡ call) × (ticket.number ≡ number) × BegunAs self.old self.new call number) }
+        ensures no_such_call { (result ≡ Err BeginAsRefusal.NoSuchCall) ↔ (length self.old.begun ≤ call) }
+        ensures live { (result ≡ Err BeginAsRefusal.Live) ↔ ¬ (HasNoAttempt call self.old.attempts) }
+        ensures committed { (result ≡ Err BeginAsRefusal.Committed) ↔ ¬ (call_is_new call self.old.entries) }
+        ensures passed { (result ≡ Err BeginAsRefusal.Passed) ↔ IsPassed self.old call number }
+        ensures err { OnErr result (self.new ≡ self.old) }
+    {
         if call as usize >= self.begun.len() {
-            return Err(BeginRefusal::NoSuchCall);
+            return Err(BeginAsRefusal::NoSuchCall);
         }
         match self.standings[call as usize] {
             Standing::Idle => (),
-            Standing::Live(_) => return Err(BeginRefusal::Live),
-            Standing::Committed => return Err(BeginRefusal::Committed),
+            Standing::Live(_) => return Err(BeginAsRefusal::Live),
+            Standing::Committed => return Err(BeginAsRefusal::Committed),
         }
-        let number = self.begun[call as usize];
+        if number < self.begun[call as usize] {
+            return Err(BeginAsRefusal::Passed);
+        }
         if number == u64::MAX {
-            return Err(BeginRefusal::NoMemory);
+            return Err(BeginAsRefusal::NoMemory);
         }
         if self.attempts.reserve(1).is_err() {
-            return Err(BeginRefusal::NoMemory);
+            return Err(BeginAsRefusal::NoMemory);
         }
         let place = self.attempts.len();
+        if self.entries.reserve(place + 1).is_err() {
+            return Err(BeginAsRefusal::NoMemory);
+        }
         let attempt = Attempt::fresh(self.alloc, call, number);
         match self.attempts.push(attempt) {
             Ok(()) => (),
@@ -324,6 +413,30 @@ impl<A: Allocator + Copy> Book<A> {
         self.begun[call as usize] = number + 1;
         self.standings[call as usize] = Standing::Live(place);
         Ok(Ticket { call, number })
+    }
+
+    /// Takes the newest begin back, given how many attempts of its call were begun before: the book is as it was before the begin. Refuses, and changes nothing, where the ticket's attempt is not the newest or has done an operation, and where no begin leaves this book from that count.
+    pub fn unbegin(&mut self, ticket: Ticket, count: u64) -> Result<(), Ticket>
+        ensures ok { OnOk result (BegunAs self.new self.old ticket.call ticket.number × (slice_index self.new.begun ticket.call ≡ count)) }
+        ensures former { OnOk result ((former : Content) → BegunAs former self.old ticket.call ticket.number → slice_index former.begun ticket.call ≡ count → self.new ≡ former) }
+        ensures refused { OnErr result ((former : Content) → BegunAs former self.old ticket.call ticket.number → slice_index former.begun ticket.call ≢ count) }
+        ensures ticket { IfErr result (λ back. back ≡ ticket) }
+        ensures err { OnErr result (self.new ≡ self.old) }
+    {
+        let Some(last) = self.attempts.last() else {
+            return Err(ticket);
+        };
+        if !last.is_fresh(ticket.call, ticket.number) {
+            return Err(ticket);
+        }
+        if count > ticket.number || self.begun[ticket.call as usize] - 1 != ticket.number {
+            return Err(ticket);
+        }
+        self.attempts.pop();
+        self.locks.release(ticket.call);
+        self.standings[ticket.call as usize] = Standing::Idle;
+        self.begun[ticket.call as usize] = count;
+        Ok(())
     }
 }
 

@@ -5,4 +5,4 @@ pub mod attempt;
 pub mod book;
 pub mod play;
 mod standing;
-mod trace;
+pub mod trace;

@@ -21,7 +21,8 @@ fn same_reply(a: Reply, b: Reply) -> bool
     a == b
 }
 
-fn same_step(a: Step, b: Step) -> bool
+/// Whether two steps are the same.
+pub fn same_step(a: Step, b: Step) -> bool
     ensures { IsTrue result ↔ (a ≡ b) }
 {
     same_op(a.op, b.op) && same_reply(a.reply, b.reply)

@@ -1,11 +1,13 @@
 -- Rows of texts, computed.
-use Rattle.std.specs.Prelude.{◌≡◌, pos, negsuc, codes, refl, Some}
+use Rattle.std.specs.Prelude.{◌≡◌, [], ◌∷◌, ◌++◌, pos, negsuc, codes, refl, Some}
 use Rattle.std.specs.Fmt.{digits}
 use Rattle.wtypes.specs.declared.Value.TheVariants.{I32, I64}
 use Rattle.wtypes.specs.declared.TrapCode.TheVariants.{CallDepth}
 use Rattle.spec_ledger.specs.declared.Outcome.TheVariants.{Returned, Trapped}
 use Rattle.calls_text.specs.Texts.{value_text}
 use Rattle.calls_text.specs.Receipts.{receipt_text, position_text}
+use Rattle.calls_text.specs.Refusals.{IsCallsLine}
+use Rattle.calls_text.specs.declared.reader.CallsRefusal.TheVariants.{Line, TooMany}
 
 pub row_i64 : value_text (I64 (pos 7)) ≡ codes "i64:7"
 unfolding digits
@@ -22,3 +24,10 @@ row_returned = refl
 pub row_trapped : receipt_text (record { outcome = Trapped CallDepth; used = 256 }) ≡ codes "trapped 8 fuel 256"
 unfolding digits
 row_trapped = refl
+
+pub row_line : IsCallsLine (Line 3) (codes "refused calls 1 3" ++ 10 ∷ [])
+unfolding digits
+row_line = refl
+
+pub row_many : IsCallsLine TooMany (codes "refused calls 2" ++ 10 ∷ [])
+row_many = refl

@@ -1,11 +1,15 @@
-//! Calls and receipts as lines of text.
+//! Calls and receipts as lines of text, and what is wrong with a text that spells no calls.
 #![tactic(auto)]
 
+mod fault;
 mod line;
 mod reader;
 mod receipt;
+mod refusal;
 mod words;
 
+pub use fault::calls_words;
 pub use reader::{CallsRefusal, MOST_CALLS, read_calls};
 pub use receipt::{PositionLine, ReceiptText, ValueText};
+pub use refusal::refusal_line;
 pub use words::number_of;

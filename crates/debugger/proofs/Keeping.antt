@@ -1,6 +1,6 @@
 -- What a session keeps.
 use Rattle.std.proofs.Common.{◌≡◌, ◌≢◌, ℕ, ◌+◌, ◌-◌, ◌<◌, ◌≤◌, true, false, true≢false, List, [], refl, sym, ap, ap₂, ◌∙◌, subst, arith, Option, Some, None, inl, inr, slice_index_or}
-use Rattle.std.specs.Prelude.{◌⊎◌, ◌==◌, IsSome}
+use Rattle.std.specs.Prelude.{◌⊎◌, ◌==◌, IsSome, All, length}
 use Rattle.std.proofs.lemmas.Bool.Decides.{eqb_tells}
 use Rattle.spec_ledger.specs.declared.Outcome.{Outcome}
 use Rattle.spec_ledger.specs.declared.Step.{Step}
@@ -12,9 +12,10 @@ use Rattle.spec_execution.specs.Turns.{Turned, opened, turned, IsState, shown, p
 use Rattle.interp.specs.Progress.{Progress}
 use Rattle.interp.specs.Shown.{ending, ending_of, place_shown}
 use Rattle.debugger.specs.declared.cursor.Cursor.{Cursor}
+use Rattle.debugger.specs.declared.kept.Kept.{Kept}
 use Rattle.debugger.specs.Breaks.{is_set_at}
 use Rattle.debugger.specs.Cursors.{HasTurned, IsAt, IsSameRun, IsCopy}
-use Rattle.debugger.specs.Keeping.{IsOfRun, AreKept, IsKept, seen_at, HasNoBreakBetween}
+use Rattle.debugger.specs.Keeping.{IsOfRun, AreSpaced, last_turns, AreKept, next_turns, IsKept, seen_at, HasNoBreakBetween}
 use Rattle.debugger.specs.Sight.{Sight, IsSight, sight_of, place_at}
 use Rattle.debugger.specs.Commands as commands
 use Rattle.debugger.proofs.States.{one_state, IsOnTheWay, earlier}
@@ -118,30 +119,58 @@ moved_more c d e (inr h) used = omega (arith, used, ap (λ x. x.machine.used) h)
 pub copy_of_run : {A : Type 0} (here c d : Cursor A) → IsOfRun here c → IsCopy c d → IsOfRun here d
 copy_of_run here c d h k = record { at = at_copy c d h.at k; same = run_on here c d h.same (run_copy c d k) }
 
-pub of_run_itself : {A : Type 0} (here d : Cursor A) → IsAt here → IsCopy here d → IsOfRun here d
-of_run_itself here d h k = record { at = at_copy here d h k; same = run_copy here d k }
+-- turns made from an earlier state on, so many as there are to a state that was reached, lead to it
+pub leads_to : {A : Type 0} (here earlier start end : Cursor A) (turns made : ℕ) → IsAt here → IsOfRun here earlier → earlier.machine.used ≤ turns → turns ≤ here.machine.used → IsCopy earlier start → IsAt end → IsSameRun start end
+    → end.machine.used ≡ start.machine.used + made → made ≤ turns - start.machine.used → (made ≡ turns - start.machine.used) ⊎ IsSome (ending end.machine) → end.machine.used ≡ turns
+leads_to here earlier start end turns made h k before below copy at same used most all =
+    let first : start.machine.used ≡ earlier.machine.used = ap (λ p. p.used) copy.machine in
+    reaches here end h at (run_on here start end (copy_of_run here earlier start k copy).same same) turns (omega (arith, first, before, used, most)) below (by_all first all)
+  where
+    by_all : start.machine.used ≡ earlier.machine.used → (made ≡ turns - start.machine.used) ⊎ IsSome (ending end.machine) → (end.machine.used ≡ turns) ⊎ IsSome (ending end.machine)
+    by_all first (inl e) = inl (omega (arith, first, before, used, e))
+    by_all first (inr some) = inr some
 
 -- seen from another state of the run
 pub of_run_from : {A : Type 0} (a b c : Cursor A) → IsSameRun a b → IsOfRun a c → IsOfRun b c
 of_run_from a b c run h = record { at = h.at; same = run_on b a c (run_back a b run) h.same }
 
-pub kept_from : {A : Type 0} (a b : Cursor A) (cs : List (Cursor A)) → IsSameRun a b → AreKept a cs → AreKept b cs
-kept_from a b cs run h = record { all = λ k d below. of_run_from a b (slice_index_or cs k d) run (h.all k d below); few = h.few }
+pub kept_from : {A : Type 0} (a b : Cursor A) (k : Kept A) → IsSameRun a b → AreKept a k → AreKept b k
+kept_from a b k run h = record {
+  all = λ i d below. of_run_from a b (slice_index_or k.cursors.items i d) run (h.all i d below);
+  few = h.few;
+  spaced = h.spaced;
+  last_is = h.last_is;
+  least = h.least;
+  near = h.near;
+}
 
 -- what a session keeps, after it has gone on to another state of the run
-pub kept_on : {A : Type 0} (origin here next : Cursor A) (old new : List (Cursor A)) → IsKept origin here old → IsOfRun here next → AreKept here new → IsKept origin next new
-kept_on origin here next old new k h kept = record {
+pub kept_on : {A : Type 0} (origin here next : Cursor A) (old new : Kept A) → IsKept origin here old → IsOfRun here next → AreKept here new → next.machine.used < next_turns new → IsKept origin next new
+kept_on origin here next old new k h kept reached = record {
   first = record { of_run = of_run_from here next origin h.same k.first.of_run; before = k.first.before };
   at = h.at;
   kept = kept_from here next new h.same kept;
+  reached = reached;
 }
 
+-- what a session keeps, where more is kept and it has not gone on
+pub kept_still : {A : Type 0} (origin here : Cursor A) (old new : Kept A) → IsKept origin here old → AreKept here new → next_turns old ≤ next_turns new → IsKept origin here new
+kept_still origin here old new k kept further = record { first = k.first; at = k.at; kept = kept; reached = omega (arith, k.reached, further) }
+
 -- what a session keeps at first
-pub kept_first : {A : Type 0} (origin here : Cursor A) (others : List (Cursor A)) → IsAt origin → origin.machine.used ≡ 0 → IsCopy origin here → others ≡ [] → IsKept origin here others
-kept_first origin here others h none k no_others = record {
+pub kept_first : {A : Type 0} (origin here : Cursor A) (others : Kept A) → IsAt origin → origin.machine.used ≡ 0 → IsCopy origin here → others.cursors.items ≡ [] → others.last ≡ 0 → others.distance ≡ 1024 → IsKept origin here others
+kept_first {A = A} origin here others h none k no_others last distance = record {
   first = record { of_run = record { at = h; same = run_back origin here (run_copy origin here k) }; before = omega (arith, none) };
   at = at_copy origin here h k;
-  kept = subst (AreKept here) (sym no_others) (record { all = λ i d below. absurd (omega (arith, below)); few = omega arith });
+  kept = record {
+    all = subst (λ (cs : List (Cursor A)). All (IsOfRun here) cs) (sym no_others) (λ i d below. absurd (omega (arith, below)));
+    few = subst (λ (cs : List (Cursor A)). length cs ≤ 64) (sym no_others) (omega arith);
+    spaced = subst (AreSpaced others.distance 0) (sym no_others) tt;
+    last_is = last ∙ sym (ap (last_turns 0) no_others);
+    least = omega (arith, distance);
+    near = inl distance;
+  };
+  reached = omega (arith, last, distance, none, ap (λ p. p.used) k.machine);
 }
 
 -- ---- on to a break

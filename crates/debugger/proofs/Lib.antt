@@ -2,3 +2,4 @@ pub mod States
 pub mod Turning
 pub mod Replies
 pub mod Keeping
+pub mod Spacing

@@ -1,5 +1,5 @@
 -- What the commands of a session do.
-use Rattle.std.specs.Prelude.{◌≡◌, ℕ, ◌+◌, ◌<◌, ◌≤◌, ◌⊎◌, false, true, List, [], Result, Ok, Err, None, IsSome, take, drop, length, Vec}
+use Rattle.std.specs.Prelude.{◌≡◌, ℕ, ◌+◌, ◌*◌, ◌<◌, ◌≤◌, ◌⊎◌, false, true, List, [], Result, Ok, Err, None, IsSome, take, drop, length, Vec}
 use Rattle.debugger.specs.declared.session.Refusal.{Refusal}
 use Rattle.debugger.specs.declared.session.Refusal.TheVariants.{BeforeStart, NoSuchPlace, OutOfRange, NoMemory}
 use Rattle.spec_ledger.specs.Cells.{Cells}
@@ -48,6 +48,10 @@ pub record HasGoneBack (s : Sight) (n : ℕ) (t : Sight) : Type 0 where
   pub same : IsSame s t
   pub turns : t.turns + n ≡ s.turns
 
+-- few turns are made again: fewer than 1,024, or at most a 32nd of the fuel
+abbrev pub AreFew : (fuel again : ℕ) → Type 0
+AreFew fuel again = (again < 1024) ⊎ (32 * again ≤ fuel)
+
 -- a state has a break at its place
 abbrev pub IsAtBreak : List (ℕ × ℕ) → Sight → Type 0
 IsAtBreak breaks s = is_set_at breaks (place_at s) ≡ true
@@ -65,8 +69,8 @@ abbrev pub Steps : Sight → ℕ → Result ℕ Refusal → Sight → Type 0
 Steps s n (Ok made) t = HasStepped s n made t
 Steps s n (Err r) t = (r ≡ NoMemory) × (t ≡ s)
 
-abbrev pub GoesBack : {U : Type 0} → Sight → ℕ → Result U Refusal → Sight → Type 0
-GoesBack s n (Ok u) t = HasGoneBack s n t
+abbrev pub GoesBack : Sight → ℕ → Result ℕ Refusal → Sight → Type 0
+GoesBack s n (Ok again) t = HasGoneBack s n t × AreFew s.call.fuel again
 GoesBack s n (Err BeforeStart) t = (s.turns < n) × (t ≡ s)
 GoesBack s n (Err r) t = (r ≡ NoMemory) × (n ≤ s.turns) × (t ≡ s)
 

@@ -1,7 +1,7 @@
 // States that are kept, so that going back makes few turns again.
-ghost use Rattle.std.specs.Prelude.{◌≡◌, ◌+◌, ◌<◌, ◌≤◌, [], vec_len, IsSome, Ok, true, false, OnOk};
+ghost use Rattle.std.specs.Prelude.{ℕ, ◌≡◌, ◌+◌, ◌*◌, ◌<◌, ◌≤◌, [], All, vec_len, IsSome, Ok, true, false, OnOk};
 ghost use Rattle.interp.specs.Shown.{ending};
-ghost use Rattle.debugger.specs.Keeping.{IsOfRun, AreKept, IsEarlier};
+ghost use Rattle.debugger.specs.Keeping.{IsOfRun, AreKept, AreSpaced, last_turns, next_turns, IsEarlier, IsNearest};
 
 use crate::cursor::{Cursor, copy, make_turn};
 use spec_ledger::NoMemory;
@@ -13,30 +13,34 @@ pub const MOST_KEPT: usize = 64;
 // The turns between the first states that are kept.
 const FIRST_DISTANCE: u64 = 1_024;
 
-/// States of a run, each after more turns than the one before it: at most 64. The distance between them doubles each time that
-/// there are so many, so after n turns it is at most the greater of 1,024 and n / 16.
+/// States of a run, at most 64: those after each multiple of the distance, up to the last that was kept. Where 64 are kept and
+/// one more is due, every other one is dropped and the distance doubles. So the distance is 1,024 turns, or at most a 32nd of the
+/// turns before the last.
 #[derive(Drop)]
 pub struct Kept<'a, A: Allocator + Copy> {
     /// The states.
     pub cursors: Vec<Cursor<'a, A>, A>,
-    /// The next state is kept after so many turns.
-    pub next: u64,
+    /// The turns before the last of them. 0 where there is none.
+    pub last: u64,
     /// The turns between two states.
     pub distance: u64,
 }
 
 /// No states.
 pub fn none_kept<'a, A: Allocator + Copy>(alloc: A) -> Kept<'a, A>
-    ensures { result.cursors.items ≡ [] }
+    ensures none { result.cursors.items ≡ [] }
+    ensures last { result.last ≡ 0 }
+    ensures distance { result.distance ≡ 1024 }
 {
     Kept {
         cursors: Vec::new(alloc),
-        next: FIRST_DISTANCE,
+        last: 0,
         distance: FIRST_DISTANCE,
     }
 }
 
-// Keeps the state, where it stands far enough from the last one.
+// Keeps the state, where it is the next one to keep. Where 64 are kept, every other one is dropped, and the next one to keep
+// stands further on.
 fn keep<'a, A: Allocator + Copy>(
     alloc: A,
     here: &Cursor<'a, A>,
@@ -44,37 +48,34 @@ fn keep<'a, A: Allocator + Copy>(
     kept: &mut Kept<'a, A>,
 ) -> Result<(), NoMemory>
     requires cursor { IsOfRun here.now cursor.now }
-    requires kept { AreKept here.now kept.old.cursors.items }
-    ensures { AreKept here.now kept.new.cursors.items }
+    requires kept { AreKept here.now kept.old }
+    requires reached { cursor.now.machine.used ≤ next_turns kept.old }
+    ensures kept { AreKept here.now kept.new }
+    ensures reached { OnOk result (cursor.now.machine.used < next_turns kept.new) }
+    ensures further { next_turns kept.old ≤ next_turns kept.new }
 {
     let turns = cursor.machine.used();
-    if turns < kept.next {
+    if turns < kept.last || turns - kept.last < kept.distance {
         return Ok(());
     }
-    make_room(here, kept);
-    kept.cursors.push(copy(alloc, cursor)?)?;
-    kept.next = turns.saturating_add(kept.distance);
-    Ok(())
-}
-
-// Makes room for a state, where there are 64: every other one is dropped.
-fn make_room<'a, A: Allocator + Copy>(here: &Cursor<'a, A>, kept: &mut Kept<'a, A>)
-    requires { AreKept here.now kept.old.cursors.items }
-    ensures kept { AreKept here.now kept.new.cursors.items }
-    ensures room { vec_len kept.new.cursors < 64 }
-{
-    if kept.cursors.len() >= MOST_KEPT {
+    if kept.cursors.len() < MOST_KEPT {
+        kept.cursors.push(copy(alloc, cursor)?)?;
+        kept.last = turns;
+    } else {
         thin(here, &mut kept.cursors);
-        kept.distance = kept.distance.saturating_mul(2);
+        kept.distance *= 2;
     }
+    Ok(())
 }
 
 // Drops every other one of 64 states, the first among them.
 fn thin<'a, A: Allocator + Copy>(here: &Cursor<'a, A>, cursors: &mut Vec<Cursor<'a, A>, A>)
-    requires kept { AreKept here.now cursors.old.items }
-    requires full { 64 ≤ vec_len cursors.old }
-    ensures kept { AreKept here.now cursors.new.items }
-    ensures half { vec_len cursors.new ≤ 32 }
+    requires all { All (IsOfRun here.now) cursors.old.items }
+    requires full { vec_len cursors.old ≡ 64 }
+    ensures all { All (IsOfRun here.now) cursors.new.items }
+    ensures half { vec_len cursors.new ≡ 32 }
+    ensures last { last_turns 0 cursors.new.items ≡ last_turns 0 cursors.old.items }
+    ensures spaced { (d : ℕ) → AreSpaced d 0 cursors.old.items → AreSpaced (2 * d) 0 cursors.new.items }
 {
     let _turns = here.machine.used();
     for index in 0..MOST_KEPT / 2 {
@@ -94,11 +95,14 @@ pub fn turn_and_keep<'a, A: Allocator + Copy>(
     kept: &mut Kept<'a, A>,
 ) -> Result<bool, NoMemory>
     requires cursor { IsOfRun here.now cursor.old }
-    requires kept { AreKept here.now kept.old.cursors.items }
+    requires kept { AreKept here.now kept.old }
+    requires reached { cursor.old.machine.used < next_turns kept.old }
     ensures cursor { OnOk result (IsOfRun here.now cursor.new) }
     ensures made { result ≡ Ok true → cursor.new.machine.used ≡ cursor.old.machine.used + 1 }
     ensures ended { result ≡ Ok false → IsSome (ending cursor.old.machine) × (cursor.new ≡ cursor.old) }
-    ensures kept { AreKept here.now kept.new.cursors.items }
+    ensures kept { AreKept here.now kept.new }
+    ensures reached { OnOk result (cursor.new.machine.used < next_turns kept.new) }
+    ensures further { next_turns kept.old ≤ next_turns kept.new }
 {
     let made = make_turn(cursor)?;
     if made {
@@ -107,22 +111,24 @@ pub fn turn_and_keep<'a, A: Allocator + Copy>(
     Ok(made)
 }
 
-/// The kept state that stands nearest before so many turns, or else the first one.
+/// The last of these states that stands at most so many turns from the start, or else the first one.
 pub fn nearest<'b, 'a, A: Allocator + Copy>(
-    origin: &'b Cursor<'a, A>,
+    first: &'b Cursor<'a, A>,
     here: &Cursor<'a, A>,
-    kept: &'b [Cursor<'a, A>],
+    others: &'b [Cursor<'a, A>],
     turns: u64,
 ) -> &'b Cursor<'a, A>
-    requires first { IsEarlier here.now turns origin.now }
-    requires kept { AreKept here.now kept.now }
-    ensures { IsEarlier here.now turns result.now }
+    requires first { IsEarlier here.now turns first.now }
+    requires others { All (IsOfRun here.now) others.now }
+    ensures earlier { IsEarlier here.now turns result.now }
+    ensures near { IsNearest first.now others.now turns result.now }
 {
-    let mut best = origin;
-    for cursor in kept {
-        if cursor.machine.used() <= turns {
-            best = cursor;
+    let mut best = first;
+    for cursor in others {
+        if cursor.machine.used() > turns {
+            return best;
         }
+        best = cursor;
     }
     best
 }

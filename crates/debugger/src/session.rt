@@ -4,7 +4,7 @@ ghost use Rattle.interp.specs.Progress.{IsSameCall};
 ghost use Rattle.interp.specs.Shown.{ending, place_shown};
 ghost use Rattle.debugger.specs.Breaks.{is_set_at, instr_there};
 ghost use Rattle.debugger.specs.Cursors.{IsAt, IsSameRun};
-ghost use Rattle.debugger.specs.Keeping.{IsOfRun, AreKept, IsEarlier, HasNoBreakBetween};
+ghost use Rattle.debugger.specs.Keeping.{IsOfRun, AreKept, next_turns, IsEarlier, HasNoBreakBetween};
 
 use crate::Contract;
 use crate::breaks::{clear_break, has_break, set_break};
@@ -67,7 +67,8 @@ impl From<NoMemory> for Refusal {
 
 /// A call that runs alone over cells, at one of its states. Contracts see the call, the number of turns that were made, and the
 /// configuration after them, which the type keeps to be that state. Beside the first state and the present one it holds copies of at
-/// most 64 others, each with the memory, the cells and the trace of its time, so that few turns are made again to go back.
+/// most 64 others, each with the memory, the cells and the trace of its time, so that few turns are made again to go back: fewer
+/// than 1,024, or at most a 32nd of the call's fuel.
 #[derive(Drop)]
 pub struct Session<'a, A: Allocator + Copy> {
     alloc: A,
@@ -87,27 +88,28 @@ impl<'a, A: Allocator + Copy> Model for Session<'a, A> {
 
     ghost view = { λ s. sight_of s.here.machine s.here.start.now.cells s.breaks.items };
 
-    ghost invariant = { λ s. IsKept s.origin s.here s.kept.cursors.items };
+    ghost invariant = { λ s. IsKept s.origin s.here s.kept };
 }
 
-// The state after so many turns, which were made once, from an earlier state on.
+// The state after so many turns, which were made once, from an earlier state on; and how many of them this makes again.
 fn state_after<'a, A: Allocator + Copy>(
     alloc: A,
     earlier: &Cursor<'a, A>,
     here: &Cursor<'a, A>,
     turns: u64,
-) -> Result<Cursor<'a, A>, NoMemory>
+) -> Result<(Cursor<'a, A>, u64), NoMemory>
     requires here { IsAt here.now }
     requires earlier { IsEarlier here.now turns earlier.now }
     requires before { turns ≤ here.now.machine.used }
-    ensures at { IfOk result (λ cursor. IsAt cursor) }
-    ensures same { IfOk result (λ cursor. IsSameRun here.now cursor) }
-    ensures turns { IfOk result (λ cursor. cursor.machine.used ≡ turns) }
+    ensures at { IfOk result (λ found. IsAt found.0) }
+    ensures same { IfOk result (λ found. IsSameRun here.now found.0) }
+    ensures turns { IfOk result (λ found. found.0.machine.used ≡ turns) }
+    ensures again { IfOk result (λ found. earlier.now.machine.used + found.1 ≡ turns) }
 {
     let mut cursor = copy(alloc, earlier)?;
     let count = turns - cursor.machine.used();
-    make_turns(&mut cursor, count)?;
-    Ok(cursor)
+    let again = make_turns(&mut cursor, count)?;
+    Ok((cursor, again))
 }
 
 // Whether a break is set at the place of the instruction to come.
@@ -137,12 +139,15 @@ fn advance<'a, A: Allocator + Copy>(
     count: u64,
 ) -> Result<u64, NoMemory>
     requires cursor { IsOfRun here.now cursor.old }
-    requires kept { AreKept here.now kept.old.cursors.items }
+    requires kept { AreKept here.now kept.old }
+    requires reached { cursor.old.machine.used < next_turns kept.old }
     ensures cursor { OnOk result (IsOfRun here.now cursor.new) }
     ensures made { IfOk result (λ made. cursor.new.machine.used ≡ cursor.old.machine.used + made) }
     ensures most { IfOk result (λ made. made ≤ count) }
     ensures all { IfOk result (λ made. (made ≡ count) ⊎ IsSome (ending cursor.new.machine)) }
-    ensures kept { AreKept here.now kept.new.cursors.items }
+    ensures kept { AreKept here.now kept.new }
+    ensures reached { OnOk result (cursor.new.machine.used < next_turns kept.new) }
+    ensures further { next_turns kept.old ≤ next_turns kept.new }
 {
     for made in 0..count {
         if !turn_and_keep(alloc, here, cursor, kept)? {
@@ -161,12 +166,15 @@ fn go_on<'a, A: Allocator + Copy>(
     breaks: &[(u32, u32)],
 ) -> Result<(), NoMemory>
     requires cursor { IsOfRun here.now cursor.old }
-    requires kept { AreKept here.now kept.old.cursors.items }
+    requires kept { AreKept here.now kept.old }
+    requires reached { cursor.old.machine.used < next_turns kept.old }
     ensures cursor { OnOk result (IsOfRun here.now cursor.new) }
     ensures moves { OnOk result ((cursor.old.machine.used < cursor.new.machine.used) ⊎ (IsSome (ending cursor.old.machine) × (cursor.new ≡ cursor.old))) }
     ensures stops { OnOk result ((is_set_at breaks.now (place_shown cursor.new.machine) ≡ true) ⊎ IsSome (ending cursor.new.machine)) }
     ensures least { OnOk result (HasNoBreakBetween breaks.now here.now cursor.old.machine.used cursor.new.machine.used) }
-    ensures kept { AreKept here.now kept.new.cursors.items }
+    ensures kept { AreKept here.now kept.new }
+    ensures reached { OnOk result (cursor.new.machine.used < next_turns kept.new) }
+    ensures further { next_turns kept.old ≤ next_turns kept.new }
 {
     while turn_and_keep(alloc, here, cursor, kept)? {
         if is_at_break(cursor, breaks) {
@@ -226,12 +234,13 @@ impl<'a, A: Allocator + Copy> Session<'a, A> {
         Ok(made)
     }
 
-    /// Goes so many turns back.
+    /// Goes so many turns back, and answers how many turns it made again for this: fewer than 1,024, or at most a 32nd of the
+    /// call's fuel.
     ///
     /// # Errors
     ///
     /// `BeforeStart` exactly where fewer turns were made, else `NoMemory` where memory was refused. The session is as it was.
-    pub fn back(&mut self, count: u64) -> Result<(), Refusal>
+    pub fn back(&mut self, count: u64) -> Result<u64, Refusal>
         ensures { GoesBack self.old count result self.new }
     {
         let turns = self.here.machine.used();
@@ -239,9 +248,9 @@ impl<'a, A: Allocator + Copy> Session<'a, A> {
             return Err(Refusal::BeforeStart);
         }
         let earlier = nearest(&self.origin, &self.here, &self.kept.cursors, turns - count);
-        let cursor = state_after(self.alloc, earlier, &self.here, turns - count)?;
+        let (cursor, again) = state_after(self.alloc, earlier, &self.here, turns - count)?;
         self.here = cursor;
-        Ok(())
+        Ok(again)
     }
 
     /// Goes on to the next state that has a break at its place, or to the end, and answers how many turns this made. It

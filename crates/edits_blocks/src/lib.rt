@@ -1,7 +1,6 @@
 //! What the contracts of blocks refuse: each function calls functions of the blocks' layer and has their contract.
 #![tactic(auto)]
 
-pub mod graphs;
 pub mod judgement;
 pub mod publication;
 pub mod sealing;

@@ -1,18 +1,21 @@
 //! Publishing.
 
-ghost use Rattle.std.specs.Prelude.{◌≡◌, ◌<◌, ◌^◌, [], IfOk, length, ◌↔◌, IsTrue, Ok, Some, true, false, OnErr, slice_get, OnOk};
+ghost use Rattle.std.specs.Prelude.{◌≡◌, ◌<◌, ◌^◌, [], IfOk, IfSome, IsSome, length, map, ◌↔◌, IsTrue, Ok, Some, true, false, OnErr, slice_get, OnOk};
 ghost use Rattle.std.specs.FinMap as finite;
 ghost use Rattle.interp.specs.Lent.{contracts_view};
 ghost use Rattle.publish.specs.Publication.{MayFollow, HasTaken, IsSameJob, HasGoneOn, Sweep, limits, AreLeft, fuel_used};
-ghost use Rattle.spec_ledger.specs.Book.{GetsReplies};
+ghost use Rattle.publish.specs.Adoption.{AreMade, MayFollowBy, ran_by};
+ghost use Rattle.spec_ledger.specs.Book.{GetsReplies, IsDefined, settled};
 ghost use Rattle.spec_ledger.specs.Order.{IsAdmissible};
 ghost use Rattle.spec_execution.specs.Serial.{Serial};
 ghost use Rattle.serial.specs.Positions.{positions};
 
+use boost::book::Closed;
 use call::Call;
 use interp::finished::Finished;
 use link::deployed::Deployed as Contract;
-use publish::{Published, Publishing};
+use lock_profile::Touched;
+use publish::{MadeRun, Published, Publishing};
 use spec_ledger::NoMemory;
 use std::alloc::Allocator;
 use storage::Cells;
@@ -29,6 +32,28 @@ pub fn open<'a, A: Allocator + Copy>(
     ensures { IfOk result (λ p. p ≡ record { contracts = contracts_view contracts.now; calls = calls.now; opening = cells.now.cells; fuel = fuel; order = []; ran = []; cells = cells.now.cells }) }
 {
     Publishing::open(alloc, contracts, calls, cells, fuel)
+}
+
+/// As [`publish::Publishing::adopt`].
+pub fn adopt<'a, A: Allocator + Copy>(
+    alloc: A,
+    contracts: &'a [Contract<A>],
+    calls: &'a [Call],
+    cells: &'a Cells<A>,
+    fuel: u64,
+    closed: Closed<A>,
+    runs: &[MadeRun<'a, A>],
+    touched: Vec<Touched<A>, A>,
+) -> Result<Option<Publishing<'a, A>>, NoMemory>
+    requires calls { length calls.now < 2 ^ 32 }
+    requires replies { IsDefined cells.now.cells closed.entries.items }
+    requires cells { closed.cells.cells ≡ settled cells.now.cells closed.entries.items }
+    requires settled { closed.cells.unsettled ≡ finite.empty }
+    requires runs { AreMade (contracts_view contracts.now) calls.now runs.now touched.items }
+    ensures answer { IfOk result (λ o. IsSome o ↔ MayFollowBy (limits calls.now) fuel [] closed.entries.items runs.now) }
+    ensures adopted { IfOk result (λ o. IfSome o (λ p. p ≡ record { contracts = contracts_view contracts.now; calls = calls.now; opening = cells.now.cells; fuel = fuel; order = map (λ e. e.call) closed.entries.items; ran = ran_by runs.now touched.items; cells = closed.cells.cells })) }
+{
+    Publishing::adopt(alloc, contracts, calls, cells, fuel, closed, runs, touched)
 }
 
 /// As [`publish::Publishing::may_follow`].

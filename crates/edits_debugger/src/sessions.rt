@@ -43,7 +43,7 @@ pub fn step<'a, A: Allocator + Copy>(
 pub fn back<'a, A: Allocator + Copy>(
     session: &mut Session<'a, A>,
     count: u64,
-) -> Result<(), Refusal>
+) -> Result<u64, Refusal>
     ensures { GoesBack session.old count result session.new }
 {
     session.back(count)

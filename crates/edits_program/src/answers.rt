@@ -1,7 +1,7 @@
 //! What is told: the stored run, an answer that is carried out, a fault, and the usage.
 ghost use Rattle.std.specs.Prelude.{◌≡◌, ◌≢◌, ◌⊎◌, ℕ, List, IsTrue, IfOk, IfErr, string_bytes};
 ghost use Rattle.codec.specs.Putting.{IsRaised};
-ghost use Rattle.wblock_line.specs.Answers.{IsPerformed, IsCut, IsSaid, status_of, status_of_fault, file_line, fault_line};
+ghost use Rattle.wblock_line.specs.Answers.{IsPerformed, IsCut, IsSaid, status_of, status_of_fault, file_line, fault_line, why_line};
 ghost use Rattle.wblock_commands.specs.Stored.{ShowsStored};
 ghost use Rattle.wblock_commands.specs.Lines.{EndsLine};
 
@@ -45,7 +45,8 @@ pub fn carry_out<F: Files, O: Sink, E: Sink>(
     ensures cut { result ≡ Status.File → IsTrue F.tells → IsTrue O.tells → (name : List ℕ) × IsCut name answer.entry (F.holds files.old) (F.holds files.new) (O.told out.old) (O.told out.new) × (IsTrue E.tells → IsSaid (file_line name) (E.told err.old) (E.told err.new) (E.failures err.old) (E.failures err.new)) }
     ensures calm_files { result ≢ Status.File → F.failures files.new ≡ F.failures files.old }
     ensures calm_output { result ≢ Status.File → O.failures out.new ≡ O.failures out.old }
-    ensures quiet { result ≢ Status.File → err.new ≡ err.old }
+    ensures quiet { result ≡ Status.Done → err.new ≡ err.old }
+    ensures explained { result ≡ Status.Refused → IsTrue E.tells → IsSaid (why_line answer.entry) (E.told err.old) (E.told err.new) (E.failures err.old) (E.failures err.new) }
     ensures counted { result ≡ Status.File → IsRaised (F.failures files.old) (F.failures files.new) ⊎ IsRaised (O.failures out.old) (O.failures out.new) }
 {
     wblock_line::carry_out(answer, files, out, err)

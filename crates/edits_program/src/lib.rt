@@ -6,3 +6,4 @@ pub mod blocks;
 pub mod files;
 pub mod lines;
 pub mod modules;
+pub mod refusals;

@@ -4,7 +4,7 @@ ghost use Rattle.codec.specs.Putting.{IsRaised};
 ghost use Rattle.wblock_line.specs.Words.{line_of};
 ghost use Rattle.wblock_line.specs.Answers.{IsSaid, file_line, memory_line};
 ghost use Rattle.wblock_commands.specs.Words.{IsLineOf, Says};
-ghost use Rattle.wblock_commands.specs.Does.{AsksCall, Misses, Does, Fails, IsKept, SaysUsage};
+ghost use Rattle.wblock_commands.specs.Does.{AsksCall, Misses, Does, Fails, IsKept, SaysText};
 ghost use Rattle.wblock_commands.specs.declared.command.Command.{Command as Asked};
 
 use codec::Sink;
@@ -42,9 +42,10 @@ pub fn run_line<'a, R: Threads + Wait + Sync, F: Files, O: Sink, E: Sink, P: Pac
     ensures cut { result ≡ Status.File → (c : Asked) × Says (map (λ w. w.now) words.entry.now) c × (IsTrue F.tells → IsTrue O.tells → (name : List ℕ) × Fails c name (F.holds files.old) (F.holds files.new) (O.told out.old) (O.told out.new) × (IsTrue E.tells → IsSaid (file_line name) (E.told err.old) (E.told err.new) (E.failures err.old) (E.failures err.new))) }
     ensures counted { result ≡ Status.File → IsRaised (F.failures files.old) (F.failures files.new) ⊎ IsRaised (O.failures out.old) (O.failures out.new) }
     ensures silent { (result ≡ Status.Usage) ⊎ (result ≡ Status.Memory) → IsTrue F.tells → IsKept (F.holds files.old) (F.holds files.new) (O.told out.old) (O.told out.new) }
-    ensures usage_said { result ≡ Status.Usage → IsTrue E.tells → SaysUsage (E.told err.old) (E.told err.new) (E.failures err.old) (E.failures err.new) }
+    ensures usage_said { result ≡ Status.Usage → IsTrue E.tells → SaysText (E.told err.old) (E.told err.new) (E.failures err.old) (E.failures err.new) }
     ensures memory_said { result ≡ Status.Memory → IsTrue E.tells → IsSaid memory_line (E.told err.old) (E.told err.new) (E.failures err.old) (E.failures err.new) }
-    ensures quiet { (result ≡ Status.Done) ⊎ (result ≡ Status.Refused) → err.new ≡ err.old }
+    ensures quiet { result ≡ Status.Done → err.new ≡ err.old }
+    ensures explained { result ≡ Status.Refused → IsTrue E.tells → SaysText (E.told err.old) (E.told err.new) (E.failures err.old) (E.failures err.new) }
     ensures calm_files { (result ≡ Status.Done) ⊎ (result ≡ Status.Refused) → F.failures files.new ≡ F.failures files.old }
     ensures calm_output { (result ≡ Status.Done) ⊎ (result ≡ Status.Refused) → O.failures out.new ≡ O.failures out.old }
 {

@@ -1,11 +1,12 @@
 //! The book.
 
-ghost use Rattle.std.specs.Prelude.{◌≡◌, ◌↔◌, IfOk, OnErr, Err, IfErr, ◌≤◌, [], length, replicate};
+ghost use Rattle.std.specs.Prelude.{◌≡◌, ◌≢◌, ◌↔◌, IfOk, IfSome, IfNone, OnOk, OnErr, Err, IfErr, ◌≤◌, List, [], length, replicate, slice_index};
 ghost use Rattle.spec_ledger.specs.Events.{IsStale, OpDone, IsConflict, CommitDone, IsOther, BeginDone, HasNoAttempt};
-ghost use Rattle.spec_ledger.specs.Book.{call_is_new};
+ghost use Rattle.spec_ledger.specs.Book.{Content, call_is_new};
+ghost use Rattle.boost.specs.Numbered.{BegunAs, HasTrace, IsPassed};
 
-use boost::book::{BeginRefusal, Book, CommitRefusal, OpRefusal, Run, Ticket};
-use spec_ledger::{NoMemory, Op, Reply};
+use boost::book::{BeginAsRefusal, BeginRefusal, Book, CommitRefusal, OpRefusal, Run, Ticket};
+use spec_ledger::{NoMemory, Op, Outcome, Reply, Step};
 use std::alloc::Allocator;
 use storage::Cells;
 
@@ -62,4 +63,58 @@ pub fn begin<A: Allocator + Copy>(book: &mut Book<A>, call: u32) -> Result<Ticke
     ensures err { OnErr result (book.new ≡ book.old) }
 {
     book.begin(call)
+}
+
+/// As [`Book::begin_as`].
+pub fn begin_as<A: Allocator + Copy>(
+    book: &mut Book<A>,
+    call: u32,
+    number: u64,
+) -> Result<Ticket, BeginAsRefusal>
+    ensures ok { IfOk result (λ ticket. (ticket.call ≡ call) × (ticket.number ≡ number) × BegunAs book.old book.new call number) }
+    ensures no_such_call { (result ≡ Err BeginAsRefusal.NoSuchCall) ↔ (length book.old.begun ≤ call) }
+    ensures live { (result ≡ Err BeginAsRefusal.Live) ↔ ¬ (HasNoAttempt call book.old.attempts) }
+    ensures committed { (result ≡ Err BeginAsRefusal.Committed) ↔ ¬ (call_is_new call book.old.entries) }
+    ensures passed { (result ≡ Err BeginAsRefusal.Passed) ↔ IsPassed book.old call number }
+    ensures err { OnErr result (book.new ≡ book.old) }
+{
+    book.begin_as(call, number)
+}
+
+/// As [`Book::unbegin`].
+pub fn unbegin<A: Allocator + Copy>(
+    book: &mut Book<A>,
+    ticket: Ticket,
+    count: u64,
+) -> Result<(), Ticket>
+    ensures ok { OnOk result (BegunAs book.new book.old ticket.call ticket.number × (slice_index book.new.begun ticket.call ≡ count)) }
+    ensures former { OnOk result ((former : Content) → BegunAs former book.old ticket.call ticket.number → slice_index former.begun ticket.call ≡ count → book.new ≡ former) }
+    ensures refused { OnErr result ((former : Content) → BegunAs former book.old ticket.call ticket.number → slice_index former.begun ticket.call ≢ count) }
+    ensures ticket { IfErr result (λ back. back ≡ ticket) }
+    ensures err { OnErr result (book.new ≡ book.old) }
+{
+    book.unbegin(ticket, count)
+}
+
+/// As [`Book::trace_of`].
+pub fn trace_of<'b, A: Allocator + Copy>(book: &'b Book<A>, ticket: &Ticket) -> Option<&'b [Step]>
+    ensures found { IfSome result (λ trace. HasTrace book.now ticket.now.call ticket.now.number trace.now) }
+    ensures stale { IfNone result (IsStale book.now ticket.now.call ticket.now.number) }
+{
+    book.trace_of(ticket)
+}
+
+/// As [`Book::end`].
+pub fn end<A: Allocator + Copy>(
+    book: &mut Book<A>,
+    ticket: Ticket,
+    outcome: Outcome,
+) -> Result<u32, Ticket>
+    ensures ok { IfOk result (λ position. (trace : List Step) × CommitDone book.old book.new ticket.call ticket.number trace outcome position) }
+    ensures kept { IfOk result (λ position. (trace : List Step) → HasTrace book.old ticket.call ticket.number trace → CommitDone book.old book.new ticket.call ticket.number trace outcome position) }
+    ensures stale { (result ≡ Err ticket) ↔ IsStale book.old ticket.call ticket.number }
+    ensures ticket { IfErr result (λ back. back ≡ ticket) }
+    ensures err { OnErr result (book.new ≡ book.old) }
+{
+    book.end(ticket, outcome)
 }

@@ -1,6 +1,6 @@
 //! What a book hands out at its end.
 
-ghost use Rattle.std.specs.Prelude.{◌≡◌};
+ghost use Rattle.std.specs.Prelude.{◌≡◌, ◌↔◌, IsTrue};
 ghost use Rattle.std.specs.FinMap as finite;
 ghost use Rattle.spec_ledger.specs.Book.{settled};
 
@@ -24,6 +24,13 @@ pub fn trace<A: Allocator>(entry: &Entry<A>) -> &[Step]
     ensures { result.now ≡ entry.now.trace }
 {
     entry.trace()
+}
+
+/// As [`Entry::has_trace`].
+pub fn has_trace<A: Allocator>(entry: &Entry<A>, trace: &[Step]) -> bool
+    ensures { IsTrue result ↔ (entry.now.trace ≡ trace.now) }
+{
+    entry.has_trace(trace)
 }
 
 /// As [`Entry::mode`].

@@ -5,5 +5,6 @@ pub mod book;
 pub mod cells;
 pub mod closing;
 pub mod locks;
+pub mod parts;
 pub mod profiles;
 pub mod runs;

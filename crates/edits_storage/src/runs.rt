@@ -6,14 +6,16 @@ ghost use Rattle.std.specs.List.{All};
 ghost use Rattle.spec_execution.specs.Exec.{Executes};
 ghost use Rattle.interp.specs.Lent.{contracts_view};
 ghost use Rattle.spec_ledger.specs.Book.{GetsReplies};
+ghost use Rattle.spec_ledger.specs.Modes.{touched};
 ghost use Rattle.spec_execution.specs.Serial.{Serial};
 ghost use Rattle.serial.specs.Positions.{positions};
 
 use call::Call;
 use interp::finished::Finished;
 use link::deployed::Deployed as Contract;
+use lock_profile::Touched;
 use serial::{Core, Executed};
-use spec_ledger::NoMemory;
+use spec_ledger::{NoMemory, Step};
 use std::alloc::Allocator;
 use storage::Cells;
 
@@ -46,6 +48,13 @@ pub fn replay<A: Allocator + Copy>(
     ensures err { OnErr result (cells.new ≡ cells.old) }
 {
     serial::replay(alloc, finished, cells)
+}
+
+/// As [`serial::touched_by`].
+pub fn touched_by<A: Allocator + Copy>(alloc: A, trace: &[Step]) -> Result<Touched<A>, NoMemory>
+    ensures { IfOk result (λ locks. locks ≡ touched trace.now) }
+{
+    serial::touched_by(alloc, trace)
 }
 
 /// As [`serial::serial_core`].

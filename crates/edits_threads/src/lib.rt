@@ -2,7 +2,5 @@
 #![tactic(auto)]
 
 pub mod books;
-pub mod intakes;
-pub mod lanes_and_cells;
 pub mod mined;
 pub mod verdicts;

@@ -101,30 +101,6 @@ counted_rest {A} p q e d h k = record {
   each = subst (λ (es : Vec (Entry A) A). EachNumbered es.items) (sym e) k.each;
 }
 
--- an operator that leaves the order of the code as it is, and touches no more than the values and the locals
-pub operator_runs : (op : PlainInstr) → ((l : ℕ) → op ≡ Br l → ⊥) → ((l : ℕ) → op ≡ BrIf l → ⊥) → (op ≡ Return → ⊥) → ((t : ℕ) → op ≡ CallIndirect t → ⊥) → runs_on_instance op ≡ false → runs_on op ≡ true
-operator_runs (Br l) f g h k i = absurd (f l refl)
-operator_runs (BrIf l) f g h k i = absurd (g l refl)
-operator_runs Return f g h k i = absurd (h refl)
-operator_runs (CallIndirect t) f g h k i = absurd (k t refl)
-operator_runs (GlobalGet x) f g h k i = absurd (true≢false i)
-operator_runs (GlobalSet x) f g h k i = absurd (true≢false i)
-operator_runs (Load o align offset) f g h k i = absurd (true≢false i)
-operator_runs (Store o align offset) f g h k i = absurd (true≢false i)
-operator_runs MemorySize f g h k i = absurd (true≢false i)
-operator_runs MemoryGrow f g h k i = absurd (true≢false i)
-operator_runs op f g h k i = refl
-
-pub not_on_instance : (op : PlainInstr) → ((x : ℕ) → op ≡ GlobalGet x → ⊥) → ((x : ℕ) → op ≡ GlobalSet x → ⊥) → ((o : LoadOp) (align offset : ℕ) → op ≡ Load o align offset → ⊥) → ((o : StoreOp) (align offset : ℕ) → op ≡ Store o align offset → ⊥)
-    → (op ≡ MemorySize → ⊥) → (op ≡ MemoryGrow → ⊥) → runs_on_instance op ≡ false
-not_on_instance (GlobalGet x) e f g h i j = absurd (e x refl)
-not_on_instance (GlobalSet x) e f g h i j = absurd (f x refl)
-not_on_instance (Load o align offset) e f g h i j = absurd (g o align offset refl)
-not_on_instance (Store o align offset) e f g h i j = absurd (h o align offset refl)
-not_on_instance MemorySize e f g h i j = absurd (i refl)
-not_on_instance MemoryGrow e f g h i j = absurd (j refl)
-not_on_instance op e f g h i j = refl
-
 -- an operator that memory was refused for, or that calls, may take memory
 pub wanted : {E : Type 0} (op : PlainInstr) (stack locals stack' locals' : List Value) (r : Result After E) → IfOk r (λ a. Did op stack locals a stack' locals') → IfErr r (λ _. plain_takes_memory op ≡ true) → Wants r → plain_takes_memory op ≡ true
 wanted op stack locals stack' locals' (Err e) did takes w = takes

@@ -3,7 +3,7 @@ ghost use Rattle.std.specs.Prelude.{◌≡◌, ◌+◌, ◌<◌, ◌∷◌, leng
 ghost use Rattle.wtypes.specs.declared.PlainInstr.TheVariants.{CallIndirect};
 ghost use Rattle.spec_numeric.specs.Operators.{bits_of};
 ghost use Rattle.spec_execution.specs.Reduction.{arity as arity_of};
-ghost use Rattle.sequences.specs.Forms.{runs_on_instance};
+ghost use Rattle.sequences.specs.Forms.{runs_on, runs_on_instance};
 ghost use Rattle.execute.specs.Steps.{IsOperator, IsReadyToRun, Led, MayTake, Wants};
 ghost use Rattle.operands.specs.Taking.{plain_takes_memory};
 ghost use Rattle.frames.specs.Steps.{IsCounted};
@@ -17,7 +17,7 @@ use operands::elements::function_of_element;
 use operands::lent::Lent;
 use operands::memories::{execute_grow, execute_load, execute_store, memory_size};
 use operands::plain::{After, execute_plain};
-use operands::values::{bits, pop_top};
+use operands::values::{bits, pop_top, push};
 use std::alloc::{AllocError, Allocator};
 use wtypes::{PlainInstr, ValType, Value};
 
@@ -99,14 +99,47 @@ fn execute_operator<'a, A: Allocator + Copy>(
         PlainInstr::Store(_, _, _) => execute_on_instance(lent, parts, op, rest),
         PlainInstr::MemorySize => execute_on_instance(lent, parts, op, rest),
         PlainInstr::MemoryGrow => execute_on_instance(lent, parts, op, rest),
-        _ => {
-            parts.code = rest;
-            execute_plain(op, &mut parts.stack, &mut parts.locals)
-        }
+        PlainInstr::Unreachable => execute_on_values(lent, parts, op, rest),
+        PlainInstr::Nop => execute_on_values(lent, parts, op, rest),
+        PlainInstr::Call(_) => execute_on_values(lent, parts, op, rest),
+        PlainInstr::Const(_) => execute_on_values(lent, parts, op, rest),
+        PlainInstr::LocalGet(_) => execute_on_values(lent, parts, op, rest),
+        PlainInstr::LocalSet(_) => execute_on_values(lent, parts, op, rest),
+        PlainInstr::LocalTee(_) => execute_on_values(lent, parts, op, rest),
+        PlainInstr::Drop => execute_on_values(lent, parts, op, rest),
+        PlainInstr::Select => execute_on_values(lent, parts, op, rest),
+        PlainInstr::Unary(_) => execute_on_values(lent, parts, op, rest),
+        PlainInstr::Binary(_) => execute_on_values(lent, parts, op, rest),
+        PlainInstr::Test(_) => execute_on_values(lent, parts, op, rest),
+        PlainInstr::Compare(_) => execute_on_values(lent, parts, op, rest),
+        PlainInstr::Convert(_) => execute_on_values(lent, parts, op, rest),
     }
 }
 
+// The same for an instruction that reads or writes no more than the values and the locals.
+#[inline(always)]
+fn execute_on_values<'a, A: Allocator + Copy>(
+    lent: &Lent<'a, A>,
+    parts: &mut Parts<'a, A>,
+    op: &PlainInstr,
+    rest: &'a [Instr<A>],
+) -> Result<After, AllocError>
+    requires ready { IsReadyToRun lent.now parts.old }
+    requires counted { IsCounted parts.old }
+    requires here { IsOperator parts.old op.now rest.now }
+    requires on_values { runs_on op.now ≡ true }
+    ensures led { IfOk result (λ a. Led lent.now parts.old a parts.new) }
+    ensures counted { IfOk result (λ a. IsCounted parts.new) }
+    ensures max { parts.new.instance.memory.max ≡ parts.old.instance.memory.max }
+    ensures takes { Wants result → plain_takes_memory op.now ≡ true }
+{
+    let after = execute_plain(op, &mut parts.stack, &mut parts.locals);
+    parts.code = rest;
+    after
+}
+
 // The same for an instruction that reads or writes the instance.
+#[inline(always)]
 fn execute_on_instance<'a, A: Allocator + Copy>(
     lent: &Lent<'a, A>,
     parts: &mut Parts<'a, A>,
@@ -122,35 +155,42 @@ fn execute_on_instance<'a, A: Allocator + Copy>(
     ensures max { parts.new.instance.memory.max ≡ parts.old.instance.memory.max }
     ensures takes { Wants result → plain_takes_memory op.now ≡ true }
 {
-    parts.code = rest;
     match op {
         PlainInstr::GlobalGet(x) => {
             let value = parts.instance.globals[*x as usize];
-            parts.stack.push(value)?;
+            push(&mut parts.stack, value)?;
+            parts.code = rest;
             Ok(After::Ran)
         }
         PlainInstr::GlobalSet(x) => {
             let value = pop_top(&mut parts.stack);
             parts.instance.globals[*x as usize] = value;
+            parts.code = rest;
             Ok(After::Ran)
         }
         PlainInstr::Load(operator, _, offset) => {
-            Ok(execute_load(*operator, *offset, &mut parts.stack, &parts.instance.memory))
+            let after = execute_load(*operator, *offset, &mut parts.stack, &parts.instance.memory);
+            parts.code = rest;
+            Ok(after)
         }
         PlainInstr::Store(operator, _, offset) => {
-            execute_store(
+            let after = execute_store(
                 *operator,
                 *offset,
                 &mut parts.stack,
                 &mut parts.instance.memory,
-            )
+            );
+            parts.code = rest;
+            after
         }
         PlainInstr::MemoryGrow => {
             execute_grow(&mut parts.stack, &mut parts.instance.memory)?;
+            parts.code = rest;
             Ok(After::Ran)
         }
         PlainInstr::MemorySize => {
-            parts.stack.push(memory_size(&parts.instance.memory))?;
+            push(&mut parts.stack, memory_size(&parts.instance.memory))?;
+            parts.code = rest;
             Ok(After::Ran)
         }
         _ => unreachable!(),
@@ -158,8 +198,7 @@ fn execute_on_instance<'a, A: Allocator + Copy>(
 }
 
 // Calls the function that an element of the table is, where it has the type of this number; the element's number is on top.
-// It stays out of line, for the speed of the other instructions.
-#[inline(never)]
+#[inline(always)]
 fn call_element<'a, A: Allocator + Copy>(
     lent: &Lent<'a, A>,
     parts: &mut Parts<'a, A>,

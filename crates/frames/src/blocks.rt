@@ -10,6 +10,7 @@ use operands::plain::After;
 use std::alloc::{AllocError, Allocator};
 
 /// Opens a block or a loop above all values.
+#[inline(always)]
 pub fn open<'a, A: Allocator + Copy>(
     parts: &mut Parts<'a, A>,
     kind: Kind<A>,
@@ -27,13 +28,14 @@ pub fn open<'a, A: Allocator + Copy>(
     ensures counted { IfOk result (λ a. IsCounted parts.new) }
 {
     let height = parts.stack.len();
-    parts.entries.push(Entry {
+    parts.entries.reserve(1)?;
+    parts.entries.push_reserved(Entry {
         kind,
         ordinal,
         arity,
         height,
         from,
-    })?;
+    });
     parts.code = body;
     Ok(After::Ran)
 }

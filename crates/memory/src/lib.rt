@@ -288,6 +288,7 @@ impl<A: Allocator + Clone + Drop> Linear<A> {
     /// # Errors
     ///
     /// `MemoryOutOfBounds` where the bytes do not all lie in memory.
+    #[inline(always)]
     pub fn load(&self, at: u32, offset: u32, width: u32) -> Result<u64, TrapCode>
         requires { width ≤ 8 }
         ensures value { result ≡ load self.now.bytes (at + offset) width }

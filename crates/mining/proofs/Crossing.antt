@@ -8,6 +8,8 @@ use Rattle.std.specs.declared.alloc.Allocator.{Ghosts}
 use Rattle.std.specs.contracts.result.Result as result_row
 use Rattle.std.proofs.CrossingOver as over
 use Rattle.wtypes.specs.contracts.NoMemory as no_memory_row
+use Rattle.lock_profile.specs.contracts.Touched as touched_row
+use Rattle.lock_profile.proofs.Held.TheSendSync as held
 use Rattle.intake.specs.contracts.intake.Intake as intake_row
 use Rattle.intake.proofs.intake.Intake.TheSendSync as intake
 use Rattle.shared_book.specs.contracts.shared.SharedBook as book_row
@@ -19,8 +21,11 @@ use Rattle.mining.specs.contracts.attempt.Job as job_row
 use Rattle.mining.specs.contracts.worker.Worked as worked_row
 
 module _ (B : RattleType) (g : Ghosts B.Denot) (send : IsSend B) (sync : IsSync B) (frees : Frees g g.dealloc_token) where
+  touched_send : IsSend (touched_row.the_row B g)
+  touched_send = let vec = vec_send B g send sync frees in search (crosses, held.the_send, vec) depth 60 fits 100000
+
   committed_send : (a : NamedLft) → IsSend (committed_row.the_row a B g)
-  committed_send a = let finished = finished_send B g send sync frees in search (crosses, finished) depth 60 fits 100000
+  committed_send a = let finished = finished_send B g send sync frees in search (crosses, finished, touched_send) depth 60 fits 100000
 
   worked_send : (a : NamedLft) → IsSend (worked_row.the_row a B g)
   worked_send a = let vec = vec_send B g send sync frees in search (crosses, vec, committed_send) depth 60 fits 100000

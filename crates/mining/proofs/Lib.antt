@@ -3,3 +3,4 @@ pub mod Jobs
 pub mod Orders
 pub mod Runs
 pub mod Seats
+pub mod Ties

@@ -1,13 +1,11 @@
 -- Runs that are handed back.
-use Rattle.std.proofs.Common.{◌≡◌, ℕ, List, [], ◌∷◌, ◌++◌, Some, slice_get, IfOk, IsPermutation, sym, ap, ◌∙◌, subst}
+use Rattle.std.proofs.Common.{◌≡◌, ℕ, List, [], ◌∷◌, ◌++◌, Some, slice_get, IfOk, sym, ap, ◌∙◌, subst}
 use Rattle.std.specs.declared.result.Result.{Result}
 use Rattle.std.specs.declared.result.Result.TheVariants.{Ok, Err}
 use Rattle.std.proofs.lemmas.List.Elements.{All-append, All-cons, All-nil}
-use Rattle.std.proofs.lemmas.List.Sorted.{All-permutation}
 use Rattle.spec_execution.specs.Configuration.{Deployed}
 use Rattle.spec_execution.specs.Run.{ContractCall}
 use Rattle.interp.specs.Played.{Played}
-use Rattle.publish.specs.Publication.{Publication}
 use Rattle.mining.specs.declared.attempt.Committed.{Committed}
 use Rattle.mining.specs.Handed.{IsRunOf, IsCommitted, AreAllRuns}
 
@@ -16,12 +14,6 @@ pub is_run : {E : Type 0} (r : Result Played E) (contracts lent : List Deployed)
     → IfOk r (λ f. f.contracts ≡ lent) → IfOk r (λ f. f.call ≡ call) → lent ≡ contracts → slice_get calls number ≡ Some call → IfOk r (IsRunOf contracts calls number)
 is_run (Ok f) contracts lent calls number call l c same at = record { lent = l ∙ same; call_is = at ∙ ap (λ x. Some x) (sym c) }
 is_run (Err e) contracts lent calls number call l c same at = tt
-
--- in another order they are to be published
-pub sorted_runs : {A : Type 0} (contracts : List Deployed) (calls : List ContractCall) (runs sorted : List (Committed A)) (p : Publication)
-    → AreAllRuns contracts calls runs → IsPermutation runs sorted → p.contracts ≡ contracts → p.calls ≡ calls → AreAllRuns p.contracts p.calls sorted
-sorted_runs contracts calls runs sorted p all moved lent same =
-    subst (λ cs. AreAllRuns cs p.calls sorted) (sym lent) (subst (λ ks. AreAllRuns contracts ks sorted) (sym same) (All-permutation (IsCommitted contracts calls) runs sorted moved all))
 
 pub more_runs : {A : Type 0} (contracts : List Deployed) (calls : List ContractCall) (xs ys zs : List (Committed A)) → zs ≡ xs ++ ys → AreAllRuns contracts calls xs → AreAllRuns contracts calls ys → AreAllRuns contracts calls zs
 more_runs contracts calls xs ys zs is a b = subst (AreAllRuns contracts calls) (sym is) (All-append (IsCommitted contracts calls) xs ys a b)

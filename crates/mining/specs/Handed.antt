@@ -1,8 +1,15 @@
 -- What workers hand back.
 use Rattle.std.specs.Prelude.{◌≡◌, ℕ, List, Some, slice_get, All}
+use Rattle.std.specs.FinMap.{empty}
+use Rattle.spec_ledger.specs.Book.{IsDefined, settled}
+use Rattle.spec_ledger.specs.Cells.{Cells}
+use Rattle.spec_ledger.specs.Modes.{touched}
 use Rattle.spec_execution.specs.Configuration.{Deployed}
 use Rattle.spec_execution.specs.Run.{ContractCall}
 use Rattle.interp.specs.Played.{Played}
+use Rattle.boost.specs.declared.book.Closed.{Closed}
+use Rattle.publish.specs.Publication.{Publication}
+use Rattle.publish.specs.declared.adopting.MadeRun.{MadeRun}
 use Rattle.mining.specs.declared.attempt.Committed.{Committed}
 use Rattle.mining.specs.declared.worker.Worked.{Worked}
 
@@ -11,11 +18,30 @@ pub record IsRunOf (contracts : List Deployed) (calls : List ContractCall) (numb
   pub lent : f.contracts ≡ contracts
   pub call_is : slice_get calls number ≡ Some f.call
 
-abbrev pub IsCommitted : {A : Type 0} → List Deployed → List ContractCall → Committed A → Type 0
-IsCommitted contracts calls c = IsRunOf contracts calls c.call c.finished
+-- a run of a call, with the locks that it asked for
+pub record IsCommitted {A : Type 0} (contracts : List Deployed) (calls : List ContractCall) (c : Committed A) : Type 0 where
+  pub run : IsRunOf contracts calls c.call c.finished
+  pub locks : c.touched ≡ touched c.finished.trace
 
 abbrev pub AreAllRuns : {A : Type 0} → List Deployed → List ContractCall → List (Committed A) → Type 0
 AreAllRuns contracts calls cs = All (IsCommitted contracts calls) cs
 
 abbrev pub AreRuns : {A : Type 0} → List Deployed → List ContractCall → Worked A → Type 0
 AreRuns contracts calls w = AreAllRuns contracts calls w.committed.items
+
+-- a run, apart from its locks
+abbrev pub IsMadeRun : {A : Type 0} → List Deployed → List ContractCall → MadeRun A → Type 0
+IsMadeRun contracts calls r = IsRunOf contracts calls r.call r.finished
+
+-- the entries of a closed book are a serial run over these cells, to the book's, in which nothing is unsettled
+pub record IsSerialBook {A : Type 0} (opening : Cells) (b : Closed A) : Type 0 where
+  pub replies : IsDefined opening b.entries.items
+  pub cells : b.cells.cells ≡ settled opening b.entries.items
+  pub settled : b.cells.unsettled ≡ empty
+
+-- calls of these over these contracts and opening cells, within this fuel, are being published
+pub record IsJobOf (contracts : List Deployed) (calls : List ContractCall) (opening : Cells) (fuel : ℕ) (p : Publication) : Type 0 where
+  pub lent : p.contracts ≡ contracts
+  pub calls_are : p.calls ≡ calls
+  pub opened_with : p.opening ≡ opening
+  pub within : p.fuel ≡ fuel

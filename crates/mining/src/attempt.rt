@@ -16,7 +16,9 @@ use interp::finished::Finished;
 use interp::machine::Machine;
 use interp::start::StartRefusal;
 use link::deployed::Deployed as Contract;
+use lock_profile::Touched;
 use pace::{Pace, Step};
+use serial::touched_by;
 use shared_book::SharedBook;
 use spec_ledger::{NoMemory, Op, Reply};
 use std::alloc::Allocator;
@@ -46,6 +48,8 @@ pub(crate) struct Committed<'a, A: Allocator> {
     /// The number of the call.
     pub(crate) call: u32,
     pub(crate) finished: Finished<'a, A>,
+    /// The locks that it asked for, each with the join of its modes.
+    pub(crate) touched: Touched<A>,
 }
 
 /// Why an attempt is not committed.
@@ -188,10 +192,14 @@ fn commit<'a, A: Allocator + Copy, R: Wait, P: Pace>(
     match job.book.commit(rt, ticket, &run) {
         Ok(position) => {
             job.pace.at(Step::Committed { call });
+            let Ok(touched) = touched_by(job.alloc, finished.trace()) else {
+                return Err(Stop::NoMemory);
+            };
             Ok(Committed {
                 position,
                 call,
                 finished,
+                touched,
             })
         }
         Err((ticket, refusal)) => {

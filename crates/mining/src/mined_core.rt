@@ -1,5 +1,5 @@
 // Mining over contracts and cells.
-ghost use Rattle.std.specs.Prelude.{◌≡◌, ◌≤◌, All, IfOk, length};
+ghost use Rattle.std.specs.Prelude.{◌≡◌, ◌≤◌, All, IfOk, IfSome, length};
 ghost use Rattle.std.specs.FinMap as finite;
 ghost use Rattle.spec_ledger.specs.Order.{IsAdmissible};
 ghost use Rattle.spec_execution.specs.Serial.{Serial};
@@ -7,12 +7,13 @@ ghost use Rattle.interp.specs.Lent.{contracts_view};
 ghost use Rattle.serial.specs.Positions.{positions};
 ghost use Rattle.intake.specs.Intakes.{IsSeatOf};
 ghost use Rattle.publish.specs.Publication.{AreLeft, limits, fuel_used};
-ghost use Rattle.mining.specs.Handed.{AreRuns};
+ghost use Rattle.mining.specs.Handed.{AreRuns, IsSerialBook};
 
 use crate::attempt::Job;
 use crate::brake::Brake;
 use crate::outcome::publish;
 use crate::worker::{Worked, work};
+use boost::book::Closed;
 use call::Call;
 use intake::{Intake, Seat};
 use link::deployed::Deployed as Contract;
@@ -85,18 +86,32 @@ pub fn mine_core<'a, R: Threads + Wait + Sync, A: Allocator + Copy + Send + Sync
         return Err(NoMemory);
     };
     let brake = Brake::new(workers);
-    let job = Job {
-        alloc,
-        contracts,
-        calls,
-        book: &book,
-        intake: &intake,
-        pace,
-        tries,
-        brake: &brake,
+    let worked = {
+        let job = Job {
+            alloc,
+            contracts,
+            calls,
+            book: &book,
+            intake: &intake,
+            pace,
+            tries,
+            brake: &brake,
+        };
+        run_workers(rt, &job, seats)?
     };
-    let worked = run_workers(rt, &job, seats)?;
-    publish(alloc, contracts, calls, cells, block_fuel, worked)
+    let closed = close(book, cells);
+    publish(alloc, contracts, calls, cells, block_fuel, closed, worked)
+}
+
+/// What is left of the book, unless it began with other cells.
+fn close<A: Allocator + Copy>(book: SharedBook<'_, A>, _cells: &Cells<A>) -> Option<Closed<A>>
+    requires { book ≡ _cells.now.cells }
+    ensures { IfSome result (IsSerialBook _cells.now.cells) }
+{
+    match book.close() {
+        Ok(closed) => Some(closed),
+        Err(_) => None,
+    }
 }
 
 /// What the workers hand back, one for each seat.

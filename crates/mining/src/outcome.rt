@@ -1,19 +1,22 @@
 // What the workers handed back is published.
-ghost use Rattle.std.specs.Prelude.{◌≡◌, ◌+◌, ◌<◌, ◌≤◌, ◌^◌, false, IfOk, OnOk, All, length};
+ghost use Rattle.std.specs.Prelude.{◌≡◌, ◌+◌, ◌<◌, ◌≤◌, ◌^◌, false, IfOk, IfSome, OnOk, All, length};
 ghost use Rattle.std.specs.FinMap as finite;
 ghost use Rattle.spec_ledger.specs.Order.{IsAdmissible};
 ghost use Rattle.spec_execution.specs.Serial.{Serial};
 ghost use Rattle.interp.specs.Lent.{contracts_view};
 ghost use Rattle.serial.specs.Positions.{positions};
 ghost use Rattle.publish.specs.Publication.{AreLeft, IsSameJob, HasGoneOn, limits, fuel_used};
-ghost use Rattle.mining.specs.Handed.{AreRuns, AreAllRuns, IsCommitted};
+ghost use Rattle.publish.specs.Adoption.{AreMade};
+ghost use Rattle.mining.specs.Handed.{AreRuns, AreAllRuns, IsCommitted, IsJobOf, IsMadeRun, IsSerialBook};
 
 use crate::attempt::Committed;
 use crate::mined_core::MinedCore;
 use crate::worker::Worked;
+use boost::book::Closed;
 use call::Call;
 use link::deployed::Deployed as Contract;
-use publish::Publishing;
+use lock_profile::Touched;
+use publish::{MadeRun, Publishing};
 use spec_ledger::NoMemory;
 use std::alloc::Allocator;
 use storage::Cells;
@@ -86,12 +89,81 @@ fn gather<'a, A: Allocator + Copy>(
     Ok(all)
 }
 
+/// As many places with no run.
+fn places<'a, A: Allocator + Copy>(
+    alloc: A,
+    _contracts: &'a [Contract<A>],
+    _calls: &'a [Call],
+    count: usize,
+) -> Result<Vec<Option<Committed<'a, A>>, A>, NoMemory>
+    ensures { IfOk result (λ places. All (λ place. IfSome place (IsCommitted (contracts_view _contracts.now) _calls.now)) places.items) }
+{
+    let mut places = Vec::with_capacity(alloc, count)?;
+    for _ in 0..count {
+        places.push(None)?;
+    }
+    Ok(places)
+}
+
+/// The runs of all workers by their positions, the last at the first place. The book gives positions from 0 on and none twice, so
+/// that each run has a place of its own; any other run is left out.
+fn placed<'a, A: Allocator + Copy>(
+    alloc: A,
+    contracts: &'a [Contract<A>],
+    calls: &'a [Call],
+    mut committed: Vec<Committed<'a, A>, A>,
+) -> Result<Vec<Option<Committed<'a, A>>, A>, NoMemory>
+    requires { AreAllRuns (contracts_view contracts.now) calls.now committed.items }
+    ensures { IfOk result (λ places. All (λ place. IfSome place (IsCommitted (contracts_view contracts.now) calls.now)) places.items) }
+{
+    let mut places = places(alloc, contracts, calls, committed.len())?;
+    let count = places.len();
+    while let Some(run) = committed.pop() {
+        let position = run.position as usize;
+        if position < count {
+            places[count - 1 - position] = Some(run);
+        }
+    }
+    Ok(places)
+}
+
+/// Runs in the order of their positions, apart from the locks that they asked for.
+fn apart<'a, A: Allocator + Copy>(
+    alloc: A,
+    contracts: &'a [Contract<A>],
+    calls: &'a [Call],
+    committed: Vec<Committed<'a, A>, A>,
+) -> Result<(Vec<MadeRun<'a, A>, A>, Vec<Touched<A>, A>), NoMemory>
+    requires { AreAllRuns (contracts_view contracts.now) calls.now committed.items }
+    ensures { IfOk result (λ r. AreMade (contracts_view contracts.now) calls.now r.0.items r.1.items) }
+{
+    let mut runs = Vec::with_capacity(alloc, committed.len())?;
+    let mut touched = Vec::with_capacity(alloc, committed.len())?;
+    let mut places = placed(alloc, contracts, calls, committed)?;
+    while let Some(place) = places.pop() {
+        let Some(
+            Committed {
+                position: _,
+                call,
+                finished,
+                touched: locks,
+            },
+        ) = place
+        else {
+            continue;
+        };
+        runs.push(MadeRun { call, finished })?;
+        touched.push(locks)?;
+    }
+    Ok((runs, touched))
+}
+
 /// Publishes a run where it fits what is published, and answers how many calls that adds.
 fn take_one<'a, A: Allocator + Copy>(
     publishing: &mut Publishing<'a, A>,
-    run: &Committed<'a, A>,
+    run: &MadeRun<'a, A>,
 ) -> Result<u32, NoMemory>
-    requires { IsCommitted publishing.old.contracts publishing.old.calls run.now }
+    requires { IsMadeRun publishing.old.contracts publishing.old.calls run.now }
     ensures same { OnOk result (IsSameJob publishing.old publishing.new) }
     ensures added { IfOk result (λ added. length publishing.new.order ≡ length publishing.old.order + added) }
 {
@@ -103,14 +175,14 @@ fn take_one<'a, A: Allocator + Copy>(
 #[tactic(auto, using(crate::proofs::Jobs::job_itself, crate::proofs::Jobs::job_after))]
 fn take_runs<'a, A: Allocator + Copy>(
     publishing: &mut Publishing<'a, A>,
-    committed: &[Committed<'a, A>],
+    runs: &[MadeRun<'a, A>],
 ) -> Result<u32, NoMemory>
-    requires { AreAllRuns publishing.old.contracts publishing.old.calls committed.now }
+    requires { All (IsMadeRun publishing.old.contracts publishing.old.calls) runs.now }
     ensures same { OnOk result (IsSameJob publishing.old publishing.new) }
     ensures taken { IfOk result (λ taken. taken ≤ length publishing.new.order) }
 {
     let mut taken = 0u32;
-    for run in committed {
+    for run in runs {
         let added = take_one(publishing, run)?;
         taken = taken.saturating_add(added);
     }
@@ -132,17 +204,62 @@ fn take_alone<'a, A: Allocator + Copy>(
     Ok(())
 }
 
+/// This count, where it fits.
+fn at_most(count: usize) -> u32
+    ensures { result ≤ count }
+{
+    if count <= u32::MAX as usize {
+        count as u32
+    } else {
+        u32::MAX
+    }
+}
+
+/// Publishes the runs of the workers, and answers with how many calls that are: as the closed book has them, or, where it does not
+/// agree with the runs, each where it fits what is published.
+fn tie<'a, A: Allocator + Copy>(
+    alloc: A,
+    contracts: &'a [Contract<A>],
+    calls: &'a [Call],
+    cells: &'a Cells<A>,
+    block_fuel: u64,
+    closed: Option<Closed<A>>,
+    runs: &[MadeRun<'a, A>],
+    touched: Vec<Touched<A>, A>,
+) -> Result<(Publishing<'a, A>, u32), NoMemory>
+    requires calls { length calls.now < 2 ^ 32 }
+    requires closed { IfSome closed (IsSerialBook cells.now.cells) }
+    requires runs { AreMade (contracts_view contracts.now) calls.now runs.now touched.items }
+    ensures job { IfOk result (λ r. IsJobOf (contracts_view contracts.now) calls.now cells.now.cells block_fuel r.0) }
+    ensures taken { IfOk result (λ r. r.1 ≤ length r.0.order) }
+{
+    if let Some(closed) = closed {
+        let count = at_most(closed.entries.len());
+        let adopted = Publishing::adopt(
+            alloc, contracts, calls, cells, block_fuel, closed, runs, touched,
+        )?;
+        if let Some(publishing) = adopted {
+            return Ok((publishing, count));
+        }
+    }
+    let mut publishing = Publishing::open(alloc, contracts, calls, cells, block_fuel)?;
+    let taken = take_runs(&mut publishing, runs)?;
+    Ok((publishing, taken))
+}
+
 /// Publishes the runs of the workers in the order of their positions, and then the other calls that have room: those that were
-/// set aside first, in rising number.
+/// set aside first, in rising number. The book in which the workers committed the runs is closed, if it could be.
 pub(crate) fn publish<'a, A: Allocator + Copy>(
     alloc: A,
     contracts: &'a [Contract<A>],
     calls: &'a [Call],
     cells: &Cells<A>,
     block_fuel: u64,
+    closed: Option<Closed<A>>,
     parts: Vec<Result<Worked<'a, A>, NoMemory>, A>,
 ) -> Result<MinedCore<A>, NoMemory>
     requires calls { length calls.now < 2 ^ 32 }
+    requires closed { IfSome closed (IsSerialBook cells.now.cells) }
     requires runs { All (λ part. IfOk part (AreRuns (contracts_view contracts.now) calls.now)) parts.items }
     ensures serial { IfOk result (λ core. Serial (contracts_view contracts.now) calls.now core.order.items cells.now.cells (positions core.receipts.items core.touched.items) core.cells.cells) }
     ensures admissible { IfOk result (λ core. IsAdmissible (limits calls.now) core.order.items block_fuel) }
@@ -154,13 +271,14 @@ pub(crate) fn publish<'a, A: Allocator + Copy>(
     ensures by_workers { IfOk result (λ core. core.by_workers ≤ length core.order.items) }
 {
     let Worked {
-        mut committed,
+        committed,
         mut set_aside,
     } = gather(alloc, contracts, calls, parts)?;
-    committed.sort_unstable_by_key(|run| run.position);
     set_aside.sort_unstable();
-    let mut publishing = Publishing::open(alloc, contracts, calls, cells, block_fuel)?;
-    let by_workers = take_runs(&mut publishing, &committed)?;
+    let (runs, touched) = apart(alloc, contracts, calls, committed)?;
+    let (mut publishing, by_workers) = tie(
+        alloc, contracts, calls, cells, block_fuel, closed, &runs, touched,
+    )?;
     take_alone(&mut publishing, &set_aside)?;
     publishing.fill()?;
     let published = publishing.close()?;

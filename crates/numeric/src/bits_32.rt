@@ -15,6 +15,7 @@ pub fn unary(op: UnOp, x: u32) -> u32
     }
 }
 
+#[inline(always)]
 fn div_signed(x: u32, y: u32) -> Result<u32, TrapCode>
     ensures { result ≡ div_signed w32 x y }
 {
@@ -27,6 +28,7 @@ fn div_signed(x: u32, y: u32) -> Result<u32, TrapCode>
     }
 }
 
+#[inline(always)]
 fn rem_signed(x: u32, y: u32) -> Result<u32, TrapCode>
     ensures { result ≡ rem_signed w32 x y }
 {
@@ -40,6 +42,7 @@ fn rem_signed(x: u32, y: u32) -> Result<u32, TrapCode>
     )
 }
 
+#[inline(always)]
 pub fn binary(op: BinOp, x: u32, y: u32) -> Result<u32, TrapCode>
     ensures { result ≡ binary w32 op x y }
 {
@@ -62,6 +65,7 @@ pub fn binary(op: BinOp, x: u32, y: u32) -> Result<u32, TrapCode>
     }
 }
 
+#[inline(always)]
 pub fn compare(op: RelOp, x: u32, y: u32) -> bool
     ensures { result ≡ compare w32 op x y }
 {

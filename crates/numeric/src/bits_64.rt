@@ -15,6 +15,7 @@ pub fn unary(op: UnOp, x: u64) -> u64
     }
 }
 
+#[inline(always)]
 fn div_signed(x: u64, y: u64) -> Result<u64, TrapCode>
     ensures { result ≡ div_signed w64 x y }
 {
@@ -27,6 +28,7 @@ fn div_signed(x: u64, y: u64) -> Result<u64, TrapCode>
     }
 }
 
+#[inline(always)]
 fn rem_signed(x: u64, y: u64) -> Result<u64, TrapCode>
     ensures { result ≡ rem_signed w64 x y }
 {
@@ -40,6 +42,7 @@ fn rem_signed(x: u64, y: u64) -> Result<u64, TrapCode>
     )
 }
 
+#[inline(always)]
 pub fn binary(op: BinOp, x: u64, y: u64) -> Result<u64, TrapCode>
     ensures { result ≡ binary w64 op x y }
 {
@@ -62,6 +65,7 @@ pub fn binary(op: BinOp, x: u64, y: u64) -> Result<u64, TrapCode>
     }
 }
 
+#[inline(always)]
 pub fn compare(op: RelOp, x: u64, y: u64) -> bool
     ensures { result ≡ compare w64 op x y }
 {

@@ -27,6 +27,7 @@ pub fn unary(op: UnOp, value: Value) -> Value
 ///
 /// `DivideByZero` where the second operand of a division or remainder is 0, and `IntegerOverflow` where the least number is divided by -1 by
 /// `DivS`. `RemS` of these is 0.
+#[inline(always)]
 pub fn binary(op: BinOp, first: Value, second: Value) -> Result<Value, TrapCode>
     requires first_type { type_of first ≡ binary_type op }
     requires second_type { type_of second ≡ binary_type op }
@@ -58,6 +59,7 @@ pub fn test(op: TestOp, value: Value) -> Value
 }
 
 /// Whether the comparison holds of the operands: 1 or 0.
+#[inline(always)]
 pub fn compare(op: RelOp, first: Value, second: Value) -> Value
     requires first_type { type_of first ≡ compare_type op }
     requires second_type { type_of second ≡ compare_type op }

@@ -17,6 +17,7 @@ use wtypes::{FuncType, HostCall, TrapCode, ValType};
 /// # Errors
 ///
 /// The trap: there is no such element, it is empty, or its function has another type.
+#[inline(always)]
 pub fn function_of_element<'a, A: Allocator + Copy>(
     lent: &Lent<'a, A>,
     table: &[Option<u32>],

@@ -15,6 +15,7 @@ use std::alloc::{AllocError, Allocator};
 use wtypes::{LoadOp, NoMemory, StoreOp, Value};
 
 /// Loads a value.
+#[inline(always)]
 pub fn execute_load<A: Allocator + Copy>(
     operator: LoadOp,
     offset: u32,
@@ -35,6 +36,7 @@ pub fn execute_load<A: Allocator + Copy>(
 }
 
 /// Stores a value.
+#[inline(always)]
 pub fn execute_store<A: Allocator + Copy>(
     operator: StoreOp,
     offset: u32,
@@ -85,6 +87,7 @@ pub fn memory_size<A: Allocator + Copy>(memory: &Linear<A>) -> Value
     Value::I32(memory.size().cast_signed())
 }
 
+#[inline(always)]
 fn address(value: Value) -> u32
     requires { type_of value ≡ val_type.I32 }
     ensures { result ≡ bits_of value }
@@ -96,6 +99,7 @@ fn address(value: Value) -> u32
 }
 
 // The value of the number that was read.
+#[inline(always)]
 fn extend(operator: LoadOp, number: u64) -> Value
     requires { number < 256 ^ storage.load_width operator }
     ensures { result ≡ value_of (storage.load_type operator) (storage.extended operator number) }

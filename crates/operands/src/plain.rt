@@ -7,7 +7,7 @@ ghost use Rattle.sequences.specs.Forms.{IsReadyFor, HasOne, HasTwo, HasChoice};
 ghost use Rattle.operands.specs.Plain.{Did, DidAny};
 ghost use Rattle.operands.specs.Taking.{plain_takes_memory};
 
-use crate::values::{bits, pop_top, put_back, top};
+use crate::values::{bits, pop_top, push, put_back, top};
 use numeric::{binary, compare, convert, test, unary};
 use std::alloc::{AllocError, Allocator};
 use wtypes::{BinOp, CvtOp, PlainInstr, RelOp, TestOp, TrapCode, UnOp, Value};
@@ -24,6 +24,7 @@ pub enum After {
 }
 
 /// Executes an instruction on the values and the locals of the innermost frame.
+#[inline(always)]
 pub fn execute_plain<A: Allocator + Copy>(
     op: &PlainInstr,
     stack: &mut Vec<Value, A>,
@@ -37,10 +38,10 @@ pub fn execute_plain<A: Allocator + Copy>(
         PlainInstr::Unreachable => return Ok(After::Fell(TrapCode::Unreachable)),
         PlainInstr::Nop => {}
         PlainInstr::Call(f) => return Ok(After::Calls(*f)),
-        PlainInstr::Const(value) => stack.push(*value)?,
+        PlainInstr::Const(value) => push(stack, *value)?,
         PlainInstr::LocalGet(x) => {
             let value = locals[*x as usize];
-            stack.push(value)?;
+            push(stack, value)?;
         }
         PlainInstr::LocalSet(x) => {
             let value = pop_top(stack);
@@ -64,6 +65,7 @@ pub fn execute_plain<A: Allocator + Copy>(
     Ok(After::Ran)
 }
 
+#[inline(always)]
 fn select<A: Allocator + Copy>(stack: &mut Vec<Value, A>)
     requires { HasChoice stack.old.items }
     ensures { DidAny Select stack.old.items after.Ran stack.new.items }
@@ -81,6 +83,7 @@ fn chosen(choice: Value, first: Value, second: Value) -> Value
     if bits(choice) == 0 { second } else { first }
 }
 
+#[inline(always)]
 fn execute_unary<A: Allocator + Copy>(operator: UnOp, stack: &mut Vec<Value, A>)
     requires { HasOne (unary_type operator) stack.old.items }
     ensures { DidAny (Unary operator) stack.old.items after.Ran stack.new.items }
@@ -89,6 +92,7 @@ fn execute_unary<A: Allocator + Copy>(operator: UnOp, stack: &mut Vec<Value, A>)
     put_back(stack, unary(operator, operand));
 }
 
+#[inline(always)]
 fn execute_binary<A: Allocator + Copy>(operator: BinOp, stack: &mut Vec<Value, A>) -> After
     requires { HasTwo (binary_type operator) stack.old.items }
     ensures { DidAny (Binary operator) stack.old.items result stack.new.items }
@@ -104,6 +108,7 @@ fn execute_binary<A: Allocator + Copy>(operator: BinOp, stack: &mut Vec<Value, A
     }
 }
 
+#[inline(always)]
 fn execute_test<A: Allocator + Copy>(operator: TestOp, stack: &mut Vec<Value, A>)
     requires { HasOne (test_type operator) stack.old.items }
     ensures { DidAny (Test operator) stack.old.items after.Ran stack.new.items }
@@ -112,6 +117,7 @@ fn execute_test<A: Allocator + Copy>(operator: TestOp, stack: &mut Vec<Value, A>
     put_back(stack, test(operator, operand));
 }
 
+#[inline(always)]
 fn execute_compare<A: Allocator + Copy>(operator: RelOp, stack: &mut Vec<Value, A>)
     requires { HasTwo (compare_type operator) stack.old.items }
     ensures { DidAny (Compare operator) stack.old.items after.Ran stack.new.items }
@@ -121,6 +127,7 @@ fn execute_compare<A: Allocator + Copy>(operator: RelOp, stack: &mut Vec<Value, 
     put_back(stack, compare(operator, first, second));
 }
 
+#[inline(always)]
 fn execute_convert<A: Allocator + Copy>(operator: CvtOp, stack: &mut Vec<Value, A>)
     requires { HasOne (convert_from operator) stack.old.items }
     ensures { DidAny (Convert operator) stack.old.items after.Ran stack.new.items }

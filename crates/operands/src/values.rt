@@ -1,8 +1,8 @@
 // Values on the stack.
-ghost use Rattle.std.specs.Prelude.{◌≡◌, ◌<◌, ◌++◌, ◌∷◌, [], ◌-◌, length, take, vec_len, vec_capacity};
+ghost use Rattle.std.specs.Prelude.{◌≡◌, ◌<◌, ◌++◌, ◌∷◌, [], ◌-◌, length, take, vec_len, vec_capacity, IfOk};
 ghost use Rattle.spec_numeric.specs.Operators.{bits_of};
 
-use std::alloc::Allocator;
+use std::alloc::{AllocError, Allocator};
 use wtypes::Value;
 
 /// The number that a value's bits spell.
@@ -29,10 +29,17 @@ pub fn pop_top<A: Allocator + Copy>(stack: &mut Vec<Value, A>) -> Value
     ensures items { stack.old.items ≡ stack.new.items ++ result ∷ [] }
     ensures capacity { vec_capacity stack.new ≡ vec_capacity stack.old }
 {
-    match stack.pop() {
-        Some(value) => value,
-        None => unreachable!(),
-    }
+    stack.take_last()
+}
+
+/// Puts a value on top. Memory is asked for only where there is no room.
+#[inline(always)]
+pub fn push<A: Allocator + Copy>(stack: &mut Vec<Value, A>, value: Value) -> Result<(), AllocError>
+    ensures items { IfOk result (λ _. stack.new.items ≡ stack.old.items ++ value ∷ []) }
+{
+    stack.reserve(1)?;
+    stack.push_reserved(value);
+    Ok(())
 }
 
 /// Puts a value where there is room.

@@ -2,3 +2,4 @@ pub mod Limits
 pub mod Marks
 pub mod Keeping
 pub mod Sweeping
+pub mod Walking

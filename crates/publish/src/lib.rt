@@ -3,18 +3,23 @@
 //! that a miner publishes).
 #![tactic(auto)]
 
+mod adopting;
 mod so_far;
 
-ghost use Rattle.std.specs.Prelude.{◌≡◌, ◌<◌, ◌^◌, ◌↔◌, [], Ok, Some, true, false, IsTrue, IfOk, OnOk, OnErr, length, slice_get};
+ghost use Rattle.std.specs.Prelude.{◌≡◌, ◌<◌, ◌^◌, ◌↔◌, [], Ok, Some, true, false, IsTrue, IfOk, OnOk, OnErr, IfSome, IsSome, length, map, slice_get};
 ghost use Rattle.std.specs.FinMap as finite;
-ghost use Rattle.spec_ledger.specs.Book.{GetsReplies};
+ghost use Rattle.spec_ledger.specs.Book.{GetsReplies, IsDefined, settled};
 ghost use Rattle.spec_ledger.specs.Order.{IsAdmissible};
 ghost use Rattle.spec_execution.specs.Serial.{Serial};
 ghost use Rattle.interp.specs.Lent.{contracts_view};
 ghost use Rattle.serial.specs.Positions.{positions};
 ghost use Rattle.publish.specs.Publication.{IsSerialOrder, MayFollow, HasTaken, IsSameJob, HasGoneOn, Sweep, AreLeft, limits, fuel_used};
+ghost use Rattle.publish.specs.Adoption.{AreMade, MayFollowBy, ran_by};
 
+pub use crate::adopting::MadeRun;
+use crate::adopting::walk;
 use crate::so_far::{SoFar, unmarked};
+use boost::book::Closed;
 use call::Call;
 use interp::finished::Finished;
 use link::deployed::Deployed as Contract;
@@ -96,6 +101,55 @@ impl<'a, A: Allocator + Copy> Publishing<'a, A> {
             so_far,
             cells: current,
         })
+    }
+
+    /// Publishes the entries of a book over these cells that is closed, by runs of their calls that were made elsewhere, each
+    /// with the locks that it asked for. Each reply of an entry is known to be the one of the cells at that point, and the cells
+    /// of the book are those that the entries leave: so a run is compared with its entry, and nothing is done again. None where
+    /// there are more or fewer runs than entries, where an entry has not the call, trace and outcome of the run at its place, or
+    /// where a call comes twice or does not fit the fuel.
+    ///
+    /// # Errors
+    ///
+    /// Memory was refused.
+    pub fn adopt(
+        alloc: A,
+        contracts: &'a [Contract<A>],
+        calls: &'a [Call],
+        cells: &'a Cells<A>,
+        fuel: u64,
+        closed: Closed<A>,
+        runs: &[MadeRun<'a, A>],
+        touched: Vec<Touched<A>, A>,
+    ) -> Result<Option<Publishing<'a, A>>, NoMemory>
+        requires calls { length calls.now < 2 ^ 32 }
+        requires replies { IsDefined cells.now.cells closed.entries.items }
+        requires cells { closed.cells.cells ≡ settled cells.now.cells closed.entries.items }
+        requires settled { closed.cells.unsettled ≡ finite.empty }
+        requires runs { AreMade (contracts_view contracts.now) calls.now runs.now touched.items }
+        ensures answer { IfOk result (λ o. IsSome o ↔ MayFollowBy (limits calls.now) fuel [] closed.entries.items runs.now) }
+        ensures adopted { IfOk result (λ o. IfSome o (λ p. p ≡ record { contracts = contracts_view contracts.now; calls = calls.now; opening = cells.now.cells; fuel = fuel; order = map (λ e. e.call) closed.entries.items; ran = ran_by runs.now touched.items; cells = closed.cells.cells })) }
+    {
+        let Closed {
+            opening: _,
+            cells: last,
+            entries,
+        } = closed;
+        let Some(so_far) = walk(
+            alloc, contracts, calls, cells, fuel, &entries, runs, touched,
+        )?
+        else {
+            return Ok(None);
+        };
+        Ok(Some(Publishing {
+            alloc,
+            contracts,
+            calls,
+            opening: cells,
+            fuel,
+            so_far,
+            cells: last,
+        }))
     }
 
     /// What the type keeps.

@@ -48,6 +48,22 @@ impl<A: Allocator + Copy> SoFar<A> {
         !self.marks[call as usize] && limit <= self.remaining
     }
 
+    /// Makes room for the number and the receipt of one call more.
+    pub(crate) fn reserve_next(&mut self) -> Result<(), NoMemory>
+        ensures order { self.new.order.items ≡ self.old.order.items }
+        ensures receipts { self.new.receipts.items ≡ self.old.receipts.items }
+        ensures touched { self.new.touched ≡ self.old.touched }
+        ensures marks { self.new.marks.items ≡ self.old.marks.items }
+        ensures remaining { self.new.remaining ≡ self.old.remaining }
+        ensures used { self.new.used ≡ self.old.used }
+        ensures order_room { OnOk result (vec_len self.new.order < vec_capacity self.new.order) }
+        ensures receipts_room { OnOk result (vec_len self.new.receipts < vec_capacity self.new.receipts) }
+    {
+        self.order.reserve(1)?;
+        self.receipts.reserve(1)?;
+        Ok(())
+    }
+
     /// Makes room for one call more.
     pub(crate) fn reserve(&mut self) -> Result<(), NoMemory>
         ensures order { self.new.order.items ≡ self.old.order.items }
@@ -60,10 +76,30 @@ impl<A: Allocator + Copy> SoFar<A> {
         ensures receipts_room { OnOk result (vec_len self.new.receipts < vec_capacity self.new.receipts) }
         ensures touched_room { OnOk result (vec_len self.new.touched < vec_capacity self.new.touched) }
     {
-        self.order.reserve(1)?;
-        self.receipts.reserve(1)?;
+        self.reserve_next()?;
         self.touched.reserve(1)?;
         Ok(())
+    }
+
+    /// Notes a call of this limit with its receipt, but not the locks that it touched.
+    pub(crate) fn note(&mut self, call: u32, limit: u64, receipt: Receipt)
+        requires order_room { vec_len self.old.order < vec_capacity self.old.order }
+        requires receipts_room { vec_len self.old.receipts < vec_capacity self.old.receipts }
+        requires known { call < length self.old.marks.items }
+        requires fits { limit ≤ self.old.remaining }
+        requires used { self.old.used + receipt.used < 2 ^ 64 }
+        ensures order { self.new.order.items ≡ self.old.order.items ++ call ∷ [] }
+        ensures receipts { self.new.receipts.items ≡ self.old.receipts.items ++ receipt ∷ [] }
+        ensures touched { self.new.touched ≡ self.old.touched }
+        ensures marks { self.new.marks.items ≡ slice_set self.old.marks.items call true }
+        ensures remaining { self.new.remaining ≡ self.old.remaining - limit }
+        ensures used { self.new.used ≡ self.old.used + receipt.used }
+    {
+        self.order.push_reserved(call);
+        self.receipts.push_reserved(receipt);
+        self.marks[call as usize] = true;
+        self.remaining -= limit;
+        self.used += receipt.used;
     }
 
     /// Notes a call of this limit, with what it came to.
@@ -81,12 +117,8 @@ impl<A: Allocator + Copy> SoFar<A> {
         ensures remaining { self.new.remaining ≡ self.old.remaining - limit }
         ensures used { self.new.used ≡ self.old.used + executed.receipt.used }
     {
-        self.order.push_reserved(call);
-        self.receipts.push_reserved(executed.receipt);
         self.touched.push_reserved(executed.touched);
-        self.marks[call as usize] = true;
-        self.remaining -= limit;
-        self.used += executed.receipt.used;
+        self.note(call, limit, executed.receipt);
     }
 }
 

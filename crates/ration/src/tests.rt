@@ -16,7 +16,11 @@ fn each_block_takes_one(rt: HostRuntime) {
     assert_eq!(rt; ration.left(), 1);
     assert!(rt; Box::new(&ration, 2u64).is_ok());
     assert_eq!(rt; ration.left(), 0);
-    assert!(rt; Box::new(&ration, 3u64).is_err());
+    assert!(rt; !ration.has_refused());
+    for i in 0..3u64 {
+        assert!(rt; Box::new(&ration, i).is_err());
+        assert!(rt; ration.has_refused());
+    }
     assert_eq!(rt; ration.left(), 0);
 }
 
@@ -28,6 +32,32 @@ fn growing_takes_blocks(rt: HostRuntime) {
     assert!(rt; refused);
     assert_eq!(rt; ration.left(), 0);
     assert!(rt; items.len() > 8);
+    assert!(rt; items.iter().enumerate().all(|(i, item)| *item == i as u64));
+}
+
+#[test]
+fn one_block_alone_is_refused(rt: HostRuntime) {
+    let ration = Ration::refusing_one(rt.alloc(), 1);
+    assert!(rt; Box::new(&ration, 1u64).is_ok());
+    assert_eq!(rt; ration.left(), 0);
+    assert!(rt; !ration.has_refused());
+    assert!(rt; Box::new(&ration, 2u64).is_err());
+    assert!(rt; ration.has_refused());
+    for i in 0..100u64 {
+        assert!(rt; Box::new(&ration, i).is_ok());
+    }
+    assert_eq!(rt; ration.left(), 0);
+    assert!(rt; ration.has_refused());
+}
+
+// The last push asked for what was refused, and the list is as it was.
+#[test]
+fn a_list_grows_after_a_refusal(rt: HostRuntime) {
+    let ration = Ration::refusing_one(rt.alloc(), 1);
+    let mut items = Vec::new(&ration);
+    let refused = (0..1000u64).position(|i| items.push(i).is_err());
+    assert_eq!(rt; refused, Some(items.len()));
+    assert!(rt; (items.len()..1000).all(|i| items.push(i as u64).is_ok()));
     assert!(rt; items.iter().enumerate().all(|(i, item)| *item == i as u64));
 }
 
@@ -74,6 +104,13 @@ fn threads_share_a_small_ration(rt: HostRuntime) {
     }
     assert_eq!(rt; lists.iter().filter(|list| list.is_ok()).count(), 3);
     assert_eq!(rt; ration.left(), 0);
+}
+
+#[test]
+fn threads_share_one_refusal(rt: HostRuntime) {
+    let ration = Ration::refusing_one(rt.alloc(), 3);
+    let lists = lists(&rt, rt.alloc(), &ration, 8).expect(&rt, "memory");
+    assert_eq!(rt; lists.iter().filter(|list| list.is_ok()).count(), 7);
 }
 
 #[test]

@@ -19,7 +19,7 @@ ghost use Rattle.serial.specs.Playing.{AreDone};
 ghost use Rattle.serial.specs.Positions.{positions};
 
 use crate::again::act_again;
-use crate::locks::touched_by;
+pub use crate::locks::touched_by;
 use crate::playing::play;
 use call::Call;
 use interp::finished::Finished;

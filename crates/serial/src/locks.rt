@@ -51,10 +51,11 @@ fn listed<A: Allocator + Copy>(
 }
 
 /// Each lock that a trace asks for, with the join of its modes.
-pub(crate) fn touched_by<A: Allocator + Copy>(
-    alloc: A,
-    trace: &[Step],
-) -> Result<Touched<A>, NoMemory>
+///
+/// # Errors
+///
+/// Memory was refused.
+pub fn touched_by<A: Allocator + Copy>(alloc: A, trace: &[Step]) -> Result<Touched<A>, NoMemory>
     ensures { IfOk result (λ locks. locks ≡ touched trace.now) }
 {
     let mut held = BTreeMap::new(alloc);

@@ -2,6 +2,8 @@
 #![tactic(auto)]
 
 #[cfg(test)]
+mod adopted;
+#[cfg(test)]
 mod judged_blocks;
 #[cfg(test)]
 mod orders_of_blocks;

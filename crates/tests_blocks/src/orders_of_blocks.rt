@@ -150,7 +150,7 @@ fn outcome(alloc: Global, row: &Row) -> Option<(Block, World)> {
 /// The block has these digits.
 fn spells(alloc: Global, block: &Block, text: &str) -> bool {
     let mut sink = MemorySink::new(alloc, 1_000_000, Failures::none());
-    write_block(alloc, block, &mut sink).is_ok() && is_hex(sink.bytes(), text)
+    write_block(alloc, block, &mut sink).is_ok() && is_hex(alloc, sink.bytes(), text)
 }
 
 /// There is a block with these digits, and after it one contract and these cells.

@@ -83,17 +83,7 @@ pub fn hold(cells: &Cells, held: &[(Cell, Option<u64>)]) -> bool {
         .all(|(cell, value)| cells.get(lock(*cell)) == *value)
 }
 
-const DIGITS: &[u8] = b"0123456789abcdef";
-
 /// The text is the hexadecimal digits of the bytes.
-pub fn is_hex(bytes: &[u8], text: &str) -> bool {
-    let mut digits = text.as_bytes().iter();
-    for byte in bytes {
-        if digits.next() != DIGITS.get(usize::from(*byte / 16))
-            || digits.next() != DIGITS.get(usize::from(*byte % 16))
-        {
-            return false;
-        }
-    }
-    digits.next().is_none()
+pub fn is_hex(alloc: Global, bytes: &[u8], text: &str) -> bool {
+    hex::encode(alloc, bytes).is_ok_and(|digits| digits.as_str() == text)
 }

@@ -61,14 +61,14 @@ fn made(alloc: Global, row: &Row) -> Option<World> {
 }
 
 /// The bytes are those of the row.
-fn has_bytes(bytes: &[u8], row: &Row) -> bool {
+fn has_bytes(alloc: Global, bytes: &[u8], row: &Row) -> bool {
     let begin = row.front.len() / 2;
     let size = row.contract.len();
     match (bytes.get(..begin), bytes.get(begin..)) {
         (Some(front), Some(rest)) => {
-            is_hex(front, row.front)
+            is_hex(alloc, front, row.front)
                 && rest.get(..size) == Some(row.contract)
-                && is_hex(rest.get(size..).unwrap_or(&[0]), row.back)
+                && is_hex(alloc, rest.get(size..).unwrap_or(&[0]), row.back)
         }
         _ => false,
     }
@@ -77,7 +77,7 @@ fn has_bytes(bytes: &[u8], row: &Row) -> bool {
 /// The world is written and encoded so.
 fn is_written(alloc: Global, world: &World, row: &Row) -> bool {
     let mut sink = MemorySink::new(alloc, 1_000, Failures::none());
-    if write_world(alloc, world, &mut sink) != Ok(()) || !has_bytes(sink.bytes(), row) {
+    if write_world(alloc, world, &mut sink) != Ok(()) || !has_bytes(alloc, sink.bytes(), row) {
         return false;
     }
     match encode_world(alloc, world) {
@@ -89,7 +89,7 @@ fn is_written(alloc: Global, world: &World, row: &Row) -> bool {
 /// The world has this digest.
 fn is_hashed(alloc: Global, world: &World, digest: &str) -> bool {
     match digest_world(alloc, world) {
-        Ok(made) => is_hex(&made, digest),
+        Ok(made) => is_hex(alloc, &made, digest),
         Err(_) => false,
     }
 }

@@ -51,19 +51,9 @@ fn calls(alloc: Global, asked: &[Asked]) -> Option<Vec<Call>>
     if calls.len() < 3 { Some(calls) } else { None }
 }
 
-const DIGITS: &[u8] = b"0123456789abcdef";
-
 /// The text is the hexadecimal digits of the bytes.
-fn is_hex(bytes: &[u8], text: &str) -> bool {
-    let mut digits = text.as_bytes().iter();
-    for byte in bytes {
-        if digits.next() != DIGITS.get(usize::from(*byte / 16))
-            || digits.next() != DIGITS.get(usize::from(*byte % 16))
-        {
-            return false;
-        }
-    }
-    digits.next().is_none()
+fn is_hex(alloc: Global, bytes: &[u8], text: &str) -> bool {
+    hex::encode(alloc, bytes).is_ok_and(|digits| digits.as_str() == text)
 }
 
 /// A sink that takes pieces of 7 bytes and fails after so many: how it ends, and what it has taken.
@@ -80,7 +70,7 @@ fn put(
 /// The calls have these bytes.
 fn is_written(alloc: Global, row: &Row) -> bool {
     match put(alloc, row.calls, Failures::none()) {
-        Some((put, bytes)) => put == Ok(()) && is_hex(&bytes, row.bytes),
+        Some((put, bytes)) => put == Ok(()) && is_hex(alloc, &bytes, row.bytes),
         None => false,
     }
 }
@@ -89,7 +79,7 @@ fn is_written(alloc: Global, row: &Row) -> bool {
 fn is_hashed(alloc: Global, row: &Row) -> bool {
     match calls(alloc, row.calls) {
         Some(calls) => match digest_calls(alloc, &calls) {
-            Ok(digest) => is_hex(&digest, row.digest),
+            Ok(digest) => is_hex(alloc, &digest, row.digest),
             Err(_) => false,
         },
         None => false,

@@ -1,4 +1,5 @@
-//! Tests of files in parts: numbers, records, lock profiles, blocks and cells; and of the graph of lock profiles. There is no code here.
+//! Tests of files in parts: numbers, records, lock profiles, blocks and cells; of files that are no files: random bytes, and counts without
+//! what they count; and of the graph of lock profiles. There is no code here.
 #![tactic(auto)]
 
 #[cfg(test)]
@@ -8,9 +9,13 @@ mod calls;
 #[cfg(test)]
 mod cells;
 #[cfg(test)]
+mod counts;
+#[cfg(test)]
 mod graphs;
 #[cfg(test)]
 mod locks;
+#[cfg(test)]
+mod noise;
 #[cfg(test)]
 mod numbers;
 #[cfg(test)]

@@ -16,7 +16,8 @@ use wtypes::{TrapCode, Value};
 enum Ask<'a> {
     // So many turns, of which so many are made.
     Step(u64, u64),
-    Back(u64, Result<(), Refusal>),
+    // So many turns back, for which so many are made again.
+    Back(u64, Result<u64, Refusal>),
     // So many times one turn back.
     BackByOnes(u64),
     // On to a break or to the end, by so many turns.
@@ -68,7 +69,7 @@ fn has_bytes(session: &Session<'_, Global>, from: u64, bytes: &[u8]) -> bool {
 
 fn goes_back_by_ones(session: &mut Session<'_, Global>, count: u64) -> bool {
     for _ in 0..count {
-        if session.back(1) != Ok(()) {
+        if session.back(1).is_err() {
             return false;
         }
     }
@@ -123,7 +124,7 @@ fn forward_and_back(rt: HostRuntime) -> Result<(), Fail> {
         Ask::Step(3, 3),
         Ask::At(3, 0, 3),
         Ask::Stack(&[Value::I64(2), Value::I64(1)]),
-        Ask::Back(1, Ok(())),
+        Ask::Back(1, Ok(2)),
         Ask::At(2, 0, 2),
         Ask::Stack(&[Value::I64(2)]),
         Ask::Back(5, Err(Refusal::BeforeStart)),
@@ -154,11 +155,11 @@ fn on_to_a_break(rt: HostRuntime) -> Result<(), Fail> {
         Ask::At(14, 0, 6),
         Ask::Cont(2),
         Ask::Done(16, Outcome::Returned(None)),
-        Ask::Back(2, Ok(())),
+        Ask::Back(2, Ok(14)),
         Ask::At(14, 0, 6),
         Ask::Clear(0, 6, Ok(())),
         Ask::Clear(0, 5, Ok(())),
-        Ask::Back(14, Ok(())),
+        Ask::Back(14, Ok(0)),
         Ask::Cont(16),
         Ask::Break(0, 9, Err(Refusal::NoSuchPlace)),
         Ask::Break(1, 0, Err(Refusal::NoSuchPlace)),
@@ -177,7 +178,7 @@ fn back_over_a_host_call_that_added(rt: HostRuntime) -> Result<(), Fail> {
         Ask::Step(4, 4),
         Ask::At(4, 6, 4),
         Ask::Stack(&[Value::I64(7)]),
-        Ask::Back(2, Ok(())),
+        Ask::Back(2, Ok(2)),
         Ask::At(2, 6, 2),
         Ask::Break(0, 0, Err(Refusal::NoSuchPlace)),
         Ask::Cont(3),
@@ -195,7 +196,7 @@ fn back_over_a_store(rt: HostRuntime) -> Result<(), Fail> {
         Ask::Done(5, Outcome::Returned(None)),
         Ask::Globals(&[Value::I64(5)]),
         Ask::Bytes(0, &[9]),
-        Ask::Back(4, Ok(())),
+        Ask::Back(4, Ok(1)),
         Ask::At(1, 0, 1),
         Ask::Globals(&[Value::I64(1)]),
         Ask::Bytes(0, &[0]),
@@ -240,7 +241,7 @@ fn two_functions_and_a_page_border(rt: HostRuntime) -> Result<(), Fail> {
             17,
             Outcome::Returned(Some(Value::I64(145_247_719_580_765_752))),
         ),
-        Ask::Back(9, Ok(())),
+        Ask::Back(9, Ok(8)),
         Ask::At(8, 2, 3),
         Ask::Bytes(65_534, &[0, 0, 0, 0]),
     ];
@@ -259,7 +260,7 @@ fn a_trap(rt: HostRuntime) -> Result<(), Fail> {
         Ask::Locals(&[]),
         Ask::Globals(&[Value::I64(20)]),
         Ask::Bytes(0, &[0, 0]),
-        Ask::Back(2, Ok(())),
+        Ask::Back(2, Ok(7)),
         Ask::At(7, 3, 2),
         Ask::Stack(&[Value::I64(6)]),
     ];
@@ -274,7 +275,7 @@ fn want_of_fuel(rt: HostRuntime) -> Result<(), Fail> {
         Ask::Done(15, Outcome::OutOfFuel),
         Ask::Stack(&[]),
         Ask::Locals(&[]),
-        Ask::Back(1, Ok(())),
+        Ask::Back(1, Ok(14)),
         Ask::At(14, 0, 6),
     ];
     debugs(&rt, rt.alloc(), &COUNTDOWN, &call, &asks)
@@ -304,7 +305,8 @@ fn a_call_that_does_not_start(rt: HostRuntime) -> Result<(), Fail> {
     Ok(())
 }
 
-// 12,500 rounds of 8 turns. States are kept on the way, so that few of the turns are made again.
+// 12,500 rounds of 8 turns. After 99,990 of them the states after each 2,048 are kept, so that few turns are made again: from the
+// state after 98,304, 65,536, 65,536 and 0.
 #[test]
 fn back_in_a_long_run(rt: HostRuntime) -> Result<(), Fail> {
     let call = calling(rt.alloc(), "down", &[Value::I64(12_500)], 200_000)?;
@@ -312,10 +314,15 @@ fn back_in_a_long_run(rt: HostRuntime) -> Result<(), Fail> {
         Ask::Step(99_990, 99_990),
         Ask::At(99_990, 0, 6),
         Ask::Locals(&[Value::I64(1)]),
-        Ask::BackByOnes(20),
+        Ask::Back(1, Ok(1_685)),
+        Ask::BackByOnes(19),
         Ask::At(99_970, 0, 2),
         Ask::Stack(&[Value::I64(4)]),
-        Ask::Back(99_000, Ok(())),
+        Ask::Back(32_387, Ok(2_047)),
+        Ask::Back(2_047, Ok(0)),
+        Ask::At(65_536, 0, 0),
+        Ask::Locals(&[Value::I64(4_308)]),
+        Ask::Back(64_566, Ok(970)),
         Ask::At(970, 0, 2),
         Ask::Stack(&[Value::I64(12_379)]),
         Ask::Break(0, 2, Ok(())),

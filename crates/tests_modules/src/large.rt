@@ -1,31 +1,15 @@
 // Large modules. A check whose time grows with the square of the length takes longer than a test may.
+use crate::loading::put_section;
 use crate::verdict::Verdict::{Broken, Deployed};
 use crate::verdict::judge;
+use leb::write_u32;
 use std::alloc::{AllocError, Global};
 use std::test::Fail;
-
-// A number in five bytes.
-fn put_number(to: &mut Vec<u8>, number: u32) -> Result<(), AllocError> {
-    let mut left = number;
-    for _ in 0..4 {
-        to.push(0x80 + (left % 128) as u8)?;
-        left /= 128;
-    }
-    to.push((left % 16) as u8)?;
-    Ok(())
-}
-
-fn put_section(to: &mut Vec<u8>, id: u8, content: &[u8]) -> Result<(), Fail> {
-    to.push(id)?;
-    put_number(to, u32::try_from(content.len())?)?;
-    to.extend_from_slice(content)?;
-    Ok(())
-}
 
 // One memory that is exported 100,000 times, the last time under this name.
 fn many_exports(a: Global, last: &[u8; 3]) -> Result<Vec<u8>, Fail> {
     let mut exports = Vec::new(a);
-    put_number(&mut exports, 100_000)?;
+    write_u32(&mut exports, 100_000)?;
     for i in 0..99_999u32 {
         let name = [i / 2500, i / 50 % 50, i % 50];
         exports.push(3)?;
@@ -59,7 +43,7 @@ fn exports(rt: HostRuntime) -> Result<(), Fail> {
 // The types `[] -> []` and `[i32 i32 ..] -> []`.
 fn two_types(a: Global, params: u32) -> Result<Vec<u8>, AllocError> {
     let mut types = b"\x02\x60\x00\x00\x60".to_vec(a)?;
-    put_number(&mut types, params)?;
+    write_u32(&mut types, params)?;
     for _ in 0..params {
         types.push(0x7F)?;
     }
@@ -77,7 +61,7 @@ fn calls(rt: HostRuntime) -> Result<(), Fail> {
     }
     body.push(0x0B)?;
     let mut code = b"\x02".to_vec(a)?;
-    put_number(&mut code, u32::try_from(body.len())?)?;
+    write_u32(&mut code, u32::try_from(body.len())?)?;
     code.extend_from_slice(&body)?;
     code.extend_from_slice(b"\x02\x00\x0B")?;
     let mut sections = Vec::new(a);

@@ -1,11 +1,15 @@
-//! Tests of whole modules: what is read, checked, linked and entered, and where the others are refused. There is no code
-//! here.
+//! Tests of modules in binary: numbers, expressions, sections, whole modules and their limits, of the loader and the encoder, apart and together, also in
+//! an arena and in heaps of fixed size; and what is checked, linked and entered, and where the others are refused. There is no code here.
 #![tactic(auto)]
 
 #[cfg(test)]
 mod bodies;
 #[cfg(test)]
+mod both;
+#[cfg(test)]
 mod entries;
+#[cfg(test)]
+mod expressions;
 #[cfg(test)]
 mod first_faults;
 #[cfg(test)]
@@ -15,8 +19,16 @@ mod heaps;
 #[cfg(test)]
 mod large;
 #[cfg(test)]
+mod limits;
+#[cfg(test)]
 mod linking;
 #[cfg(test)]
+mod loading;
+#[cfg(test)]
 mod modules;
+#[cfg(test)]
+mod numbers;
+#[cfg(test)]
+mod sections;
 #[cfg(test)]
 mod verdict;

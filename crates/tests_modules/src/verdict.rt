@@ -1,4 +1,5 @@
 // What is answered to a module.
+use crate::loading::HEADER;
 use body_typing::scope::TypeRefusal;
 use link::deploy::deploy;
 use link::refusal::LinkRefusal;
@@ -24,8 +25,6 @@ pub enum Verdict {
     /// Memory was refused to the check.
     NoMemory,
 }
-
-const HEADER: [u8; 8] = [0x00, 0x61, 0x73, 0x6D, 0x01, 0x00, 0x00, 0x00];
 
 fn broken(refusal: TypeRefusal) -> Verdict {
     match refusal {

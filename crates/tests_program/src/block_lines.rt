@@ -2,7 +2,7 @@
 
 use crate::blocks::{BUMP, FIRST_AND_LAST, LEFT, NO_CALLS, TWO, WITHOUT_LAST};
 use crate::modules::{WORLD, WORLD_OF_FIRST, WORLD_OF_MANY, WORLD_WITH_2, WORLD_WITH_5};
-use crate::rows::Wanted::{self, Absent, All, Front, Text};
+use crate::rows::Wanted::{self, Absent, All, Front, Part as Holds, Text};
 use crate::rows::{File, Line, NOTHING, Part, unlike};
 use std::alloc::Global;
 use std::process::Abort;
@@ -17,12 +17,13 @@ type After<'a> = &'a [(&'a str, Wanted<'a>)];
 /// A line that meets no fault, with the files before it, what it prints, and what some files hold after it.
 type Row<'a> = (&'a str, &'a [File<'a>], Wanted<'a>, After<'a>);
 
-/// A line ends with this status, comes to what its row says, and puts nothing on standard error.
+/// A line ends with this status, comes to what its row says, and puts this on standard error.
 fn comes_to<R: Abort + Threads + Wait + Sync>(
     rt: &R,
     alloc: Global,
     row: Row,
     status: Status,
+    err: Wanted,
 ) -> Result<(), Fail> {
     let (words, files, out, after) = row;
     let line = Line {
@@ -30,9 +31,10 @@ fn comes_to<R: Abort + Threads + Wait + Sync>(
         files,
         file_fails: None,
         out_fails: None,
+        err_fails: None,
         status,
         out,
-        err: NOTHING,
+        err,
         after,
     };
     assert_eq!(rt; unlike(rt, alloc, &line)?, None, "{words}");
@@ -46,7 +48,7 @@ fn are_done<R: Abort + Threads + Wait + Sync>(
     rows: &[Row],
 ) -> Result<(), Fail> {
     for row in rows {
-        comes_to(rt, alloc, *row, Done)?;
+        comes_to(rt, alloc, *row, Done, NOTHING)?;
     }
     Ok(())
 }
@@ -208,24 +210,56 @@ fn prints_the_rows(rt: HostRuntime) -> Result<(), Fail> {
             alloc,
             (words, &files, Front(front.as_bytes()), &[]),
             Done,
+            NOTHING,
         )?;
     }
     Ok(())
 }
 
-/// A world, calls and the refusal of the first of the two that is refused.
-const REFUSALS: [(&[Part], &[Part], &[u8]); 7] = [
-    (&[(1, b"WBWE")], &[(1, b"0 1")], b"world 1 0"),
-    (&WORLD_OF_MANY, &[(1, b"0 1")], b"world 2 -"),
-    (&WORLD, &[(1, b"0 1 f\n0 1")], b"calls 1 2"),
-    (&WORLD, &[(65_536, b"0 1 f\n")], b"calls 2"),
-    (&WORLD, &[(1, b"0 1 f")], b"calls 1 1"),
+/// A world, calls, the refusal of the first of the two that is refused, and a part of the sentence that is said.
+const REFUSALS: [(&[Part], &[Part], &[u8], &str); 7] = [
+    (
+        &[(1, b"WBWE")],
+        &[(1, b"0 1")],
+        b"world 1 0",
+        "world, byte 0: the file does not begin as a world does",
+    ),
+    (
+        &WORLD_OF_MANY,
+        &[(1, b"0 1")],
+        b"world 2 -",
+        "world, byte 8: there are more than 1,024 contracts",
+    ),
+    (
+        &WORLD,
+        &[(1, b"0 1 f\n0 1")],
+        b"calls 1 2",
+        "calls, line 2, column 4: the line ends too early",
+    ),
+    (
+        &WORLD,
+        &[(65_536, b"0 1 f\n")],
+        b"calls 2",
+        "the calls from here on are too many",
+    ),
+    (
+        &WORLD,
+        &[(1, b"0 1 f")],
+        b"calls 1 1",
+        "calls, line 1, column 6: the last line is not ended",
+    ),
     (
         &WORLD_OF_FIRST,
         &[(1, b"0 100 run i64:7\n0  100 run\n")],
         b"calls 1 2",
+        "calls, line 2, column 3: a space too many stands here",
     ),
-    (&WORLD_OF_FIRST, &[(1, b"0 100 run i64:7")], b"calls 1 1"),
+    (
+        &WORLD_OF_FIRST,
+        &[(1, b"0 100 run i64:7")],
+        b"calls 1 1",
+        "calls, line 1, column 16: the last line is not ended",
+    ),
 ];
 
 /// No file is written.
@@ -234,7 +268,7 @@ const NONE_WRITTEN: [(&str, Wanted); 2] = [("b", Absent), ("n", Absent)];
 #[test]
 fn tells_refused_worlds_and_calls(rt: HostRuntime) -> Result<(), Fail> {
     let alloc = rt.alloc();
-    for (world, calls, line) in REFUSALS {
+    for (world, calls, line, part) in REFUSALS {
         let files: [File; 2] = [("w", world), ("c", calls)];
         let out: [Part; 3] = [(1, b"refused "), (1, line), (1, b"\n")];
         for words in ["mine w c b n --fuel=100", "validate w c b --fuel=100"] {
@@ -243,6 +277,7 @@ fn tells_refused_worlds_and_calls(rt: HostRuntime) -> Result<(), Fail> {
                 alloc,
                 (words, &files, All(&out), &NONE_WRITTEN),
                 Refused,
+                Holds(part),
             )?;
         }
     }
@@ -250,8 +285,15 @@ fn tells_refused_worlds_and_calls(rt: HostRuntime) -> Result<(), Fail> {
 }
 
 /// A block that is judged over the example contract's world with no cells: its bytes, changes of them at places, the text of its calls,
-/// the fuel, and what is printed.
-type Judged<'a> = (&'a [u8], &'a [(usize, u8)], &'a [Part<'a>], u64, &'a [u8]);
+/// the fuel, what is printed, and a part of the sentence that is said of one that is not accepted.
+type Judged<'a> = (
+    &'a [u8],
+    &'a [(usize, u8)],
+    &'a [Part<'a>],
+    u64,
+    &'a [u8],
+    &'a str,
+);
 
 /// The bytes with some changes.
 fn changed(alloc: Global, bytes: &[u8], changes: &[(usize, u8)]) -> Result<Vec<u8>, Fail> {
@@ -270,6 +312,7 @@ const JUDGED: [Judged; 20] = [
         &[],
         0,
         b"accept\nafter ddc5e3d488f3844cdf731c6e2fcdb213a1eea2313f8fc0baf8aaafed8b7d0b92\n",
+        "",
     ),
     (
         &TWO,
@@ -277,33 +320,140 @@ const JUDGED: [Judged; 20] = [
         &PEEK_AND_SET,
         200,
         b"accept\nafter 9f2fc0686bb827ca292338c9e58ca50f6165f51f61f87af407bc3cb32e694327\n",
+        "",
     ),
     // the magic, the digest before, the number of the call, the turn and the mode of its lock, the fuel of all
-    (&BUMP, &[(0, 0)], &ONE_BUMP, 100, b"reject 1\n"),
-    (&BUMP, &[(8, 0)], &ONE_BUMP, 100, b"reject 2\n"),
-    (&BUMP, &[(76, 1)], &ONE_BUMP, 100, b"reject 4 0\n"),
-    (&BUMP, &[(108, 1)], &ONE_BUMP, 100, b"reject 7 0\n"),
-    (&BUMP, &[(107, 2)], &ONE_BUMP, 100, b"reject 8 0\n"),
-    (&BUMP, &[(112, 8)], &ONE_BUMP, 100, b"reject 9\n"),
+    (
+        &BUMP,
+        &[(0, 0)],
+        &ONE_BUMP,
+        100,
+        b"reject 1\n",
+        "block, byte 0: the file does not begin as a block does",
+    ),
+    (
+        &BUMP,
+        &[(8, 0)],
+        &ONE_BUMP,
+        100,
+        b"reject 2\n",
+        "block: the digest before is not the world's; name the file WORLD",
+    ),
+    (
+        &BUMP,
+        &[(76, 1)],
+        &ONE_BUMP,
+        100,
+        b"reject 4 0\n",
+        "block: position 0 has a number that is no call's or stood before; do not take it",
+    ),
+    (
+        &BUMP,
+        &[(108, 1)],
+        &ONE_BUMP,
+        100,
+        b"reject 7 0\n",
+        "block: position 0 has turns other than those of its modes",
+    ),
+    (
+        &BUMP,
+        &[(107, 2)],
+        &ONE_BUMP,
+        100,
+        b"reject 8 0\n",
+        "block: position 0 has another receipt",
+    ),
+    (
+        &BUMP,
+        &[(112, 8)],
+        &ONE_BUMP,
+        100,
+        b"reject 9\n",
+        "block: the total fuel or the digest after is not",
+    ),
     // too little fuel, another call, and a call that there is room for
-    (&BUMP, &[], &ONE_BUMP, 99, b"reject 5\n"),
-    (&BUMP, &[], &OTHER_BUMP, 100, b"reject 3\n"),
-    (&LEFT, &[], &OTHER_BUMP, 100, b"reject 6 0\n"),
+    (
+        &BUMP,
+        &[],
+        &ONE_BUMP,
+        99,
+        b"reject 5\n",
+        "block: the limits of the ordered calls exceed the block's fuel; give the `--fuel`",
+    ),
+    (
+        &BUMP,
+        &[],
+        &OTHER_BUMP,
+        100,
+        b"reject 3\n",
+        "block: the digest of the calls is not that of the calls; name the file CALLS",
+    ),
+    (
+        &LEFT,
+        &[],
+        &OTHER_BUMP,
+        100,
+        b"reject 6 0\n",
+        "block: call 0 is left out though there was room for it; give the `--fuel`",
+    ),
     // the last byte is not there
-    (&WITHOUT_LAST, &[], &[], 0, b"reject 1\n"),
+    (
+        &WITHOUT_LAST,
+        &[],
+        &[],
+        0,
+        b"reject 1\n",
+        "block, byte 84: the digest of the world after is cut off",
+    ),
     (
         &NO_CALLS,
         &[],
         &[(1, b"0 1 peek i64:1\n")],
         0,
         b"reject 3\n",
+        "block: the digest of the calls is not that of the calls; name the file CALLS",
     ),
     // the digest before, the number of the second call, its turn, the fuel of both
-    (&TWO, &[(8, 0)], &PEEK_AND_SET, 200, b"reject 2\n"),
-    (&TWO, &[(112, 2)], &PEEK_AND_SET, 200, b"reject 4 1\n"),
-    (&TWO, &[(144, 0)], &PEEK_AND_SET, 200, b"reject 7 1\n"),
-    (&TWO, &[(148, 8)], &PEEK_AND_SET, 200, b"reject 9\n"),
-    (&TWO, &[], &PEEK_AND_SET, 199, b"reject 5\n"),
+    (
+        &TWO,
+        &[(8, 0)],
+        &PEEK_AND_SET,
+        200,
+        b"reject 2\n",
+        "block: the digest before is not the world's; name the file WORLD",
+    ),
+    (
+        &TWO,
+        &[(112, 2)],
+        &PEEK_AND_SET,
+        200,
+        b"reject 4 1\n",
+        "block: position 1 has a number that is no call's or stood before; do not take it",
+    ),
+    (
+        &TWO,
+        &[(144, 0)],
+        &PEEK_AND_SET,
+        200,
+        b"reject 7 1\n",
+        "block: position 1 has turns other than those of its modes",
+    ),
+    (
+        &TWO,
+        &[(148, 8)],
+        &PEEK_AND_SET,
+        200,
+        b"reject 9\n",
+        "block: the total fuel or the digest after is not",
+    ),
+    (
+        &TWO,
+        &[],
+        &PEEK_AND_SET,
+        199,
+        b"reject 5\n",
+        "block: the limits of the ordered calls exceed the block's fuel; give the `--fuel`",
+    ),
     // the fuel of the first call is 5 and that of both is 8
     (
         &TWO,
@@ -311,19 +461,27 @@ const JUDGED: [Judged; 20] = [
         &PEEK_AND_SET,
         200,
         b"reject 8 0\n",
+        "block: position 0 has another receipt",
     ),
     // the calls are refused before the block is read
-    (&NO_CALLS, &[], &[(1, b"0 1 f")], 0, b"refused calls 1 1\n"),
+    (
+        &NO_CALLS,
+        &[],
+        &[(1, b"0 1 f")],
+        0,
+        b"refused calls 1 1\n",
+        "calls, line 1, column 6: the last line is not ended",
+    ),
 ];
 
 #[test]
 fn judges_blocks(rt: HostRuntime) -> Result<(), Fail> {
     let alloc = rt.alloc();
-    for (block, changes, calls, fuel, verdict) in JUDGED {
-        let status = if verdict.starts_with(b"accept") {
-            Done
+    for (block, changes, calls, fuel, verdict, part) in JUDGED {
+        let (status, err) = if verdict.starts_with(b"accept") {
+            (Done, NOTHING)
         } else {
-            Refused
+            (Refused, Holds(part))
         };
         let words = format!(in alloc; "validate w c b --fuel={fuel}")?;
         let block = changed(alloc, block, changes)?;
@@ -334,6 +492,7 @@ fn judges_blocks(rt: HostRuntime) -> Result<(), Fail> {
             alloc,
             (words.as_str(), &files, Text(verdict), &[]),
             status,
+            err,
         )?;
     }
     Ok(())
@@ -357,6 +516,7 @@ fn fails_as_told<R: Abort + Threads + Wait + Sync>(
             files,
             file_fails: *file_fails,
             out_fails: *out_fails,
+            err_fails: None,
             status: NotReached,
             out: NOTHING,
             err: All(&said),

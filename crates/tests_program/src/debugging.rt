@@ -29,6 +29,7 @@ fn comes_to<R: Abort + Threads + Wait + Sync>(
         files: &files,
         file_fails,
         out_fails: None,
+        err_fails: None,
         status,
         out: Text(printed),
         err,
@@ -75,26 +76,35 @@ const ALL_DONE: [Session; 5] = [
     ),
 ];
 
-/// Sessions with a command that is refused.
-const REFUSED_IN_PART: [Session; 3] = [
+/// Sessions with a command that is refused, and a part of what is said.
+const REFUSED_IN_PART: [(Session, &str); 3] = [
     (
-        "debug w c 0 step:1 locals cont back:9",
-        &WORLD,
-        &[(1, b"0 100 bump i64:7 i64:5\n")],
-        b"1 at 4 1\nlocals i64:7 i64:5\n3 done returned fuel 3\nrefused 1\n",
+        (
+            "debug w c 0 step:1 locals cont back:9",
+            &WORLD,
+            &[(1, b"0 100 bump i64:7 i64:5\n")],
+            b"1 at 4 1\nlocals i64:7 i64:5\n3 done returned fuel 3\nrefused 1\n",
+        ),
+        "command 4: no turn was made so long ago: go back by fewer turns",
     ),
     (
-        "debug w c 0 step:3 stack back:1 stack back:5 step:6 locals step:99 place",
-        &WORLD_OF_LOOP,
-        &[(1, b"0 16 down i64:2\n")],
-        b"3 at 0 3\nstack i64:2 i64:1\n2 at 0 2\nstack i64:2\nrefused 1\n8 at 0 0\nlocals i64:1\n16 done returned fuel 16\n16 done returned fuel 16\n",
+        (
+            "debug w c 0 step:3 stack back:1 stack back:5 step:6 locals step:99 place",
+            &WORLD_OF_LOOP,
+            &[(1, b"0 16 down i64:2\n")],
+            b"3 at 0 3\nstack i64:2 i64:1\n2 at 0 2\nstack i64:2\nrefused 1\n8 at 0 0\nlocals i64:1\n16 done returned fuel 16\n16 done returned fuel 16\n",
+        ),
+        "command 5: no turn was made so long ago: ",
     ),
     // breaks
     (
-        "debug w c 0 break:0:6 cont cont cont back:2 clear:0:6 cont break:0:9 bytes:0:1",
-        &WORLD_OF_LOOP,
-        &[(1, b"0 16 down i64:2\n")],
-        b"ok\n6 at 0 6\n14 at 0 6\n16 done returned fuel 16\n14 at 0 6\nok\n16 done returned fuel 16\nrefused 2\nrefused 3\n",
+        (
+            "debug w c 0 break:0:6 cont cont cont back:2 clear:0:6 cont break:0:9 bytes:0:1",
+            &WORLD_OF_LOOP,
+            &[(1, b"0 16 down i64:2\n")],
+            b"ok\n6 at 0 6\n14 at 0 6\n16 done returned fuel 16\n14 at 0 6\nok\n16 done returned fuel 16\nrefused 2\nrefused 3\n",
+        ),
+        "command 8: there is no instruction at the place: ",
     ),
 ];
 
@@ -106,26 +116,46 @@ fn debugs_calls(rt: HostRuntime) -> Result<(), Fail> {
     for row in ALL_DONE {
         comes_to(&rt, rt.alloc(), row, None, Done, NOTHING)?;
     }
-    for row in REFUSED_IN_PART {
-        comes_to(&rt, rt.alloc(), row, None, Refused, NOTHING)?;
+    for (row, part) in REFUSED_IN_PART {
+        comes_to(&rt, rt.alloc(), row, None, Refused, Holds(part))?;
     }
     Ok(())
 }
 
-/// Calls that do not start, and what is printed of them.
-const NOT_STARTED: [(&[Part], &[u8]); 5] = [
-    (&[(1, b"1 100 down\n")], b"refused start 6\n"),
-    (&[(1, b"0 100 up\n")], b"refused start 1\n"),
-    (&[(1, b"0 100 down\n")], b"refused start 3\n"),
-    (&[(1, b"0 100 down i32:1\n")], b"refused start 4\n"),
-    (&[(1, b"0 100 down")], b"refused calls 1 1\n"),
+/// Calls that do not start, what is printed of them, and a part of what is said.
+const NOT_STARTED: [(&[Part], &[u8], &str); 5] = [
+    (
+        &[(1, b"1 100 down\n")],
+        b"refused start 6\n",
+        "the call does not start: there is no such contract; mend its line of CALLS",
+    ),
+    (
+        &[(1, b"0 100 up\n")],
+        b"refused start 1\n",
+        "the call does not start: nothing is exported under the name; ",
+    ),
+    (
+        &[(1, b"0 100 down\n")],
+        b"refused start 3\n",
+        "the call does not start: there are too many arguments, or too few; ",
+    ),
+    (
+        &[(1, b"0 100 down i32:1\n")],
+        b"refused start 4\n",
+        "the call does not start: argument 0 is of another type; ",
+    ),
+    (
+        &[(1, b"0 100 down")],
+        b"refused calls 1 1\n",
+        "calls, line 1, column 11: the last line is not ended",
+    ),
 ];
 
 #[test]
 fn tells_why_a_call_does_not_start(rt: HostRuntime) -> Result<(), Fail> {
-    for (calls, line) in NOT_STARTED {
+    for (calls, line, part) in NOT_STARTED {
         let row: Session = (PLACE, &WORLD_OF_LOOP, calls, line);
-        comes_to(&rt, rt.alloc(), row, None, Refused, NOTHING)?;
+        comes_to(&rt, rt.alloc(), row, None, Refused, Holds(part))?;
     }
     Ok(())
 }

@@ -63,7 +63,7 @@ fn told(alloc: Global, row: Row) -> Result<String, Fail> {
             }
             Ok(text)
         }
-        Ok(Inputs::Refused(line)) => Ok(line),
+        Ok(Inputs::Refused(line, _)) => Ok(line),
         Err(Fault::File(name)) => Ok(format!(in alloc; "file {name}")?),
         Err(Fault::NoMemory) => Err(Fail::from("no memory")),
     }

@@ -8,9 +8,13 @@ mod blocks;
 #[cfg(test)]
 mod calls;
 #[cfg(test)]
+mod calls_refused;
+#[cfg(test)]
 mod debugging;
 #[cfg(test)]
 mod files;
+#[cfg(test)]
+mod files_refused;
 #[cfg(test)]
 mod inputs;
 #[cfg(test)]
@@ -21,5 +25,7 @@ mod modules;
 mod paces;
 #[cfg(test)]
 mod rows;
+#[cfg(test)]
+mod texts_refused;
 #[cfg(test)]
 mod words;

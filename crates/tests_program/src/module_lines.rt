@@ -1,7 +1,7 @@
 //! Lines of words that assemble, check and deploy modules, at each fault in turn.
 
 use crate::modules::{HEADER, MODULES, WORLD, WORLD_OF_NOPS, WORLD_OF_TWO};
-use crate::rows::Wanted::{self, Absent, All, Cut, Front, Part as Holds, Text, Usage};
+use crate::rows::Wanted::{self, Absent, All, Cut, Front, Line as Is, Part as Holds, Text, Usage};
 use crate::rows::{File, Line, NOTHING, Part, unlike};
 use std::alloc::Global;
 use std::process::Abort;
@@ -22,12 +22,13 @@ type Fails = (Option<u64>, Option<u64>);
 /// No call fails.
 const CALM: Fails = (None, None);
 
-/// A line ends with this status, where these calls fail, and comes to what its row says.
-fn comes_to<R: Abort + Threads + Wait + Sync>(
+/// A line ends with this status, where these calls fail, and comes to what its row says; after so many calls one of the standard error fails.
+fn comes_unheard_to<R: Abort + Threads + Wait + Sync>(
     rt: &R,
     alloc: Global,
     row: Row,
     fails: Fails,
+    err_fails: Option<u64>,
     status: Status,
 ) -> Result<(), Fail> {
     let (words, out, err, world) = row;
@@ -37,26 +38,43 @@ fn comes_to<R: Abort + Threads + Wait + Sync>(
         files: &MODULES,
         file_fails,
         out_fails,
+        err_fails,
         status,
         out,
         err,
         after: &[("w", world)],
     };
-    assert_eq!(rt; unlike(rt, alloc, &line)?, None, "{words} {file_fails:?}");
+    assert_eq!(rt;
+        unlike(rt, alloc, &line)?,
+        None,
+        "{words} {file_fails:?} {err_fails:?}"
+    );
     Ok(())
 }
 
-/// Each of the lines, which stand before arrows, ends with this status, prints the line behind its arrow, and leaves `w` as it was.
-fn print<R: Abort + Threads + Wait + Sync>(
+/// A line ends with this status, where these calls fail, and comes to what its row says.
+fn comes_to<R: Abort + Threads + Wait + Sync>(
     rt: &R,
     alloc: Global,
+    row: Row,
+    fails: Fails,
     status: Status,
-    rows: &[&str],
 ) -> Result<(), Fail> {
-    for row in rows {
-        let (words, line) = row.split_once(" -> ").ok_or("an arrow")?;
-        let out: [Part; 2] = [(1, line.as_bytes()), (1, b"\n")];
-        comes_to(rt, alloc, (words, All(&out), NOTHING, OLD), CALM, status)?;
+    comes_unheard_to(rt, alloc, row, fails, None, status)
+}
+
+/// A line, the line that it prints, and a part of the sentence that is said.
+type Refusal<'a> = (&'a str, &'a str, &'a str);
+
+/// Each of the lines is refused, prints its line, says its sentence, and leaves `w` as it was.
+fn are_refused<R: Abort + Threads + Wait + Sync>(
+    rt: &R,
+    alloc: Global,
+    rows: &[Refusal],
+) -> Result<(), Fail> {
+    for (words, line, part) in rows {
+        let row = (*words, Is(*line), Holds(*part), OLD);
+        comes_to(rt, alloc, row, CALM, Refused)?;
     }
     Ok(())
 }
@@ -159,8 +177,12 @@ const ASSEMBLED: Wanted = Text(b"assembled 8 bytes\n");
 fn assembles_texts(rt: HostRuntime) -> Result<(), Fail> {
     let row = ("asm text w", ASSEMBLED, NOTHING, Text(&HEADER));
     comes_to(&rt, rt.alloc(), row, CALM, Done)?;
-    let rows = ["asm broken w -> refused assemble 2 7"];
-    print(&rt, rt.alloc(), Refused, &rows)
+    let rows = [(
+        "asm broken w",
+        "refused assemble 2 7",
+        "text, line 1, column 8: the text ends too early; a `)` is missing",
+    )];
+    are_refused(&rt, rt.alloc(), &rows)
 }
 
 const SHOWN: Wanted = All(&[
@@ -174,28 +196,64 @@ fn no_words_show_the_stored_run(rt: HostRuntime) -> Result<(), Fail> {
     comes_to(&rt, rt.alloc(), ("", SHOWN, NOTHING, OLD), CALM, Done)
 }
 
-const VALID: [&str; 5] = [
-    "check contract -> valid 6 functions",
-    "check nops -> valid 1 functions",
-    "check nops --heap 1048576 -> valid 1 functions",
-    "check --heap=16777216 nops -> valid 1 functions",
-    "check pages -> valid 0 functions",
+const VALID: [(&str, &str); 5] = [
+    ("check contract", "valid 6 functions"),
+    ("check nops", "valid 1 functions"),
+    ("check nops --heap 1048576", "valid 1 functions"),
+    ("check --heap=16777216 nops", "valid 1 functions"),
+    ("check pages", "valid 0 functions"),
 ];
 
-const NOT_VALID: [&str; 7] = [
-    "check short -> refused load 1 4",
-    "check front -> refused load 1 4",
-    "check float -> refused load 2 14",
-    "check deep -> refused load 3 4",
-    "check untyped -> refused check 18 0 1",
-    "check exports -> refused check 6 - 1",
-    "check --heap 1048576 untyped -> refused check 18 0 1",
+const NOT_VALID: [Refusal; 8] = [
+    (
+        "check short",
+        "refused load 1 4",
+        "byte 4: the bytes are no module",
+    ),
+    (
+        "check front",
+        "refused load 1 4",
+        "byte 4: the bytes are no module",
+    ),
+    (
+        "check float",
+        "refused load 2 14",
+        "byte 14: a form of the standard that this profile leaves out",
+    ),
+    (
+        "check deep",
+        "refused load 3 4",
+        "128 nested blocks are the most",
+    ),
+    (
+        "check untyped",
+        "refused check 18 0 1",
+        "function 0, instruction 1: operands at the end not exactly the result",
+    ),
+    (
+        "check exports",
+        "refused check 6 - 1",
+        "item 1 of its list: export name repeated",
+    ),
+    (
+        "check --heap 1048576 untyped",
+        "refused check 18 0 1",
+        "function 0, instruction 1: operands at the end",
+    ),
+    // the function has a name
+    (
+        "check named",
+        "refused check 18 0 1",
+        "function 0, `run`, instruction 1: operands at the end",
+    ),
 ];
 
 #[test]
 fn checks_modules(rt: HostRuntime) -> Result<(), Fail> {
-    print(&rt, rt.alloc(), Done, &VALID)?;
-    print(&rt, rt.alloc(), Refused, &NOT_VALID)
+    for (words, line) in VALID {
+        comes_to(&rt, rt.alloc(), (words, Is(line), NOTHING, OLD), CALM, Done)?;
+    }
+    are_refused(&rt, rt.alloc(), &NOT_VALID)
 }
 
 const DEPLOYED: [Row; 2] = [
@@ -221,21 +279,78 @@ fn deploys_modules(rt: HostRuntime) -> Result<(), Fail> {
     Ok(())
 }
 
-const NOT_DEPLOYED: [&str; 9] = [
-    "deploy w contract other front -> refused deploy 2 0 module 1",
-    "deploy w deep -> refused load 3 4 module 0",
-    "deploy w exports -> refused check 6 - 1 module 0",
-    "deploy w env -> refused deploy 1 0 module 0",
-    "deploy w data -> refused deploy 3 0 module 0",
-    "deploy w table -> refused deploy 5 - module 0",
-    "deploy w pages other -> refused deploy 4 - module 0",
-    "deploy w contract contract untyped -> refused check 18 0 1 module 2",
-    "deploy w front absent -> refused load 1 4 module 0",
+const NOT_DEPLOYED: [Refusal; 9] = [
+    (
+        "deploy w contract other front",
+        "refused deploy 2 0 module 1",
+        "module 1: import 0, `boost` `get`: it has another type than this host call",
+    ),
+    (
+        "deploy w deep",
+        "refused load 3 4 module 0",
+        "module 0: a limit of this profile is passed: 128 nested blocks",
+    ),
+    (
+        "deploy w exports",
+        "refused check 6 - 1 module 0",
+        "module 0: item 1 of its list: export name repeated",
+    ),
+    (
+        "deploy w env",
+        "refused deploy 1 0 module 0",
+        "module 0: import 0, `env` `get`: it is no host call",
+    ),
+    (
+        "deploy w data",
+        "refused deploy 3 0 module 0",
+        "module 0: segment 0: it ends past",
+    ),
+    (
+        "deploy w table",
+        "refused deploy 5 - module 0",
+        "module 0: the table begins with more than 65,536 elements",
+    ),
+    (
+        "deploy w pages other",
+        "refused deploy 4 - module 0",
+        "module 0: the memory begins with more than 1,024 pages",
+    ),
+    (
+        "deploy w contract contract untyped",
+        "refused check 18 0 1 module 2",
+        "module 2: function 0, instruction 1: ",
+    ),
+    (
+        "deploy w front absent",
+        "refused load 1 4 module 0",
+        "module 0: byte 4: the bytes are no module",
+    ),
 ];
 
 #[test]
 fn tells_the_first_refused_module(rt: HostRuntime) -> Result<(), Fail> {
-    print(&rt, rt.alloc(), Refused, &NOT_DEPLOYED)
+    are_refused(&rt, rt.alloc(), &NOT_DEPLOYED)
+}
+
+/// The whole of what is said of a module that imports `get` of `env`.
+const NO_HOST_CALL: &str =
+    "module 0: import 0, `env` `get`: it is no host call; a contract imports functions of the module `boost` alone: `get`, `has`, `put`, `del`, `add`, `total`";
+
+/// After how many calls of the standard error one fails, and what then stands there.
+const UNHEARD: [(Option<u64>, Wanted); 4] = [
+    (None, Is(NO_HOST_CALL)),
+    (Some(0), Text(b"")),
+    (Some(1), Text(b"mod")),
+    (Some(2), Text(b"module")),
+];
+
+#[test]
+fn a_failing_standard_error_changes_no_status(rt: HostRuntime) -> Result<(), Fail> {
+    for (err_fails, err) in UNHEARD {
+        let row = ("deploy w env", Is("refused deploy 1 0 module 0"), err, OLD);
+        comes_unheard_to(&rt, rt.alloc(), row, CALM, err_fails, Refused)?;
+    }
+    Ok(())
 }
 
 #[test]
@@ -342,44 +457,91 @@ fn a_world_has_at_most_1024_contracts(rt: HostRuntime) -> Result<(), Fail> {
     are_misused(&rt, alloc, &[words.as_str()], Holds("usage: 1025 modules"))
 }
 
-/// Texts, and the refusal of each.
-const TEXTS: [(&[Part], &[u8]); 12] = [
-    (&[(1, b"(module 7x)")], b"1 8"),
-    (&[(1, b"(module (; x")], b"1 8"),
-    (&[(1, b"(module (func)")], b"2 14"),
-    (&[(1, b"(module (func (local.get $x)))")], b"3 25"),
-    (&[(1, b"(module (func $f) (func $f))")], b"4 24"),
-    (&[(1, b"(module (func i32.const 4294967296))")], b"5 24"),
+/// Texts, the refusal of each, and a part of the sentence that is said.
+const TEXTS: [(&[Part], &[u8], &str); 12] = [
+    (
+        &[(1, b"(module 7x)")],
+        b"1 8",
+        "text, line 1, column 9, `7x`: ",
+    ),
+    (
+        &[(1, b"(module (; x")],
+        b"1 8",
+        "text, line 1, column 9, `(`: the comment that begins here is not ended",
+    ),
+    (
+        &[(1, b"(module (func)")],
+        b"2 14",
+        "text, line 1, column 15: the text ends too early",
+    ),
+    (
+        &[(1, b"(module\n (func (local.get $x)))")],
+        b"3 26",
+        "text, line 2, column 19, `$x`: nothing has this name here",
+    ),
+    (
+        &[(1, b"(module (func $f) (func $f))")],
+        b"4 24",
+        "text, line 1, column 25, `$f`: this name stands before",
+    ),
+    (
+        &[(1, b"(module (func i32.const 4294967296))")],
+        b"5 24",
+        "text, line 1, column 25, `4294967296`: the number is out of its range",
+    ),
     (
         &[(1, b"(module (func "), (1_025, b"(local i32)"), (1, b"))")],
         b"6 3",
+        "1024 locals of a function are the most",
     ),
     // bytes that are not UTF-8: between tokens, in a string, in comments, and behind another fault
-    (&[(1, b"(module \xFF)")], b"1 8"),
-    (&[(1, b"(module (export \"a\xC3\" (func 0)))")], b"1 16"),
-    (&[(1, b"(module (; \x80 ;))")], b"1 11"),
-    (&[(1, b"(module) ;; \xFF")], b"1 12"),
-    (&[(1, b"(module 7x \xFF)")], b"1 8"),
+    (
+        &[(1, b"(module \xFF)")],
+        b"1 8",
+        "text, line 1, column 9: bytes that are not UTF-8",
+    ),
+    (
+        &[(1, b"(module (export \"a\xC3\" (func 0)))")],
+        b"1 16",
+        "text, line 1, column 17, ",
+    ),
+    (
+        &[(1, b"(module (; \x80 ;))")],
+        b"1 11",
+        "text, line 1, column 12: bytes that are not UTF-8",
+    ),
+    (
+        &[(1, b"(module) ;; \xFF")],
+        b"1 12",
+        "text, line 1, column 13: bytes that are not UTF-8",
+    ),
+    (
+        &[(1, b"(module 7x \xFF)")],
+        b"1 8",
+        "text, line 1, column 9, `7x`: ",
+    ),
 ];
 
-/// A text is assembled with this status: this is printed, and the file of the module holds this.
+/// A text is assembled with this status: this is printed and this is said, and the file of the module holds this.
 fn is_assembled<R: Abort + Threads + Wait + Sync>(
     rt: &R,
     alloc: Global,
     text: &[Part],
     status: Status,
-    out: Wanted,
+    streams: (Wanted, Wanted),
     module: Wanted,
 ) -> Result<(), Fail> {
+    let (out, err) = streams;
     let files: [File; 1] = [("text", text)];
     let line = Line {
         words: "asm text out",
         files: &files,
         file_fails: None,
         out_fails: None,
+        err_fails: None,
         status,
         out,
-        err: NOTHING,
+        err,
         after: &[("out", module)],
     };
     assert_eq!(rt; unlike(rt, alloc, &line)?, None, "{text:?}");
@@ -388,11 +550,12 @@ fn is_assembled<R: Abort + Threads + Wait + Sync>(
 
 #[test]
 fn tells_each_refusal_of_a_text(rt: HostRuntime) -> Result<(), Fail> {
-    for (text, place) in TEXTS {
+    for (text, place, part) in TEXTS {
         let out: [Part; 3] = [(1, b"refused assemble "), (1, place), (1, b"\n")];
-        is_assembled(&rt, rt.alloc(), text, Refused, All(&out), Absent)?;
+        let streams = (All(&out), Holds(part));
+        is_assembled(&rt, rt.alloc(), text, Refused, streams, Absent)?;
     }
     let text: [Part; 1] = [(1, b"(module $m (; nothing ;))")];
     let module = Text(&HEADER);
-    is_assembled(&rt, rt.alloc(), &text, Done, ASSEMBLED, module)
+    is_assembled(&rt, rt.alloc(), &text, Done, (ASSEMBLED, NOTHING), module)
 }

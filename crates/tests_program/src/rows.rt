@@ -32,6 +32,8 @@ pub(crate) enum Wanted<'a> {
     Usage,
     /// A text that ends with a newline and has this part.
     Part(&'a str),
+    /// This line, with its newline.
+    Line(&'a str),
     /// There is no such file.
     Absent,
 }
@@ -47,6 +49,8 @@ pub(crate) struct Line<'a> {
     pub(crate) file_fails: Option<u64>,
     /// After how many calls of the standard output one fails.
     pub(crate) out_fails: Option<u64>,
+    /// After how many calls of the standard error one fails.
+    pub(crate) err_fails: Option<u64>,
     /// How the line ends.
     pub(crate) status: Status,
     /// What stands on the standard output.
@@ -128,6 +132,7 @@ fn fits(alloc: Global, bytes: &[u8], wanted: Wanted) -> Result<bool, AllocError>
             Ok(text) => Ok(text.ends_with('\n') && text.contains(part)),
             Err(_) => Ok(false),
         },
+        Wanted::Line(line) => Ok(bytes.strip_suffix(b"\n") == Some(line.as_bytes())),
         Wanted::Absent => Ok(false),
     }
 }
@@ -150,7 +155,7 @@ fn run_row<R: Threads + Wait + Sync>(rt: &R, alloc: Global, row: &Line) -> Resul
     let words = words_of(alloc, row.words)?;
     let mut files = holding(alloc, 100, row.files, row.file_fails)?;
     let mut out = MemorySink::new(alloc, 3, failing(row.out_fails));
-    let mut err = MemorySink::new(alloc, 3, Failures::none());
+    let mut err = MemorySink::new(alloc, 3, failing(row.err_fails));
     let status = run_line(rt, alloc, &words, &mut files, &mut out, &mut err, &NoPace);
     Ok(Run {
         status,

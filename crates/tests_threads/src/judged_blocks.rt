@@ -8,29 +8,28 @@ use block_judge::Reason;
 use call::Call;
 use codec::{Failures, MemorySink};
 use pace::{NoPace, Pace};
-use ration::Ration;
 use serial_block::run;
 use spec_ledger::Kind;
 use std::alloc::Global;
 use std::sync::Wait;
 use std::test::Fail;
 use std::thread::Threads;
-use validator::{Verdict, find_verdict, validate, validate_in};
+use validator::{Verdict, find_verdict, validate};
 use world::World;
 
 /// An entry of the contract, and its numbers.
-type Entry = (&'static str, &'static [i64]);
+pub(crate) type Entry = (&'static str, &'static [i64]);
 
 /// Two calls that run one after another over these cells.
-struct Two {
-    cells: &'static [CellRow],
-    calls: [Entry; 2],
+pub(crate) struct Two {
+    pub(crate) cells: &'static [CellRow],
+    pub(crate) calls: [Entry; 2],
     /// Whether the second one stands first in the block.
-    swapped: bool,
+    pub(crate) swapped: bool,
 }
 
 /// A call with 100 of fuel.
-fn calling(alloc: Global, entry: Entry) -> Result<Call, Fail>
+pub(crate) fn calling(alloc: Global, entry: Entry) -> Result<Call, Fail>
     ensures { IfOk result (λ made. made.fuel ≡ 100) }
 {
     let (name, numbers) = entry;
@@ -69,7 +68,11 @@ fn made(
 }
 
 /// Two calls, and the bytes of their block.
-fn made_of(alloc: Global, world: &World, two: &Two) -> Result<([Call; 2], Vec<u8>), Fail> {
+pub(crate) fn made_of(
+    alloc: Global,
+    world: &World,
+    two: &Two,
+) -> Result<([Call; 2], Vec<u8>), Fail> {
     let [first, second] = two.calls;
     let first = calling(alloc, first)?;
     made(alloc, world, first, calling(alloc, second)?, two.swapped)
@@ -334,23 +337,32 @@ fn blocks_are_accepted(rt: HostRuntime) -> Result<(), Fail> {
     Ok(())
 }
 
-const ONE_CHANGED_BYTE: [(usize, u8, Reason); 16] = [
+/// Each field of the block of a reader and a writer, changed: a byte and its new value, and the verdict.
+const ONE_CHANGED_BYTE: [(usize, u8, Reason); 24] = [
     (0, 0x58, Reason::Malformed),
+    (4, 2, Reason::Malformed),
     (8, 0, Reason::WrongWorld),
     (40, 0, Reason::WrongCalls),
+    (72, 1, Reason::Malformed),
     (76, 1, Reason::BadOrder(1)),
+    (76, 2, Reason::BadOrder(0)),
     (80, 5, Reason::Deviates(0)),
+    (88, 2, Reason::Malformed),
     (89, 2, Reason::Deviates(0)),
     (94, 1, Reason::BadTurns(1)),
+    (98, 1, Reason::BadTurns(1)),
+    (99, 2, Reason::BadTurns(1)),
     (107, 1, Reason::Deviates(0)),
     (107, 2, Reason::Deviates(0)),
     (108, 1, Reason::BadTurns(0)),
     (116, 4, Reason::Deviates(1)),
+    (125, 1, Reason::Malformed),
     (143, 0, Reason::BadTurns(1)),
     (143, 1, Reason::Deviates(1)),
     (144, 2, Reason::BadTurns(1)),
     (148, 8, Reason::WrongEnd),
     (156, 0, Reason::WrongEnd),
+    (187, 0, Reason::WrongEnd),
 ];
 
 #[test]
@@ -415,64 +427,5 @@ fn changed_blocks(rt: HostRuntime) -> Result<(), Fail> {
         let found = reason_of(&rt, rt.alloc(), &row.two, row.edits)?;
         assert_eq!(rt; found, Some(row.reason), "{}", row.name);
     }
-    Ok(())
-}
-
-/// More blocks of memory than these tests take.
-const AMPLE: u64 = 1_000_000;
-
-/// More blocks of memory than a block of two calls takes.
-const MANY: u64 = 200;
-
-/// How many blocks of memory the world of the contract takes.
-fn blocks_of_world(heap: Global) -> Result<u64, Fail> {
-    let ration = Ration::new(heap, AMPLE);
-    let _world = world_of(&ration, &[])?;
-    Ok(AMPLE.saturating_sub(ration.left()))
-}
-
-/// Whether two workers accept the block of a writer, with so many blocks of memory beside those of the world. Otherwise memory is
-/// refused.
-fn accept_within<R: Threads + Wait + Sync>(
-    rt: &R,
-    heap: Global,
-    blocks: u64,
-    calls: &[Call],
-    bytes: &[u8],
-) -> Result<bool, Fail>
-    requires { length calls.now ≤ 65535 }
-{
-    let ration = Ration::new(heap, blocks_of_world(heap)?.saturating_add(blocks));
-    let before = world_of(&ration, &[])?;
-    match validate_in(rt, &ration, &before, calls, 1_000, bytes, 2, &NoPace) {
-        Ok(Verdict::Accept(next)) if are_cells(next.cells(), &[(Kind::Map, 1, 9)]) => Ok(true),
-        Ok(Verdict::Accept(_)) => Err(Fail::from("another world")),
-        Ok(Verdict::Reject(_)) => Err(Fail::from("rejected")),
-        Err(_) => Ok(false),
-    }
-}
-
-/// How many of the rations below this one are too small for the block of a reader and a writer.
-fn too_small<R: Threads + Wait + Sync>(rt: &R, alloc: Global, below: u64) -> Result<u32, Fail> {
-    let world = world_of(alloc, &[])?;
-    let (calls, bytes) = made_of(alloc, &world, &READER_AND_WRITER)?;
-    if !accept_within(rt, alloc, AMPLE, &calls, &bytes)? {
-        return Err(Fail::from("an ample ration was refused"));
-    }
-    let mut refused = 0u32;
-    for blocks in 0..below {
-        if !accept_within(rt, alloc, blocks, &calls, &bytes)? {
-            refused = refused.saturating_add(1);
-        }
-    }
-    Ok(refused)
-}
-
-#[test]
-fn a_want_of_memory_is_no_verdict(rt: HostRuntime) -> Result<(), Fail> {
-    assert_eq!(rt; too_small(&rt, rt.alloc(), 1)?, 1);
-    let refused = too_small(&rt, rt.alloc(), MANY)?;
-    assert!(rt; refused > 1, "{refused} rations are too small");
-    assert!(rt; refused < MANY as u32, "{refused} rations are too small");
     Ok(())
 }

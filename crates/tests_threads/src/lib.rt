@@ -1,4 +1,5 @@
-//! Tests of threads that work at once: of mining, of validating, and of what both stand on. There is no code here.
+//! Tests of threads that work at once: of mining, of validating, and of what both stand on; and of all that takes memory, where each block of it
+//! is refused in turn. There is no code here.
 #![tactic(auto)]
 
 #[cfg(test)]
@@ -19,6 +20,8 @@ mod mined_cores;
 mod paces;
 #[cfg(test)]
 mod rationed_blocks;
+#[cfg(test)]
+mod refused_growths;
 #[cfg(test)]
 mod shared_books;
 #[cfg(test)]

@@ -1,11 +1,13 @@
-//! Tests of verdicts: random blocks of the example contract, as they were made and with single things changed, and what the validator says of
-//! them beside a plain verdict, which reads the bytes, runs the calls and compares on its own. There is no code here.
+//! Tests of verdicts: random blocks of the example contract, as they were made and with single things changed, small ones cut and with each bit
+//! flipped, and what the validator says of them beside a plain verdict, which reads the bytes, runs the calls and compares on its own. There is no code here.
 #![tactic(auto)]
 
 #[cfg(test)]
 mod calls;
 #[cfg(test)]
 mod change;
+#[cfg(test)]
+mod forged;
 #[cfg(test)]
 mod plain;
 #[cfg(test)]

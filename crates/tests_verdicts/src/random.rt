@@ -1,27 +1,22 @@
 // Numbers that look random, and are the same in each run.
 ghost use Rattle.std.specs.Prelude.{◌<◌};
 
-/// A linear congruential generator.
+use rand::RngExt;
+use rand::seq::SliceRandom;
+use rand_pcg::Pcg32;
+
+/// A generator.
 #[derive(Drop)]
 pub struct Random {
-    state: u64,
+    generator: Pcg32,
 }
 
 impl Random {
     /// The generator of this seed.
     pub fn new(seed: u32) -> Random {
-        let mut random = Random {
-            state: u64::from(seed),
-        };
-        random.step();
-        random
-    }
-
-    fn step(&mut self) {
-        self.state = self
-            .state
-            .wrapping_mul(6_364_136_223_846_793_005)
-            .wrapping_add(1_442_695_040_888_963_407);
+        Random {
+            generator: Pcg32::new(u64::from(seed), 0),
+        }
     }
 
     /// The next number, which is below this one.
@@ -29,8 +24,7 @@ impl Random {
         requires { 0 < bound }
         ensures { result < bound }
     {
-        self.step();
-        ((self.state >> 33) % u64::from(bound)) as u32
+        self.generator.random_range(0..bound)
     }
 
     /// The next place in a list of so many items. 0 where it has none.
@@ -45,6 +39,11 @@ impl Random {
     pub fn once_in(&mut self, times: u32) -> bool
         requires { 0 < times }
     {
-        self.below(times) == 0
+        self.generator.random_ratio(1, times)
+    }
+
+    /// Puts the numbers into another order.
+    pub fn shuffle(&mut self, numbers: &mut [u32]) {
+        numbers.shuffle(&mut self.generator);
     }
 }

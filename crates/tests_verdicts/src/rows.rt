@@ -53,11 +53,11 @@ fn make_uneven() -> Uneven {
 
 /// What a block is made and judged in.
 #[derive(Drop)]
-struct Given {
-    world: World,
-    calls: Vec<Call>,
-    fuel: u64,
-    workers: u32,
+pub struct Given {
+    pub world: World,
+    pub calls: Vec<Call>,
+    pub fuel: u64,
+    pub workers: u32,
 }
 
 /// The bytes of a block.
@@ -93,11 +93,9 @@ fn mined<R: Threads + Wait + Sync>(rt: &R, alloc: Global, given: &Given) -> Resu
 fn shuffled(alloc: Global, count: u32, random: &mut Random) -> Result<Vec<u32>, AllocError> {
     let mut numbers = Vec::new(alloc);
     for number in 0..count {
-        let at = random.place(numbers.len());
-        if at <= numbers.len() {
-            numbers.insert(at, number)?;
-        }
+        numbers.push(number)?;
     }
+    random.shuffle(&mut numbers);
     Ok(numbers)
 }
 
@@ -201,7 +199,7 @@ fn changed(
 }
 
 /// How often each verdict was given, by its number, with 0 for those that accept.
-type Counts = [u32; 10];
+pub type Counts = [u32; 10];
 
 fn count(counts: &mut Counts, reason: Option<Reason>) {
     let number = match reason {
@@ -214,7 +212,7 @@ fn count(counts: &mut Counts, reason: Option<Reason>) {
 }
 
 /// Judges bytes twice, and says where the verdicts differ.
-fn compare<R: Threads + Wait + Sync + Abort>(
+pub fn compare<R: Threads + Wait + Sync + Abort>(
     rt: &R,
     alloc: Global,
     given: &Given,

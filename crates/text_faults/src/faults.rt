@@ -1,12 +1,21 @@
 //! Faults of a text.
+ghost use Rattle.text_faults.specs.OfFields.{IsOfFields};
 
 use text_resolve::{AsmRefusal, Limit, Unresolved};
 use wtypes::NoMemory;
 
+// A fault of a name or a number.
+#[derive(Clone, Copy)]
+enum Fault {
+    UnknownName,
+    RepeatedName,
+    NumberRange,
+}
+
 /// The faults of a text that have been met: the one at the least place, and the least limit that is passed.
 #[derive(Drop)]
 pub struct Faults {
-    placed: Option<(usize, AsmRefusal)>,
+    placed: Option<(usize, Fault)>,
     limit: Option<Limit>,
 }
 
@@ -20,7 +29,7 @@ impl Faults {
     }
 
     // A fault at a place.
-    fn put(&mut self, at: usize, fault: AsmRefusal) {
+    fn put(&mut self, at: usize, fault: Fault) {
         let is_less = match self.placed {
             None => true,
             Some((least, _)) => at < least,
@@ -44,9 +53,9 @@ impl Faults {
     /// A fault is met.
     pub fn note(&mut self, fault: Unresolved) -> Result<(), NoMemory> {
         match fault {
-            Unresolved::UnknownName(at) => self.put(at, AsmRefusal::UnknownName(at)),
-            Unresolved::RepeatedName(at) => self.put(at, AsmRefusal::RepeatedName(at)),
-            Unresolved::NumberRange(at) => self.put(at, AsmRefusal::NumberRange(at)),
+            Unresolved::UnknownName(at) => self.put(at, Fault::UnknownName),
+            Unresolved::RepeatedName(at) => self.put(at, Fault::RepeatedName),
+            Unresolved::NumberRange(at) => self.put(at, Fault::NumberRange),
             Unresolved::TooLarge(limit) => self.pass(limit),
             // No place is at fault by itself.
             Unresolved::Broken => {}
@@ -65,9 +74,13 @@ impl Faults {
 
     /// The refusal of the text: the fault at the least place, else the least limit. Where neither is met, the module is
     /// too long.
-    pub fn refusal(&self) -> AsmRefusal {
+    pub fn refusal(&self) -> AsmRefusal
+        ensures { IsOfFields result }
+    {
         match self.placed {
-            Some((_, fault)) => fault,
+            Some((at, Fault::UnknownName)) => AsmRefusal::UnknownName(at),
+            Some((at, Fault::RepeatedName)) => AsmRefusal::RepeatedName(at),
+            Some((at, Fault::NumberRange)) => AsmRefusal::NumberRange(at),
             None => AsmRefusal::TooLarge(self.limit.unwrap_or(Limit::Bytes)),
         }
     }

@@ -1,4 +1,5 @@
 //! The faults of fields and of a whole text.
+ghost use Rattle.text_faults.specs.OfFields.{IsOfFields};
 
 use crate::bodies::{Known, body_faults, use_faults};
 use crate::faults::Faults;
@@ -222,7 +223,9 @@ fn faults_of<'a, A: Allocator + Clone>(alloc: &A, text: &Text<'a, A>) -> Result<
 /// The refusal of a text that is in the grammar and names no module: the fault at the least place, which is UnknownName,
 /// RepeatedName or NumberRange, else the least limit that is passed, else that of the module's bytes. It is NoMemory
 /// where memory is refused meanwhile.
-pub fn first_fault<'a, A: Allocator + Clone>(alloc: &A, text: &Text<'a, A>) -> AsmRefusal {
+pub fn first_fault<'a, A: Allocator + Clone>(alloc: &A, text: &Text<'a, A>) -> AsmRefusal
+    ensures { IsOfFields result }
+{
     match faults_of(alloc, text) {
         Ok(faults) => faults.refusal(),
         Err(NoMemory) => AsmRefusal::NoMemory,

@@ -7,9 +7,8 @@ use Rattle.world_reader.specs.Reading.{IsNoWorld, Refuses}
 use Rattle.world_reader.specs.declared.read.ReadRefusal.{ReadRefusal}
 use Rattle.world_reader.specs.declared.read.ReadRefusal.TheVariants as world
 use Rattle.calls_text.specs.Texts.{SpellsCalls}
-use Rattle.calls_text.specs.Refusals.{Tells}
+use Rattle.calls_text.specs.Refusals.{Tells, IsCallsLine}
 use Rattle.calls_text.specs.declared.reader.CallsRefusal.{CallsRefusal}
-use Rattle.calls_text.specs.declared.reader.CallsRefusal.TheVariants as calls
 use Rattle.wblock_io.specs.Holding.{Holding}
 use Rattle.wblock_blocks.specs.declared.inputs.Inputs.{Inputs}
 use Rattle.wblock_blocks.specs.declared.inputs.Inputs.TheVariants.{Read, Refused}
@@ -33,12 +32,6 @@ abbrev pub IsWorldLine : ReadRefusal → List ℕ → Type 0
 IsWorldLine (world.Malformed at) line = line ≡ codes "refused world 1 " ++ decimal at ++ 10 ∷ []
 IsWorldLine world.TooLarge line = line ≡ codes "refused world 2 -" ++ 10 ∷ []
 IsWorldLine world.NoMemory line = ⊥
-
--- `refused calls 1 LINE` or `refused calls 2`
-abbrev pub IsCallsLine : CallsRefusal → List ℕ → Type 0
-IsCallsLine (calls.Line n) line = line ≡ codes "refused calls 1 " ++ decimal n ++ 10 ∷ []
-IsCallsLine calls.TooMany line = line ≡ codes "refused calls 2" ++ 10 ∷ []
-IsCallsLine calls.NoMemory line = ⊥
 
 -- the bytes spell no world, and the line tells the first fault in them
 pub record TellsNoWorld (bytes line : List ℕ) : Type 0 where
@@ -66,9 +59,9 @@ IsNextInput holds world calls name = (name ≡ world) ⊎ ((w : World) × HoldsW
 -- a text has at most 65,535 calls
 abbrev pub HasFew : Inputs → Type 0
 HasFew (Read w cs) = vec_len cs ≤ 65535
-HasFew (Refused line) = Unit {0}
+HasFew (Refused line why) = Unit {0}
 
 -- what the files give
 abbrev pub Gives : Holding → List ℕ → List ℕ → Inputs → Type 0
 Gives holds world calls (Read w cs) = HoldsWorld holds world (world_view w) × HoldsCalls holds calls cs.items
-Gives holds world calls (Refused line) = TellsRefusal holds world calls (string_bytes line)
+Gives holds world calls (Refused line why) = TellsRefusal holds world calls (string_bytes line)

@@ -35,7 +35,7 @@ pub record IsMined (holds : Holding) (task : Mining) (a : Answer) : Type 0 where
 -- the answer tells why the world or the calls are refused
 abbrev pub IsRefused : Holding → Mining → Answer → Type 0
 IsRefused holds task (Done writes text) = ⊥
-IsRefused holds task (Refused line) = TellsRefusal holds task.world.now task.calls.now (string_bytes line)
+IsRefused holds task (Refused line why) = TellsRefusal holds task.world.now task.calls.now (string_bytes line)
 
 abbrev pub Mines : Holding → Mining → Answer → Type 0
 Mines holds task a = IsRefused holds task a ⊎ IsMined holds task a

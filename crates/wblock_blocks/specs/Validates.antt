@@ -27,11 +27,11 @@ reject_line v = codes "reject " ++ decimal (place v) ++ place_text (place_in v) 
 -- the answer's text tells the verdict, and no file is to be written
 abbrev pub Accepts : World → Answer → Type 0
 Accepts next (Done writes text) = (writes.items ≡ []) × (string_bytes text ≡ accept_text next)
-Accepts next (Refused line) = ⊥
+Accepts next (Refused line why) = ⊥
 
 abbrev pub Rejects : Verdict → Answer → Type 0
 Rejects v (Done writes text) = ⊥
-Rejects v (Refused line) = string_bytes line ≡ reject_line v
+Rejects v (Refused line why) = string_bytes line ≡ reject_line v
 
 abbrev pub TellsVerdict : Verdict → Answer → Type 0
 TellsVerdict (Accept next) a = Accepts next a
@@ -60,7 +60,7 @@ pub record IsJudged (holds : Holding) (task : Validation) (a : Answer) : Type 0 
 -- the answer tells why the world or the calls are refused
 abbrev pub IsRefused : Holding → Validation → Answer → Type 0
 IsRefused holds task (Done writes text) = ⊥
-IsRefused holds task (Refused line) = TellsRefusal holds task.world.now task.calls.now (string_bytes line)
+IsRefused holds task (Refused line why) = TellsRefusal holds task.world.now task.calls.now (string_bytes line)
 
 -- the files of the world and of the calls give both
 pub record GivesBoth (holds : Holding) (task : Validation) : Type 0 where

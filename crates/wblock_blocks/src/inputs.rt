@@ -5,13 +5,14 @@ ghost use Rattle.spec_block.specs.Bytes.{SpellsWorld};
 ghost use Rattle.world.specs.Views.{world_view};
 ghost use Rattle.calls_text.specs.Texts.{SpellsCalls};
 ghost use Rattle.wblock_line.specs.Answers.{CountsFault, IsOfFile};
-ghost use Rattle.wblock_blocks.specs.Inputs.{IsWorldLine, IsCallsLine, TellsNoWorld, TellsNoCalls, HasFew, Gives, IsNextInput};
+ghost use Rattle.wblock_blocks.specs.Inputs.{IsWorldLine, TellsNoWorld, TellsNoCalls, HasFew, Gives, IsNextInput};
 
 use call::Call;
-use calls_text::{CallsRefusal, read_calls};
+use calls_text::{calls_words, read_calls, refusal_line};
 use std::alloc::{AllocError, Global};
 use wblock_io::Files;
 use wblock_line::{Fault, read_file};
+use wblock_words::world_words;
 use world::World;
 use world_reader::{ReadRefusal, read_world};
 
@@ -20,8 +21,9 @@ use world_reader::{ReadRefusal, read_world};
 pub enum Inputs {
     /// The world and the calls, at most 65,535.
     Read(World, Vec<Call>),
-    /// One of the files is refused, with this line: `refused world N P`, `refused calls 1 LINE` or `refused calls 2`.
-    Refused(String),
+    /// One of the files is refused, with this line: `refused world N P`, `refused calls 1 LINE` or `refused calls 2`; and with the sentence of the
+    /// refusal.
+    Refused(String, String),
 }
 
 /// The line of a world that is refused.
@@ -36,41 +38,34 @@ fn world_line(alloc: Global, refusal: ReadRefusal) -> Result<String, AllocError>
     Ok(line)
 }
 
-/// The line of calls that are refused.
-fn calls_line(alloc: Global, refusal: CallsRefusal) -> Result<String, AllocError>
-    ensures { IfOk result (λ line. IsCallsLine refusal (string_bytes line)) }
-{
-    let line = match refusal {
-        CallsRefusal::Line(number) => format!(in alloc; "refused calls 1 {number}\n")?,
-        CallsRefusal::TooMany => "refused calls 2\n".to_string(alloc)?,
-        CallsRefusal::NoMemory => return Err(AllocError),
-    };
-    Ok(line)
-}
-
-/// The world that bytes spell, or the line that says why they spell none.
-fn judge_world(alloc: Global, bytes: &[u8]) -> Result<Result<World, String>, AllocError>
-    ensures { IfOk result (λ read. MatchResult read (λ world. SpellsWorld bytes.now (world_view world)) (λ line. TellsNoWorld bytes.now (string_bytes line))) }
+/// The world that bytes spell, or the line and the sentence that say why they spell none.
+fn judge_world(alloc: Global, bytes: &[u8]) -> Result<Result<World, (String, String)>, AllocError>
+    ensures { IfOk result (λ read. MatchResult read (λ world. SpellsWorld bytes.now (world_view world)) (λ told. TellsNoWorld bytes.now (string_bytes told.0))) }
 {
     match read_world(alloc, bytes) {
         Ok(world) => Ok(Ok(world)),
         Err(refusal) => {
             let line = world_line(alloc, refusal)?;
-            Ok(Err(line))
+            let why = world_words(alloc, bytes, refusal)?;
+            Ok(Err((line, why)))
         }
     }
 }
 
-/// The calls that a text spells, or the line that says why it spells none.
-fn judge_calls(alloc: Global, text: &[u8]) -> Result<Result<Vec<Call>, String>, AllocError>
+/// The calls that a text spells, or the line, `refused calls 1 LINE` or `refused calls 2`, and the sentence that say why it spells none.
+pub fn judge_calls(
+    alloc: Global,
+    text: &[u8],
+) -> Result<Result<Vec<Call>, (String, String)>, AllocError>
     ensures few { IfOk result (λ read. IfOk read (λ calls. vec_len calls ≤ 65535)) }
-    ensures judged { IfOk result (λ read. MatchResult read (λ calls. SpellsCalls text.now calls.items) (λ line. TellsNoCalls text.now (string_bytes line))) }
+    ensures judged { IfOk result (λ read. MatchResult read (λ calls. SpellsCalls text.now calls.items) (λ told. TellsNoCalls text.now (string_bytes told.0))) }
 {
     match read_calls(alloc, text) {
         Ok(calls) => Ok(Ok(calls)),
         Err(refusal) => {
-            let line = calls_line(alloc, refusal)?;
-            Ok(Err(line))
+            let line = refusal_line(alloc, refusal)?;
+            let why = calls_words(alloc, text, refusal)?;
+            Ok(Err((line, why)))
         }
     }
 }
@@ -92,13 +87,13 @@ pub fn read_inputs<'a, F: Files>(
     let bytes = read_file(alloc, files, world)?;
     let world = match judge_world(alloc, bytes.as_slice()) {
         Ok(Ok(world)) => world,
-        Ok(Err(line)) => return Ok(Inputs::Refused(line)),
+        Ok(Err((line, why))) => return Ok(Inputs::Refused(line, why)),
         Err(AllocError) => return Err(Fault::NoMemory),
     };
     let text = read_file(alloc, files, calls)?;
     match judge_calls(alloc, text.as_slice()) {
         Ok(Ok(calls)) => Ok(Inputs::Read(world, calls)),
-        Ok(Err(line)) => Ok(Inputs::Refused(line)),
+        Ok(Err((line, why))) => Ok(Inputs::Refused(line, why)),
         Err(AllocError) => Err(Fault::NoMemory),
     }
 }

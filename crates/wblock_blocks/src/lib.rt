@@ -6,6 +6,6 @@ mod mine;
 mod text;
 mod validate;
 
-pub use inputs::{Inputs, read_inputs};
+pub use inputs::{Inputs, judge_calls, read_inputs};
 pub use mine::{Mining, mine_block};
 pub use validate::{Validation, validate_block};

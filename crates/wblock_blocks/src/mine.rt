@@ -120,7 +120,7 @@ pub fn mine_block<'a, R: Threads + Wait + Sync, F: Files, P: Pace>(
 {
     let (world, calls) = match read_inputs(alloc, files, task.world, task.calls)? {
         Inputs::Read(world, calls) => (world, calls),
-        Inputs::Refused(line) => return Ok(Answer::Refused(line)),
+        Inputs::Refused(line, why) => return Ok(Answer::Refused(line, why)),
     };
     let Ok(mined) = mine_calls(rt, alloc, &world, &calls, task, pace) else {
         return Err(Fault::NoMemory);

@@ -9,6 +9,7 @@ ghost use Rattle.wblock_line.specs.Answers.{CountsFault, IsOfFile};
 ghost use Rattle.wblock_blocks.specs.Validates.{accept_text, reject_line, TellsVerdict, Validates, IsNextFile};
 
 use crate::{Inputs, read_inputs};
+use block::read_block;
 use block_judge::Reason;
 use call::Call;
 use pace::Pace;
@@ -18,6 +19,7 @@ use std::thread::Threads;
 use validator::{Verdict, validate};
 use wblock_io::Files;
 use wblock_line::{Answer, Fault, read_file};
+use wblock_words::{advice_on, block_words};
 use world::{World, digest_world};
 use wtypes::NoMemory;
 
@@ -84,8 +86,19 @@ fn reject_line_of(alloc: Global, reason: Reason) -> Result<String, AllocError>
     Ok(line)
 }
 
-/// The answer that tells a verdict.
-fn tell<'a>(alloc: Global, verdict: &Verdict) -> Result<Answer<'a>, NoMemory>
+/// The sentence of a block of these bytes that is rejected.
+fn reason_words(alloc: Global, bytes: &[u8], reason: Reason) -> Result<String, AllocError> {
+    if reason == Reason::Malformed {
+        if let Err(refusal) = read_block(alloc, bytes) {
+            return block_words(alloc, bytes, refusal);
+        }
+    }
+    let advice = advice_on(reason.number());
+    format!(in alloc; "block: {reason}; {advice}")
+}
+
+/// The answer that tells a verdict on these bytes.
+fn tell<'a>(alloc: Global, bytes: &[u8], verdict: &Verdict) -> Result<Answer<'a>, NoMemory>
     ensures { IfOk result (TellsVerdict (told_by verdict.now)) }
 {
     match verdict {
@@ -95,7 +108,8 @@ fn tell<'a>(alloc: Global, verdict: &Verdict) -> Result<Answer<'a>, NoMemory>
         }
         Verdict::Reject(reason) => {
             let line = reject_line_of(alloc, *reason)?;
-            Ok(Answer::Refused(line))
+            let why = reason_words(alloc, bytes, *reason)?;
+            Ok(Answer::Refused(line, why))
         }
     }
 }
@@ -118,13 +132,13 @@ pub fn validate_block<'a, R: Threads + Wait + Sync, F: Files, P: Pace>(
 {
     let (world, calls) = match read_inputs(alloc, files, task.world, task.calls)? {
         Inputs::Read(world, calls) => (world, calls),
-        Inputs::Refused(line) => return Ok(Answer::Refused(line)),
+        Inputs::Refused(line, why) => return Ok(Answer::Refused(line, why)),
     };
     let bytes = read_file(alloc, files, task.block)?;
     let Ok(verdict) = judge(rt, alloc, &world, &calls, task, &bytes, pace) else {
         return Err(Fault::NoMemory);
     };
-    match tell(alloc, &verdict) {
+    match tell(alloc, &bytes, &verdict) {
         Ok(answer) => Ok(answer),
         Err(NoMemory) => Err(Fault::NoMemory),
     }

@@ -1,3 +1,4 @@
 mod Asked
 mod Lines
 pub mod Numbers
+mod Saying

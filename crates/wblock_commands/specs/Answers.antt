@@ -1,9 +1,9 @@
 -- What is answered to a module's bytes and a text of calls.
-use Rattle.std.specs.Prelude.{◌≡◌, ℕ, ◌≤◌, ◌⊎◌, List, [], ◌∷◌, ◌++◌, codes, decimal, length, string_bytes}
+use Rattle.std.specs.Prelude.{◌≡◌, ℕ, ◌≤◌, ◌⊎◌, List, [], ◌∷◌, ◌++◌, length, string_bytes}
 use Rattle.spec_execution.specs.Configuration.{Deployed as Contract}
 use Rattle.spec_execution.specs.Run.{ContractCall}
-use Rattle.calls_text.specs.Texts.{SpellsCalls, IsFirstBad}
-use Rattle.calls_text.specs.Refusals.{SpellsTooMany}
+use Rattle.calls_text.specs.Texts.{SpellsCalls}
+use Rattle.wblock_blocks.specs.Inputs.{TellsNoCalls}
 use Rattle.wblock_line.specs.declared.answer.Answer.{Answer}
 use Rattle.wblock_line.specs.declared.answer.Answer.TheVariants.{Done, Refused}
 use Rattle.wblock_line.specs.declared.refusals.ModuleRefusal.{ModuleRefusal}
@@ -18,19 +18,14 @@ pub record TellsRun (contract : Contract) (text told : List ℕ) : Type 0 where
   pub few : length calls ≤ 65535
   pub shows : Shows contract calls told
 
--- `refused calls 1 LINE`, at the first bad line; or `refused calls 2`
-pub data IsCallsRefusal (text : List ℕ) : List ℕ → Type 0 where
-  at_line : (n : ℕ) → IsFirstBad text n → IsCallsRefusal text (codes "refused calls 1 " ++ decimal n ++ 10 ∷ [])
-  too_many : SpellsTooMany text → IsCallsRefusal text (codes "refused calls 2" ++ 10 ∷ [])
-
 abbrev pub CallsAnswer : Contract → List ℕ → Answer → Type 0
 CallsAnswer contract text (Done writes told) = (writes.items ≡ []) × TellsRun contract text (string_bytes told)
-CallsAnswer contract text (Refused line) = IsCallsRefusal text (string_bytes line)
+CallsAnswer contract text (Refused line why) = TellsNoCalls text (string_bytes line)
 
 -- the line of a refusal
 abbrev pub Refuses : ModuleRefusal → Answer → Type 0
 Refuses refusal (Done writes told) = ⊥
-Refuses refusal (Refused line) = string_bytes line ≡ refusal_text refusal ++ 10 ∷ []
+Refuses refusal (Refused line why) = string_bytes line ≡ refusal_text refusal ++ 10 ∷ []
 
 -- the module is a contract, and its calls are answered
 pub record AnswersCalls (target text : List ℕ) (answer : Answer) : Type 0 where

@@ -21,7 +21,7 @@ use Rattle.wblock_commands.specs.Words.{texts}
 -- a text that ends with a newline is to be printed, and no file to be written
 abbrev pub TellsText : Answer → Type 0
 TellsText (Done writes text) = (writes.items ≡ []) × EndsLine (string_bytes text)
-TellsText (Refused line) = ⊥
+TellsText (Refused line why) = ⊥
 
 -- what a command comes to over files
 abbrev pub Answers : Command → Holding → Answer → Type 0
@@ -85,7 +85,7 @@ abbrev pub Fails : Command → List ℕ → Holding → Holding → List ℕ →
 Fails c name old new before after = Stops c name old new before after ⊎ Cuts c name old new before after
 
 -- a text that ends with a newline was said
-pub record SaysUsage (old new : List ℕ) (failed fails : ℕ) : Type 0 where
+pub record SaysText (old new : List ℕ) (failed fails : ℕ) : Type 0 where
   pub text : List ℕ
   pub ends_line : EndsLine text
   pub said : IsSaid text old new failed fails

@@ -7,9 +7,9 @@ ghost use Rattle.wblock_commands.specs.Stored.{ShowsStored};
 
 use crate::runs::run_calls;
 use crate::stored::{CALLS, MODULE};
-use calls_text::{CallsRefusal, read_calls};
 use link::deployed::Deployed;
 use std::alloc::{AllocError, Global};
+use wblock_blocks::judge_calls;
 use wblock_line::{Answer, Fault, ModuleRefusal, Stop, read_contract};
 
 /// The answer to a text of calls of a contract.
@@ -20,26 +20,26 @@ fn answer_calls<'a>(
 ) -> Result<Answer<'a>, AllocError>
     ensures { IfOk result (CallsAnswer (contract_view contract) text.now) }
 {
-    let calls = match read_calls(alloc, text) {
-        Ok(calls) => calls,
-        Err(CallsRefusal::Line(line)) => return Ok(Answer::Refused(format!(in alloc;
-            "refused calls 1 {line}\n"
-        )?)),
-        Err(CallsRefusal::TooMany) => return Ok(Answer::Refused("refused calls 2\n".to_string(
-            alloc,
-        )?)),
-        Err(CallsRefusal::NoMemory) => return Err(AllocError),
-    };
-    let lines = run_calls(alloc, contract, calls.as_slice())?;
-    Ok(Answer::Done(Vec::new(alloc), lines))
+    match judge_calls(alloc, text)? {
+        Ok(calls) => {
+            let lines = run_calls(alloc, contract, calls.as_slice())?;
+            Ok(Answer::Done(Vec::new(alloc), lines))
+        }
+        Err((line, why)) => Ok(Answer::Refused(line, why)),
+    }
 }
 
-/// The answer to a module that is refused.
-fn refuse<'a>(alloc: Global, refusal: ModuleRefusal) -> Result<Answer<'a>, AllocError>
+/// The answer to a module of these bytes that is refused.
+fn refuse<'a>(
+    alloc: Global,
+    target: &[u8],
+    refusal: ModuleRefusal,
+) -> Result<Answer<'a>, AllocError>
     ensures { IfOk result (Refuses refusal) }
 {
     let line = format!(in alloc; "{refusal}\n")?;
-    Ok(Answer::Refused(line))
+    let why = refusal.words(alloc, target)?;
+    Ok(Answer::Refused(line, why))
 }
 
 /// The answer to a module's bytes and a text of calls. The module is judged before the calls.
@@ -52,7 +52,7 @@ pub(crate) fn answer_of<'a>(
 {
     match read_contract(alloc, target) {
         Ok(contract) => answer_calls(alloc, contract, text),
-        Err(Stop::Refused(refusal)) => refuse(alloc, refusal),
+        Err(Stop::Refused(refusal)) => refuse(alloc, target, refusal),
         Err(Stop::NoMemory) => Err(AllocError),
     }
 }

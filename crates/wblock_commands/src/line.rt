@@ -4,7 +4,7 @@ ghost use Rattle.std.specs.Prelude.{◌≡◌, ◌≢◌, ◌≤◌, ◌⊎◌, 
 ghost use Rattle.codec.specs.Putting.{IsRaised};
 ghost use Rattle.wblock_line.specs.Answers.{CountsFault, IsOfFile, IsSaid, file_line, memory_line};
 ghost use Rattle.wblock_commands.specs.Words.{Says, HasFew};
-ghost use Rattle.wblock_commands.specs.Does.{Answers, AsksCall, Misses, Does, Reads, Fails, IsKept, SaysUsage};
+ghost use Rattle.wblock_commands.specs.Does.{Answers, AsksCall, Misses, Does, Reads, Fails, IsKept, SaysText};
 ghost use Rattle.wblock_commands.specs.declared.command.Command.{Command as Asked};
 
 use crate::command::{Command, command_of, told_of};
@@ -54,7 +54,7 @@ fn answer_of<'l, 'w, R: Threads + Wait + Sync, F: Files, P: Pace>(
 /// Says what is wrong with words that ask for nothing, or that memory was refused.
 fn refuse_words<'a, E: Sink>(alloc: Global, words: &'a [&'a str], err: &mut E) -> Status
     ensures status { (result ≡ Status.Usage) ⊎ (result ≡ Status.Memory) }
-    ensures usage_said { result ≡ Status.Usage → IsTrue E.tells → SaysUsage (E.told err.old) (E.told err.new) (E.failures err.old) (E.failures err.new) }
+    ensures usage_said { result ≡ Status.Usage → IsTrue E.tells → SaysText (E.told err.old) (E.told err.new) (E.failures err.old) (E.failures err.new) }
     ensures memory_said { result ≡ Status.Memory → IsTrue E.tells → IsSaid memory_line (E.told err.old) (E.told err.new) (E.failures err.old) (E.failures err.new) }
 {
     match usage_text(alloc, words) {
@@ -83,9 +83,10 @@ fn run_command<'a, R: Threads + Wait + Sync, F: Files, O: Sink, E: Sink, P: Pace
     ensures cut { result ≡ Status.File → IsTrue F.tells → IsTrue O.tells → (name : List ℕ) × Fails command.entry name (F.holds files.old) (F.holds files.new) (O.told out.old) (O.told out.new) × (IsTrue E.tells → IsSaid (file_line name) (E.told err.old) (E.told err.new) (E.failures err.old) (E.failures err.new)) }
     ensures counted { result ≡ Status.File → IsRaised (F.failures files.old) (F.failures files.new) ⊎ IsRaised (O.failures out.old) (O.failures out.new) }
     ensures silent { (result ≡ Status.Usage) ⊎ (result ≡ Status.Memory) → IsTrue F.tells → IsKept (F.holds files.old) (F.holds files.new) (O.told out.old) (O.told out.new) }
-    ensures usage_said { result ≡ Status.Usage → IsTrue E.tells → SaysUsage (E.told err.old) (E.told err.new) (E.failures err.old) (E.failures err.new) }
+    ensures usage_said { result ≡ Status.Usage → IsTrue E.tells → SaysText (E.told err.old) (E.told err.new) (E.failures err.old) (E.failures err.new) }
     ensures memory_said { result ≡ Status.Memory → IsTrue E.tells → IsSaid memory_line (E.told err.old) (E.told err.new) (E.failures err.old) (E.failures err.new) }
-    ensures quiet { (result ≡ Status.Done) ⊎ (result ≡ Status.Refused) → err.new ≡ err.old }
+    ensures quiet { result ≡ Status.Done → err.new ≡ err.old }
+    ensures explained { result ≡ Status.Refused → IsTrue E.tells → SaysText (E.told err.old) (E.told err.new) (E.failures err.old) (E.failures err.new) }
     ensures calm_files { (result ≡ Status.Done) ⊎ (result ≡ Status.Refused) → F.failures files.new ≡ F.failures files.old }
     ensures calm_output { (result ≡ Status.Done) ⊎ (result ≡ Status.Refused) → O.failures out.new ≡ O.failures out.old }
     ensures asked { result ≡ Status.Usage → AsksCall command.entry }
@@ -99,8 +100,9 @@ fn run_command<'a, R: Threads + Wait + Sync, F: Files, O: Sink, E: Sink, P: Pace
 }
 
 /// Runs one line of words and gives its status: 0 done, 1 refused, 2 where the words ask for nothing or for a call that is not there, 3 where a file or
-/// the output failed, 4 where memory was refused. Answers and refusals go to `out`, and what else is wrong is said to
-/// `err`, whose own failures change no status: a text that ends with a newline with status 2, `file NAME` with 3 (`file stdout` for the output), `memory` with 4.
+/// the output failed, 4 where memory was refused. Answers and refusals go to `out`, and what explains a refusal or is wrong else is said to
+/// `err`, whose own failures change no status: a text that ends with a newline with status 1, which is the sentence of the refusal, and with 2; `file NAME`
+/// with 3 (`file stdout` for the output), `memory` with 4.
 /// All that is written and printed is made before the first write. The pace is told each step of the workers of `mine` and `validate`.
 pub fn run_line<'a, R: Threads + Wait + Sync, F: Files, O: Sink, E: Sink, P: Pace>(
     rt: &R,
@@ -117,9 +119,10 @@ pub fn run_line<'a, R: Threads + Wait + Sync, F: Files, O: Sink, E: Sink, P: Pac
     ensures cut { result ≡ Status.File → (c : Asked) × Says (map (λ w. w.now) words.entry.now) c × (IsTrue F.tells → IsTrue O.tells → (name : List ℕ) × Fails c name (F.holds files.old) (F.holds files.new) (O.told out.old) (O.told out.new) × (IsTrue E.tells → IsSaid (file_line name) (E.told err.old) (E.told err.new) (E.failures err.old) (E.failures err.new))) }
     ensures counted { result ≡ Status.File → IsRaised (F.failures files.old) (F.failures files.new) ⊎ IsRaised (O.failures out.old) (O.failures out.new) }
     ensures silent { (result ≡ Status.Usage) ⊎ (result ≡ Status.Memory) → IsTrue F.tells → IsKept (F.holds files.old) (F.holds files.new) (O.told out.old) (O.told out.new) }
-    ensures usage_said { result ≡ Status.Usage → IsTrue E.tells → SaysUsage (E.told err.old) (E.told err.new) (E.failures err.old) (E.failures err.new) }
+    ensures usage_said { result ≡ Status.Usage → IsTrue E.tells → SaysText (E.told err.old) (E.told err.new) (E.failures err.old) (E.failures err.new) }
     ensures memory_said { result ≡ Status.Memory → IsTrue E.tells → IsSaid memory_line (E.told err.old) (E.told err.new) (E.failures err.old) (E.failures err.new) }
-    ensures quiet { (result ≡ Status.Done) ⊎ (result ≡ Status.Refused) → err.new ≡ err.old }
+    ensures quiet { result ≡ Status.Done → err.new ≡ err.old }
+    ensures explained { result ≡ Status.Refused → IsTrue E.tells → SaysText (E.told err.old) (E.told err.new) (E.failures err.old) (E.failures err.new) }
     ensures calm_files { (result ≡ Status.Done) ⊎ (result ≡ Status.Refused) → F.failures files.new ≡ F.failures files.old }
     ensures calm_output { (result ≡ Status.Done) ⊎ (result ≡ Status.Refused) → O.failures out.new ≡ O.failures out.old }
 {

@@ -36,7 +36,7 @@ pub record IsOfCall (holds : Holding) (task : Debugging) (a : Answer) : Type 0 w
 -- the answer tells why the world or the calls are refused
 abbrev pub IsRefused : Holding → Debugging → Answer → Type 0
 IsRefused holds task (Done writes text) = ⊥
-IsRefused holds task (Refused line) = TellsRefusal holds task.world.now task.calls.now (string_bytes line)
+IsRefused holds task (Refused line why) = TellsRefusal holds task.world.now task.calls.now (string_bytes line)
 
 abbrev pub Debugs : Holding → Debugging → Answer → Type 0
 Debugs holds task a = IsRefused holds task a ⊎ IsOfCall holds task a

@@ -20,7 +20,7 @@ fn answer_of<'a>(alloc: Global, printed: Printed) -> Answer<'a>
     ensures { IsText printed.refused (string_bytes printed.text) result }
 {
     if printed.refused {
-        Answer::Refused(printed.text)
+        Answer::Refused(printed.text, printed.why)
     } else {
         Answer::Done(Vec::new(alloc), printed.text)
     }
@@ -60,7 +60,7 @@ pub fn debug_world<'a, F: Files>(
 {
     let (world, calls) = match read_inputs(alloc, files, task.world, task.calls)? {
         Inputs::Read(world, calls) => (world, calls),
-        Inputs::Refused(line) => return Ok(Some(Answer::Refused(line))),
+        Inputs::Refused(line, why) => return Ok(Some(Answer::Refused(line, why))),
     };
     let Some(call) = calls.get(task.call as usize) else {
         return Ok(None);

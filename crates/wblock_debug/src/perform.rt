@@ -41,7 +41,7 @@ fn back<A: Allocator + Copy>(
     ensures { IfOk result (Performs (Command.Back count) session.old session.new) }
 {
     match session.back(count) {
-        Ok(()) => Ok(Said::Line(state_line_of(alloc, session)?)),
+        Ok(_) => Ok(Said::Line(state_line_of(alloc, session)?)),
         Err(Refusal::BeforeStart) => Ok(Said::Refused(Refusal::BeforeStart)),
         Err(_) => Err(NoMemory),
     }

@@ -28,10 +28,38 @@ fn refusal_line_of<A: Allocator>(alloc: A, refusal: Refusal) -> Result<String<A>
     Ok(line)
 }
 
-/// Does a command, and appends what it prints.
+/// What to do about a command that is refused.
+fn advice_on(refusal: Refusal) -> &'static str {
+    match refusal {
+        Refusal::BeforeStart => "go back by fewer turns",
+        Refusal::NoSuchPlace =>
+            "name a function, imports first, and an instruction of its body, each counted from 0",
+        Refusal::OutOfRange =>
+            "a page of memory has 65,536 bytes, and not each contract has a page",
+        Refusal::NoMemory => "memory was refused",
+    }
+}
+
+/// Adds why the command of this number, from 1, is refused.
+fn explain<A: Allocator + Copy>(
+    alloc: A,
+    why: &mut String<A>,
+    number: usize,
+    refusal: Refusal,
+) -> Result<(), AllocError> {
+    if !why.is_empty() {
+        why.push_str("; ")?;
+    }
+    let advice = advice_on(refusal);
+    let reason = format!(in alloc; "command {number}: {refusal}: {advice}")?;
+    why.push_str(reason.as_str())
+}
+
+/// Does the command of this number, from 1, and appends what it prints.
 fn append<A: Allocator + Copy>(
     alloc: A,
     session: &mut Session<'_, A>,
+    number: usize,
     command: Command,
     printed: &mut Printed<A>,
 ) -> Result<(), NoMemory>
@@ -45,6 +73,7 @@ fn append<A: Allocator + Copy>(
         }
         Said::Refused(refusal) => {
             let line = refusal_line_of(alloc, refusal)?;
+            explain(alloc, &mut printed.why, number, refusal)?;
             printed.text.push_str(line.as_str())?;
             printed.refused = true;
             Ok(())
@@ -63,9 +92,12 @@ fn perform_all<A: Allocator + Copy>(
     let mut printed = Printed {
         text: String::new(alloc),
         refused: false,
+        why: String::new(alloc),
     };
+    let mut number: usize = 0;
     for command in commands {
-        append(alloc, session, *command, &mut printed)?;
+        number = number.saturating_add(1);
+        append(alloc, session, number, *command, &mut printed)?;
     }
     Ok(printed)
 }
@@ -85,16 +117,21 @@ fn start_code(refusal: StartRefusal) -> Option<u8>
 }
 
 /// What is printed of a call that does not start: `refused start N`.
-fn refuse_start<A: Allocator>(alloc: A, refusal: StartRefusal) -> Result<Printed<A>, NoMemory>
+fn refuse_start<A: Allocator + Copy>(
+    alloc: A,
+    refusal: StartRefusal,
+) -> Result<Printed<A>, NoMemory>
     ensures { (contracts : List ADeployed) (call : ContractCall) → IsRefusedFor refusal (opening contracts call) → IfOk result (λ p. IsNotStarted contracts call p.refused (string_bytes p.text)) }
 {
     let Some(code) = start_code(refusal) else {
         return Err(NoMemory);
     };
     let text = format!(in alloc; "refused start {code}\n")?;
+    let why = format!(in alloc; "the call does not start: {refusal}; mend its line of CALLS")?;
     Ok(Printed {
         text,
         refused: true,
+        why,
     })
 }
 

@@ -20,17 +20,17 @@ write_of w = (w.name.now, w.bytes.items)
 -- the files that are to be written, in their order
 abbrev pub writes_of : Answer → List Written
 writes_of (Done writes text) = map write_of writes.items
-writes_of (Refused line) = []
+writes_of (Refused line why) = []
 
 -- what is to be printed
 abbrev pub text_of : Answer → List ℕ
 text_of (Done writes text) = string_bytes text
-text_of (Refused line) = string_bytes line
+text_of (Refused line why) = string_bytes line
 
 -- the status of an answer that was printed
 abbrev pub status_of : Answer → Status
 status_of (Done writes text) = status.Done
-status_of (Refused line) = status.Refused
+status_of (Refused line why) = status.Refused
 
 -- the files were written, one after another, and every other file is as it was
 abbrev pub Wrote : List Written → Holding → Holding → Type 0
@@ -88,6 +88,11 @@ file_line name = codes "file " ++ name ++ 10 ∷ []
 -- `memory`
 abbrev pub memory_line : List ℕ
 memory_line = codes "memory" ++ 10 ∷ []
+
+-- the sentence of a refusal, and a newline
+abbrev pub why_line : Answer → List ℕ
+why_line (Done writes text) = []
+why_line (Refused line why) = string_bytes why ++ 10 ∷ []
 
 abbrev pub fault_line : Fault → List ℕ
 fault_line (File name) = file_line name.now

@@ -1,4 +1,5 @@
 pub mod Words
 pub mod Answers
+pub mod FaultLaws
 pub mod Refusals
 pub mod Modules

@@ -20,8 +20,9 @@ pub struct Write<'a> {
 pub enum Answer<'a> {
     /// It is done: these files are to be written, one after another, and then this text is to be printed.
     Done(Vec<Write<'a>>, String),
-    /// It is refused: this line is to be printed.
-    Refused(String),
+    /// It is refused: this line is to be printed, and then this sentence, which says why, is to be said on standard error. The sentence has no
+    /// newline, and no clause speaks of its words.
+    Refused(String, String),
 }
 
 /// Why a command comes to nothing.

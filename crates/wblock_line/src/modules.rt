@@ -38,7 +38,7 @@ fn unloaded(refusal: LoadRefusal) -> Stop
     match refusal {
         LoadRefusal::Malformed(at) => Stop::Refused(ModuleRefusal::Malformed(at)),
         LoadRefusal::Unsupported(at) => Stop::Refused(ModuleRefusal::Unsupported(at)),
-        LoadRefusal::TooLarge(limit) => Stop::Refused(ModuleRefusal::TooLarge(limit.number())),
+        LoadRefusal::TooLarge(limit) => Stop::Refused(ModuleRefusal::TooLarge(limit)),
         LoadRefusal::NoMemory => Stop::NoMemory,
     }
 }
@@ -52,7 +52,7 @@ fn untyped(refusal: TypeRefusal) -> Stop
             ordinal,
             rule,
         } => Stop::Refused(ModuleRefusal::Untyped {
-            rule: rule.number(),
+            rule,
             func,
             ordinal,
         }),

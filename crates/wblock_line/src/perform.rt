@@ -2,7 +2,7 @@
 
 ghost use Rattle.std.specs.Prelude.{◌≡◌, ◌≢◌, ◌⊎◌, ℕ, List, [], ◌∷◌, ◌++◌, codes, IsTrue, IfOk, IfErr, OnOk, OnErr, map};
 ghost use Rattle.codec.specs.Putting.{IsRaised, IsCutShort};
-ghost use Rattle.wblock_line.specs.Answers.{Wrote, WroteSome, IsPerformed, IsCut, IsSaid, write_of, writes_of, text_of, status_of, status_of_fault, file_line, fault_line};
+ghost use Rattle.wblock_line.specs.Answers.{Wrote, WroteSome, IsPerformed, IsCut, IsSaid, write_of, writes_of, text_of, status_of, status_of_fault, file_line, fault_line, why_line};
 
 use crate::answer::{Answer, Fault, Write};
 use codec::{Sink, SinkFault, put_all};
@@ -54,19 +54,37 @@ fn write_files<'a, F: Files>(files: &mut F, writes: &[Write<'a>]) -> Result<(), 
     }
 }
 
-/// Prints a text, and answers the status; or, where the output fails, that of a file.
-fn print_text<O: Sink, E: Sink>(text: &str, status: Status, out: &mut O, err: &mut E) -> Status
-    requires { status ≢ Status.File }
-    ensures status { result ≢ Status.File → result ≡ status }
+/// Prints a text; or says that the output fails, which is the status of a file.
+fn print_text<O: Sink, E: Sink>(text: &str, out: &mut O, err: &mut E) -> Status
+    ensures status { (result ≡ Status.Done) ⊎ (result ≡ Status.File) }
     ensures printed { result ≢ Status.File → IsTrue O.tells → O.told out.new ≡ O.told out.old ++ text.now }
     ensures cut { result ≡ Status.File → IsTrue O.tells → IsCutShort (O.told out.old) (O.told out.new) text.now }
     ensures calm { result ≢ Status.File → O.failures out.new ≡ O.failures out.old }
     ensures counted { result ≡ Status.File → IsRaised (O.failures out.old) (O.failures out.new) }
-    ensures quiet { result ≢ Status.File → err.new ≡ err.old }
+    ensures quiet { result ≡ Status.Done → err.new ≡ err.old }
     ensures said { result ≡ Status.File → IsTrue E.tells → IsSaid (file_line (codes "stdout")) (E.told err.old) (E.told err.new) (E.failures err.old) (E.failures err.new) }
 {
     match put_all(out, text.as_bytes()) {
-        Ok(()) => status,
+        Ok(()) => Status::Done,
+        Err(_) => { tell_file("stdout", err) }
+    }
+}
+
+/// Prints the line of a refusal, and then says why; or says that the output fails, which is the status of a file.
+fn print_refusal<O: Sink, E: Sink>(line: &str, why: &str, out: &mut O, err: &mut E) -> Status
+    ensures status { (result ≡ Status.Refused) ⊎ (result ≡ Status.File) }
+    ensures printed { result ≢ Status.File → IsTrue O.tells → O.told out.new ≡ O.told out.old ++ line.now }
+    ensures cut { result ≡ Status.File → IsTrue O.tells → IsCutShort (O.told out.old) (O.told out.new) line.now }
+    ensures calm { result ≢ Status.File → O.failures out.new ≡ O.failures out.old }
+    ensures counted { result ≡ Status.File → IsRaised (O.failures out.old) (O.failures out.new) }
+    ensures explained { result ≡ Status.Refused → IsTrue E.tells → IsSaid (why.now ++ 10 ∷ []) (E.told err.old) (E.told err.new) (E.failures err.old) (E.failures err.new) }
+    ensures said { result ≡ Status.File → IsTrue E.tells → IsSaid (file_line (codes "stdout")) (E.told err.old) (E.told err.new) (E.failures err.old) (E.failures err.new) }
+{
+    match put_all(out, line.as_bytes()) {
+        Ok(()) => {
+            let _ = put_line(err, why, "");
+            Status::Refused
+        }
         Err(_) => { tell_file("stdout", err) }
     }
 }
@@ -94,8 +112,8 @@ pub fn tell_fault<E: Sink>(fault: Fault, err: &mut E) -> Status
     }
 }
 
-/// Writes the files of an answer and then prints its text, and gives the status; or says on standard error which file failed, or `file stdout`
-/// for the output. Failures of standard error change no status.
+/// Writes the files of an answer and then prints its text, and behind the line of a refusal says on standard error why, and gives the status; or
+/// says on standard error which file failed, or `file stdout` for the output. Failures of standard error change no status.
 pub fn carry_out<F: Files, O: Sink, E: Sink>(
     answer: Answer,
     files: &mut F,
@@ -107,7 +125,8 @@ pub fn carry_out<F: Files, O: Sink, E: Sink>(
     ensures cut { result ≡ Status.File → IsTrue F.tells → IsTrue O.tells → (name : List ℕ) × IsCut name answer.entry (F.holds files.old) (F.holds files.new) (O.told out.old) (O.told out.new) × (IsTrue E.tells → IsSaid (file_line name) (E.told err.old) (E.told err.new) (E.failures err.old) (E.failures err.new)) }
     ensures calm_files { result ≢ Status.File → F.failures files.new ≡ F.failures files.old }
     ensures calm_output { result ≢ Status.File → O.failures out.new ≡ O.failures out.old }
-    ensures quiet { result ≢ Status.File → err.new ≡ err.old }
+    ensures quiet { result ≡ Status.Done → err.new ≡ err.old }
+    ensures explained { result ≡ Status.Refused → IsTrue E.tells → IsSaid (why_line answer.entry) (E.told err.old) (E.told err.new) (E.failures err.old) (E.failures err.new) }
     ensures counted { result ≡ Status.File → IsRaised (F.failures files.old) (F.failures files.new) ⊎ IsRaised (O.failures out.old) (O.failures out.new) }
 {
     match answer {
@@ -115,8 +134,8 @@ pub fn carry_out<F: Files, O: Sink, E: Sink>(
             if let Err(name) = write_files(files, writes.as_slice()) {
                 return tell_file(name, err);
             }
-            print_text(text.as_str(), Status::Done, out, err)
+            print_text(text.as_str(), out, err)
         }
-        Answer::Refused(line) => print_text(line.as_str(), Status::Refused, out, err),
+        Answer::Refused(line, why) => print_refusal(line.as_str(), why.as_str(), out, err),
     }
 }

@@ -3,7 +3,13 @@
 ghost use Rattle.std.specs.Prelude.{Some};
 ghost use Rattle.wblock_line.specs.Refusals.{refusal_text};
 
+use body_typing::rule::Rule;
+use loader::load;
+use module_tree::limit::Limit;
+use module_tree::module::{Export, ExportDesc, Module};
+use std::alloc::{AllocError, Allocator, Global};
 use std::fmt;
+use wblock_words::{form_words, import_words, limit_words, room_words, rule_words, segment_words};
 
 /// Why a module's bytes give no contract, printed as `refused load N P`, `refused check RULE F O` or `refused deploy N I`.
 #[derive(Clone, Copy, Debug, PartialEq, Eq)]
@@ -12,12 +18,12 @@ pub enum ModuleRefusal {
     Malformed(usize),
     /// A form of the standard that the profile leaves out, at this offset.
     Unsupported(usize),
-    /// The limit of this number is passed.
-    TooLarge(u8),
+    /// The limit is passed.
+    TooLarge(Limit),
     /// A rule of validation is broken.
     Untyped {
-        /// The number of the rule.
-        rule: u8,
+        /// The rule.
+        rule: Rule,
         /// The number of the function, imports counted first, or None outside bodies.
         func: Option<u32>,
         /// The place.
@@ -42,22 +48,103 @@ impl fmt::Display for ModuleRefusal {
         match *self {
             ModuleRefusal::Malformed(at) => write!(f, "refused load 1 {at}"),
             ModuleRefusal::Unsupported(at) => write!(f, "refused load 2 {at}"),
-            ModuleRefusal::TooLarge(limit) => write!(f, "refused load 3 {limit}"),
+            ModuleRefusal::TooLarge(limit) => {
+                let number = limit.number();
+                write!(f, "refused load 3 {number}")
+            }
             ModuleRefusal::Untyped {
                 rule,
                 func: None,
                 ordinal,
-            } => write!(f, "refused check {rule} - {ordinal}"),
+            } => {
+                let number = rule.number();
+                write!(f, "refused check {number} - {ordinal}")
+            }
             ModuleRefusal::Untyped {
                 rule,
                 func: Some(func),
                 ordinal,
-            } => write!(f, "refused check {rule} {func} {ordinal}"),
+            } => {
+                let number = rule.number();
+                write!(f, "refused check {number} {func} {ordinal}")
+            }
             ModuleRefusal::UnknownImport(import) => write!(f, "refused deploy 1 {import}"),
             ModuleRefusal::ImportType(import) => write!(f, "refused deploy 2 {import}"),
             ModuleRefusal::SegmentRange(segment) => write!(f, "refused deploy 3 {segment}"),
             ModuleRefusal::TooManyPages => write!(f, "refused deploy 4 -"),
             ModuleRefusal::TableTooLarge => write!(f, "refused deploy 5 -"),
+        }
+    }
+}
+
+/// Whether this is an export of the function of this number.
+fn exports<A: Allocator>(export: &Export<A>, func: u32) -> bool {
+    export.desc == ExportDesc::Func(func)
+}
+
+/// The first name under which a module exports the function of this number, where it does.
+fn export_of<A: Allocator>(module: &Module<A>, func: u32) -> Option<&str> {
+    for export in &module.exports {
+        if exports(export, func) {
+            return Some(export.name.as_str());
+        }
+    }
+    None
+}
+
+/// The sentence of a rule that a module of these bytes breaks. The function is named by its export.
+fn untyped_words(
+    alloc: Global,
+    bytes: &[u8],
+    rule: Rule,
+    func: Option<u32>,
+    ordinal: u32,
+) -> Result<String, AllocError> {
+    let Some(number) = func else {
+        return rule_words(alloc, rule, None, None, ordinal);
+    };
+    match load(alloc, bytes) {
+        Ok(module) => rule_words(alloc, rule, func, export_of(&module, number), ordinal),
+        Err(_) => rule_words(alloc, rule, func, None, ordinal),
+    }
+}
+
+/// The names of an import of a module of these bytes; none where memory is refused.
+fn names_of(alloc: Global, bytes: &[u8], import: u32) -> Result<String, AllocError> {
+    let Ok(module) = load(alloc, bytes) else {
+        return Ok(String::new(alloc));
+    };
+    let Some(import) = module.imports.get(import as usize) else {
+        return Ok(String::new(alloc));
+    };
+    let from_module = &import.from_module;
+    let name = &import.name;
+    format!(in alloc; "`{from_module}` `{name}`")
+}
+
+impl ModuleRefusal {
+    /// The sentence of the refusal of a module of these bytes: what is wrong, where, and what to do. It has no newline.
+    pub fn words(self, alloc: Global, bytes: &[u8]) -> Result<String, AllocError> {
+        match self {
+            ModuleRefusal::Malformed(at) => form_words(alloc, at, false),
+            ModuleRefusal::Unsupported(at) => form_words(alloc, at, true),
+            ModuleRefusal::TooLarge(limit) => limit_words(alloc, limit),
+            ModuleRefusal::Untyped {
+                rule,
+                func,
+                ordinal,
+            } => untyped_words(alloc, bytes, rule, func, ordinal),
+            ModuleRefusal::UnknownImport(import) => {
+                let names = names_of(alloc, bytes, import)?;
+                import_words(alloc, import, &names, false)
+            }
+            ModuleRefusal::ImportType(import) => {
+                let names = names_of(alloc, bytes, import)?;
+                import_words(alloc, import, &names, true)
+            }
+            ModuleRefusal::SegmentRange(segment) => segment_words(alloc, segment),
+            ModuleRefusal::TooManyPages => room_words(alloc, true),
+            ModuleRefusal::TableTooLarge => room_words(alloc, false),
         }
     }
 }

@@ -1,3 +1,2 @@
-mod Faults
 mod Reading
 mod Told

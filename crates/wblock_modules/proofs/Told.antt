@@ -9,5 +9,5 @@ use Rattle.wblock_modules.specs.Assembles.{IsRefusalOf, IsAnswer}
 
 pub bad_token : {E : Type 0} (text target : List ℕ) (at : ℕ) (answer : Result Answer E) → ¬ IsUtf8 text → IfOk answer (IsRefusalOf (Lex (lexical.BadToken at))) → IfOk answer (IsAnswer text target)
 bad_token text target at (Ok (Done writes line)) bad is = absurd is
-bad_token text target at (Ok (Refused line)) bad is = record { names_nothing = λ m n. bad n.spelled.lexes.utf8; refusal = Lex (lexical.BadToken at); is_line = is }
+bad_token text target at (Ok (Refused line why)) bad is = record { names_nothing = λ m n. bad n.spelled.lexes.utf8; refusal = Lex (lexical.BadToken at); why = λ ts l. bad l.utf8; is_line = is }
 bad_token text target at (Err fault) bad is = tt

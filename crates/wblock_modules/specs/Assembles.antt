@@ -8,7 +8,7 @@ use Rattle.lexer.specs.declared.LexRefusal.TheVariants as lexical
 use Rattle.module_tree.specs.LimitNumbers.{number_of}
 use Rattle.text_resolve.specs.declared.refusal.AsmRefusal.{AsmRefusal}
 use Rattle.text_resolve.specs.declared.refusal.AsmRefusal.TheVariants.{Lex, Unexpected, UnknownName, RepeatedName, NumberRange, TooLarge, NoMemory}
-use Rattle.assembler.specs.Named.{NamesNothing}
+use Rattle.assembler.specs.Named.{NamesNothing, IsWhy}
 use Rattle.wblock_io.specs.Holding.{Holding}
 use Rattle.wblock_line.specs.declared.answer.Answer.{Answer}
 use Rattle.wblock_line.specs.declared.answer.Answer.TheVariants.{Done, Refused}
@@ -42,12 +42,14 @@ pub record IsLineOf (refusal : AsmRefusal) (line : List ℕ) : Type 0 where
 
 abbrev pub IsRefusalOf : AsmRefusal → Answer → Type 0
 IsRefusalOf refusal (Done writes text) = ⊥
-IsRefusalOf refusal (Refused line) = IsLineOf refusal (string_bytes line)
+IsRefusalOf refusal (Refused line why) = IsLineOf refusal (string_bytes line)
 
--- the bytes name no module, and the line is that of a refusal
+-- the bytes name no module, and the line is that of a refusal which says where their reading fails: at the tokens, at the grammar, or at what
+-- the fields make
 pub record TellsRefusal (bytes line : List ℕ) : Type 0 where
   pub names_nothing : NamesNothing bytes
   pub refusal : AsmRefusal
+  pub why : IsWhy bytes refusal
   pub is_line : IsLineOf refusal line
 
 -- ---- modules
@@ -75,7 +77,7 @@ pub record TellsModule (text target : List ℕ) (a : Answer) : Type 0 where
 
 abbrev pub IsAnswer : List ℕ → List ℕ → Answer → Type 0
 IsAnswer text target (Done writes line) = TellsModule text target (Done writes line)
-IsAnswer text target (Refused line) = TellsRefusal text (string_bytes line)
+IsAnswer text target (Refused line why) = TellsRefusal text (string_bytes line)
 
 -- what is answered to the text in the file of a name
 pub record Assembles (holds : Holding) (text target : List ℕ) (answer : Answer) : Type 0 where

@@ -31,7 +31,7 @@ pub record TellsRefusal (bytes line : List ℕ) : Type 0 where
 
 abbrev pub IsAnswer : List ℕ → Answer → Type 0
 IsAnswer bytes (Done writes text) = (writes.items ≡ []) × TellsFunctions bytes (string_bytes text)
-IsAnswer bytes (Refused line) = TellsRefusal bytes (string_bytes line)
+IsAnswer bytes (Refused line why) = TellsRefusal bytes (string_bytes line)
 
 -- what is answered to the file of a name
 pub record Checks (holds : Holding) (target : List ℕ) (answer : Answer) : Type 0 where

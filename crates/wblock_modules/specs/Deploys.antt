@@ -68,18 +68,18 @@ pub record TellsWorld (holds : Holding) (world : List ℕ) (names : List (List �
 
 abbrev pub Deploys : Holding → List ℕ → List (List ℕ) → Answer → Type 0
 Deploys holds world names (Done writes text) = TellsWorld holds world names (Done writes text)
-Deploys holds world names (Refused line) = TellsRefusal holds names (string_bytes line)
+Deploys holds world names (Refused line why) = TellsRefusal holds names (string_bytes line)
 
 -- ---- modules read from files
 
 abbrev pub HasCount : ℕ → Modules → Type 0
 HasCount count (modules.Linked contracts) = vec_len contracts ≡ count
-HasCount count (modules.Refused line) = Unit {0}
+HasCount count (modules.Refused line why) = Unit {0}
 
 abbrev pub IsRead : Holding → List (List ℕ) → Modules → Type 0
 IsRead holds names (modules.Linked contracts) = AreHeld holds names (map contract_view contracts.items)
-IsRead holds names (modules.Refused line) = TellsRefusal holds names (string_bytes line)
+IsRead holds names (modules.Refused line why) = TellsRefusal holds names (string_bytes line)
 
 abbrev pub IsRefusalLine : ModuleRefusal → ℕ → Modules → Type 0
 IsRefusalLine refusal number (modules.Linked contracts) = ⊥
-IsRefusalLine refusal number (modules.Refused line) = string_bytes line ≡ refusal_line refusal number
+IsRefusalLine refusal number (modules.Refused line why) = string_bytes line ≡ refusal_line refusal number

@@ -2,11 +2,11 @@
 
 ghost use Rattle.std.specs.Prelude.{◌≡◌, IsTrue, IfOk, IfErr, OnOk, string_bytes};
 ghost use Rattle.text_resolve.specs.Refused.{Unless};
-ghost use Rattle.assembler.specs.Named.{NamesNothing};
+ghost use Rattle.assembler.specs.Named.{NamesNothing, IsWhy};
 ghost use Rattle.wblock_line.specs.Answers.{CountsFault, IsOfFile};
 ghost use Rattle.wblock_modules.specs.Assembles.{told, refusal_line, IsSpelled, IsRefusalOf, IsDone, IsAnswer, Assembles};
 
-use crate::places::place_of_fault;
+use crate::places::{front_of, place_of_fault};
 use assembler::{AsmRefusal, assemble};
 use encoder::encode;
 use lexer::LexRefusal;
@@ -14,11 +14,13 @@ use std::alloc::{AllocError, Global};
 use std::str::from_utf8;
 use wblock_io::Files;
 use wblock_line::{Answer, Fault, Write, read_file};
+use wblock_words::text_words;
 
 /// The shortest spelling of the module that a text names.
 fn spell(alloc: Global, text: &str) -> Result<Vec<u8>, AsmRefusal>
     ensures spelled { IfOk result (λ v. IsSpelled text.now v.items) }
     ensures refused { IfErr result (Unless (NamesNothing text.now)) }
+    ensures why { IfErr result (IsWhy text.now) }
 {
     let tree = assemble(alloc, text)?;
     let mut bytes = Vec::new(alloc);
@@ -45,24 +47,31 @@ fn numbered(refusal: AsmRefusal) -> Option<(u8, usize)>
     }
 }
 
-/// The line `refused assemble N P`.
-fn refusal_text(alloc: Global, number: u8, place: usize) -> Result<String, AllocError>
-    ensures { IfOk result (λ text. string_bytes text ≡ refusal_line number place) }
+/// The line `refused assemble N P`, and the sentence of the refusal.
+fn refusal_text(
+    alloc: Global,
+    text: &str,
+    refusal: AsmRefusal,
+    number: u8,
+    place: usize,
+) -> Result<(String, String), AllocError>
+    ensures { IfOk result (λ told. string_bytes told.0 ≡ refusal_line number place) }
 {
-    let text = format!(in alloc; "refused assemble {number} {place}\n")?;
-    Ok(text)
+    let line = format!(in alloc; "refused assemble {number} {place}\n")?;
+    let why = text_words(alloc, text, refusal)?;
+    Ok((line, why))
 }
 
-/// The answer to a text that is refused.
-fn refuse<'a>(alloc: Global, refusal: AsmRefusal) -> Result<Answer<'a>, Fault<'a>>
+/// The answer to a text that is refused. One that is not UTF-8 is given up to where it is.
+fn refuse<'a>(alloc: Global, text: &str, refusal: AsmRefusal) -> Result<Answer<'a>, Fault<'a>>
     ensures line { IfOk result (IsRefusalOf refusal) }
     ensures fault { IfErr result (λ f. f ≡ Fault.NoMemory) }
 {
     let Some((number, place)) = numbered(refusal) else {
         return Err(Fault::NoMemory);
     };
-    match refusal_text(alloc, number, place) {
-        Ok(line) => Ok(Answer::Refused(line)),
+    match refusal_text(alloc, text, refusal, number, place) {
+        Ok((line, why)) => Ok(Answer::Refused(line, why)),
         Err(AllocError) => Err(Fault::NoMemory),
     }
 }
@@ -92,12 +101,15 @@ fn answer_bytes<'a>(alloc: Global, target: &'a str, bytes: &[u8]) -> Result<Answ
                 Ok(answer) => Ok(answer),
                 Err(AllocError) => Err(Fault::NoMemory),
             },
-            Err(refusal) => refuse(alloc, refusal),
+            Err(refusal) => refuse(alloc, text, refusal),
         },
-        Err(error) => match place_of_fault(alloc, bytes, error.valid_up_to()) {
-            Ok(at) => refuse(alloc, AsmRefusal::Lex(LexRefusal::BadToken(at))),
-            Err(AllocError) => Err(Fault::NoMemory),
-        },
+        Err(error) => {
+            let front = front_of(bytes, error.valid_up_to());
+            match place_of_fault(alloc, front) {
+                Ok(at) => refuse(alloc, front, AsmRefusal::Lex(LexRefusal::BadToken(at))),
+                Err(AllocError) => Err(Fault::NoMemory),
+            }
+        }
     }
 }
 

@@ -19,17 +19,37 @@ use wtypes::NoMemory;
 enum Modules {
     /// The contracts, in their order.
     Linked(Vec<Deployed<Global>>),
-    /// One is refused, with this line.
-    Refused(String),
+    /// One is refused, with this line and this sentence.
+    Refused(String, String),
 }
 
-/// The line of the module of this number that is refused.
-fn refuse<'a>(alloc: Global, refusal: ModuleRefusal, number: usize) -> Result<Modules, Fault<'a>>
+/// The line of the module of these bytes and this number that is refused, and the sentence of the refusal.
+fn refusal_of(
+    alloc: Global,
+    bytes: &[u8],
+    refusal: ModuleRefusal,
+    number: usize,
+) -> Result<Modules, AllocError>
+    ensures { IfOk result (IsRefusalLine refusal number) }
+{
+    let line = format!(in alloc; "{refusal} module {number}\n")?;
+    let words = refusal.words(alloc, bytes)?;
+    let why = format!(in alloc; "module {number}: {words}")?;
+    Ok(Modules::Refused(line, why))
+}
+
+/// The same, with the fault of a command.
+fn refuse<'a>(
+    alloc: Global,
+    bytes: &[u8],
+    refusal: ModuleRefusal,
+    number: usize,
+) -> Result<Modules, Fault<'a>>
     ensures line { IfOk result (IsRefusalLine refusal number) }
     ensures fault { IfErr result (λ f. f ≡ Fault.NoMemory) }
 {
-    match format!(in alloc; "{refusal} module {number}\n") {
-        Ok(line) => Ok(Modules::Refused(line)),
+    match refusal_of(alloc, bytes, refusal, number) {
+        Ok(refused) => Ok(refused),
         Err(AllocError) => Err(Fault::NoMemory),
     }
 }
@@ -56,7 +76,7 @@ fn read_modules<'a, F: Files>(
                 Ok(()) => number += 1,
                 Err(_) => return Err(Fault::NoMemory),
             },
-            Err(Stop::Refused(refusal)) => return refuse(alloc, refusal, number),
+            Err(Stop::Refused(refusal)) => return refuse(alloc, bytes.as_slice(), refusal, number),
             Err(Stop::NoMemory) => return Err(Fault::NoMemory),
         }
     }
@@ -103,7 +123,7 @@ pub fn deploy_modules<'a, F: Files>(
     ensures next { IfErr result (IsOfFile (λ name. IsTrue F.tells → IsNextModule (F.holds files.old) (map (λ w. w.now) modules.now) name)) }
 {
     match read_modules(alloc, files, modules)? {
-        Modules::Refused(line) => Ok(Answer::Refused(line)),
+        Modules::Refused(line, why) => Ok(Answer::Refused(line, why)),
         Modules::Linked(contracts) => {
             let Ok(bytes) = encode_contracts(alloc, contracts) else {
                 return Err(Fault::NoMemory);

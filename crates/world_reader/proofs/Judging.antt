@@ -46,3 +46,6 @@ not_linked unique law body m spelled refusal.NoMemory other says = absurd (other
 
 pub not_shortest : TreesAreUnique → (body : List ℕ) (m : Module) → Spells body m → body ≢ shortest m → IsNoBody body
 not_shortest unique body m spelled other = λ c is. other (is.is ∙ ap shortest (same_tree unique body m c spelled is))
+
+pub is_body : (body : List ℕ) (c : Contract) → Spells body c.tree → ∥ IsLinked c.tree c.hosts ∥₁ → body ≡ shortest c.tree → IsBody body c
+is_body body c spelled linked is = record { tree = record { tree = subst (λ (w : List ℕ). Spells w c.tree) is spelled; linked = linked }; is = is }

@@ -8,7 +8,7 @@ ghost use Rattle.world_reader.specs.Reading.{body_at, BeginsWith, BeginsWithNone
 use crate::judge::judge;
 use link::deployed::Deployed;
 use records::{Fault, read_u32};
-use std::alloc::{AllocError, Global};
+use std::alloc::{AllocError, Allocator};
 
 /// The bytes of a contract after their length. Where they end past the input, the length is at fault.
 #[tactic(auto, unfolding(crate::specs::Reading::body_at))]
@@ -34,7 +34,7 @@ fn blamed(fault: Fault, left: usize) -> Fault
 }
 
 /// Reads a contract. Whatever is wrong with it, its length is at fault.
-fn contract_of(alloc: Global, bytes: &[u8]) -> Result<(Deployed<Global>, &[u8]), Fault>
+fn contract_of<A: Allocator + Copy>(alloc: A, bytes: &[u8]) -> Result<(Deployed<A>, &[u8]), Fault>
     ensures read { IfOk result (λ x. BeginsWith bytes.now (contract_view x.0) x.1.now) }
     ensures none { IfErr result (λ f. (f ≡ Fault.NoMemory) ⊎ ((f ≡ Fault.Malformed (length bytes.now)) × BeginsWithNone bytes.now)) }
 {
@@ -50,11 +50,11 @@ fn contract_of(alloc: Global, bytes: &[u8]) -> Result<(Deployed<Global>, &[u8]),
 }
 
 /// Reads so many contracts.
-pub(crate) fn contracts_of(
-    alloc: Global,
+pub(crate) fn contracts_of<A: Allocator + Copy>(
+    alloc: A,
     count: u32,
     bytes: &[u8],
-) -> Result<(Vec<Deployed<Global>>, &[u8]), Fault>
+) -> Result<(Vec<Deployed<A>, A>, &[u8]), Fault>
     ensures number { IfOk result (λ x. vec_len x.0 ≡ count) }
     ensures read { IfOk result (λ x. AreRead count bytes.now (map contract_view x.0.items) x.1.now) }
     ensures fault { IfErr result (IsFaultAmong count bytes.now) }

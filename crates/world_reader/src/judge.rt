@@ -16,12 +16,12 @@ use link::deployed::Deployed;
 use link::refusal::LinkRefusal;
 use loader::{LoadRefusal, load};
 use module_tree::module::Module;
-use std::alloc::{AllocError, Global};
+use std::alloc::{AllocError, Allocator};
 use typing::check::check;
 use typing::valid::Valid;
 
 /// The module that bytes spell, or None where they are no contract's.
-fn load_body(alloc: Global, body: &[u8]) -> Result<Option<Module<Global>>, AllocError>
+fn load_body<A: Allocator + Copy>(alloc: A, body: &[u8]) -> Result<Option<Module<A>>, AllocError>
     ensures { IfOk result (λ found. MatchOption found (IsNoBody body.now) (λ m. Spells body.now (module_view m))) }
 {
     match load(alloc, body) {
@@ -52,7 +52,7 @@ fn note_unlinked(refusal: LinkRefusal) -> Result<(), AllocError>
 }
 
 /// The same, typed.
-fn check_body(alloc: Global, body: &[u8]) -> Result<Option<Valid<Global>>, AllocError>
+fn check_body<A: Allocator + Copy>(alloc: A, body: &[u8]) -> Result<Option<Valid<A>>, AllocError>
     ensures { IfOk result (λ found. MatchOption found (IsNoBody body.now) (λ v. Spells body.now (module_view (typed.tree_of v)))) }
 {
     spec_module_laws::one_tree();
@@ -69,7 +69,7 @@ fn check_body(alloc: Global, body: &[u8]) -> Result<Option<Valid<Global>>, Alloc
 }
 
 /// The same, linked.
-fn link_body(alloc: Global, body: &[u8]) -> Result<Option<Deployed<Global>>, AllocError>
+fn link_body<A: Allocator + Copy>(alloc: A, body: &[u8]) -> Result<Option<Deployed<A>>, AllocError>
     ensures { IfOk result (λ found. MatchOption found (IsNoBody body.now) (λ d. Spells body.now (module_view (tree_of d)))) }
 {
     spec_module_laws::one_tree();
@@ -87,7 +87,11 @@ fn link_body(alloc: Global, body: &[u8]) -> Result<Option<Deployed<Global>>, All
 }
 
 /// Whether the bytes are the shortest spelling of a contract's module.
-fn is_shortest(alloc: Global, contract: &Deployed<Global>, body: &[u8]) -> Result<bool, AllocError>
+fn is_shortest<A: Allocator + Copy>(
+    alloc: A,
+    contract: &Deployed<A>,
+    body: &[u8],
+) -> Result<bool, AllocError>
     ensures { IfOk result (λ same. IsTrue same ↔ (body.now ≡ shortest (module_view (tree_of contract.now)))) }
 {
     let mut bytes = Vec::new(alloc);
@@ -98,7 +102,10 @@ fn is_shortest(alloc: Global, contract: &Deployed<Global>, body: &[u8]) -> Resul
 }
 
 /// The contract whose shortest spelling the bytes are, if they are one's.
-pub(crate) fn judge(alloc: Global, body: &[u8]) -> Result<Option<Deployed<Global>>, AllocError>
+pub(crate) fn judge<A: Allocator + Copy>(
+    alloc: A,
+    body: &[u8],
+) -> Result<Option<Deployed<A>>, AllocError>
     ensures { IfOk result (λ found. MatchOption found (IsNoBody body.now) (λ d. IsBody body.now (contract_view d))) }
 {
     spec_module_laws::one_tree();

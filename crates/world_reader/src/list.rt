@@ -7,23 +7,23 @@ ghost use Rattle.world_reader.specs.Cells.{Cell, AreLists, cell_at, list_at, lis
 use crate::cell::read_cell;
 use records::{Fault, read_u64};
 use spec_ledger::{Kind, Lock};
-use std::alloc::Global;
+use std::alloc::{Allocator, Global};
 
 /// The cells of the maps, and those of the counters, each rising by contract and key.
 #[derive(Debug, Drop)]
-pub struct CellLists {
+pub struct CellLists<A: Allocator = Global> {
     /// The cells of the maps.
-    pub maps: Vec<(Lock, u64)>,
+    pub maps: Vec<(Lock, u64), A>,
     /// Those of the counters, none at 0.
-    pub counters: Vec<(Lock, u64)>,
+    pub counters: Vec<(Lock, u64), A>,
 }
 
-fn items_of(
-    alloc: Global,
+fn items_of<A: Allocator + Copy>(
+    alloc: A,
     kind: Kind,
     count: u64,
     bytes: &[u8],
-) -> Result<(Vec<(Lock, u64)>, &[u8]), Fault>
+) -> Result<(Vec<(Lock, u64), A>, &[u8]), Fault>
     ensures { Gives (λ x. (x.0.items, x.1.now)) result (items_at (cell_at kind) count None bytes.now) }
 {
     let mut cells = Vec::new(alloc);
@@ -39,7 +39,11 @@ fn items_of(
 }
 
 #[tactic(auto, unfolding(crate::specs::Cells::list_at))]
-fn list_of(alloc: Global, kind: Kind, bytes: &[u8]) -> Result<(Vec<(Lock, u64)>, &[u8]), Fault>
+fn list_of<A: Allocator + Copy>(
+    alloc: A,
+    kind: Kind,
+    bytes: &[u8],
+) -> Result<(Vec<(Lock, u64), A>, &[u8]), Fault>
     ensures { Gives (λ x. (x.0.items, x.1.now)) result (list_at kind bytes.now) }
 {
     let (count, rest) = read_u64(bytes)?;
@@ -50,7 +54,7 @@ fn list_of(alloc: Global, kind: Kind, bytes: &[u8]) -> Result<(Vec<(Lock, u64)>,
 }
 
 #[tactic(auto, unfolding(crate::specs::Cells::lists_at))]
-fn both_of(alloc: Global, bytes: &[u8]) -> Result<(CellLists, &[u8]), Fault>
+fn both_of<A: Allocator + Copy>(alloc: A, bytes: &[u8]) -> Result<(CellLists<A>, &[u8]), Fault>
     ensures { Gives (λ x. ((x.0.maps.items, x.0.counters.items), x.1.now)) result (lists_at bytes.now) }
 {
     let (maps, rest) = list_of(alloc, Kind::Map, bytes)?;
@@ -59,7 +63,10 @@ fn both_of(alloc: Global, bytes: &[u8]) -> Result<(CellLists, &[u8]), Fault>
 }
 
 /// The two lists, and what is known of them.
-pub(crate) fn read_lists(alloc: Global, bytes: &[u8]) -> Result<(CellLists, &[u8]), Fault>
+pub(crate) fn read_lists<A: Allocator + Copy>(
+    alloc: A,
+    bytes: &[u8],
+) -> Result<(CellLists<A>, &[u8]), Fault>
     ensures spelled { IfOk result (λ x. AreLists (x.0.maps.items, x.0.counters.items) × (bytes.now ≡ lists_bytes (x.0.maps.items, x.0.counters.items) ++ x.1.now)) }
     ensures only { (lists : List Cell × List Cell) (rest : List ℕ) → AreLists lists → bytes.now ≡ lists_bytes lists ++ rest → IsRead (λ x. ((x.0.maps.items, x.0.counters.items), x.1.now)) result lists rest }
     ensures first { Gives (λ x. ((x.0.maps.items, x.0.counters.items), x.1.now)) result (lists_at bytes.now) }

@@ -11,7 +11,7 @@ use crate::contracts::contracts_of;
 use crate::read_cells;
 use link::deployed::Deployed;
 use records::{Fault, read_tag, read_u32};
-use std::alloc::Global;
+use std::alloc::Allocator;
 use thiserror::Error;
 use world::World;
 
@@ -54,7 +54,10 @@ fn head_of(bytes: &[u8]) -> Result<(u32, &[u8]), Fault>
 }
 
 /// The contracts, and the bytes behind them.
-fn parts_of(alloc: Global, bytes: &[u8]) -> Result<(Vec<Deployed<Global>>, &[u8]), Fault>
+fn parts_of<A: Allocator + Copy>(
+    alloc: A,
+    bytes: &[u8],
+) -> Result<(Vec<Deployed<A>, A>, &[u8]), Fault>
     ensures few { IfOk result (λ x. vec_len x.0 ≤ World.MOST_CONTRACTS) }
     ensures read { IfOk result (λ x. StandBehind bytes.now (map contract_view x.0.items) x.1.now) }
     ensures none { IfErr result (λ f. (f ≡ Fault.NoMemory) ⊎ IsNoWorld bytes.now) }
@@ -70,7 +73,7 @@ fn parts_of(alloc: Global, bytes: &[u8]) -> Result<(Vec<Deployed<Global>>, &[u8]
 }
 
 /// The world of all of the bytes.
-fn world_of(alloc: Global, bytes: &[u8]) -> Result<World, Fault>
+fn world_of<A: Allocator + Copy>(alloc: A, bytes: &[u8]) -> Result<World<A>, Fault>
     ensures spelled { IfOk result (λ w. SpellsWorld bytes.now (world_view w)) }
     ensures none { IfErr result (λ f. (f ≡ Fault.NoMemory) ⊎ IsNoWorld bytes.now) }
     ensures first { IfErr result (IsFirstFault bytes.now) }
@@ -91,7 +94,7 @@ fn world_of(alloc: Global, bytes: &[u8]) -> Result<World, Fault>
 
 /// Reads the world that the bytes spell, all of them. They are refused exactly where they spell none, memory aside. Reading goes from front
 /// to back and the first fault is answered.
-pub fn read_world(alloc: Global, bytes: &[u8]) -> Result<World, ReadRefusal>
+pub fn read_world<A: Allocator + Copy>(alloc: A, bytes: &[u8]) -> Result<World<A>, ReadRefusal>
     ensures spelled { IfOk result (λ w. SpellsWorld bytes.now (world_view w)) }
     ensures none { IfErr result (λ refusal. (refusal ≡ NoMemory) ⊎ IsNoWorld bytes.now) }
     ensures first { IfErr result (Refuses bytes.now) }

@@ -6,11 +6,14 @@ ghost use Rattle.world_reader.specs.Cells.{AreLists, AreNonZero, onto, IsStoreOf
 
 use crate::list::CellLists;
 use spec_ledger::Lock;
-use std::alloc::Global;
+use std::alloc::Allocator;
 use storage::{Cells, NoMemory};
 
 /// Puts cells into a store, the last first.
-fn put_cells(store: &mut Cells, cells: Vec<(Lock, u64)>) -> Result<(), NoMemory>
+fn put_cells<A: Allocator + Copy>(
+    store: &mut Cells<A>,
+    cells: Vec<(Lock, u64), A>,
+) -> Result<(), NoMemory>
     requires { AreNonZero cells.items }
     ensures { OnOk result (store.new.cells ≡ onto cells.items store.old.cells) }
 {
@@ -22,7 +25,10 @@ fn put_cells(store: &mut Cells, cells: Vec<(Lock, u64)>) -> Result<(), NoMemory>
 }
 
 /// The store of two lists of cells.
-pub(crate) fn store_of(alloc: Global, lists: CellLists) -> Result<Cells, NoMemory>
+pub(crate) fn store_of<A: Allocator + Copy>(
+    alloc: A,
+    lists: CellLists<A>,
+) -> Result<Cells<A>, NoMemory>
     requires { AreLists (lists.maps.items, lists.counters.items) }
     ensures store { IfOk result (λ cells. IsStoreOf cells.cells (lists.maps.items, lists.counters.items)) }
     ensures size { IfOk result (λ cells. length (finite.entries cells.cells) < 2 ^ 64) }
@@ -35,7 +41,7 @@ pub(crate) fn store_of(alloc: Global, lists: CellLists) -> Result<Cells, NoMemor
 }
 
 /// A store has so many cells at most.
-fn note_size(store: &Cells)
+fn note_size<A: Allocator + Copy>(store: &Cells<A>)
     ensures { length (finite.entries store.now.cells) < 2 ^ 64 }
 {
     let _entries = store.entries();

@@ -12,3 +12,6 @@ pub returns-clause-refused : goal.returns-clause-refused
 returns-clause-refused g c =
     let text = c.args.text.now in
     no_fields text (views text c.in_ok-tokens.tokens.items.items) c.no_text_lexes_to_two_lists.ensures c.in_ok-tokens.ensures.lexes (rw c.in-Err-Unexpected.field-0-is at c.in-Err-Unexpected.ensures.refused)
+
+pub returns-clause-why : goal.returns-clause-why
+returns-clause-why g c = record { tokens = views c.args.text.now c.in_ok-tokens.tokens.items.items; lexes = c.in_ok-tokens.ensures.lexes; no_text = rw c.in-Err-Unexpected.field-0-is at c.in-Err-Unexpected.ensures.refused }

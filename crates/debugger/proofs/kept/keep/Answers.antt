@@ -1,20 +1,24 @@
-use Rattle.std.proofs.Common.{◌∷◌, [], ◌++◌, arith, subst, sym}
-use Rattle.std.proofs.lemmas.List.Elements.{All-same, All-push}
-use Rattle.debugger.specs.Keeping.{IsOfRun, AreKept}
+use Rattle.std.proofs.Common.{◌≡◌, refl, sym, ap, ◌∙◌, arith}
+use Rattle.debugger.specs.Keeping.{next_turns}
 use Rattle.debugger.proofs.Keeping.{copy_of_run}
+use Rattle.debugger.proofs.Spacing.{kept_same, kept_more, kept_half}
 use Rattle.debugger.proofs.kept.keep.Goals as goal
 
-pub returns-in_err-push : goal.returns-in_err-push
-returns-in_err-push g c = subst (AreKept c.args.here.now) (sym c.in_err-push.ensures.items) c.make_room.ensures.kept
+pub returns-in_err-push-clause-kept : goal.returns-in_err-push-clause-kept
+returns-in_err-push-clause-kept g c = kept_same c.args.here.now c.args.kept.now c.requires.kept _ c.in_err-push.ensures.items refl refl
 
-pub returns : goal.returns
-returns g c =
-    let here = c.args.here.now in
+pub returns-in_ok-push-clause-kept : goal.returns-in_ok-push-clause-kept
+returns-in_ok-push-clause-kept g c =
     let next = c.in_ok-copy.field-0 in
-    let xs = c.make_room.new.kept.cursors.items in
     let o = c.push.new.self.ok.0 in
-    record {
-      all = All-same (IsOfRun here) c.push.new.self.items (xs ++ next ∷ []) c.in_ok-push.ensures.items
-          (All-push (IsOfRun here) xs next c.make_room.ensures.kept.all (copy_of_run here c.args.cursor.now next c.requires.cursor c.in_ok-copy.ensures));
-      few = omega (arith, o, c.in_ok-push.ensures.len, c.make_room.ensures.room);
-    }
+    let same : next.machine.used ≡ c.args.cursor.now.machine.used = ap (λ p. p.used) c.in_ok-copy.ensures.machine in
+    let due : next.machine.used ≡ next_turns c.args.kept.now = omega (arith, same, c.used-turns.ensures, c.requires.reached, c.if-turns-kept.false, c.if-turns-kept-2.false) in
+    kept_more c.args.here.now c.args.kept.now c.requires.kept _ next (copy_of_run c.args.here.now c.args.cursor.now next c.requires.cursor c.in_ok-copy.ensures) due
+    c.in_ok-push.ensures.items (c.used-turns.ensures ∙ sym same) refl (omega (arith, o, c.in_ok-push.ensures.len, c.len.ensures, c.if-len-lt-MOST_KEPT.true))
+
+pub returns-else-len-lt-MOST_KEPT-clause-kept : goal.returns-else-len-lt-MOST_KEPT-clause-kept
+returns-else-len-lt-MOST_KEPT-clause-kept g c =
+    let before = c.args.kept.now.cursors.ok.0 in
+    let after = c.thin.new.cursors.ok.0 in
+    kept_half c.args.here.now c.args.kept.now c.requires.kept _ (omega (arith, before, c.requires.kept.few, c.len.ensures, c.if-len-lt-MOST_KEPT.false))
+    c.thin.ensures.all (omega (arith, after, c.thin.ensures.half)) c.thin.ensures.last c.thin.ensures.spaced refl (omega arith)

@@ -1,4 +1,4 @@
-use Rattle.std.proofs.Common.{ap, ◌∙◌, sym, inl}
+use Rattle.std.proofs.Common.{ap, ◌∙◌, sym, inl, le_trans}
 use Rattle.std.specs.Prelude.{Ok}
 use Rattle.debugger.proofs.Keeping.{moved_more, no_break_more}
 use Rattle.debugger.proofs.session.go_on.Goals as goal
@@ -14,6 +14,8 @@ loop-cursor-preserved g c =
     record {
       cursor = turn.cursor;
       kept = c.turn_and_keep.ensures.kept;
+      reached = turn.reached;
+      further = le_trans inside.further c.turn_and_keep.ensures.further;
       moved = inl (moved_more first last next inside.moved used);
       none = no_break_more c.args.breaks.now c.args.here.now next first.machine.used last.machine.used turn.cursor used (sym c.is_at_break.ensures ∙ c.if-is_at_break.false) inside.none;
     }

@@ -64,8 +64,8 @@ returns-in-GlobalSet-clause-led g c b safe suits =
     global_was_set k (view b p) safe (r.ordered b) n is c.in-GlobalSet.x here c.pop_top-value.new.stack.items c.pop_top-value.result _ c.pop_top-value.ensures.items
     (read_at p.instance.globals.items c.in-GlobalSet.x c.pop_top-value.result lt) _ refl refl refl refl refl
 
-pub execute_load-requires : goal.execute_load-requires
-execute_load-requires g c =
+pub execute_load-after-requires : goal.execute_load-after-requires
+execute_load-after-requires g c =
     let p = c.args.parts.now in
     let r = c.requires.ready in
     let n = c.requires.here.ordinal in
@@ -81,11 +81,11 @@ returns-in-Load-clause-led g c b safe suits =
     let n = c.requires.here.ordinal in
     let is = items_of c.args.rest.now in
     let here = c.requires.here.here ∙ ap (λ (o : PlainInstr). record { ordinal = n; instr = Plain o } ∷ is) c.in-Load.is in
-    load_led k (view b p) safe (r.ordered b) n is c.in-Load.operator c.in-Load.field-1 c.in-Load.offset here c.execute_load.result c.execute_load.new.stack.items c.execute_load.ensures
+    load_led k (view b p) safe (r.ordered b) n is c.in-Load.operator c.in-Load.field-1 c.in-Load.offset here c.execute_load-after.result c.execute_load-after.new.stack.items c.execute_load-after.ensures
     _ refl refl refl refl refl
 
-pub execute_store-requires : goal.execute_store-requires
-execute_store-requires g c =
+pub execute_store-after-requires : goal.execute_store-after-requires
+execute_store-after-requires g c =
     let p = c.args.parts.now in
     let r = c.requires.ready in
     let n = c.requires.here.ordinal in
@@ -100,13 +100,13 @@ returns-in-Store-clause-led g c =
     let n = c.requires.here.ordinal in
     let is = items_of c.args.rest.now in
     let here = c.requires.here.here ∙ ap (λ (o : PlainInstr). record { ordinal = n; instr = Plain o } ∷ is) c.in-Store.is in
-    let q : Parts g.row.A.Denot = record { code = c.args.rest; entries = p.entries; depth = p.depth; stack = c.execute_store.new.stack; locals = p.locals; instance = record { globals = p.instance.globals; memory = c.execute_store.new.memory; table = p.instance.table } } in
-    if_ok c.execute_store.result (λ a. DidStore c.in-Store.operator c.in-Store.offset p.instance.memory c.execute_store.new.memory p.stack.items a q.stack.items) (λ a. Led c.args.lent.now p a q)
+    let q : Parts g.row.A.Denot = record { code = c.args.rest; entries = p.entries; depth = p.depth; stack = c.execute_store-after.new.stack; locals = p.locals; instance = record { globals = p.instance.globals; memory = c.execute_store-after.new.memory; table = p.instance.table } } in
+    if_ok c.execute_store-after.result (λ a. DidStore c.in-Store.operator c.in-Store.offset p.instance.memory c.execute_store-after.new.memory p.stack.items a q.stack.items) (λ a. Led c.args.lent.now p a q)
     (λ a d b safe suits.
     let k = contract_of c.args.lent.now in
-    store_led k (view b p) safe (r.ordered b) n is c.in-Store.operator c.in-Store.field-1 c.in-Store.offset here p.instance.memory c.execute_store.new.memory refl a q.stack.items d
+    store_led k (view b p) safe (r.ordered b) n is c.in-Store.operator c.in-Store.field-1 c.in-Store.offset here p.instance.memory c.execute_store-after.new.memory refl a q.stack.items d
     (view b q) refl refl refl refl refl)
-    c.execute_store.ensures.did
+    c.execute_store-after.ensures.did
 
 pub returns-in_ok-push-in-MemorySize-clause-led : goal.returns-in_ok-push-in-MemorySize-clause-led
 returns-in_ok-push-in-MemorySize-clause-led g c b safe suits =

@@ -1,3 +1,4 @@
+use Rattle.std.proofs.Common.{◌∙◌, ap, ◌∷◌, ◌++◌, [], List}
 use Rattle.frames.specs.declared.parts.Entry.{Entry}
 use Rattle.frames.specs.declared.parts.Parts.{Parts}
 use Rattle.frames.specs.Views.{scope_of}
@@ -7,6 +8,6 @@ use Rattle.frames.proofs.blocks.open.Goals as goal
 pub returns-clause-counted : goal.returns-clause-counted
 returns-clause-counted g c =
     let p = c.args.parts.now in
-    let q : Parts g.row.A.Denot = record { code = c.args.body; entries = c.push.new.self; depth = p.depth; stack = p.stack; locals = p.locals; instance = p.instance } in
+    let q : Parts g.row.A.Denot = record { code = c.args.body; entries = c.push_reserved.new.self; depth = p.depth; stack = p.stack; locals = p.locals; instance = p.instance } in
     let e : Entry g.row.A.Denot = record { kind = c.args.kind; ordinal = c.args.ordinal; arity = c.args.arity; height = c.len-height.result; from = c.args.from } in
-    pushed_counted p q e c.in_ok-push.ensures.items c.requires.counted c.requires.body_numbered c.requires.from_numbered (label_depth (scope_of c.args.kind) p.depth c.requires.label) c.requires.counted.few
+    pushed_counted p q e (c.push_reserved.ensures.items ∙ ap (λ (es : List (Entry g.row.A.Denot)). es ++ e ∷ []) c.reserve.ensures.items) c.requires.counted c.requires.body_numbered c.requires.from_numbered (label_depth (scope_of c.args.kind) p.depth c.requires.label) c.requires.counted.few

@@ -14,3 +14,6 @@ loop-part-preserved g c =
       parts = (All-pop (λ part. IfOk part (AreRuns (contracts_view c.args.contracts.now) c.args.calls.now)) c.loop-part.parts.items c.pop.new.self.items (Some c.in-Some.part) c.in-Some.ensures.items c.loop-part.invariant.parts).0;
       all = c.take_part-lacked.ensures;
     }
+
+pub returns : goal.returns
+returns g c = c.loop-part.invariant.all c.if-lacked.false

@@ -4,7 +4,7 @@ use Rattle.spec_block.specs.Verdicts.{IsVerdictOf}
 use Rattle.validator.specs.Judged.{told_by}
 use Rattle.wblock_blocks.specs.Inputs.{HoldsWorld, HoldsCalls, Gives, IsNextInput}
 use Rattle.wblock_blocks.specs.Validates.{IsNextFile}
-use Rattle.wblock_blocks.proofs.Faults.{of_file_weaker}
+use Rattle.wblock_line.specs.FaultLaws.{of_file_weaker}
 use Rattle.world.specs.Views.{world_view}
 use Rattle.wblock_blocks.proofs.validate.validate_block.Goals as goal
 

@@ -1,7 +1,12 @@
 use Rattle.std.proofs.Common.{sym, subst, inr, ◌∙◌, MatchOption}
 use Rattle.wblock_commands.specs.Does.{Answers, Misses}
 use Rattle.wblock_line.specs.Answers.{IsPerformed, IsCut}
+use Rattle.wblock_commands.proofs.Saying.{says_why}
 use Rattle.wblock_commands.proofs.line.run_command.Goals as goal
+
+pub returns-in-Ok-Some-clause-explained : goal.returns-in-Ok-Some-clause-explained
+returns-in-Ok-Some-clause-explained g c = λ r t.
+    says_why c.in-Ok-Some.answer (g.E.Sink.told c.args.err.now) (g.E.Sink.told c.carry_out.new.err) (g.E.Sink.failures c.args.err.now) (g.E.Sink.failures c.carry_out.new.err) (sym (c.carry_out.ensures.status (λ e. absurd (cc))) ∙ r) (c.carry_out.ensures.explained r t)
 
 pub returns-in-Ok-Some-clause-done : goal.returns-in-Ok-Some-clause-done
 returns-in-Ok-Some-clause-done g c = λ d f t. record {

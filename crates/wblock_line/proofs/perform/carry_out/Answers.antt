@@ -1,7 +1,12 @@
-use Rattle.std.proofs.Common.{List, codes, map, refl, inr, subst}
+use Rattle.std.proofs.Common.{ℕ, List, [], ◌∷◌, ◌++◌, codes, map, refl, inr, subst}
 use Rattle.codec.specs.Putting.{IsCutShort}
-use Rattle.wblock_line.specs.Answers.{Wrote, write_of}
+use Rattle.wblock_line.specs.Answers.{Wrote, IsSaid, write_of}
 use Rattle.wblock_line.proofs.perform.carry_out.Goals as goal
+
+pub returns-in-Refused-clause-explained : goal.returns-in-Refused-clause-explained
+returns-in-Refused-clause-explained g c = λ r t.
+    rw c.in-Refused.is
+    (subst (λ (why : List ℕ). IsSaid (why ++ 10 ∷ []) (g.E.Sink.told c.args.err.now) (g.E.Sink.told c.print_refusal.new.err) (g.E.Sink.failures c.args.err.now) (g.E.Sink.failures c.print_refusal.new.err)) c.as_str-in-Refused-2.ensures.value (c.print_refusal.ensures.explained r t))
 
 pub returns-in_default-clause-cut : goal.returns-in_default-clause-cut
 returns-in_default-clause-cut g c = λ d f t. (
@@ -20,7 +25,7 @@ returns-in-Refused-clause-cut g c = λ d f t. (
   rw c.in-Refused.is (inr (record {
     output = refl;
     wrote = refl;
-    told = subst (IsCutShort (g.O.Sink.told c.args.out.now) (g.O.Sink.told c.print_text-in-Refused.new.out)) c.as_str-in-Refused.ensures.value (c.print_text-in-Refused.ensures.cut d t);
+    told = subst (IsCutShort (g.O.Sink.told c.args.out.now) (g.O.Sink.told c.print_refusal.new.out)) c.as_str-in-Refused.ensures.value (c.print_refusal.ensures.cut d t);
   })),
-  c.print_text-in-Refused.ensures.said d,
+  c.print_refusal.ensures.said d,
 )

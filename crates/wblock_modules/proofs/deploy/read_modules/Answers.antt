@@ -5,7 +5,7 @@ use Rattle.link.specs.Parts.{tree_of, hosts_of}
 use Rattle.wblock_line.specs.Modules.{IsContractOf}
 use Rattle.wblock_modules.proofs.Reading.{none, held_next, is_next}
 use Rattle.wblock_modules.specs.Deploys.{IsNextModule}
-use Rattle.wblock_modules.proofs.Faults.{of_file_weaker}
+use Rattle.wblock_line.specs.FaultLaws.{of_file_weaker}
 use Rattle.wblock_modules.proofs.deploy.read_modules.Goals as goal
 
 pub loop-number-preserved : goal.loop-number-preserved

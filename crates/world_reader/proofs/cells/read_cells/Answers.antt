@@ -15,9 +15,9 @@ only_memory TooLarge x h = absurd cc
 only_memory NoMemory x h = refl
 
 pub returns-in-Err-clause-only : goal.returns-in-Err-clause-only
-returns-in-Err-clause-only c = λ cells rest are is.
+returns-in-Err-clause-only g c = λ cells rest are is.
     only_memory c.in-Err.fault ((these is_map (entries cells), these is_counter (entries cells)), rest) (c.in-Err.ensures.only (these is_map (entries cells), these is_counter (entries cells)) rest (lists_of cells are.each are.size) is)
 
 pub returns-in-Ok-store_of-clause-only : goal.returns-in-Ok-store_of-clause-only
-returns-in-Ok-store_of-clause-only c = λ cells rest are is.
+returns-in-Ok-store_of-clause-only g c = λ cells rest are is.
     sym (ap (λ x. x.1) (ok_is _ _ (c.in-Ok.ensures.only (these is_map (entries cells), these is_counter (entries cells)) rest (lists_of cells are.each are.size) is)))

@@ -4,4 +4,4 @@ use Rattle.world_reader.specs.Reading.{AreRead}
 use Rattle.world_reader.proofs.contracts.contracts_of.Given as goal
 
 abbrev pub invariant-loop : goal.invariant-loop
-invariant-loop l = (vec_len l.contracts ≡ l.counter) × AreRead l.counter l.bytes (map contract_view l.contracts.items) l.rest
+invariant-loop g l = (vec_len l.contracts ≡ l.counter) × AreRead l.counter l.bytes (map contract_view l.contracts.items) l.rest

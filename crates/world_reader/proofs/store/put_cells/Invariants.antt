@@ -3,7 +3,7 @@ use Rattle.world_reader.specs.Cells.{onto, AreNonZero}
 use Rattle.world_reader.proofs.store.put_cells.Given as goal
 
 abbrev pub invariant-loop-lock : goal.invariant-loop-lock
-invariant-loop-lock l = AreNonZero l.cells.items × (onto l.cells.items l.store.cells ≡ onto l.fn.cells.items l.fn.store.cells)
+invariant-loop-lock g l = AreNonZero l.cells.items × (onto l.cells.items l.store.cells ≡ onto l.fn.cells.items l.fn.store.cells)
 
 abbrev pub decreases-loop-lock : goal.decreases-loop-lock
-decreases-loop-lock l = vec_len l.cells
+decreases-loop-lock g l = vec_len l.cells

@@ -1,4 +1,4 @@
-use Rattle.std.proofs.Common.{◌≡◌, set, true, false, refl, sym, subst}
+use Rattle.std.proofs.Common.{arith, ◌≡◌, set, true, false, refl, sym, subst}
 use Rattle.spec_ledger.specs.Book.{Content}
 use Rattle.std.specs.List.{AllByRecursion}
 use Rattle.spec_ledger.specs.Events.{OpDone, IsConflict, IsStale}
@@ -8,7 +8,7 @@ use Rattle.boost.proofs.book.Book.op.Goals as goal
 pub may_take-requires : goal.may_take-requires
 may_take-requires g c =
     let b : Content = record { opening = c.self.inside.opening.cells; now = c.self.inside.cells.cells; entries = c.self.inside.entries.items; attempts = c.self.inside.attempts.items; begun = c.self.inside.begun.items } in
-    call_row b c.self.inside.cells.unsettled c.self.inside.locks c.self.inside.standings.items c.self.invariant c.args.ticket.now.call c.args.ticket.now.number c.in-Some.i c.deref.result.now c.deref.ensures.value c.in-Some.ensures.found
+    call_row b c.self.inside.cells.unsettled c.self.inside.locks c.self.inside.standings.items c.self.invariant.0 c.args.ticket.now.call c.args.ticket.now.number c.in-Some.i c.deref.result.now c.deref.ensures.value c.in-Some.ensures.found
 
 pub returns-in_default-clause-conflict : goal.returns-in_default-clause-conflict
 returns-in_default-clause-conflict g c =
@@ -26,8 +26,8 @@ returns-then-not-may_take-clause-conflict g c =
     let b : Content = record { opening = c.self.inside.opening.cells; now = c.self.inside.cells.cells; entries = c.self.inside.entries.items; attempts = c.self.inside.attempts.items; begun = c.self.inside.begun.items } in (
       λ _.
           subst (λ x. IsConflict x c.args.ticket.now.call c.args.ticket.now.number c.args.op) c.self.view_is
-          (conflict_here b c.self.inside.cells.unsettled c.self.inside.locks c.self.inside.standings.items c.self.invariant c.args.ticket.now.call c.args.ticket.now.number c.in-Some.i c.deref.result.now c.deref.ensures.value c.in-Some.ensures.found c.args.op
-          (λ h. let no : false ≡ true = c.if-not-may_take.ensures.1 ((granted_here b c.self.inside.cells.unsettled c.self.inside.locks c.self.inside.standings.items c.self.invariant c.args.ticket.now.call c.args.ticket.now.number c.in-Some.i c.deref.result.now c.deref.ensures.value c.in-Some.ensures.found
+          (conflict_here b c.self.inside.cells.unsettled c.self.inside.locks c.self.inside.standings.items c.self.invariant.0 c.args.ticket.now.call c.args.ticket.now.number c.in-Some.i c.deref.result.now c.deref.ensures.value c.in-Some.ensures.found c.args.op
+          (λ h. let no : false ≡ true = c.if-not-may_take.ensures.1 ((granted_here b c.self.inside.cells.unsettled c.self.inside.locks c.self.inside.standings.items c.self.invariant.0 c.args.ticket.now.call c.args.ticket.now.number c.in-Some.i c.deref.result.now c.deref.ensures.value c.in-Some.ensures.found
           c.args.op c.lock.result c.mode.result c.lock.ensures c.mode.ensures).1 h) in cc)),
       λ _. refl,
     )
@@ -37,8 +37,8 @@ returns-in_default-act-clause-conflict g c =
     let b : Content = record { opening = c.self.inside.opening.cells; now = c.self.inside.cells.cells; entries = c.self.inside.entries.items; attempts = c.self.inside.attempts.items; begun = c.self.inside.begun.items } in (
       λ e. cc,
       λ h. absurd
-          (no_conflict b c.self.inside.cells.unsettled c.self.inside.locks c.self.inside.standings.items c.self.invariant c.args.ticket.now.call c.args.ticket.now.number c.in-Some.i c.deref.result.now c.deref.ensures.value c.in-Some.ensures.found c.args.op
-          ((granted_here b c.self.inside.cells.unsettled c.self.inside.locks c.self.inside.standings.items c.self.invariant c.args.ticket.now.call c.args.ticket.now.number c.in-Some.i c.deref.result.now c.deref.ensures.value c.in-Some.ensures.found
+          (no_conflict b c.self.inside.cells.unsettled c.self.inside.locks c.self.inside.standings.items c.self.invariant.0 c.args.ticket.now.call c.args.ticket.now.number c.in-Some.i c.deref.result.now c.deref.ensures.value c.in-Some.ensures.found c.args.op
+          ((granted_here b c.self.inside.cells.unsettled c.self.inside.locks c.self.inside.standings.items c.self.invariant.0 c.args.ticket.now.call c.args.ticket.now.number c.in-Some.i c.deref.result.now c.deref.ensures.value c.in-Some.ensures.found
           c.args.op c.lock.result c.mode.result c.lock.ensures c.mode.ensures).0 (c.if-not-may_take.ensures.0 refl))
           (subst (λ x. IsConflict x c.args.ticket.now.call c.args.ticket.now.number c.args.op) (sym c.self.view_is) h)),
     )
@@ -48,8 +48,8 @@ returns-clause-conflict g c =
     let b : Content = record { opening = c.self.inside.opening.cells; now = c.self.inside.cells.cells; entries = c.self.inside.entries.items; attempts = c.self.inside.attempts.items; begun = c.self.inside.begun.items } in (
       λ e. cc,
       λ h. absurd
-          (no_conflict b c.self.inside.cells.unsettled c.self.inside.locks c.self.inside.standings.items c.self.invariant c.args.ticket.now.call c.args.ticket.now.number c.in-Some.i c.deref.result.now c.deref.ensures.value c.in-Some.ensures.found c.args.op
-          ((granted_here b c.self.inside.cells.unsettled c.self.inside.locks c.self.inside.standings.items c.self.invariant c.args.ticket.now.call c.args.ticket.now.number c.in-Some.i c.deref.result.now c.deref.ensures.value c.in-Some.ensures.found
+          (no_conflict b c.self.inside.cells.unsettled c.self.inside.locks c.self.inside.standings.items c.self.invariant.0 c.args.ticket.now.call c.args.ticket.now.number c.in-Some.i c.deref.result.now c.deref.ensures.value c.in-Some.ensures.found c.args.op
+          ((granted_here b c.self.inside.cells.unsettled c.self.inside.locks c.self.inside.standings.items c.self.invariant.0 c.args.ticket.now.call c.args.ticket.now.number c.in-Some.i c.deref.result.now c.deref.ensures.value c.in-Some.ensures.found
           c.args.op c.lock.result c.mode.result c.lock.ensures c.mode.ensures).0 (c.if-not-may_take.ensures.0 refl))
           (subst (λ x. IsConflict x c.args.ticket.now.call c.args.ticket.now.number c.args.op) (sym c.self.view_is) h)),
     )
@@ -57,39 +57,41 @@ returns-clause-conflict g c =
 pub act-requires-clause-call : goal.act-requires-clause-call
 act-requires-clause-call g c =
     let b : Content = record { opening = c.self.inside.opening.cells; now = c.self.inside.cells.cells; entries = c.self.inside.entries.items; attempts = c.self.inside.attempts.items; begun = c.self.inside.begun.items } in
-    row_of b c.self.inside.cells.unsettled c.self.inside.locks c.self.inside.standings.items c.self.invariant c.args.ticket.now.call c.args.ticket.now.number c.in-Some.i c.deref.result.now c.deref.ensures.value c.in-Some.ensures.found
+    row_of b c.self.inside.cells.unsettled c.self.inside.locks c.self.inside.standings.items c.self.invariant.0 c.args.ticket.now.call c.args.ticket.now.number c.in-Some.i c.deref.result.now c.deref.ensures.value c.in-Some.ensures.found
     c.index_mut.result.now c.index_mut.ensures.value
 
 pub act-requires-clause-counts : goal.act-requires-clause-counts
 act-requires-clause-counts g c =
     let b : Content = record { opening = c.self.inside.opening.cells; now = c.self.inside.cells.cells; entries = c.self.inside.entries.items; attempts = c.self.inside.attempts.items; begun = c.self.inside.begun.items } in
-    AreCounts-here b c.self.inside.cells.unsettled c.self.inside.locks c.self.inside.standings.items c.self.invariant c.args.ticket.now.call c.args.ticket.now.number c.in-Some.i c.deref.result.now c.deref.ensures.value c.in-Some.ensures.found
+    AreCounts-here b c.self.inside.cells.unsettled c.self.inside.locks c.self.inside.standings.items c.self.invariant.0 c.args.ticket.now.call c.args.ticket.now.number c.in-Some.i c.deref.result.now c.deref.ensures.value c.in-Some.ensures.found
 
 pub invariant_of-self-2 : goal.invariant_of-self-2
 invariant_of-self-2 g c =
-    let b : Content = record { opening = c.self.inside.opening.cells; now = c.self.inside.cells.cells; entries = c.self.inside.entries.items; attempts = c.self.inside.attempts.items; begun = c.self.inside.begun.items } in
-    IsBook-op b c.self.inside.cells.unsettled c.self.inside.locks c.self.inside.standings.items c.self.invariant c.args.ticket.now.call c.args.ticket.now.number c.in-Some.i c.deref.result.now c.deref.ensures.value c.in-Some.ensures.found c.args.op
-    ((granted_here b c.self.inside.cells.unsettled c.self.inside.locks c.self.inside.standings.items c.self.invariant c.args.ticket.now.call c.args.ticket.now.number c.in-Some.i c.deref.result.now c.deref.ensures.value c.in-Some.ensures.found
-    c.args.op c.lock.result c.mode.result c.lock.ensures c.mode.ensures).0 (c.if-not-may_take.ensures.0 refl))
-    c.act.new.self
-    (extended_here b c.self.inside.cells.unsettled c.self.inside.locks c.self.inside.standings.items c.self.invariant c.args.ticket.now.call c.args.ticket.now.number c.in-Some.i c.deref.result.now c.deref.ensures.value c.in-Some.ensures.found
-    c.args.op c.act.new.self c.index_mut.result.now c.index_mut.ensures.value c.in-Ok.ensures.attempt)
-    c.act.new.cells.cells c.in-Ok.ensures.cells c.act.new.cells.unsettled c.in-Ok.ensures.unsettled
-    c.index_mut.result.now c.index_mut.ensures.value c.act.new.locks c.in-Ok.ensures.locks
+    let b : Content = record { opening = c.self.inside.opening.cells; now = c.self.inside.cells.cells; entries = c.self.inside.entries.items; attempts = c.self.inside.attempts.items; begun = c.self.inside.begun.items } in (
+      IsBook-op b c.self.inside.cells.unsettled c.self.inside.locks c.self.inside.standings.items c.self.invariant.0 c.args.ticket.now.call c.args.ticket.now.number c.in-Some.i c.deref.result.now c.deref.ensures.value c.in-Some.ensures.found c.args.op
+          ((granted_here b c.self.inside.cells.unsettled c.self.inside.locks c.self.inside.standings.items c.self.invariant.0 c.args.ticket.now.call c.args.ticket.now.number c.in-Some.i c.deref.result.now c.deref.ensures.value c.in-Some.ensures.found
+          c.args.op c.lock.result c.mode.result c.lock.ensures c.mode.ensures).0 (c.if-not-may_take.ensures.0 refl))
+          c.act.new.self
+          (extended_here b c.self.inside.cells.unsettled c.self.inside.locks c.self.inside.standings.items c.self.invariant.0 c.args.ticket.now.call c.args.ticket.now.number c.in-Some.i c.deref.result.now c.deref.ensures.value c.in-Some.ensures.found
+          c.args.op c.act.new.self c.index_mut.result.now c.index_mut.ensures.value c.in-Ok.ensures.attempt)
+          c.act.new.cells.cells c.in-Ok.ensures.cells c.act.new.cells.unsettled c.in-Ok.ensures.unsettled
+          c.index_mut.result.now c.index_mut.ensures.value c.act.new.locks c.in-Ok.ensures.locks,
+      omega (arith, c.self.invariant.1),
+    )
 
 pub returns-clause-ok : goal.returns-clause-ok
 returns-clause-ok g c =
     let b : Content = record { opening = c.self.inside.opening.cells; now = c.self.inside.cells.cells; entries = c.self.inside.entries.items; attempts = c.self.inside.attempts.items; begun = c.self.inside.begun.items } in
     subst (λ x. OpDone x (record { opening = c.self.inside.opening.cells; now = c.act.new.cells.cells; entries = c.self.inside.entries.items; attempts = set c.self.inside.attempts.items c.in-Some.i c.act.new.self; begun = c.self.inside.begun.items }) c.args.ticket.now.call c.args.ticket.now.number c.args.op c.in-Ok.reply) c.self.view_is
-    (OpDone-op b c.self.inside.cells.unsettled c.self.inside.locks c.self.inside.standings.items c.self.invariant c.args.ticket.now.call c.args.ticket.now.number c.in-Some.i c.deref.result.now c.deref.ensures.value c.in-Some.ensures.found c.args.op
-    ((granted_here b c.self.inside.cells.unsettled c.self.inside.locks c.self.inside.standings.items c.self.invariant c.args.ticket.now.call c.args.ticket.now.number c.in-Some.i c.deref.result.now c.deref.ensures.value c.in-Some.ensures.found
+    (OpDone-op b c.self.inside.cells.unsettled c.self.inside.locks c.self.inside.standings.items c.self.invariant.0 c.args.ticket.now.call c.args.ticket.now.number c.in-Some.i c.deref.result.now c.deref.ensures.value c.in-Some.ensures.found c.args.op
+    ((granted_here b c.self.inside.cells.unsettled c.self.inside.locks c.self.inside.standings.items c.self.invariant.0 c.args.ticket.now.call c.args.ticket.now.number c.in-Some.i c.deref.result.now c.deref.ensures.value c.in-Some.ensures.found
     c.args.op c.lock.result c.mode.result c.lock.ensures c.mode.ensures).0 (c.if-not-may_take.ensures.0 refl))
     c.act.new.self
-    (extended_here b c.self.inside.cells.unsettled c.self.inside.locks c.self.inside.standings.items c.self.invariant c.args.ticket.now.call c.args.ticket.now.number c.in-Some.i c.deref.result.now c.deref.ensures.value c.in-Some.ensures.found
+    (extended_here b c.self.inside.cells.unsettled c.self.inside.locks c.self.inside.standings.items c.self.invariant.0 c.args.ticket.now.call c.args.ticket.now.number c.in-Some.i c.deref.result.now c.deref.ensures.value c.in-Some.ensures.found
     c.args.op c.act.new.self c.index_mut.result.now c.index_mut.ensures.value c.in-Ok.ensures.attempt)
     c.act.new.cells.cells c.in-Ok.ensures.cells c.in-Ok.reply c.in-Ok.ensures.reply)
 
 pub find-requires : goal.find-requires
 find-requires g c =
     let b : Content = record { opening = c.self.inside.opening.cells; now = c.self.inside.cells.cells; entries = c.self.inside.entries.items; attempts = c.self.inside.attempts.items; begun = c.self.inside.begun.items } in
-    are_standing b c.self.inside.cells.unsettled c.self.inside.locks c.self.inside.standings.items c.self.invariant c.deref.result.now c.deref-2.result.now c.deref.ensures.value c.deref-2.ensures.value
+    are_standing b c.self.inside.cells.unsettled c.self.inside.locks c.self.inside.standings.items c.self.invariant.0 c.deref.result.now c.deref-2.result.now c.deref.ensures.value c.deref-2.ensures.value

@@ -16,4 +16,4 @@ returns-in-Ok-clause-opened g c =
 
 pub invariant_of-result : goal.invariant_of-result
 invariant_of-result g c =
-    kept_first c.in_ok-origin.origin c.in-Ok.here c.none_kept.result.cursors.items c.in_ok-origin.ensures.at c.in_ok-origin.ensures.opened.none c.in-Ok.ensures c.none_kept.ensures
+    kept_first c.in_ok-origin.origin c.in-Ok.here c.none_kept.result c.in_ok-origin.ensures.at c.in_ok-origin.ensures.opened.none c.in-Ok.ensures c.none_kept.ensures.none c.none_kept.ensures.last c.none_kept.ensures.distance

@@ -1,0 +1,12 @@
+use Rattle.std.proofs.Common.{◌-◌}
+use Rattle.interp.specs.Progress.{IsSameCall, IsFree}
+use Rattle.bench.proofs.runs.run_to_end.Given as goal
+
+abbrev pub invariant-turns : goal.invariant-turns
+invariant-turns g l = record {
+  same : IsSameCall l.fn.machine l.machine;
+  free : IsFree l.machine.status;
+}
+
+abbrev pub decreases-turns : goal.decreases-turns
+decreases-turns g l = l.machine.call.fuel - l.machine.used

@@ -1,0 +1,14 @@
+use Rattle.std.proofs.Common.{All, IfSome, length}
+use Rattle.interp.specs.Lent.{contracts_view}
+use Rattle.publish.specs.Adoption.{AreMade}
+use Rattle.mining.specs.Handed.{IsCommitted}
+use Rattle.mining.proofs.outcome.apart.Given as goal
+
+abbrev pub invariant-loop-place : goal.invariant-loop-place
+invariant-loop-place g l = record {
+  left : All (λ place. IfSome place (IsCommitted (contracts_view l.contracts) l.calls)) l.places.items;
+  made : AreMade (contracts_view l.contracts) l.calls l.runs.items l.touched.items;
+}
+
+abbrev pub decreases-loop-place : goal.decreases-loop-place
+decreases-loop-place g l = length l.places.items

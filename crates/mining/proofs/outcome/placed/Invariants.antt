@@ -1,0 +1,14 @@
+use Rattle.std.proofs.Common.{◌≡◌, All, IfSome, length}
+use Rattle.interp.specs.Lent.{contracts_view}
+use Rattle.mining.specs.Handed.{AreAllRuns, IsCommitted}
+use Rattle.mining.proofs.outcome.placed.Given as goal
+
+abbrev pub invariant-loop-run : goal.invariant-loop-run
+invariant-loop-run g l = record {
+  left : AreAllRuns (contracts_view l.contracts) l.calls l.committed.items;
+  placed : All (λ place. IfSome place (IsCommitted (contracts_view l.contracts) l.calls)) l.places.items;
+  long : length l.places.items ≡ l.count;
+}
+
+abbrev pub decreases-loop-run : goal.decreases-loop-run
+decreases-loop-run g l = length l.committed.items

@@ -1,0 +1,3 @@
+mod Gathering
+mod Together
+mod Walks

@@ -1,0 +1,51 @@
+// Which shard a lock belongs to, and whether a trace is a shard's part of another.
+ghost use Rattle.std.specs.Prelude.{◌≡◌, ◌<◌, [], IsTrue, ◌↔◌, false};
+ghost use Rattle.spec_shards.specs.Shards.{part, shard_of};
+
+use boost::trace::same_step;
+use spec_ledger::{Lock, Outcome, Step};
+use storage::lock;
+
+/// The shard of a lock, of so many: contract and key added modulo 2^64, then modulo the number of shards.
+pub fn home(lock: Lock, shards: u32) -> u32
+    requires { 0 < shards }
+    ensures { result ≡ shard_of shards lock }
+{
+    let sum = u64::from(lock.contract).wrapping_add(lock.key);
+    (sum % u64::from(shards)) as u32
+}
+
+pub(crate) fn same_outcome(a: Outcome, b: Outcome) -> bool
+    ensures { IsTrue result ↔ (a ≡ b) }
+{
+    a == b
+}
+
+/// Whether these steps are a shard's part of a trace: those at its locks, in order.
+pub fn is_part(own: &[Step], trace: &[Step], shard: u32, shards: u32) -> bool
+    requires { 0 < shards }
+    ensures { IsTrue result ↔ (own.now ≡ part (shard_of shards) shard trace.now) }
+{
+    let mut next = 0;
+    for step in trace {
+        if home(lock(step.op), shards) != shard {
+            continue;
+        }
+        if next >= own.len() {
+            return false;
+        }
+        if !same_step(own[next], *step) {
+            return false;
+        }
+        next += 1;
+    }
+    next == own.len()
+}
+
+/// Whether a trace has a step at a lock of a shard.
+pub(crate) fn touches(trace: &[Step], shard: u32, shards: u32) -> bool
+    requires { 0 < shards }
+    ensures { (result ≡ false) ↔ ([] ≡ part (shard_of shards) shard trace.now) }
+{
+    !is_part(&[], trace, shard, shards)
+}

@@ -1,0 +1,120 @@
+//! Modules in binary that are refused.
+
+ghost use Rattle.std.specs.Prelude.{◌++◌, IfOk, codes, decimal, string_bytes};
+ghost use Rattle.wblock_words.specs.Sentences.{Begins, broken_place};
+
+use crate::places::{shown, told};
+use body_typing::rule::Rule;
+use module_tree::limit::Limit;
+use std::alloc::{AllocError, Global};
+
+/// The sentence of a limit on modules that is passed.
+pub fn limit_words(alloc: Global, limit: Limit) -> Result<String, AllocError> {
+    format!(in alloc;
+        "a limit of this profile is passed: {limit} are the most; make the module smaller"
+    )
+}
+
+/// The sentence of a file that is no module, at this byte: because of a form that the profile leaves out, or of one that is none.
+pub fn form_words(alloc: Global, at: usize, left_out: bool) -> Result<String, AllocError>
+    ensures { IfOk result (λ s. Begins (codes "byte " ++ decimal at) (string_bytes s)) }
+{
+    let said = if left_out {
+        ": a form of the standard that this profile leaves out: `f32`, `f64` and their instructions; compile without floating point"
+    } else {
+        ": the bytes are no module: the item that begins here is cut off, or is not what the binary format has here; a module in text is assembled first, by `asm`"
+    };
+    told(alloc, "byte ", at, said)
+}
+
+/// What is said of a rule that is broken in a function, which is exported by this name, at this instruction.
+fn function_fault(
+    alloc: Global,
+    rule: Rule,
+    name: Option<&str>,
+    ordinal: u32,
+) -> Result<String, AllocError> {
+    match name {
+        Some(name) => {
+            let name = shown(name);
+            format!(in alloc;
+                ", `{name}`, instruction {ordinal}: {rule}; functions and instructions count from 0, imports first"
+            )
+        }
+        None => format!(in alloc;
+            ", instruction {ordinal}: {rule}; functions and instructions count from 0, imports first"
+        ),
+    }
+}
+
+/// The sentence of a module that breaks this rule, in this function, imports counted first, which is exported by this name; or outside
+/// bodies. And at this instruction of it, or item of the list at fault.
+pub fn rule_words(
+    alloc: Global,
+    rule: Rule,
+    func: Option<u32>,
+    name: Option<&str>,
+    ordinal: u32,
+) -> Result<String, AllocError>
+    ensures { IfOk result (λ s. Begins (broken_place func ordinal) (string_bytes s)) }
+{
+    match func {
+        Some(func) => {
+            let said = function_fault(alloc, rule, name, ordinal)?;
+            told(alloc, "function ", func as usize, said.as_str())
+        }
+        None => {
+            let said = format!(in alloc; " of its list: {rule}; items count from 0")?;
+            told(alloc, "item ", ordinal as usize, said.as_str())
+        }
+    }
+}
+
+/// What is said of an import of these names.
+fn import_fault(alloc: Global, names: &str, has_call: bool) -> Result<String, AllocError> {
+    let names = shown(names);
+    if has_call {
+        return format!(in alloc;
+            ", {names}: it has another type than this host call; `get` and `total` are (param i64) (result i64), `has` and `del` (param i64) (result i32), `put` and `add` (param i64) (param i64)"
+        );
+    }
+    format!(in alloc;
+        ", {names}: it is no host call; a contract imports functions of the module `boost` alone: `get`, `has`, `put`, `del`, `add`, `total`"
+    )
+}
+
+/// The sentence of a module that cannot be a contract because of this import, of these names: its type is another than that of the host
+/// call, or there is no such host call.
+pub fn import_words(
+    alloc: Global,
+    import: u32,
+    names: &str,
+    has_call: bool,
+) -> Result<String, AllocError>
+    ensures { IfOk result (λ s. Begins (codes "import " ++ decimal import) (string_bytes s)) }
+{
+    let said = import_fault(alloc, names, has_call)?;
+    told(alloc, "import ", import as usize, said.as_str())
+}
+
+/// The sentence of a module that cannot be a contract because of this segment.
+pub fn segment_words(alloc: Global, segment: u32) -> Result<String, AllocError>
+    ensures { IfOk result (λ s. Begins (codes "segment " ++ decimal segment) (string_bytes s)) }
+{
+    told(
+        alloc,
+        "segment ",
+        segment as usize,
+        ": it ends past the least size of its table or memory; element segments count first, from 0",
+    )
+}
+
+/// The sentence of a module that cannot be a contract because of its memory, or of its table.
+pub fn room_words(alloc: Global, is_memory: bool) -> Result<String, AllocError> {
+    if is_memory {
+        return "the memory begins with more than 1,024 pages: give it a smaller least size".to_string(
+            alloc,
+        );
+    }
+    "the table begins with more than 65,536 elements: give it a smaller least size".to_string(alloc)
+}
