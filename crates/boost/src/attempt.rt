@@ -4,7 +4,7 @@ ghost use Rattle.spec_ledger.specs.Cells.{reply_to, cells_after, inverse_to};
 ghost use Rattle.spec_ledger.specs.Book.{extended, entry_of, fresh as fresh_of};
 ghost use Rattle.storage.specs.Counts.{AreCounts, opened};
 ghost use Rattle.spec_ledger.specs.Cells.{lock_cmp, lock_of};
-ghost use Rattle.spec_ledger.specs.Modes.{join_held, mode_of};
+ghost use Rattle.spec_ledger.specs.Modes.{join_held, mode_of, touched};
 ghost use Rattle.std.specs.FinMap as finite;
 ghost use Rattle.std.specs.Ordering.{eq_by_cmp};
 ghost use Rattle.abstract_locks.specs.Table.{asked, row_at};
@@ -38,6 +38,20 @@ impl<A: Allocator> Model for Entry<A> {
 }
 
 impl<A: Allocator> Entry<A> {
+    /// The entry of a call that did these operations with these replies, in order, and ended so.
+    pub fn of(call: u32, trace: Vec<Step, A>, outcome: Outcome) -> Self
+        ensures call { result.call ≡ call }
+        ensures trace { result.trace ≡ trace.items }
+        ensures outcome { result.outcome ≡ outcome }
+        ensures modes { result.modes ≡ touched trace.items }
+    {
+        Entry {
+            call,
+            trace,
+            outcome,
+        }
+    }
+
     /// The call's number.
     pub fn call(&self) -> u32
         ensures { result ≡ self.now.call }

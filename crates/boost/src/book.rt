@@ -332,6 +332,13 @@ impl<A: Allocator + Copy> Book<A> {
         ticket_in(&self.attempts, &self.standings, call)
     }
 
+    /// How many attempts live.
+    pub fn live_count(&self) -> usize
+        ensures { result ≡ length self.now.attempts }
+    {
+        self.attempts.len()
+    }
+
     /// What a cell holds now.
     pub fn cell(&self, lock: Lock) -> Option<u64>
         ensures { result ≡ finite.get self.now.now lock }

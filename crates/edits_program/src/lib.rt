@@ -1,9 +1,7 @@
-//! Functions of the program under their own contracts alone. Wrong bodies are tried on them.
+//! Functions of the program's commands under their own contracts alone. Wrong bodies are tried on them.
 #![tactic(auto)]
 
-pub mod answers;
 pub mod blocks;
 pub mod files;
-pub mod lines;
 pub mod modules;
 pub mod refusals;

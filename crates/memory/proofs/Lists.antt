@@ -1,6 +1,7 @@
 -- Lists of pages and the bytes that they stand for.
 use Rattle.std.proofs.Common.{◌≡◌, ℕ, zero, suc, ◌+◌, ◌-◌, ◌*◌, ◌/◌, ◌%◌, ◌^◌, ◌<◌, ◌≤◌, refl, sym, ap, ◌∙◌, arith, subst, length}
-use Rattle.std.specs.Prelude.{List, [], ◌∷◌, ◌++◌, Option, Some, MatchOption, slice_get, slice_set, slice_index, replicate, map, Vec, vec_len, take, drop, Bool, true, false, ◌==◌, ◌⊎◌, Ok, Err}
+use Rattle.std.proofs.lemmas.Option.{slice_get_read}
+use Rattle.std.specs.Prelude.{All, List, [], ◌∷◌, ◌++◌, Option, Some, MatchOption, slice_get, slice_set, slice_index, replicate, map, Vec, vec_len, take, drop, Bool, true, false, ◌==◌, ◌⊎◌, Ok, Err}
 use Rattle.wtypes.specs.declared.TrapCode.TheVariants.{MemoryOutOfBounds}
 use Rattle.std.proofs.lemmas.List.{drop_more, ext_get_or}
 use Rattle.std.proofs.lemmas.Grind.{common_steps}
@@ -15,7 +16,7 @@ use Rattle.spec_numeric.specs.Memory.{written, load}
 use Rattle.memory.specs.Linear.{Memory, Grown, pages}
 use Rattle.std.specs.Int.{cast_signed, w32, w64, to_le_bytes, bytes_low_first, byte_at as le_byte}
 use Rattle.std.proofs.lemmas.Int.{to_z_pos}
-use Rattle.memory.specs.Pages.{byte_of, byte_in, bytes_in, IsMade, number_in}
+use Rattle.memory.specs.Pages.{byte_of, byte_in, bytes_in, IsPage, IsMade, number_in}
 
 -- ---- one page replaced
 
@@ -76,6 +77,38 @@ is_zero (suc n) b e h = grind arith
 pub other : (n m : ℕ) (b : Bool) → b ≡ (n == 0) → b ≡ false → (n ≡ 0) ⊎ (n ≡ m) → n ≡ m
 other zero m b e h s = grind arith
 other (suc n) m b e h s = omega arith
+
+same_number : (f g : ℕ → ℕ) (n at bt : ℕ) → ((k : ℕ) → k < n → f (at + k) ≡ g (bt + k)) → number_in f at n ≡ number_in g bt n
+same_number f g zero at bt e = refl
+same_number f g (suc n) at bt e =
+    let start : at ≡ at + 0 = omega arith in
+    let start' : bt + 0 ≡ bt = omega arith in
+    let first : f at ≡ g bt = ap f start ∙ (e 0 (omega arith) ∙ ap g start') in
+    let rest : number_in f (at + 1) n ≡ number_in g (bt + 1) n = same_number f g n (at + 1) (bt + 1) (λ k l.
+    let next : at + 1 + k ≡ at + (k + 1) = omega arith in
+    let next' : bt + (k + 1) ≡ bt + 1 + k = omega arith in
+    ap f next ∙ (e (k + 1) (omega arith) ∙ ap g next')) in
+    λ i. first i + 256 * rest i
+
+-- the number lies in one page
+pub in_page : {A : Type 0} (ps : List (Vec ℕ A)) (at n : ℕ) (page : Vec ℕ A) → slice_get ps (at / page_size) ≡ Some page → at % page_size + n ≤ page_size
+    → number_in (slice_index page.items) (at % page_size) n ≡ number_in (byte_in ps) at n
+in_page ps at n page e h = same_number (slice_index page.items) (byte_in ps) n (at % page_size) at (λ k l.
+    let there : (at + k) / page_size ≡ at / page_size = omega arith in
+    let offset : (at + k) % page_size ≡ at % page_size + k = omega arith in
+    sym (ap (λ j. byte_of (slice_get ps j) ((at + k) % page_size)) there ∙ (ap (λ o. byte_of o ((at + k) % page_size)) e ∙ ap (slice_index page.items) offset)))
+
+not_longer : {A : Type 0} (page : Vec ℕ A) → IsPage page → vec_len page ≤ page_size
+not_longer page (inl e) = omega (arith, e)
+not_longer page (inr e) = omega (arith, e)
+
+-- the same of the page that was found at an index
+pub in_this : {A : Type 0} (ps ds : List (Vec ℕ A)) (at n : ℕ) (page : Vec ℕ A) → ds ≡ ps → All IsPage ps → at / page_size < length ds → page ≡ get_or ds (at / page_size) page → at % page_size + n ≤ vec_len page
+    → number_in (slice_index page.items) (at % page_size) n ≡ number_in (byte_in ps) at n
+in_this ps ds at n page e whole lt is fits =
+    let found : slice_get ps (at / page_size) ≡ Some page = ap (λ xs. slice_get xs (at / page_size)) (sym e) ∙ slice_get_read ds (length ds) (at / page_size) page refl lt is in
+    let one : IsPage page = subst IsPage (sym (is ∙ ap (λ xs. get_or xs (at / page_size) page) e)) (whole (at / page_size) page (subst (λ xs. at / page_size < length xs) e lt)) in
+    in_page ps at n page found (omega (arith, fits, not_longer page one))
 
 -- ---- load
 

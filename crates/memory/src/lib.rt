@@ -57,6 +57,71 @@ fn byte<A: Allocator>(pages: &Vec<Vec<u8, A>, A>, at: usize) -> u8
     }
 }
 
+/// A byte of a page as a number.
+#[inline(always)]
+fn one(page: &[u8], at: usize) -> u64
+    requires { at + 1 ≤ length page.now }
+    ensures value { result ≡ number_in (slice_index page.now) at 1 }
+    ensures below { result < 256 ^ 1 }
+{
+    u64::from(page[at])
+}
+
+/// The number that two bytes of a page spell, the lowest first.
+#[inline(always)]
+fn two(page: &[u8], at: usize) -> u64
+    requires { at + 2 ≤ length page.now }
+    ensures value { result ≡ number_in (slice_index page.now) at 2 }
+    ensures below { result < 256 ^ 2 }
+{
+    u64::from(page[at]) + 256 * u64::from(page[at + 1])
+}
+
+/// The number that four bytes of a page spell.
+#[inline(always)]
+fn four(page: &[u8], at: usize) -> u64
+    requires { at + 4 ≤ length page.now }
+    ensures value { result ≡ number_in (slice_index page.now) at 4 }
+    ensures below { result < 256 ^ 4 }
+{
+    two(page, at) + 65536 * two(page, at + 2)
+}
+
+/// The number that eight bytes of a page spell.
+#[inline(always)]
+fn eight(page: &[u8], at: usize) -> u64
+    requires { at + 8 ≤ length page.now }
+    ensures value { result ≡ number_in (slice_index page.now) at 8 }
+    ensures below { result < 256 ^ 8 }
+{
+    four(page, at) + 4294967296 * four(page, at + 4)
+}
+
+/// The same as `number`, by one read where the bytes lie in one page that has bytes of its own and are one, two, four or eight.
+#[inline(always)]
+fn number_at<A: Allocator>(pages: &Vec<Vec<u8, A>, A>, at: usize, width: u32) -> u64
+    requires whole { All IsPage pages.now.items }
+    requires in_range { at + width ≤ page_size * vec_len pages.now }
+    requires narrow { width ≤ 8 }
+    requires limit { vec_len pages.now ≤ page_limit }
+    ensures value { result ≡ number_in (byte_in pages.now.items) at width }
+    ensures below { result < 256 ^ width }
+{
+    if let Some(page) = pages.get(at / PAGE_SIZE) {
+        let offset = at % PAGE_SIZE;
+        if offset + width as usize <= page.len() {
+            match width {
+                8 => return eight(page.as_slice(), offset),
+                4 => return four(page.as_slice(), offset),
+                2 => return two(page.as_slice(), offset),
+                1 => return one(page.as_slice(), offset),
+                _ => {}
+            }
+        }
+    }
+    number(pages, at, width)
+}
+
 /// The little-endian number that the `width` bytes from `at` on spell.
 fn number<A: Allocator>(pages: &Vec<Vec<u8, A>, A>, at: usize, width: u32) -> u64
     requires in_range { at + width ≤ page_size * vec_len pages.now }
@@ -298,7 +363,7 @@ impl<A: Allocator + Clone + Drop> Linear<A> {
         if start + width as usize > PAGE_SIZE * self.pages.len() {
             return Err(TrapCode::MemoryOutOfBounds);
         }
-        Ok(number(&self.pages, start, width))
+        Ok(number_at(&self.pages, start, width))
     }
 
     /// Writes the `width` lowest bytes of `value`, the lowest first, from the address `at` plus `offset` on, which never wraps.

@@ -52,19 +52,39 @@ pub(crate) struct Committed<'a, A: Allocator> {
     pub(crate) touched: Touched<A>,
 }
 
+/// What a call came to.
+#[derive(Drop)]
+pub(crate) struct Came<'a, A: Allocator> {
+    /// Its run, where it was committed.
+    pub(crate) run: Option<Committed<'a, A>>,
+    /// Whether the pace stopped the worker.
+    pub(crate) stops: bool,
+}
+
 /// Why an attempt is not committed.
 enum Stop {
     /// The book refused.
     Refused,
     /// Memory was refused.
     NoMemory,
+    /// The pace stopped the worker.
+    Stopped,
 }
 
-/// Why an attempt stops at an operation.
-fn stop_at(refusal: OpRefusal) -> Stop {
+/// Tells the pace a step, and answers whether the worker stops there.
+fn told<P: Pace>(pace: &P, step: Step) -> bool {
+    pace.at(step);
+    pace.stops(step)
+}
+
+/// Why an attempt stops at an operation that was refused, where the pace stops the worker or does not. Want of memory is told
+/// in either case.
+fn stop_at(refusal: OpRefusal, stops: bool) -> Stop {
     match refusal {
-        OpRefusal::Conflict | OpRefusal::Stale => Stop::Refused,
         OpRefusal::NoMemory => Stop::NoMemory,
+        OpRefusal::Conflict | OpRefusal::Stale => {
+            if stops { Stop::Stopped } else { Stop::Refused }
+        }
     }
 }
 
@@ -79,12 +99,14 @@ fn ask<A: Allocator + Copy, R: Wait, P: Pace>(
 ) -> Result<Reply, Stop>
     ensures { IfOk result (λ reply. IsReply op reply) }
 {
-    job.pace.at(Step::Op { call, n });
+    if told(job.pace, Step::Op { call, n }) {
+        return Err(Stop::Stopped);
+    }
     match job.book.op(rt, ticket, op) {
         Ok(reply) => Ok(reply),
         Err(refusal) => {
-            job.pace.at(Step::Refused { call });
-            Err(stop_at(refusal))
+            let stops = told(job.pace, Step::Refused { call });
+            Err(stop_at(refusal, stops))
         }
     }
 }
@@ -173,33 +195,39 @@ fn play<'a, A: Allocator + Copy, R: Wait, P: Pace>(
     }
 }
 
-/// Commits a live attempt by its run, and undoes it where the book refuses.
+/// Commits a live attempt by its run, and undoes it where the pace stops the worker or the book refuses.
 fn commit<'a, A: Allocator + Copy, R: Wait, P: Pace>(
     rt: &R,
     job: &Job<'_, 'a, A, P>,
     ticket: Ticket,
     call: u32,
     finished: Finished<'a, A>,
-) -> Result<Committed<'a, A>, Stop>
+) -> Result<Came<'a, A>, Stop>
     requires { IsRunOf (contracts_view job.now.contracts.now) job.now.calls.now call finished }
-    ensures { IfOk result (IsCommitted (contracts_view job.now.contracts.now) job.now.calls.now) }
+    ensures { IfOk result (λ came. IfSome came.run (IsCommitted (contracts_view job.now.contracts.now) job.now.calls.now)) }
 {
-    job.pace.at(Step::Commit { call });
+    if told(job.pace, Step::Commit { call }) {
+        job.book.undo(rt, ticket);
+        return Err(Stop::Stopped);
+    }
     let run = Run {
         trace: finished.trace(),
         outcome: finished.outcome(),
     };
     match job.book.commit(rt, ticket, &run) {
         Ok(position) => {
-            job.pace.at(Step::Committed { call });
+            let stops = told(job.pace, Step::Committed { call });
             let Ok(touched) = touched_by(job.alloc, finished.trace()) else {
                 return Err(Stop::NoMemory);
             };
-            Ok(Committed {
-                position,
-                call,
-                finished,
-                touched,
+            Ok(Came {
+                run: Some(Committed {
+                    position,
+                    call,
+                    finished,
+                    touched,
+                }),
+                stops,
             })
         }
         Err((ticket, refusal)) => {
@@ -218,11 +246,13 @@ fn attempt<'a, A: Allocator + Copy, R: Wait, P: Pace>(
     job: &Job<'_, 'a, A, P>,
     call: u32,
     nth: u32,
-) -> Result<Committed<'a, A>, Stop>
+) -> Result<Came<'a, A>, Stop>
     requires { call < length job.now.calls.now }
-    ensures { IfOk result (IsCommitted (contracts_view job.now.contracts.now) job.now.calls.now) }
+    ensures { IfOk result (λ came. IfSome came.run (IsCommitted (contracts_view job.now.contracts.now) job.now.calls.now)) }
 {
-    job.pace.at(Step::Attempt { call, nth });
+    if told(job.pace, Step::Attempt { call, nth }) {
+        return Err(Stop::Stopped);
+    }
     let ticket = match job.book.begin(rt, call) {
         Ok(ticket) => ticket,
         Err(BeginRefusal::NoMemory) => return Err(Stop::NoMemory),
@@ -237,28 +267,39 @@ fn attempt<'a, A: Allocator + Copy, R: Wait, P: Pace>(
     }
 }
 
-/// Tries a call until it is committed, at most as often as the job says. None where each try was refused.
+/// Tries a call until it is committed or the pace stops the worker, at most as often as the job says. It has no run where each try
+/// was refused.
 pub(crate) fn try_call<'a, A: Allocator + Copy, R: Wait, P: Pace>(
     rt: &R,
     job: &Job<'_, 'a, A, P>,
     call: u32,
-) -> Result<Option<Committed<'a, A>>, NoMemory>
+) -> Result<Came<'a, A>, NoMemory>
     requires { call < length job.now.calls.now }
-    ensures { IfOk result (λ o. IfSome o (IsCommitted (contracts_view job.now.contracts.now) job.now.calls.now)) }
+    ensures { IfOk result (λ came. IfSome came.run (IsCommitted (contracts_view job.now.contracts.now) job.now.calls.now)) }
 {
     for nth in 0..job.tries {
         job.brake.begin();
         match attempt(rt, job, call, nth) {
-            Ok(committed) => {
+            Ok(came) => {
                 job.brake.commit();
-                return Ok(Some(committed));
+                return Ok(came);
             }
             Err(Stop::NoMemory) => {
                 job.brake.undo();
                 return Err(NoMemory);
             }
+            Err(Stop::Stopped) => {
+                job.brake.undo();
+                return Ok(Came {
+                    run: None,
+                    stops: true,
+                });
+            }
             Err(Stop::Refused) => job.brake.undo(),
         }
     }
-    Ok(None)
+    Ok(Came {
+        run: None,
+        stops: false,
+    })
 }

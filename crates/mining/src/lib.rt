@@ -42,7 +42,7 @@ pub struct Mined<A: Allocator = Global> {
 /// Mines a block of calls in a world, with this many workers at once, of which the calling thread is one. The limits of the
 /// calls that are published add up to at most the block's fuel, and no call is left out that had room. A worker tries a call
 /// at most so often; the calls that it tried in vain run alone when the workers have ended. The pace is told each step of the
-/// workers. The world is as it was.
+/// workers, and may stop a worker at any of them: its call, and the calls that nobody drew, then run alone as well. The world is as it was.
 ///
 /// Whatever the workers do at once, the block and the world after it are those of its calls run one after another in its order.
 ///

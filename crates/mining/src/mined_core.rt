@@ -12,7 +12,7 @@ ghost use Rattle.mining.specs.Handed.{AreRuns, IsSerialBook};
 use crate::attempt::Job;
 use crate::brake::Brake;
 use crate::outcome::publish;
-use crate::worker::{Worked, work};
+use crate::worker::{Worked, draw_rest, work};
 use boost::book::Closed;
 use call::Call;
 use intake::{Intake, Seat};
@@ -48,8 +48,10 @@ pub struct MinedCore<A: Allocator = Global> {
 
 /// Runs calls over contracts and cells in this many workers at once, of which the calling thread is one, and publishes an
 /// order of them. A worker draws the least call that no worker has drawn, reserves its limit of the block's fuel, and tries it
-/// at most so often; a try ends when an operation does not go with what another live attempt has done. Then the calls that
-/// were tried in vain run alone in rising number, and then each other call that still has room. The pace is told each step.
+/// at most so often; a try ends when an operation does not go with what another live attempt has done. The pace is told each step,
+/// and may stop the worker there: it undoes its live attempt and ends. When the workers have ended, the caller draws the calls that
+/// nobody drew. Then these and the calls that were tried in vain or stopped run alone in rising number, and then each other call
+/// that still has room.
 ///
 /// Whatever the workers do at once, the order is admissible, and the receipts, locks and cells are those of its calls run one
 /// after another in that order.
@@ -82,11 +84,14 @@ pub fn mine_core<'a, R: Threads + Wait + Sync, A: Allocator + Copy + Send + Sync
 {
     let count = calls.len() as u32;
     let book = SharedBook::open(alloc, cells, count)?;
-    let Ok((intake, seats)) = Intake::open(alloc, count, block_fuel, workers) else {
+    let Ok((intake, mut seats)) = Intake::open(alloc, count, block_fuel, workers + 1) else {
         return Err(NoMemory);
     };
+    let Some(own) = seats.pop() else {
+        unreachable!()
+    };
     let brake = Brake::new(workers);
-    let worked = {
+    let (worked, rest) = {
         let job = Job {
             alloc,
             contracts,
@@ -97,10 +102,13 @@ pub fn mine_core<'a, R: Threads + Wait + Sync, A: Allocator + Copy + Send + Sync
             tries,
             brake: &brake,
         };
-        run_workers(rt, &job, seats)?
+        let worked = run_workers(rt, &job, seats)?;
+        (worked, draw_rest(rt, &job, own))
     };
     let closed = close(book, cells);
-    publish(alloc, contracts, calls, cells, block_fuel, closed, worked)
+    publish(
+        alloc, contracts, calls, cells, block_fuel, closed, worked, rest,
+    )
 }
 
 /// What is left of the book, unless it began with other cells.

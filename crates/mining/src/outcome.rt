@@ -63,21 +63,26 @@ fn take_part<'a, A: Allocator + Copy>(
     }
 }
 
-/// Puts together what the workers handed back of these calls over these contracts. Want of memory of one is that of all.
+/// Puts together what the workers handed back of these calls over these contracts, and the calls that nobody drew, which are set aside, too. Want
+/// of memory of one is that of all.
 fn gather<'a, A: Allocator + Copy>(
     alloc: A,
     contracts: &'a [Contract<A>],
     calls: &'a [Call],
     mut parts: Vec<Result<Worked<'a, A>, NoMemory>, A>,
+    rest: Result<Vec<u32, A>, NoMemory>,
 ) -> Result<Worked<'a, A>, NoMemory>
     requires { All (λ part. IfOk part (AreRuns (contracts_view contracts.now) calls.now)) parts.items }
     ensures { IfOk result (AreRuns (contracts_view contracts.now) calls.now) }
 {
+    let (set_aside, mut lacked) = match rest {
+        Ok(rest) => (rest, false),
+        Err(NoMemory) => (Vec::new(alloc), true),
+    };
     let mut all = Worked {
         committed: Vec::new(alloc),
-        set_aside: Vec::new(alloc),
+        set_aside,
     };
-    let mut lacked = false;
     while let Some(part) = parts.pop() {
         lacked = take_part(contracts, calls, &mut all, lacked, part);
     }
@@ -248,7 +253,7 @@ fn tie<'a, A: Allocator + Copy>(
 }
 
 /// Publishes the runs of the workers in the order of their positions, and then the other calls that have room: those that were
-/// set aside first, in rising number. The book in which the workers committed the runs is closed, if it could be.
+/// set aside or that nobody drew first, in rising number. The book in which the workers committed the runs is closed, if it could be.
 pub(crate) fn publish<'a, A: Allocator + Copy>(
     alloc: A,
     contracts: &'a [Contract<A>],
@@ -257,6 +262,7 @@ pub(crate) fn publish<'a, A: Allocator + Copy>(
     block_fuel: u64,
     closed: Option<Closed<A>>,
     parts: Vec<Result<Worked<'a, A>, NoMemory>, A>,
+    rest: Result<Vec<u32, A>, NoMemory>,
 ) -> Result<MinedCore<A>, NoMemory>
     requires calls { length calls.now < 2 ^ 32 }
     requires closed { IfSome closed (IsSerialBook cells.now.cells) }
@@ -273,7 +279,7 @@ pub(crate) fn publish<'a, A: Allocator + Copy>(
     let Worked {
         committed,
         mut set_aside,
-    } = gather(alloc, contracts, calls, parts)?;
+    } = gather(alloc, contracts, calls, parts, rest)?;
     set_aside.sort_unstable();
     let (runs, touched) = apart(alloc, contracts, calls, committed)?;
     let (mut publishing, by_workers) = tie(

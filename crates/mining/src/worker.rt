@@ -1,10 +1,10 @@
-// A worker: it draws calls until none is left.
+// A worker: it draws calls until none is left or the pace stops it. The caller draws the rest.
 ghost use Rattle.std.specs.Prelude.{◌≡◌, ◌<◌, IfOk, OnOk, length};
 ghost use Rattle.interp.specs.Lent.{contracts_view};
 ghost use Rattle.intake.specs.Intakes.{IsSeatOf};
 ghost use Rattle.mining.specs.Handed.{AreRuns};
 
-use crate::attempt::{Committed, Job, try_call};
+use crate::attempt::{Came, Committed, Job, try_call};
 use intake::Seat;
 use pace::Pace;
 use spec_ledger::NoMemory;
@@ -16,30 +16,31 @@ use std::sync::Wait;
 pub(crate) struct Worked<'a, A: Allocator> {
     /// The runs that it committed.
     pub(crate) committed: Vec<Committed<'a, A>, A>,
-    /// The calls whose tries were all refused.
+    /// The calls whose tries were all refused, or were stopped.
     pub(crate) set_aside: Vec<u32, A>,
 }
 
-/// Tries a call, and keeps what it came to.
+/// Tries a call, and keeps what it came to. Answers whether the worker stops.
 #[tactic(auto, using(crate::proofs::Runs::one_more_run))]
 fn work_on<'a, A: Allocator + Copy, R: Wait, P: Pace>(
     rt: &R,
     job: &Job<'_, 'a, A, P>,
     call: u32,
     worked: &mut Worked<'a, A>,
-) -> Result<(), NoMemory>
+) -> Result<bool, NoMemory>
     requires call { call < length job.now.calls.now }
     requires runs { AreRuns (contracts_view job.now.contracts.now) job.now.calls.now worked.old }
     ensures { OnOk result (AreRuns (contracts_view job.now.contracts.now) job.now.calls.now worked.new) }
 {
-    match try_call(rt, job, call)? {
+    let Came { run, stops } = try_call(rt, job, call)?;
+    match run {
         Some(committed) => worked.committed.push(committed)?,
         None => worked.set_aside.push(call)?,
     }
-    Ok(())
+    Ok(stops)
 }
 
-/// Draws calls until none is left. A call whose limit cannot be reserved is left out.
+/// Draws calls until none is left or the pace stops the worker. A call whose limit cannot be reserved is left out.
 pub(crate) fn work<'a, A: Allocator + Copy, R: Wait, P: Pace>(
     rt: &R,
     job: &Job<'_, 'a, A, P>,
@@ -61,7 +62,31 @@ pub(crate) fn work<'a, A: Allocator + Copy, R: Wait, P: Pace>(
         if !job.intake.reserve(rt, &mut seat, limit) {
             continue;
         }
-        work_on(rt, job, number, &mut worked)?;
+        if work_on(rt, job, number, &mut worked)? {
+            break;
+        }
     }
     Ok(worked)
+}
+
+/// The calls that nobody drew, since each worker was stopped. A call whose limit cannot be reserved is left out.
+pub(crate) fn draw_rest<A: Allocator + Copy, R: Wait, P: Pace>(
+    rt: &R,
+    job: &Job<'_, '_, A, P>,
+    mut seat: Seat,
+) -> Result<Vec<u32, A>, NoMemory>
+    requires calls { job.now.intake.now.limits.calls ≡ length job.now.calls.now }
+    requires seat { IsSeatOf job.now.intake.now seat }
+{
+    let mut rest = Vec::new(job.alloc);
+    for _ in 0..job.calls.len() {
+        let Some(number) = job.intake.draw(&mut seat) else {
+            break;
+        };
+        let limit = job.calls[number as usize].fuel();
+        if job.intake.reserve(rt, &mut seat, limit) {
+            rest.push(number)?;
+        }
+    }
+    Ok(rest)
 }

@@ -35,10 +35,15 @@ pub enum Step {
     },
 }
 
-/// Is told each step by the thread that makes it, outside every lock. The thread goes on when `at` returns.
+/// Is told each step by the thread that makes it, outside every lock. The thread goes on when `at` returns, unless it is to stop.
 pub trait Pace: Sync {
     /// The calling thread is at this step.
     fn at(&self, step: Step);
+
+    /// Whether the calling thread stops here. Asked after `at`, with the same step.
+    fn stops(&self, _step: Step) -> bool {
+        false
+    }
 }
 
 /// Holds no thread.

@@ -204,7 +204,7 @@ const VALID: [(&str, &str); 5] = [
     ("check pages", "valid 0 functions"),
 ];
 
-const NOT_VALID: [Refusal; 8] = [
+const NOT_VALID: [Refusal; 10] = [
     (
         "check short",
         "refused load 1 4",
@@ -239,6 +239,16 @@ const NOT_VALID: [Refusal; 8] = [
         "check --heap 1048576 untyped",
         "refused check 18 0 1",
         "function 0, instruction 1: operands at the end",
+    ),
+    (
+        "check operand",
+        "refused check 17 0 2",
+        "imports first; this instruction is `i64.add`, which takes i64 i64",
+    ),
+    (
+        "check local",
+        "refused check 11 0 0",
+        "imports first; this instruction is `local.get`",
     ),
     // the function has a name
     (
@@ -279,7 +289,7 @@ fn deploys_modules(rt: HostRuntime) -> Result<(), Fail> {
     Ok(())
 }
 
-const NOT_DEPLOYED: [Refusal; 9] = [
+const NOT_DEPLOYED: [Refusal; 11] = [
     (
         "deploy w contract other front",
         "refused deploy 2 0 module 1",
@@ -299,6 +309,16 @@ const NOT_DEPLOYED: [Refusal; 9] = [
         "deploy w env",
         "refused deploy 1 0 module 0",
         "module 0: import 0, `env` `get`: it is no host call",
+    ),
+    (
+        "deploy w other",
+        "refused deploy 2 0 module 0",
+        "; this import is (func (param i64) (param i64))",
+    ),
+    (
+        "deploy w env",
+        "refused deploy 1 0 module 0",
+        "; this import is (func (param i64) (result i64))",
     ),
     (
         "deploy w data",
@@ -334,7 +354,7 @@ fn tells_the_first_refused_module(rt: HostRuntime) -> Result<(), Fail> {
 
 /// The whole of what is said of a module that imports `get` of `env`.
 const NO_HOST_CALL: &str =
-    "module 0: import 0, `env` `get`: it is no host call; a contract imports functions of the module `boost` alone: `get`, `has`, `put`, `del`, `add`, `total`";
+    "module 0: import 0, `env` `get`: it is no host call; a contract imports functions of the module `boost` alone: `get`, `has`, `put`, `del`, `add`, `total`; this import is (func (param i64) (result i64))";
 
 /// After how many calls of the standard error one fails, and what then stands there.
 const UNHEARD: [(Option<u64>, Wanted); 4] = [

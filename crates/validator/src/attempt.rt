@@ -8,7 +8,7 @@ ghost use Rattle.interp.specs.Progress.{IsFree, IsSameCall};
 ghost use Rattle.turn_loop.specs.Going.{MayGoOn, IsEnded};
 ghost use Rattle.validator.specs.Handed.{IsMade, IsRunOf};
 
-use crate::job::{Job, Made};
+use crate::job::{Came, Job, Made};
 use crate::profile::allows;
 use ahead::Ahead;
 use call::Call;
@@ -31,6 +31,14 @@ enum Stop {
     Outside,
     /// Memory was refused.
     NoMemory,
+    /// The pace stopped the worker.
+    Stopped,
+}
+
+/// Tells the pace a step, and answers whether the worker stops there.
+fn told<P: Pace>(pace: &P, step: Step) -> bool {
+    pace.at(step);
+    pace.stops(step)
 }
 
 /// A position, the number of its call, what the call may ask for, the cells that it is run over, and who is told.
@@ -60,7 +68,7 @@ fn act<A: Allocator + Copy>(
     }
 }
 
-/// Does an operation that is within the profile, and tells the pace before it.
+/// Does an operation that is within the profile, and tells the pace before it, which may stop the worker.
 fn ask<A: Allocator + Copy, R: Wait, P: Pace>(
     rt: &R,
     place: &Place<'_, A, P>,
@@ -69,10 +77,13 @@ fn ask<A: Allocator + Copy, R: Wait, P: Pace>(
 ) -> Result<Reply, Stop>
     ensures { IfOk result (λ reply. IsReply op reply) }
 {
-    place.pace.at(Step::Op {
+    let step = Step::Op {
         call: place.number,
         n,
-    });
+    };
+    if told(place.pace, step) {
+        return Err(Stop::Stopped);
+    }
     if !allows(place.profile, op) {
         return Err(Stop::Outside);
     }
@@ -168,25 +179,34 @@ fn stands<A: Allocator + Copy>(played: &Result<Finished<'_, A>, Stop>) -> bool {
 }
 
 /// Runs the call of a position over the cells that the workers share, as far as its profile has them, and ends what it did: that stands only where
-/// the call returned. None where the call asks for what is not in its profile.
+/// the call returned. There is no run where the call asks for what is not in its profile, or where the pace stops the worker.
 pub(crate) fn attempt<'a, A: Allocator + Copy, R: Wait, P: Pace>(
     rt: &R,
     job: &Job<'_, 'a, A, P>,
     ahead: &Mutex<Ahead<A>>,
     position: u32,
-) -> Result<Option<Made<'a, A>>, NoMemory>
+) -> Result<Came<'a, A>, NoMemory>
     requires { All (λ number. number < length job.now.calls.now) job.now.order.now }
-    ensures { IfOk result (λ o. IfSome o (IsMade (contracts_view job.now.contracts.now) job.now.calls.now)) }
+    ensures { IfOk result (λ came. IfSome came.run (IsMade (contracts_view job.now.contracts.now) job.now.calls.now)) }
 {
     let at = position as usize;
     if at >= job.order.len() || at >= job.profiles.len() {
-        return Ok(None);
+        return Ok(Came {
+            run: None,
+            stops: false,
+        });
     }
     let number = job.order[at];
-    job.pace.at(Step::Attempt {
+    let step = Step::Attempt {
         call: number,
         nth: 0,
-    });
+    };
+    if told(job.pace, step) {
+        return Ok(Came {
+            run: None,
+            stops: true,
+        });
+    }
     let place = Place {
         position,
         number,
@@ -197,12 +217,22 @@ pub(crate) fn attempt<'a, A: Allocator + Copy, R: Wait, P: Pace>(
     let played = play(rt, job, &place, number);
     ahead.lock(rt).end(at, stands(&played));
     match played {
-        Ok(finished) => Ok(Some(Made {
-            position,
-            call: number,
-            finished,
-        })),
-        Err(Stop::Outside) => Ok(None),
+        Ok(finished) => Ok(Came {
+            run: Some(Made {
+                position,
+                call: number,
+                finished,
+            }),
+            stops: false,
+        }),
+        Err(Stop::Outside) => Ok(Came {
+            run: None,
+            stops: false,
+        }),
+        Err(Stop::Stopped) => Ok(Came {
+            run: None,
+            stops: true,
+        }),
         Err(Stop::NoMemory) => Err(NoMemory),
     }
 }

@@ -28,6 +28,15 @@ pub(crate) struct Made<'a, A: Allocator> {
     pub(crate) finished: Finished<'a, A>,
 }
 
+/// What a position came to at a worker.
+#[derive(Drop)]
+pub(crate) struct Came<'a, A: Allocator> {
+    /// The run that the worker made, if it did.
+    pub(crate) run: Option<Made<'a, A>>,
+    /// Whether the pace stopped the worker.
+    pub(crate) stops: bool,
+}
+
 /// The runs that a worker made, and the contracts that they ran over. (Without the contracts at their side, it is not known of a list of
 /// these that the allocator lives as long as they do, which dropping it asks.)
 #[derive(Drop)]

@@ -117,7 +117,7 @@ pub fn find_verdict<R: Threads + Wait + Sync, A: Allocator + Copy + Send + Sync,
 
 /// The verdict on the bytes of a block of these calls over a world, with this fuel for the block: the first of the nine reasons that holds, or else
 /// the world after the block. This many workers, of which the calling thread is one, run the calls at once, each as soon as those that it waits for have
-/// ended; the pace is told each attempt and each operation of theirs.
+/// ended; the pace is told each attempt and each operation of theirs, and may stop a worker there. What no worker ran the caller runs.
 ///
 /// # Errors
 ///

@@ -6,7 +6,7 @@ ghost use Rattle.interp.specs.Lent.{contracts_view};
 ghost use Rattle.validator.specs.Handed.{AreFound, AreMade, ArePartsMade, IsMade};
 
 use crate::attempt::attempt;
-use crate::job::{Job, Made, Part};
+use crate::job::{Came, Job, Made, Part};
 use crate::shared::Shared;
 use ahead::Ahead;
 use lanes::{Lane, Thief, lanes};
@@ -31,7 +31,7 @@ fn find<A: Allocator>(lane: &mut Lane<A>, thief: &mut Thief<A>) -> Option<u32> {
     thief.steal()
 }
 
-/// Runs the call of a position, keeps the run, and ends the position.
+/// Runs the call of a position, keeps the run, and ends the position, also where there is no run of it. Answers whether the worker stops.
 #[tactic(auto, using(crate::proofs::Runs::one_more_made))]
 fn work_on<'a, R: Wait, A: Allocator + Copy, P: Pace>(
     rt: &R,
@@ -40,19 +40,21 @@ fn work_on<'a, R: Wait, A: Allocator + Copy, P: Pace>(
     lane: &mut Lane<A>,
     made: &mut Vec<Made<'a, A>, A>,
     position: u32,
-) -> Result<(), NoMemory>
+) -> Result<bool, NoMemory>
     requires known { All (λ number. number < length job.now.calls.now) job.now.order.now }
     requires made { AreMade (contracts_view job.now.contracts.now) job.now.calls.now made.old.items }
     ensures { OnOk result (AreMade (contracts_view job.now.contracts.now) job.now.calls.now made.new.items) }
 {
-    if let Some(run) = attempt(rt, job, &shared.ahead, position)? {
+    let Came { run, stops } = attempt(rt, job, &shared.ahead, position)?;
+    if let Some(run) = run {
         made.push(run)?;
     }
     shared.pass_on(rt, job.alloc, lane, position)?;
-    Ok(())
+    Ok(stops)
 }
 
-/// Runs the calls of positions that may start, until every position has ended or some worker met want of memory. With nothing to do it looks again.
+/// Runs the calls of positions that may start, until every position has ended, some worker met want of memory, or the pace stops this one. With nothing
+/// to do it looks again. What a stopped worker leaves in its lane is stolen by the others; where all are stopped it has no run.
 fn work_through<'a, R: Wait, A: Allocator + Copy, P: Pace>(
     rt: &R,
     job: &Job<'_, 'a, A, P>,
@@ -69,7 +71,11 @@ fn work_through<'a, R: Wait, A: Allocator + Copy, P: Pace>(
             break;
         }
         match find(&mut lane, &mut thief) {
-            Some(position) => work_on(rt, job, shared, &mut lane, &mut made, position)?,
+            Some(position) => {
+                if work_on(rt, job, shared, &mut lane, &mut made, position)? {
+                    break;
+                }
+            }
             None => thread::yield_now(),
         }
     }
@@ -204,7 +210,7 @@ fn run_workers<'a, R: Threads + Wait + Sync, A: Allocator + Copy + Send + Sync, 
 }
 
 /// Runs the calls of a block at once, each over what its predecessors left, and gives the runs by position. A call that asks for an operation outside
-/// its published locks and modes has none.
+/// its published locks and modes has none, nor has one whose worker the pace stopped, nor any where all workers were stopped before it.
 pub(crate) fn run_ready<'a, R: Threads + Wait + Sync, A: Allocator + Copy + Send + Sync, P: Pace>(
     rt: &R,
     job: &Job<'_, 'a, A, P>,

@@ -6,6 +6,7 @@ mod answer;
 mod modules;
 mod perform;
 mod refusals;
+mod sites;
 mod words;
 
 pub use answer::{Answer, Fault, Write, read_file};

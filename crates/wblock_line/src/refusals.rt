@@ -3,6 +3,7 @@
 ghost use Rattle.std.specs.Prelude.{Some};
 ghost use Rattle.wblock_line.specs.Refusals.{refusal_text};
 
+use crate::sites::{import_text, site_text};
 use body_typing::rule::Rule;
 use loader::load;
 use module_tree::limit::Limit;
@@ -103,10 +104,12 @@ fn untyped_words(
     let Some(number) = func else {
         return rule_words(alloc, rule, None, None, ordinal);
     };
-    match load(alloc, bytes) {
-        Ok(module) => rule_words(alloc, rule, func, export_of(&module, number), ordinal),
-        Err(_) => rule_words(alloc, rule, func, None, ordinal),
-    }
+    let Ok(module) = load(alloc, bytes) else {
+        return rule_words(alloc, rule, func, None, ordinal);
+    };
+    let words = rule_words(alloc, rule, func, export_of(&module, number), ordinal)?;
+    let site = site_text(alloc, &module, number, ordinal, rule == Rule::Operand)?;
+    format!(in alloc; "{words}{site}")
 }
 
 /// The names of an import of a module of these bytes; none where memory is refused.
@@ -122,6 +125,25 @@ fn names_of(alloc: Global, bytes: &[u8], import: u32) -> Result<String, AllocErr
     format!(in alloc; "`{from_module}` `{name}`")
 }
 
+/// The sentence of an import that is at fault in a module of these bytes, with what it is.
+fn import_fault_words(
+    alloc: Global,
+    bytes: &[u8],
+    import: u32,
+    has_call: bool,
+) -> Result<String, AllocError> {
+    let names = names_of(alloc, bytes, import)?;
+    let words = import_words(alloc, import, &names, has_call)?;
+    let Ok(module) = load(alloc, bytes) else {
+        return Ok(words);
+    };
+    let Some(found) = module.imports.get(import as usize) else {
+        return Ok(words);
+    };
+    let text = import_text(alloc, &module, found)?;
+    format!(in alloc; "{words}; this import is {text}")
+}
+
 impl ModuleRefusal {
     /// The sentence of the refusal of a module of these bytes: what is wrong, where, and what to do. It has no newline.
     pub fn words(self, alloc: Global, bytes: &[u8]) -> Result<String, AllocError> {
@@ -135,13 +157,9 @@ impl ModuleRefusal {
                 ordinal,
             } => untyped_words(alloc, bytes, rule, func, ordinal),
             ModuleRefusal::UnknownImport(import) => {
-                let names = names_of(alloc, bytes, import)?;
-                import_words(alloc, import, &names, false)
+                import_fault_words(alloc, bytes, import, false)
             }
-            ModuleRefusal::ImportType(import) => {
-                let names = names_of(alloc, bytes, import)?;
-                import_words(alloc, import, &names, true)
-            }
+            ModuleRefusal::ImportType(import) => { import_fault_words(alloc, bytes, import, true) }
             ModuleRefusal::SegmentRange(segment) => segment_words(alloc, segment),
             ModuleRefusal::TooManyPages => room_words(alloc, true),
             ModuleRefusal::TableTooLarge => room_words(alloc, false),

@@ -5,4 +5,4 @@ use Rattle.mining.proofs.Runs.{one_more_run}
 use Rattle.mining.proofs.worker.work_on.Goals as goal
 
 pub returns-in_ok-push-in-Some : goal.returns-in_ok-push-in-Some
-returns-in_ok-push-in-Some g c = one_more_run (contracts_view c.args.job.now.contracts.now) c.args.job.now.calls.now c.args.worked.now.committed.items c.push.new.self.items c.in-Some.committed c.in_ok-push-in-Some.ensures.items c.requires.runs (subst (λ o. IfSome o (IsCommitted (contracts_view c.args.job.now.contracts.now) c.args.job.now.calls.now)) c.in-Some.is c.in_ok-committed.ensures)
+returns-in_ok-push-in-Some g c = one_more_run (contracts_view c.args.job.now.contracts.now) c.args.job.now.calls.now c.args.worked.now.committed.items c.push.new.self.items c.in-Some.committed c.in_ok-push-in-Some.ensures.items c.requires.runs (subst (λ o. IfSome o (IsCommitted (contracts_view c.args.job.now.contracts.now) c.args.job.now.calls.now)) c.in-Some.is c.in_ok-run.ensures)

@@ -9,12 +9,12 @@ pub returns : goal.returns
 returns g c =
     let contracts = contracts_view c.args.job.now.contracts.now in
     let calls = c.args.job.now.calls.now in
-    elim c.match-branch-2.branch [
+    elim c.match-run.branch [
       | in-Some+in_ok-push w ↦
-          let is : c.match-branch-2.made.items ≡ w.push.new.self.items = λ i. (w.made-is i).items in
+          let is : c.match-run.made.items ≡ w.push.new.self.items = λ i. (w.made-is i).items in
           subst (AreMade contracts calls) (sym is)
           (one_more_made contracts calls c.args.made.now.items w.push.new.self.items w.in-Some.run' w.in_ok-push.ensures.items c.requires.made (subst (λ o. IfSome o (IsMade contracts calls)) w.in-Some.is c.in_ok-run.ensures))
       | in_default w ↦
-          let is : c.match-branch-2.made.items ≡ c.args.made.now.items = λ i. (w.made-is i).items in
+          let is : c.match-run.made.items ≡ c.args.made.now.items = λ i. (w.made-is i).items in
           subst (AreMade contracts calls) (sym is) c.requires.made
     ]

@@ -1,0 +1,33 @@
+-- What one taking of a lock tells: that of the journal, or that of a shard.
+use Rattle.std.specs.Prelude.{◌≡◌, ◌⊎◌, ℕ, Bool, false, List, [], slice_index_or}
+use Rattle.spec_ledger.specs.declared.Step.{Step}
+use Rattle.spec_ledger.specs.Events.{IsOther}
+use Rattle.spec_shards.specs.Shards.{part, shard_of}
+use Rattle.journal.specs.Journals.{IsJournal, Journal}
+use Rattle.spec_ledger.specs.Facts.{CellsAreSettledButForHolders, EntriesAreSerialRun, LiveAttemptsGoTogether, LiveTracesGetReplies}
+use Rattle.shard.specs.Shard.{IsShard, Shard}
+
+-- this holds of the journal that was found under the lock, of which no more is known than what its type keeps
+pub record HoldsOfTheJournal (fact : Journal → Type 0) : Type 0 where
+  pub journal : Journal
+  pub lawful : IsJournal journal
+  pub holds : fact journal
+
+-- all that the type of a shard keeps
+pub record IsLawful (shard : Shard) : Type 0 where
+  pub entries : EntriesAreSerialRun shard.book
+  pub cells : CellsAreSettledButForHolders shard.book
+  pub replies : LiveTracesGetReplies shard.book
+  pub modes : LiveAttemptsGoTogether shard.book
+  pub positions : IsShard shard
+
+-- this holds of the shard that was found under its lock, of which no more is known than what its type keeps
+pub record HoldsOfAShard (fact : Shard → Type 0) : Type 0 where
+  pub shard : Shard
+  pub lawful : IsLawful shard
+  pub holds : fact shard
+
+-- in a shard that was found under its lock the attempt has other steps than the run's part for it; or the run has steps in a shard that the attempt has not touched
+abbrev pub HasOtherSteps : ℕ → ℕ → ℕ → List Bool → List Step → Type 0
+HasOtherSteps shards call number touched trace =
+    (shard : ℕ) × (HoldsOfAShard (λ old. IsOther old.book call number (part (shard_of shards) shard trace)) ⊎ ((slice_index_or touched shard false ≡ false) × ¬ ([] ≡ part (shard_of shards) shard trace)))

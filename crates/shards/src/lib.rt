@@ -1,0 +1,13 @@
+//! The book of calls that run at once, in shards: each shard keeps the book of its own locks behind a lock of its own, and a journal behind another keeps
+//! the committed calls in their order (Dickerson, Gazzillo, Herlihy, Koskinen, "Adding Concurrency to Smart Contracts", PODC 2017, sections 3 and 4; the
+//! shards are own).
+#![tactic(auto)]
+
+mod gate;
+mod opening;
+mod sharded;
+mod ticket;
+
+pub use gate::{Gate, NoGate};
+pub use sharded::Shards;
+pub use ticket::Ticket;

@@ -1,0 +1,249 @@
+// Blocks of the example contract, of which workers are stopped.
+ghost use Rattle.std.specs.Prelude.{◌≤◌, IfOk, length};
+
+use crate::stopping::{Stopping, Stops};
+use block::{Block, write_block};
+use block_judge::Reason;
+use call::Call;
+use codec::{Failures, MemorySink};
+use mining::{Mined, mine};
+use pace::{NoPace, Pace};
+use rand::RngExt;
+use rand_pcg::Pcg32;
+use samples::example;
+use serial::serial_core;
+use std::alloc::Global;
+use std::sync::Wait;
+use std::test::Fail;
+use std::thread::Threads;
+use storage::Cells;
+use validator::{Verdict, validate};
+use world::World;
+use wtypes::Value;
+
+/// A call of contract 0: its entry and its numbers.
+type Row = (&'static str, [i64; 2]);
+
+/// The world of the example contract, without cells.
+fn world_of(alloc: Global) -> Result<World, Fail> {
+    let contracts = vec![in alloc; example(alloc)?]?;
+    Ok(World::new(contracts, Cells::new(alloc)))
+}
+
+/// These calls, each with 100 of fuel.
+fn calls_of(alloc: Global, rows: &[Row]) -> Result<Vec<Call>, Fail>
+    ensures { IfOk result (λ calls. length calls.items ≤ 65535) }
+{
+    let mut calls = Vec::new(alloc);
+    for (entry, numbers) in rows {
+        let [first, second] = *numbers;
+        let args = [Value::I64(first), Value::I64(second)];
+        calls.push(samples::call(alloc, 0, entry, &args, 100)?)?;
+    }
+    if calls.len() > 65_535 {
+        return Err(Fail::from("too many calls"));
+    }
+    Ok(calls)
+}
+
+/// The bytes of a block.
+fn written(alloc: Global, block: &Block) -> Result<Vec<u8>, Fail> {
+    let mut sink = MemorySink::new(alloc, 1_000_000, Failures::none());
+    write_block(alloc, block, &mut sink).or(Err("refused"))?;
+    Ok(sink.bytes().to_vec(alloc)?)
+}
+
+/// Mines calls with three tries at this pace.
+fn mined_at<R: Threads + Wait + Sync, P: Pace>(
+    rt: &R,
+    alloc: Global,
+    calls: &[Call],
+    workers: u32,
+    pace: &P,
+) -> Result<Mined, Fail>
+    requires { length calls.now ≤ 65535 }
+{
+    if workers < 1 || workers > 64 {
+        return Err(Fail::from("outside the conditions"));
+    }
+    let world = world_of(alloc)?;
+    match mine(rt, alloc, &world, calls, 1_000_000, workers, 3, pace) {
+        Ok(mined) => Ok(mined),
+        Err(_) => Err(Fail::from("refused")),
+    }
+}
+
+/// Why the bytes of a block are rejected by so many workers at this pace. None where they are accepted.
+fn reason_at<R: Threads + Wait + Sync, P: Pace>(
+    rt: &R,
+    alloc: Global,
+    calls: &[Call],
+    bytes: &[u8],
+    workers: u32,
+    pace: &P,
+) -> Result<Option<Reason>, Fail>
+    requires { length calls.now ≤ 65535 }
+{
+    if workers < 1 || workers > 64 {
+        return Err(Fail::from("outside the conditions"));
+    }
+    let world = world_of(alloc)?;
+    match validate(rt, alloc, &world, calls, 1_000_000, bytes, workers, pace) {
+        Ok(Verdict::Accept(_)) => Ok(None),
+        Ok(Verdict::Reject(reason)) => Ok(Some(reason)),
+        Err(_) => Err(Fail::from("refused")),
+    }
+}
+
+/// The calls of a block in its order.
+fn order_of(alloc: Global, block: &Block) -> Result<Vec<u32>, Fail> {
+    let mut order = Vec::new(alloc);
+    for position in block.positions() {
+        order.push(position.call())?;
+    }
+    Ok(order)
+}
+
+/// Whether all calls are in the block, with the receipts and the cells that they come to one after another in its order.
+fn is_serial(alloc: Global, calls: &[Call], mined: &Mined) -> Result<bool, Fail> {
+    let order = order_of(alloc, &mined.block)?;
+    let known = order.iter().all(|call| (*call as usize) < calls.len());
+    if !known || order.len() != calls.len() || !mined.left.is_empty() {
+        return Ok(false);
+    }
+    let world = world_of(alloc)?;
+    let alone = serial_core(alloc, world.contracts(), world.cells(), calls, &order)?;
+    let same_cells = alone.cells.entries().eq(mined.world.cells().entries());
+    let mut both = alone.receipts.iter().zip(mined.block.positions().iter());
+    Ok(same_cells && both.all(|(receipt, position)| *receipt == position.receipt()))
+}
+
+const BUMPS: [Row; 2] = [("bump", [7, 5]), ("bump", [7, -5])];
+
+/// What two calls come to that a miner is stopped at.
+#[derive(Drop)]
+struct Came {
+    mined: Mined,
+    /// How many workers were stopped.
+    stopped: u64,
+}
+
+/// Mines the two bumps by so many workers, which are stopped so.
+fn bumps_at<R: Threads + Wait + Sync>(
+    rt: &R,
+    alloc: Global,
+    workers: u32,
+    stopping: Stopping,
+) -> Result<Came, Fail> {
+    let calls = calls_of(alloc, &BUMPS)?;
+    let pace = Stops::new(stopping);
+    let mined = mined_at(rt, alloc, &calls, workers, &pace)?;
+    if mined.block.fuel() != 6 || !is_serial(alloc, &calls, &mined)? {
+        return Err(Fail::from("no serial block of both"));
+    }
+    let bytes = written(alloc, &mined.block)?;
+    if reason_at(rt, alloc, &calls, &bytes, 2, &NoPace)?.is_some() {
+        return Err(Fail::from("rejected"));
+    }
+    Ok(Came {
+        mined,
+        stopped: pace.stopped(),
+    })
+}
+
+// a bump has four steps: its attempt, its operation, its commit, and that it was committed
+#[test]
+fn a_stop_at_each_step_of_two_bumps(rt: HostRuntime) -> Result<(), Fail> {
+    for workers in 1..=2 {
+        for step in 0..=8 {
+            let one = bumps_at(&rt, rt.alloc(), workers, Stopping::At(step))?;
+            let stops = u64::from(step < 8);
+            assert_eq!(rt; one.stopped, stops, "{step}");
+            let all = bumps_at(&rt, rt.alloc(), workers, Stopping::From(step))?;
+            assert_eq!(rt; all.stopped > 0, step < 8, "{step}");
+        }
+    }
+    Ok(())
+}
+
+#[test]
+fn workers_that_stop_at_once_leave_all_to_the_caller(rt: HostRuntime) -> Result<(), Fail> {
+    for workers in 1..=4 {
+        let came = bumps_at(&rt, rt.alloc(), workers, Stopping::Attempts)?;
+        assert_eq!(rt; came.mined.by_workers, 0);
+        assert_eq!(rt;
+            order_of(rt.alloc(), &came.mined.block)?.as_slice(),
+            [0u32, 1].as_slice()
+        );
+    }
+    Ok(())
+}
+
+// of a bump a validator's worker has two steps: its attempt and its operation
+#[test]
+fn a_stopped_validator_gives_the_same_verdict(rt: HostRuntime) -> Result<(), Fail> {
+    let alloc = rt.alloc();
+    let calls = calls_of(alloc, &BUMPS)?;
+    let mined = mined_at(&rt, alloc, &calls, 1, &NoPace)?;
+    let good = written(alloc, &mined.block)?;
+    let mut bad = good.to_vec(alloc)?;
+    let place = bad.last_mut().ok_or("a byte")?;
+    *place = place.wrapping_add(1);
+    for workers in 1..=2 {
+        for bytes in [&good, &bad] {
+            let plain = reason_at(&rt, alloc, &calls, bytes, workers, &NoPace)?;
+            for step in 0..=4 {
+                for stopping in [Stopping::At(step), Stopping::From(step)] {
+                    let pace = Stops::new(stopping);
+                    let found = reason_at(&rt, alloc, &calls, bytes, workers, &pace)?;
+                    assert!(rt; found == plain, "{step}");
+                }
+            }
+        }
+    }
+    Ok(())
+}
+
+const ENTRIES: [&str; 4] = ["bump", "both", "move", "fail"];
+
+/// So many calls over three keys.
+fn random_calls(alloc: Global, generator: &mut Pcg32, count: u32) -> Result<Vec<Call>, Fail>
+    ensures { IfOk result (λ calls. length calls.items ≤ 65535) }
+{
+    let mut rows = Vec::new(alloc);
+    for _ in 0..count {
+        let entry = generator.random_range(0..4usize);
+        let first = generator.random_range(1..4i64);
+        let second = generator.random_range(1..4i64);
+        rows.push((ENTRIES[entry], [first, second]))?;
+    }
+    calls_of(alloc, &rows)
+}
+
+/// Whether random calls with a stop from a random step on come to a serial block, which a validator that is stopped so accepts.
+fn is_stopped_well<R: Threads + Wait + Sync>(
+    rt: &R,
+    alloc: Global,
+    seed: u64,
+) -> Result<bool, Fail> {
+    let mut generator = Pcg32::new(seed, 0);
+    let calls = random_calls(alloc, &mut generator, 12)?;
+    let step = generator.random_range(0..60u64);
+    let stopping = if seed % 2 == 0 {
+        Stopping::At(step)
+    } else {
+        Stopping::From(step)
+    };
+    let mined = mined_at(rt, alloc, &calls, 3, &Stops::new(stopping))?;
+    let bytes = written(alloc, &mined.block)?;
+    let reason = reason_at(rt, alloc, &calls, &bytes, 3, &Stops::new(stopping))?;
+    Ok(reason.is_none() && is_serial(alloc, &calls, &mined)?)
+}
+
+#[test]
+fn random_blocks_with_stops_are_serial(rt: HostRuntime) -> Result<(), Fail> {
+    for seed in 0..50 {
+        assert!(rt; is_stopped_well(&rt, rt.alloc(), seed)?, "{seed}");
+    }
+    Ok(())
+}
