@@ -1,8 +1,9 @@
 #!/usr/bin/env bash
 # Gives the program random files, changed from good ones, for as many minutes a reader as asked: to the loader (`wblock check`), the assembler (`wblock asm`), the reader of calls
-# and those of worlds and of blocks (`wblock validate`). What the program answers is its own affair; it must end within ten seconds with one of its statuses, 0 to 4, by no
-# signal. The files are made by a loop of Python, and where AFL++ (Debian's afl++) is installed by that, too, for as long again. It prints what each
-# reader got, and fails, keeping the file, at the first that ends the program otherwise. Run it anywhere in the repository:
+# and those of worlds and of blocks (`wblock validate`). What the program answers is its own affair; it must end with one of its statuses, 0 to 4, by no signal, within ten
+# seconds of processor time (and ten minutes of the clock: there may be other work on the machine). The files are made by a loop of Python, and where AFL++ (Debian's afl++) is
+# installed by that, too, for as long again. It prints what each reader got, and fails, keeping the file, at the first that ends the program otherwise. Run it anywhere in
+# the repository:
 #
 #   bench/fuzz.sh MINUTES [module|text|calls|world|block ..]
 source "$(dirname "${BASH_SOURCE[0]}")/common.sh" wblock python3
@@ -47,24 +48,37 @@ words() {
   esac
 }
 
+# Runs the words that it is given, with ten seconds of processor time; what takes longer is ended by a signal.
+cat >"$work/limited" <<'LIMITED'
+#!/bin/sh
+ulimit -t 10
+exec "$@"
+LIMITED
+chmod +x "$work/limited"
+
+# How many files AFL++ gave the program.
+runs_of() {
+  find "$1" -name plot_data -exec tail -n 1 {} + | cut -d, -f12 | tr -d ' '
+}
+
 # By AFL++, which knows nothing of the program (`-n`): a file that ends it by a signal, or lets it run on, is kept by it.
 by_afl() {
   local reader=$1 from=$2 out=$work/afl.$1 found
   # shellcheck disable=SC2046 # the words of one command
   AFL_SKIP_CPUFREQ=1 AFL_I_DONT_CARE_ABOUT_MISSING_CRASHES=1 AFL_NO_UI=1 AFL_NO_AFFINITY=1 \
-    timeout -s INT $((60 * minutes)) afl-fuzz -n -t 10000 -i "$from" -o "$out" -- $(words "$reader") >"$work/log" 2>&1 || (($? == 124)) || fail "afl-fuzz: $(tail -n 3 "$work/log")"
+    timeout -s INT $((60 * minutes)) afl-fuzz -n -t 600000 -i "$from" -o "$out" -- "$work/limited" $(words "$reader") >"$work/log" 2>&1 || (($? == 124)) || fail "afl-fuzz: $(tail -n 3 "$work/log")"
   found=$(find "$out" \( -path '*/crashes/*' -o -path '*/hangs/*' \) -type f ! -name README.txt | head -n 1)
   if [[ -n $found ]]; then
     cp "$found" "/tmp/found.$reader"
     fail "$reader: the program ends badly at /tmp/found.$reader"
   fi
-  echo "$reader: $minutes minutes of AFL++, no file ends the program by a signal or lets it run for ten seconds"
+  echo "$reader: $minutes minutes of AFL++, no file of $(runs_of "$out") ends the program by a signal or lets it run for ten seconds"
 }
 
 # By a loop of Python: bytes changed, cut out, put in, doubled, and numbers at the edges of their ranges.
 by_python() {
   # shellcheck disable=SC2046 # the words of one command
-  python3 - "$1" "$2" "$minutes" "$work/case" $(words "$1") <<'LOOP'
+  python3 - "$1" "$2" "$minutes" "$work/case" "$work/limited" $(words "$1") <<'LOOP'
 import os, random, subprocess, sys, time
 reader, folder, minutes, case, *words = sys.argv[1:]
 seeds = [open(os.path.join(folder, name), "rb").read() for name in sorted(os.listdir(folder))]
@@ -84,9 +98,9 @@ while time.monotonic() < end:
     with open(case, "wb") as file:
         file.write(data)
     try:
-        status = subprocess.run([case if word == "@@" else word for word in words], capture_output=True, timeout=10).returncode
+        status = subprocess.run([case if word == "@@" else word for word in words], capture_output=True, timeout=600).returncode
     except subprocess.TimeoutExpired:
-        status = "none within ten seconds"
+        status = "none within ten minutes"
     count += 1
     if status not in range(5):
         os.replace(case, f"/tmp/found.{reader}")

@@ -1,12 +1,12 @@
 #!/usr/bin/env bash
-# Runs the session of each example with the built program, and compares what is printed and each status.
+# Runs the session of each example with the built program, and compares what is printed and each status; then the program over files that fail (files.sh).
 #
 #   examples/run.sh [PROGRAM]     PROGRAM: crates/wblock/out/wblock of this repository if it is not given
 #
 # A session is the file session.txt of an example's folder. A line `$ wblock WORD...` is a command. Below it stands what it prints on
-# standard output, and last `status N` where the status is not 0. `...` as the last line stands for any lines, with status 0. Empty lines
-# and lines that begin with `#` are for readers. Commands run in a copy of the folder. The status is 0 where all passed, 1 where
-# one failed, 2 where there is no program.
+# standard output, and last `status N` where the status is not 0. `...` as the last line stands for any lines, with status 0. A line
+# `said TEXT` is no part of that: TEXT has to stand on standard error. Empty lines and lines that begin with `#` are for readers. Commands
+# run in a copy of the folder. The status is 0 where all passed, 1 where one failed, 2 where there is no program.
 set -u
 here=$(cd "$(dirname "${BASH_SOURCE[0]}")" && pwd)
 program=${1:-$here/../crates/wblock/out/wblock}
@@ -20,7 +20,7 @@ trap 'rm -rf "$work"' EXIT
 passed=0
 failed=0
 
-# Runs the command of a session and compares: $1 the example's name, $2 the command, $3 what it is to print.
+# Runs the command of a session and compares: $1 the example's name, $2 the command, $3 what it is to print, $4 what it is to say.
 compare() {
     local words status printed wanted
     read -r -a words <<<"$2"
@@ -42,7 +42,7 @@ compare() {
             "$wanted"*) printed=$wanted ;;
         esac
     fi
-    if [ "$printed" = "$wanted" ]; then
+    if [ "$printed" = "$wanted" ] && { [ -z "$4" ] || grep -qF -- "$4" "$work/said"; }; then
         passed=$((passed + 1))
         return
     fi
@@ -50,24 +50,28 @@ compare() {
     echo "$1: $2"
     diff <(echo "$wanted") <(echo "$printed") | sed 's/^/    /'
     sed 's/^/    said: /' "$work/said"
+    [ -n "$4" ] && echo "    to be said: $4"
+    return 0
 }
 
 # Runs a session: $1 the example's name.
 run_session() {
-    local line command="" wanted="" has=0
+    local line command="" wanted="" says="" has=0
     while IFS= read -r line || [ -n "$line" ]; do
         case "$line" in
             '$ '*)
-                [ "$has" = 1 ] && compare "$1" "$command" "$wanted"
+                [ "$has" = 1 ] && compare "$1" "$command" "$wanted" "$says"
                 command=${line#\$ }
                 wanted=""
+                says=""
                 has=1
                 ;;
             '' | '#'*) ;;
+            'said '*) says=${line#said } ;;
             *) wanted=${wanted:+$wanted$'\n'}$line ;;
         esac
     done <"$here/$1/session.txt"
-    [ "$has" = 1 ] && compare "$1" "$command" "$wanted"
+    [ "$has" = 1 ] && compare "$1" "$command" "$wanted" "$says"
 }
 
 for session in "$here"/*/session.txt; do
@@ -75,5 +79,6 @@ for session in "$here"/*/session.txt; do
     cp -r "$here/$name" "$work/$name"
     run_session "$name"
 done
+if "$here/files.sh" "$program"; then passed=$((passed + 1)); else failed=$((failed + 1)); fi
 echo "$passed passed, $failed failed"
 [ "$failed" = 0 ] && [ "$passed" != 0 ]

@@ -39,7 +39,7 @@ fn operate(book: &mut Book, live: &mut Live, load: Load) -> Result<(), NoMemory>
     let Ok(reply) = book.op(&live.ticket, op) else {
         return Err(NoMemory);
     };
-    live.trace.push(Step { op, reply }).map_err(|_| NoMemory)
+    live.trace.push(Step::Did(op, reply)).map_err(|_| NoMemory)
 }
 
 /// Commits a call.

@@ -23,6 +23,9 @@ use wtypes::NoMemory;
 /// How often a worker tries a call.
 const TRIES: u32 = 3;
 
+/// How many shards the book of the workers has: as many as where a block is mined.
+const SHARDS: u32 = 16;
+
 /// What calls came to.
 #[derive(Drop)]
 struct Ran {
@@ -65,6 +68,7 @@ fn run<R: Threads + Wait + Sync>(
         workers,
         TRIES,
         &NoPace,
+        SHARDS,
     )?;
     Ok(Ran {
         cells: mined.cells,

@@ -7,9 +7,8 @@ use Rattle.spec_block.specs.Worlds.{Call, World, Block, order_of, profiles_of, l
 use Rattle.spec_block.specs.Bytes.{SpellsBlock}
 use Rattle.spec_block.specs.Schedule.{HaveTurns}
 use Rattle.spec_block.specs.Verdicts.{Verdict, Malformed, WrongWorld, WrongCalls, BadOrder, OverBudget, RoomLeft, BadTurns, Deviates, WrongEnd, Accept, place, IsLeast, IsBadNumber, HasRoom, HasOtherTurns, HoldsOf, Holds, IsVerdictOf}
-use Rattle.block_judge.specs.declared.reason.Unfit.{Unfit}
 use Rattle.block_judge.specs.declared.reason.Unfit.TheVariants as unfit
-use Rattle.block_judge.specs.Judging.{IfRejected, IsFirstFrom, NoneFrom, told}
+use Rattle.block_judge.specs.Judging.{IsFirstFrom, NoneFrom}
 
 module _ (P : Verdict → Type 0) where
   none_joined : (a b c : ℕ) → NoneFrom P a b → NoneFrom P b c → NoneFrom P a c
@@ -119,8 +118,3 @@ module _ (one : (bytes : List ℕ) (b c : Block) → SpellsBlock bytes b → Spe
 
   pub none_below : (n : ℕ) → NoneFrom (HoldsOf world calls fuel b) 1 n → (v : Verdict) → place v < n → ¬ (HoldsOf world calls fuel b v)
   none_below n none v lt = none v (above_none v) lt
-
-pub rejected_is : (first : (world : World) (calls : List Call) (fuel : ℕ) (bytes : List ℕ) (block : Block) (v : Verdict) → SpellsBlock bytes block → IsFirstFrom (HoldsOf world calls fuel block) 1 v → IsVerdictOf world calls fuel bytes v)
-    → (world : World) (calls : List Call) (fuel : ℕ) (bytes : List ℕ) (b : Block) → SpellsBlock bytes b → (u : Unfit) → IfRejected u (IsFirstFrom (HoldsOf world calls fuel b) 1) → IfRejected u (IsVerdictOf world calls fuel bytes)
-rejected_is first world calls fuel bytes b spelled (unfit.Rejected r) h = first world calls fuel bytes b (told r) spelled h
-rejected_is first world calls fuel bytes b spelled unfit.NoMemory h = tt

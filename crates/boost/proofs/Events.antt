@@ -116,7 +116,7 @@ module _ (b : Content) (counts : Counts) (rows : List Modes) (standings : List S
         ∙ (live_here b p a q book.kept split).modes)
         ∙ ap (λ x. set x a.call (asked (touched a.trace) (lock_of op) (mode_of op))) rows_there
         ∙ set-set (rows_with (p ++ q) (replicate (length b.begun) empty)) a.call a.modes (asked (touched a.trace) (lock_of op) (mode_of op))
-        ∙ ap (set (rows_with (p ++ q) (replicate (length b.begun) empty)) a.call) (sym (touched-push a.trace (record { op = op; reply = reply_to op b.now })))
+        ∙ ap (set (rows_with (p ++ q) (replicate (length b.begun) empty)) a.call) (sym (touched-push a.trace op (reply_to op b.now)))
         ∙ sym (rows_out p (extended a op b.now) q (replicate (length b.begun) empty) (All-right (λ c. c.call ≢ a.call) p q idle_there))
 
 -- ---- a call has one attempt at most
@@ -156,7 +156,7 @@ module _ (b : Content) (counts : Counts) (rows : List Modes) (standings : List S
   found_here = record { among = split; call_is = place.call_is; number_is = place.number_is }
 
   -- the counts with this attempt last
-  counts_out : counts ≡ opened_all place.attempt.inverses (live_counts (take i b.attempts ++ drop (i + 1) b.attempts) empty)
+  pub counts_out : counts ≡ opened_all place.attempt.inverses (live_counts (take i b.attempts ++ drop (i + 1) b.attempts) empty)
   counts_out = book.counted ∙ ap (λ ys. live_counts ys empty) split ∙ live_counts_out (take i b.attempts) place.attempt (drop (i + 1) b.attempts) empty
 
   pub may_close : AreUnsettled place.attempt.inverses counts
@@ -194,7 +194,7 @@ module _ (b : Content) (counts : Counts) (rows : List Modes) (standings : List S
   pub conflict_here : (op : Op) → ¬ (IsGranted place.attempt op (take i b.attempts ++ drop (i + 1) b.attempts)) → IsConflict b call number op
   conflict_here op refused = record { before = take i b.attempts; attempt = place.attempt; later = drop (i + 1) b.attempts; found = found_here; refused = refused }
 
-  only_here : (before : List Attempt) (a : Attempt) (later : List Attempt) → IsFound b call number before a later → (take i b.attempts ≡ before) × (place.attempt ≡ a) × (drop (i + 1) b.attempts ≡ later)
+  pub only_here : (before : List Attempt) (a : Attempt) (later : List Attempt) → IsFound b call number before a later → (take i b.attempts ≡ before) × (place.attempt ≡ a) × (drop (i + 1) b.attempts ≡ later)
   only_here before a later found =
       only_split (take i b.attempts) place.attempt (drop (i + 1) b.attempts) before a later (subst AreAllSideBySide split book.kept.apart) (sym split ∙ found.among) (place.call_is ∙ sym found.call_is)
 

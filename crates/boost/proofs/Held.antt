@@ -7,12 +7,15 @@ use Rattle.std.specs.Ordering.{eq_by_cmp}
 use Rattle.spec_ledger.specs.declared.Lock.{Lock}
 use Rattle.spec_ledger.specs.declared.Mode.{Mode}
 use Rattle.spec_ledger.specs.declared.Step.{Step}
+use Rattle.spec_ledger.specs.declared.Step.TheVariants.{Did}
+use Rattle.spec_ledger.specs.declared.Op.{Op}
+use Rattle.spec_ledger.specs.declared.Reply.{Reply}
 use Rattle.spec_ledger.specs.Cells.{lock_cmp, lock_of}
-use Rattle.spec_ledger.specs.Modes.{Modes, mode_of, mode_at, join_held, may_share, touched}
+use Rattle.spec_ledger.specs.Modes.{Modes, mode_of, mode_at, join_held, may_share, touched, ops_of, touched_by}
 use Rattle.spec_ledger.specs.Book.{Attempt, AreSideBySide, AreAllSideBySide}
 use Rattle.spec_ledger.specs.Events.{HasNoAttempt}
 use Rattle.spec_ledger.proofs.Maps.{is_key, lock_cmp_total, lock_cmp-IsAntisymmetric}
-use Rattle.spec_ledger.proofs.Traces.{All-weaken, get-touched, mode_at-push}
+use Rattle.spec_ledger.proofs.Traces.{All-weaken, get-touched_by, ops_of-append, mode_at-push}
 use Rattle.spec_ledger.proofs.Kept.{All-with, All-without}
 use Rattle.abstract_locks.specs.Table.{AllShare, asked, others}
 use Rattle.abstract_locks.proofs.Rows.{split_row}
@@ -141,13 +144,16 @@ module _ (n : ℕ) (a : Attempt) (xs : List Attempt) (below : a.call < n) (known
       let path : ◌≡◌ {A = Modes × List Modes} (a.modes, others (rows_with xs (replicate n empty)) a.call) (get_or rows a.call empty, others rows a.call) = λ i. (sym own_row i, sym other_are i) in
       subst All path (other_rows (Shares a.modes lock mode) n (none_shares a.modes lock mode) a.call xs below h)
 
--- the modes after one more step
-pub touched-push : (t : List Step) (s : Step) → touched (t ++ s ∷ []) ≡ asked (touched t) (lock_of s.op) (mode_of s.op)
-touched-push t s = same_map lock_cmp_total lock_cmp-IsAntisymmetric _ _ (λ q.
-    get-touched (t ++ s ∷ []) q
-    ∙ mode_at-push t s q
-    ∙ elim (eq_by_cmp lock_cmp q (lock_of s.op)) as (λ b. eq_by_cmp lock_cmp q (lock_of s.op) ≡ b → cond b (Some (join_held (mode_of s.op) (mode_at q t))) (mode_at q t) ≡ cond b (Some (join_held (mode_of s.op) (get (touched t) (lock_of s.op)))) (get (touched t) q)) [
-      | true ↦ λ e. ap (λ x. Some (join_held (mode_of s.op) x)) (sym (get-touched t q) ∙ ap (get (touched t)) (is_key lock_cmp_total lock_cmp-IsAntisymmetric q (lock_of s.op) e))
-      | false ↦ λ _. sym (get-touched t q)
-    ] refl
-    ∙ sym (get-insert lock_cmp_total (touched t) (lock_of s.op) (join_held (mode_of s.op) (get (touched t) (lock_of s.op))) q))
+-- the modes after one more operation
+pub touched-push : (t : List Step) (op : Op) (r : Reply) → touched (t ++ Did op r ∷ []) ≡ asked (touched t) (lock_of op) (mode_of op)
+touched-push t op r = ap touched_by (ops_of-append t (Did op r ∷ [])) ∙ touched_by-push (ops_of t) op
+  where
+    touched_by-push : (t : List Op) (s : Op) → touched_by (t ++ s ∷ []) ≡ asked (touched_by t) (lock_of s) (mode_of s)
+    touched_by-push t s = same_map lock_cmp_total lock_cmp-IsAntisymmetric _ _ (λ q.
+        get-touched_by (t ++ s ∷ []) q
+        ∙ mode_at-push t s q
+        ∙ elim (eq_by_cmp lock_cmp q (lock_of s)) as (λ b. eq_by_cmp lock_cmp q (lock_of s) ≡ b → cond b (Some (join_held (mode_of s) (mode_at q t))) (mode_at q t) ≡ cond b (Some (join_held (mode_of s) (get (touched_by t) (lock_of s)))) (get (touched_by t) q)) [
+          | true ↦ λ e. ap (λ x. Some (join_held (mode_of s) x)) (sym (get-touched_by t q) ∙ ap (get (touched_by t)) (is_key lock_cmp_total lock_cmp-IsAntisymmetric q (lock_of s) e))
+          | false ↦ λ _. sym (get-touched_by t q)
+        ] refl
+        ∙ sym (get-insert lock_cmp_total (touched_by t) (lock_of s) (join_held (mode_of s) (get (touched_by t) (lock_of s))) q))

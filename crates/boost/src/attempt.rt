@@ -1,10 +1,13 @@
 // What the book keeps of a call: its live attempt, or its committed entry.
-ghost use Rattle.std.specs.Prelude.{◌≡◌, ◌+◌, ◌<◌, ◌≤◌, ℕ, ◌∷◌, [], ◌++◌, IfOk, OnOk, OnErr, IsTrue, ◌↔◌, Some, if◌then◌else◌, length, slice_set};
+ghost use Rattle.std.specs.Prelude.{◌≡◌, ◌+◌, ◌<◌, ◌≤◌, ℕ, ◌∷◌, [], ◌++◌, true, false, IfOk, OnOk, OnErr, IsTrue, ◌↔◌, Some, if◌then◌else◌, length, slice_set};
 ghost use Rattle.spec_ledger.specs.Cells.{reply_to, cells_after, inverse_to};
-ghost use Rattle.spec_ledger.specs.Book.{extended, entry_of, fresh as fresh_of};
-ghost use Rattle.storage.specs.Counts.{AreCounts, opened};
+ghost use Rattle.spec_ledger.specs.Book.{extended, entry_of, standing_at, with_step, fresh as fresh_of};
+ghost use Rattle.spec_ledger.specs.declared.Step.TheVariants as TheStep;
+ghost use Rattle.storage.specs.Counts.{AreCounts, AreUnsettled, Store, opened};
 ghost use Rattle.spec_ledger.specs.Cells.{lock_cmp, lock_of};
-ghost use Rattle.spec_ledger.specs.Modes.{join_held, mode_of, touched};
+ghost use Rattle.spec_ledger.specs.Modes.{mode_of, touched};
+ghost use Rattle.boost.specs.Asked.{asked_by};
+ghost use Rattle.boost.specs.Marks.{IsLeft};
 ghost use Rattle.std.specs.FinMap as finite;
 ghost use Rattle.std.specs.Ordering.{eq_by_cmp};
 ghost use Rattle.abstract_locks.specs.Table.{asked, row_at};
@@ -15,7 +18,7 @@ use spec_ledger::{Inverse, Lock, Mode, Op, Outcome, Reply, Step};
 use std::alloc::{Allocator, Global};
 use std::cmp::Ordering;
 use std::marker::Model;
-use storage::{Cells, NoMemory, lock};
+use storage::{Cells, NoMemory, lock, take_back_to};
 
 /// A committed call.
 #[derive(Drop)]
@@ -59,7 +62,7 @@ impl<A: Allocator> Entry<A> {
         self.call
     }
 
-    /// The operations that the call did, with their replies, in order.
+    /// The steps of the call, in order: its operations, with their replies, and the marks of its levels.
     pub fn trace(&self) -> &[Step]
         ensures { result.now ≡ self.now.trace }
     {
@@ -98,36 +101,40 @@ fn is_same_lock(a: Lock, b: Lock) -> bool
     matches!(a.cmp(&b), Ordering::Equal)
 }
 
-/// What is held of a lock once an operation of a trace has asked for its own.
+/// What is held of a lock after a step of a trace.
 fn asked_at(at: Lock, step: Step, held: Option<Mode>) -> Option<Mode>
-    ensures { result ≡ (if eq_by_cmp lock_cmp at (lock_of step.op) then Some (join_held (mode_of step.op) held) else held) }
+    ensures { result ≡ asked_by at step held }
 {
-    if is_same_lock(at, lock(step.op)) {
-        Some(join_to(mode(step.op), held))
-    } else {
-        held
+    match step {
+        Step::Did(op, _) if is_same_lock(at, lock(op)) => Some(join_to(mode(op), held)),
+        _ => held,
     }
 }
 
-/// A live try of a call.
+/// A live try of a call. Its trace has room for the marks that close its open levels, so that leaving one takes no memory.
 #[derive(Drop)]
 pub struct Attempt<A: Allocator = Global> {
     pub(crate) call: u32,
     pub(crate) number: u64,
     pub(crate) trace: Vec<Step, A>,
     pub(crate) inverses: Vec<Inverse, A>,
+    /// How many inverses there were at each open mark, the innermost last.
+    pub(crate) marks: Vec<usize, A>,
 }
 
 impl<A: Allocator> Model for Attempt<A> {
     ghost use Rattle.spec_ledger.specs.Book.{Attempt as TheAttempt};
     ghost use Rattle.spec_ledger.specs.Codes.{coded_attempt};
     ghost use Rattle.spec_ledger.specs.Modes.{touched};
+    ghost use Rattle.boost.specs.Marks.{AreMarks};
 
     ghost Value = { TheAttempt };
 
     ghost coded = { coded_attempt };
 
     ghost view = { λ a. record { call = a.call; number = a.number; trace = a.trace.items; modes = touched a.trace.items; inverses = a.inverses.items } };
+
+    ghost invariant = { λ a. AreMarks a.trace a.inverses.items a.marks };
 }
 
 /// The mode that an operation asks for.
@@ -142,7 +149,7 @@ pub(crate) fn mode(op: Op) -> Mode
 }
 
 impl<A: Allocator + Copy> Attempt<A> {
-    /// Does an operation, takes its lock and notes it. The lock comes second: a change can be taken back without memory, one lock of a call cannot. Where memory is refused, all is as it was.
+    /// Does an operation, takes its lock and notes it, and leaves the room for the marks that close open levels. The lock comes second: a change can be taken back without memory, one lock of a call cannot. Where memory is refused, all is as it was.
     pub(crate) fn act(
         &mut self,
         cells: &mut Cells<A>,
@@ -161,14 +168,16 @@ impl<A: Allocator + Copy> Attempt<A> {
         ensures err_locks { OnErr result (locks.new ≡ locks.old) }
     {
         cells.hold();
-        self.trace.reserve(1).map_err(|_| NoMemory)?;
+        self.trace
+            .reserve(1 + self.marks.len())
+            .map_err(|_| NoMemory)?;
         self.inverses.reserve(1).map_err(|_| NoMemory)?;
         let (reply, inverse) = cells.apply(op)?;
         let Ok(()) = locks.take(self.call, lock(op), mode(op)) else {
             cells.take_back(inverse);
             return Err(NoMemory);
         };
-        match self.trace.push(Step { op, reply }) {
+        match self.trace.push(Step::Did(op, reply)) {
             Ok(()) => (),
             Err(_) => unreachable!(),
         }
@@ -177,6 +186,74 @@ impl<A: Allocator + Copy> Attempt<A> {
             Err(_) => unreachable!(),
         }
         Ok(reply)
+    }
+
+    /// Enters a level. The room for its mark and for the one that closes it is made first; where memory is refused, all is as it was.
+    pub(crate) fn enter(&mut self) -> Result<(), NoMemory>
+        ensures attempt { OnOk result (self.new ≡ with_step self.old TheStep.Opened) }
+        ensures err { OnErr result (self.new ≡ self.old) }
+    {
+        self.trace
+            .reserve(2 + self.marks.len())
+            .map_err(|_| NoMemory)?;
+        self.marks.reserve(1).map_err(|_| NoMemory)?;
+        match self.trace.push(Step::Opened) {
+            Ok(()) => (),
+            Err(_) => unreachable!(),
+        }
+        match self.marks.push(self.inverses.len()) {
+            Ok(()) => (),
+            Err(_) => unreachable!(),
+        }
+        Ok(())
+    }
+
+    /// Leaves the innermost level, where one is open, for which it takes no memory: its changes stand.
+    fn keep(&mut self) -> bool
+        ensures left { IsTrue result → (store : Store) → IsLeft self.old self.new store store true }
+        ensures none { result ≡ false → (standing_at self.old.trace).marks ≡ [] }
+        ensures unchanged { result ≡ false → self.new ≡ self.old }
+    {
+        let Some(_mark) = self.marks.pop() else {
+            return false;
+        };
+        match self.trace.push(Step::Kept) {
+            Ok(()) => (),
+            Err(_) => unreachable!(),
+        }
+        true
+    }
+
+    /// Leaves the innermost level, where one is open, for which it takes no memory: its changes are taken back, last first.
+    fn take_back(&mut self, cells: &mut Cells<A>) -> bool
+        requires { AreUnsettled self.old.inverses cells.old.unsettled }
+        ensures left { IsTrue result → IsLeft self.old self.new cells.old cells.new false }
+        ensures none { result ≡ false → (standing_at self.old.trace).marks ≡ [] }
+        ensures unchanged { result ≡ false → (self.new ≡ self.old) × (cells.new ≡ cells.old) }
+    {
+        let Some(mark) = self.marks.pop() else {
+            return false;
+        };
+        take_back_to(cells, &mut self.inverses, mark);
+        match self.trace.push(Step::Dropped) {
+            Ok(()) => (),
+            Err(_) => unreachable!(),
+        }
+        true
+    }
+
+    /// Leaves the innermost level, where one is open, for which it takes no memory: its changes stand, or are taken back, last first.
+    pub(crate) fn leave(&mut self, cells: &mut Cells<A>, keep: bool) -> bool
+        requires { AreUnsettled self.old.inverses cells.old.unsettled }
+        ensures left { IsTrue result → IsLeft self.old self.new cells.old cells.new keep }
+        ensures none { result ≡ false → (standing_at self.old.trace).marks ≡ [] }
+        ensures unchanged { result ≡ false → (self.new ≡ self.old) × (cells.new ≡ cells.old) }
+    {
+        if keep {
+            self.keep()
+        } else {
+            self.take_back(cells)
+        }
     }
 }
 
@@ -189,6 +266,7 @@ impl<A: Allocator + Copy> Attempt<A> {
             number: _,
             trace: _,
             inverses,
+            marks: _,
         } = self;
         inverses
     }
@@ -203,6 +281,7 @@ impl<A: Allocator + Copy> Attempt<A> {
             number: _,
             trace,
             inverses,
+            marks: _,
         } = self;
         let entry = Entry {
             call,
@@ -221,6 +300,7 @@ impl<A: Allocator + Copy> Attempt<A> {
             number,
             trace: Vec::new(alloc),
             inverses: Vec::new(alloc),
+            marks: Vec::new(alloc),
         }
     }
 

@@ -3,7 +3,7 @@ ghost use Rattle.std.specs.Prelude.{◌≡◌, ◌+◌, ◌<◌, ◌≤◌, ℕ,
 ghost use Rattle.std.specs.List.{AllByRecursion};
 ghost use Rattle.spec_ledger.specs.Book.{Content, IsKept, IsGranted, extended, after_undo, after_commit, entry_of, call_is_new, settled};
 ghost use Rattle.spec_ledger.specs.Facts.{CellsAreSettledButForHolders, EntriesAreSerialRun, LiveAttemptsGoTogether, LiveTracesGetReplies};
-ghost use Rattle.spec_ledger.specs.Events.{IsStale, BeginDone, HasNoAttempt, OpDone, IsConflict, UndoDone, CommitDone, IsOther, IsUndoneLast};
+ghost use Rattle.spec_ledger.specs.Events.{IsStale, BeginDone, HasNoAttempt, OpDone, IsConflict, EnterDone, LeaveDone, IsNotEntered, UndoDone, CommitDone, IsOther, IsUndoneLast};
 ghost use Rattle.boost.specs.Kept.{AreStanding, IsBook, IsPlace};
 ghost use Rattle.boost.specs.Numbered.{BegunAs, HasTrace, IsPassed};
 ghost use Rattle.std.specs.FinMap as finite;
@@ -55,6 +55,28 @@ pub enum OpRefusal {
     /// Memory was refused, or a counter of unsettled changes is full.
     #[error("memory was refused, or a counter of unsettled changes is full")]
     NoMemory,
+}
+
+/// Why no level is entered.
+#[derive(Clone, Copy, Debug, PartialEq, Eq, Error)]
+pub enum EnterRefusal {
+    /// The attempt of the ticket lives no more.
+    #[error("the attempt of the ticket lives no more")]
+    Stale,
+    /// Memory was refused.
+    #[error("memory was refused")]
+    NoMemory,
+}
+
+/// Why no level is left.
+#[derive(Clone, Copy, Debug, PartialEq, Eq, Error)]
+pub enum LeaveRefusal {
+    /// The attempt of the ticket lives no more.
+    #[error("the attempt of the ticket lives no more")]
+    Stale,
+    /// The attempt has entered no level that it has not left.
+    #[error("the attempt has entered no level that it has not left")]
+    NotEntered,
 }
 
 /// Why an attempt is not committed.
@@ -183,6 +205,37 @@ impl<A: Allocator + Copy> Book<A> {
             return Err(OpRefusal::NoMemory);
         };
         Ok(reply)
+    }
+
+    /// Enters a level of a live attempt: adds its mark to the trace, and makes the room for the mark that closes it, which later operations and levels leave.
+    pub fn enter(&mut self, ticket: &Ticket) -> Result<(), EnterRefusal>
+        ensures ok { OnOk result (EnterDone self.old self.new ticket.now.call ticket.now.number) }
+        ensures stale { (result ≡ Err EnterRefusal.Stale) ↔ IsStale self.old ticket.now.call ticket.now.number }
+        ensures err { OnErr result (self.new ≡ self.old) }
+    {
+        let Some(i) = find(&self.attempts, &self.standings, ticket) else {
+            return Err(EnterRefusal::Stale);
+        };
+        let Ok(()) = self.attempts[i].enter() else {
+            return Err(EnterRefusal::NoMemory);
+        };
+        Ok(())
+    }
+
+    /// Leaves the innermost level of a live attempt, for which it takes no memory: its changes stand, or are taken back, last first. Its locks are held on.
+    pub fn leave(&mut self, ticket: &Ticket, keep: bool) -> Result<(), LeaveRefusal>
+        ensures ok { OnOk result (LeaveDone self.old self.new ticket.now.call ticket.now.number keep) }
+        ensures stale { (result ≡ Err LeaveRefusal.Stale) ↔ IsStale self.old ticket.now.call ticket.now.number }
+        ensures not_entered { (result ≡ Err LeaveRefusal.NotEntered) ↔ IsNotEntered self.old ticket.now.call ticket.now.number }
+        ensures err { OnErr result (self.new ≡ self.old) }
+    {
+        let Some(i) = find(&self.attempts, &self.standings, ticket) else {
+            return Err(LeaveRefusal::Stale);
+        };
+        if !self.attempts[i].leave(&mut self.cells, keep) {
+            return Err(LeaveRefusal::NotEntered);
+        }
+        Ok(())
     }
 
     /// Undoes a live attempt. A stale ticket changes nothing.

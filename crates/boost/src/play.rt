@@ -1,9 +1,9 @@
 // Lists of events.
 ghost use Rattle.std.specs.Prelude.{◌≡◌, ℕ, IfOk, IfSome, IfNone, OnErr, true, ◌≢◌, map};
 ghost use Rattle.spec_ledger.specs.Events.{IsStale, HasNoAttempt};
-ghost use Rattle.boost.specs.Play.{Plays, event_of, opened, Happens, Begin, Act, Undo, Commit};
+ghost use Rattle.boost.specs.Play.{Plays, event_of, opened, Happens, Begin, Act, Enter, Leave, Undo, Commit};
 
-use crate::book::{BeginRefusal, Book, CommitRefusal, OpRefusal, Run};
+use crate::book::{BeginRefusal, Book, CommitRefusal, EnterRefusal, LeaveRefusal, OpRefusal, Run};
 use spec_ledger::{Op, Reply};
 use std::alloc::Allocator;
 use storage::{Cells, NoMemory};
@@ -18,6 +18,10 @@ pub enum Answer {
     Begun,
     /// An operation was done, with this reply.
     Replied(Reply),
+    /// A level was entered.
+    Entered,
+    /// The innermost level was left.
+    Left,
     /// The live attempt, if there was one, was undone.
     Undone,
     /// The attempt was committed at this position.
@@ -26,6 +30,10 @@ pub enum Answer {
     BeginRefused(BeginRefusal),
     /// The operation was not done.
     OpRefused(OpRefusal),
+    /// No level was entered.
+    EnterRefused(EnterRefusal),
+    /// No level was left.
+    LeaveRefused(LeaveRefusal),
     /// The attempt was not committed.
     CommitRefused(CommitRefusal),
 }
@@ -37,6 +45,10 @@ pub enum Event<'a> {
     Begin(u32),
     /// Do an operation for the live attempt of a call.
     Op(u32, Op),
+    /// Enter a level of the live attempt of a call.
+    Enter(u32),
+    /// Leave the innermost level of the live attempt of a call, whose changes stand where this is true.
+    Leave(u32, bool),
     /// Undo the live attempt of a call.
     Undo(u32),
     /// Commit the live attempt of a call, whose run is this.
@@ -67,6 +79,33 @@ impl<A: Allocator + Copy> Book<A> {
             Err(OpRefusal::NoMemory) => Err(NoMemory),
             Err(OpRefusal::Conflict) => Ok(Answer::OpRefused(OpRefusal::Conflict)),
             Err(OpRefusal::Stale) => unreachable!(),
+        }
+    }
+
+    fn enter_event(&mut self, call: u32) -> Result<Answer, NoMemory>
+        ensures ok { IfOk result (λ answer. Happens self.old (Enter call) answer self.new) }
+        ensures err { OnErr result (self.new ≡ self.old) }
+    {
+        let Some(ticket) = self.ticket_of(call) else {
+            return Ok(Answer::EnterRefused(EnterRefusal::Stale));
+        };
+        match self.enter(&ticket) {
+            Ok(()) => Ok(Answer::Entered),
+            Err(EnterRefusal::NoMemory) => Err(NoMemory),
+            Err(EnterRefusal::Stale) => unreachable!(),
+        }
+    }
+
+    fn leave_event(&mut self, call: u32, keep: bool) -> Answer
+        ensures { Happens self.old (Leave call keep) result self.new }
+    {
+        let Some(ticket) = self.ticket_of(call) else {
+            return Answer::LeaveRefused(LeaveRefusal::Stale);
+        };
+        match self.leave(&ticket, keep) {
+            Ok(()) => Answer::Left,
+            Err(LeaveRefusal::NotEntered) => Answer::LeaveRefused(LeaveRefusal::NotEntered),
+            Err(LeaveRefusal::Stale) => unreachable!(),
         }
     }
 
@@ -103,6 +142,8 @@ impl<A: Allocator + Copy> Book<A> {
         match event {
             Event::Begin(call) => self.begin_event(*call),
             Event::Op(call, op) => self.op_event(*call, *op),
+            Event::Enter(call) => self.enter_event(*call),
+            Event::Leave(call, keep) => Ok(self.leave_event(*call, *keep)),
             Event::Undo(call) => Ok(self.undo_event(*call)),
             Event::Commit(call, run) => self.commit_event(*call, run),
         }

@@ -25,7 +25,15 @@ fn same_reply(a: Reply, b: Reply) -> bool
 pub fn same_step(a: Step, b: Step) -> bool
     ensures { IsTrue result ↔ (a ≡ b) }
 {
-    same_op(a.op, b.op) && same_reply(a.reply, b.reply)
+    match (a, b) {
+        (Step::Did(op, reply), Step::Did(other, answer)) => {
+            same_op(op, other) && same_reply(reply, answer)
+        }
+        (Step::Opened, Step::Opened) => true,
+        (Step::Kept, Step::Kept) => true,
+        (Step::Dropped, Step::Dropped) => true,
+        _ => false,
+    }
 }
 
 pub(crate) fn same_trace(a: &[Step], b: &[Step]) -> bool

@@ -5,25 +5,19 @@ use Rattle.std.proofs.lemmas.Bool.{ne_eqb, eq-eqb}
 use Rattle.std.proofs.lemmas.Bool.Decides.{eqb_tells}
 use Rattle.interp.proofs.Outlook.{charged_out}
 use Rattle.spec_ledger.specs.declared.Step.{Step}
+use Rattle.spec_ledger.specs.declared.Step.TheVariants.{Did, Opened, Kept, Dropped}
 use Rattle.spec_ledger.specs.declared.Outcome.{Outcome}
-use Rattle.spec_ledger.specs.Cells.{Cells, reply_to, cells_after}
-use Rattle.spec_ledger.specs.Book.{after, GetsReplies}
+use Rattle.spec_ledger.specs.Cells.{Cells, cells_after}
+use Rattle.spec_ledger.specs.Book.{Marked, unmarked, stepped, GetsReplies, GetsRepliesFrom}
 use Rattle.spec_execution.specs.Configuration.{Deployed, Contract, Config}
 use Rattle.spec_execution.specs.Run.{ContractCall, opening, Opens, first, next, Reduces, goes, traps, Ends, returns, trapped, exhausted}
 use Rattle.spec_execution.specs.Turns.{Turned, opened, turned, IsState}
 use Rattle.spec_execution.specs.Walk.{over}
-use Rattle.spec_execution.specs.Unique.{IsAnsweredBy}
+use Rattle.spec_execution.proofs.Executing.{answered}
 use Rattle.spec_execution.proofs.States.{turns_unique}
 use Rattle.interp.specs.Shown.{ending_of, ending_by}
 
 -- ---- one state
-
-reply_at : (before : List Step) (e : Step) (later : List Step) (cells : Cells) → GetsReplies (before ++ e ∷ later) cells → e.reply ≡ reply_to e.op (after before cells)
-reply_at [] e later cells h = h.0
-reply_at (s ∷ before) e later cells h = reply_at before e later (cells_after s.op cells) h.1
-
-answered : (trace : List Step) (cells : Cells) → GetsReplies trace cells → IsAnsweredBy (over cells) trace
-answered trace cells h before e later eq = reply_at before e later cells (subst (λ (t : List Step). GetsReplies t cells) eq h)
 
 pub one_contract : (ds : List Deployed) (call : ContractCall) (c d : Contract) (f g : ℕ) → opening ds call ≡ Opens c f → opening ds call ≡ Opens d g → (c ≡ d) × (f ≡ g)
 one_contract ds call c d f g x y = let same : Opens c f ≡ Opens d g = sym x ∙ y in (cc, cc)
@@ -37,9 +31,15 @@ one_state ds call cells k a b x y =
 
 -- ---- a turn follows each state but the last
 
+gets_front_from : (t u : List Step) (p : Marked Cells) → GetsRepliesFrom (t ++ u) p → GetsRepliesFrom t p
+gets_front_from [] u p h = tt
+gets_front_from (Did op r ∷ t) u p h = (h.0, gets_front_from t u (stepped cells_after (Did op r) p) h.1)
+gets_front_from (Opened ∷ t) u p h = gets_front_from t u (stepped cells_after Opened p) h
+gets_front_from (Kept ∷ t) u p h = gets_front_from t u (stepped cells_after Kept p) h
+gets_front_from (Dropped ∷ t) u p h = gets_front_from t u (stepped cells_after Dropped p) h
+
 gets_front : (t u : List Step) (cells : Cells) → GetsReplies (t ++ u) cells → GetsReplies t cells
-gets_front [] u cells h = tt
-gets_front (s ∷ t) u cells h = (h.0, gets_front t u (cells_after s.op cells) h.1)
+gets_front t u cells h = gets_front_from t u (unmarked cells) h
 
 -- a state before this one, from which the run goes on
 record IsBefore (c : Contract) (start : Config) (limit j : ℕ) (trace : List Step) : Type 0 where

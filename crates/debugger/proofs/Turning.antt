@@ -3,11 +3,12 @@ use Rattle.std.proofs.Common.{◌≡◌, ℕ, ◌+◌, ◌<◌, List, [], ◌∷
 use Rattle.spec_ledger.specs.declared.Op.{Op}
 use Rattle.spec_ledger.specs.declared.Reply.{Reply}
 use Rattle.spec_ledger.specs.declared.Step.{Step}
+use Rattle.spec_ledger.specs.declared.Step.TheVariants.{Did}
 use Rattle.spec_ledger.specs.declared.Outcome.{Outcome}
 use Rattle.spec_ledger.specs.Cells.{Cells, reply_to, cells_after}
 use Rattle.spec_ledger.specs.Book.{after, GetsReplies}
 use Rattle.sequences.specs.Finding.{append-nil}
-use Rattle.spec_ledger.proofs.Traces.{after-append, GetsReplies-push}
+use Rattle.spec_ledger.proofs.Traces.{after-push, GetsReplies-push}
 use Rattle.spec_execution.specs.Configuration.{Deployed, Contract, Config, Running}
 use Rattle.spec_execution.specs.Run.{ContractCall, Opening, opening, Opens, first, IsReply}
 use Rattle.spec_execution.specs.Turns.{Frees, IsAtRest, IsTurn, IsAnswered, asked, Turned, opened, turned}
@@ -95,7 +96,7 @@ module _ (p q s : Progress) (start now next : Cells) (op : Op) (r : Reply) (a : 
   replied_is = subst (λ (x : Status). AnsweredAt q r s x) a.asking answer
 
   abbrev step : Step
-  step = record { op = op; reply = r }
+  step = Did op r
 
   both : IsSameCall p s
   both = record {
@@ -138,8 +139,8 @@ module _ (p q s : Progress) (start now next : Cells) (op : Op) (r : Reply) (a : 
     turned = carried p s both (p.used + 1) (p.trace ++ step ∷ [])
         (subst (λ (n : ℕ). Turned p.contract (first p.contract p.func p.call.args) p.call.fuel n (p.trace ++ step ∷ []) s.config) (let e : suc p.used ≡ p.used + 1 = omega arith in e)
         (turned p.used p.trace (step ∷ []) p.config s.config h.turned (below p s both asked_used goes m) whole_turn)) asked_used trace_is;
-    replies = subst (λ (t : List Step). GetsReplies t start) (sym trace_is) (GetsReplies-push p.trace step start h.replies (reply ∙ ap (reply_to op) h.now_is));
-    now_is = later ∙ ap (cells_after op) h.now_is ∙ sym (ap (λ t. after t start) trace_is ∙ after-append p.trace (step ∷ []) start);
+    replies = subst (λ (t : List Step). GetsReplies t start) (sym trace_is) (GetsReplies-push p.trace op r start h.replies (reply ∙ ap (reply_to op) h.now_is));
+    now_is = later ∙ ap (cells_after op) h.now_is ∙ sym (ap (λ t. after t start) trace_is ∙ after-push p.trace op r start);
     goes_on = goes;
   }
 

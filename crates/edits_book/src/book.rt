@@ -1,11 +1,14 @@
 //! The book.
 
 ghost use Rattle.std.specs.Prelude.{◌≡◌, ◌≢◌, ◌↔◌, IfOk, IfSome, IfNone, OnOk, OnErr, Err, IfErr, ◌≤◌, List, [], length, replicate, slice_index};
-ghost use Rattle.spec_ledger.specs.Events.{IsStale, OpDone, IsConflict, CommitDone, IsOther, BeginDone, HasNoAttempt};
+ghost use Rattle.spec_ledger.specs.Events.{IsStale, OpDone, IsConflict, EnterDone, LeaveDone, IsNotEntered, CommitDone, IsOther, BeginDone, HasNoAttempt};
 ghost use Rattle.spec_ledger.specs.Book.{Content, call_is_new};
 ghost use Rattle.boost.specs.Numbered.{BegunAs, HasTrace, IsPassed};
 
-use boost::book::{BeginAsRefusal, BeginRefusal, Book, CommitRefusal, OpRefusal, Run, Ticket};
+use boost::book::{
+    BeginAsRefusal, BeginRefusal, Book, CommitRefusal, EnterRefusal, LeaveRefusal, OpRefusal, Run,
+    Ticket,
+};
 use spec_ledger::{NoMemory, Op, Outcome, Reply, Step};
 use std::alloc::Allocator;
 use storage::Cells;
@@ -37,6 +40,29 @@ pub fn op<A: Allocator + Copy>(
     ensures err { OnErr result (book.new ≡ book.old) }
 {
     book.op(ticket, op)
+}
+
+/// As [`Book::enter`].
+pub fn enter<A: Allocator + Copy>(book: &mut Book<A>, ticket: &Ticket) -> Result<(), EnterRefusal>
+    ensures ok { OnOk result (EnterDone book.old book.new ticket.now.call ticket.now.number) }
+    ensures stale { (result ≡ Err EnterRefusal.Stale) ↔ IsStale book.old ticket.now.call ticket.now.number }
+    ensures err { OnErr result (book.new ≡ book.old) }
+{
+    book.enter(ticket)
+}
+
+/// As [`Book::leave`].
+pub fn leave<A: Allocator + Copy>(
+    book: &mut Book<A>,
+    ticket: &Ticket,
+    keep: bool,
+) -> Result<(), LeaveRefusal>
+    ensures ok { OnOk result (LeaveDone book.old book.new ticket.now.call ticket.now.number keep) }
+    ensures stale { (result ≡ Err LeaveRefusal.Stale) ↔ IsStale book.old ticket.now.call ticket.now.number }
+    ensures not_entered { (result ≡ Err LeaveRefusal.NotEntered) ↔ IsNotEntered book.old ticket.now.call ticket.now.number }
+    ensures err { OnErr result (book.new ≡ book.old) }
+{
+    book.leave(ticket, keep)
 }
 
 /// As [`Book::commit`].

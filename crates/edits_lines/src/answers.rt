@@ -1,14 +1,15 @@
-//! What is told: the stored run, an answer that is carried out, a fault, and the usage.
+//! What is told: the stored run, an answer that is carried out, a fault, the refusal of a module, and the usage.
 ghost use Rattle.std.specs.Prelude.{◌≡◌, ◌≢◌, ◌⊎◌, ℕ, List, IsTrue, IfOk, IfErr, string_bytes};
 ghost use Rattle.codec.specs.Putting.{IsRaised};
 ghost use Rattle.wblock_line.specs.Answers.{IsPerformed, IsCut, IsSaid, status_of, status_of_fault, file_line, fault_line, why_line};
+ghost use Rattle.wblock_line.specs.Places.{TellsRefusal};
 ghost use Rattle.wblock_commands.specs.Stored.{ShowsStored};
 ghost use Rattle.wblock_commands.specs.Lines.{EndsLine};
 
 use codec::Sink;
 use std::alloc::{AllocError, Global};
 use wblock_io::Files;
-use wblock_line::{Answer, Fault, Status};
+use wblock_line::{Answer, Fault, ModuleRefusal, Status};
 
 /// As [`wblock_commands::show_stored`].
 pub fn show_stored<'a>(alloc: Global) -> Result<Answer<'a>, Fault<'a>>
@@ -50,4 +51,15 @@ pub fn carry_out<F: Files, O: Sink, E: Sink>(
     ensures counted { result ≡ Status.File → IsRaised (F.failures files.old) (F.failures files.new) ⊎ IsRaised (O.failures out.old) (O.failures out.new) }
 {
     wblock_line::carry_out(answer, files, out, err)
+}
+
+/// As [`wblock_line::ModuleRefusal::words`].
+pub fn refusal_words(
+    refusal: ModuleRefusal,
+    alloc: Global,
+    bytes: &[u8],
+) -> Result<String, AllocError>
+    ensures { IfOk result (λ s. TellsRefusal refusal bytes.now (string_bytes s)) }
+{
+    refusal.words(alloc, bytes)
 }

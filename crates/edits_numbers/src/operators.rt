@@ -1,9 +1,9 @@
 //! The operators.
 
 ghost use Rattle.std.specs.Prelude.{◌≡◌};
-ghost use Rattle.spec_numeric.specs.Operators.{type_of, unary_type, binary_type, compare_type, convert_from, unary_of, binary_of, compare_of, convert_of};
+ghost use Rattle.spec_numeric.specs.Operators.{type_of, unary_type, binary_type, test_type, compare_type, convert_from, unary_of, binary_of, test_of, compare_of, convert_of};
 
-use wtypes::{BinOp, CvtOp, RelOp, TrapCode, UnOp, Value};
+use wtypes::{BinOp, CvtOp, RelOp, TestOp, TrapCode, UnOp, Value};
 
 /// As [`numeric::unary`].
 pub fn unary(op: UnOp, value: Value) -> Value
@@ -20,6 +20,14 @@ pub fn binary(op: BinOp, first: Value, second: Value) -> Result<Value, TrapCode>
     ensures { result ≡ binary_of op first second }
 {
     numeric::binary(op, first, second)
+}
+
+/// As [`numeric::test`].
+pub fn test(op: TestOp, value: Value) -> Value
+    requires { type_of value ≡ test_type op }
+    ensures { result ≡ test_of op value }
+{
+    numeric::test(op, value)
 }
 
 /// As [`numeric::compare`].

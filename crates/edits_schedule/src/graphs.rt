@@ -1,6 +1,6 @@
 //! The graph of an order.
 
-ghost use Rattle.std.specs.Prelude.{◌≡◌, ◌↔◌, ◌<◌, ◌^◌, ℕ, IfOk, length, slice_index, ◌≤◌, Err, OnOk, OnErr, slice_set, true};
+ghost use Rattle.std.specs.Prelude.{◌≡◌, ◌↔◌, ◌<◌, ◌^◌, ℕ, IfOk, length, slice_index, ◌≤◌, Err, OnOk, OnErr, slice_set, true, false, replicate};
 ghost use Rattle.std.specs.List.{Contains};
 ghost use Rattle.std.specs.List.Sorted.{IsStrictlyIncreasing};
 ghost use Rattle.spec_block.specs.Schedule.{AreApart, HaveTurns, IsEdge, IsWave};
@@ -36,6 +36,14 @@ pub fn successors<A: Allocator + Copy>(
     ensures exact { IfOk result (λ list. (j : ℕ) → Contains list.items j ↔ IsEdge graph.now.profiles position j) }
 {
     graph.successors(alloc, position)
+}
+
+/// As [`schedule::Board::open`].
+pub fn board_of<A: Allocator + Copy>(alloc: A, graph: &Graph<A>) -> Result<Board<A>, NoMemory>
+    ensures profiles { IfOk result (λ board. board.profiles ≡ graph.now.profiles) }
+    ensures ended { IfOk result (λ board. board.ended ≡ replicate (length graph.now.profiles) false) }
+{
+    Board::open(alloc, graph)
 }
 
 /// As [`schedule::Board::end`].

@@ -1,6 +1,6 @@
 //! Cells.
 
-ghost use Rattle.std.specs.Prelude.{◌≡◌, ◌↔◌, IfOk, IsTrue, OnOk, OnErr, if◌then◌else◌};
+ghost use Rattle.std.specs.Prelude.{◌≡◌, ◌≤◌, ◌↔◌, IfOk, IsTrue, OnOk, OnErr, if◌then◌else◌, length, take, drop};
 ghost use Rattle.spec_ledger.specs.Book.{back_all};
 ghost use Rattle.std.specs.FinMap as finite;
 ghost use Rattle.spec_ledger.specs.Cells.{cells_after, reply_to, inverse_to, back};
@@ -14,6 +14,14 @@ pub fn get<A: Allocator + Copy>(cells: &Cells<A>, lock: Lock) -> Option<u64>
     ensures { result ≡ finite.get cells.now.cells lock }
 {
     cells.get(lock)
+}
+
+/// As [`storage::Cells::copy`].
+pub fn copy<A: Allocator + Copy>(cells: &Cells<A>, alloc: A) -> Result<Cells<A>, NoMemory>
+    ensures cells { IfOk result (λ copy. copy.cells ≡ cells.now.cells) }
+    ensures unsettled { IfOk result (λ copy. copy.unsettled ≡ finite.empty) }
+{
+    cells.copy(alloc)
 }
 
 /// As [`storage::Cells::apply`].
@@ -56,6 +64,21 @@ pub fn end_all<A: Allocator + Copy>(cells: &mut Cells<A>, inverses: Vec<Inverse,
     ensures unsettled { cells.new.unsettled ≡ closed_all inverses.items cells.old.unsettled }
 {
     storage::end_all(cells, inverses, stand);
+}
+
+/// As [`storage::take_back_to`].
+pub fn take_back_to<A: Allocator + Copy>(
+    cells: &mut Cells<A>,
+    inverses: &mut Vec<Inverse, A>,
+    mark: usize,
+)
+    requires unsettled { AreUnsettled inverses.old.items cells.old.unsettled }
+    requires mark { mark ≤ length inverses.old.items }
+    ensures inverses { inverses.new.items ≡ take mark inverses.old.items }
+    ensures cells { cells.new.cells ≡ back_all (drop mark inverses.old.items) cells.old.cells }
+    ensures unsettled { cells.new.unsettled ≡ closed_all (drop mark inverses.old.items) cells.old.unsettled }
+{
+    storage::take_back_to(cells, inverses, mark);
 }
 
 /// As [`storage::Cells::has_cells_of`].

@@ -1,14 +1,16 @@
 //! The shared book.
 
-ghost use Rattle.std.specs.Prelude.{◌≡◌, ◌≤◌, Err, IfOk, length, IfErr};
+ghost use Rattle.std.specs.Prelude.{◌≡◌, ◌≤◌, Err, IfOk, OnOk, length, IfErr};
 ghost use Rattle.std.specs.FinMap as finite;
 ghost use Rattle.std.specs.List.{AllByRecursion};
 ghost use Rattle.spec_ledger.specs.Book.{AreDistinct, IsDefined, call_is_new, settled};
-ghost use Rattle.spec_ledger.specs.Events.{BeginDone, HasNoAttempt, IsConflict, IsStale, OpDone, CommitDone, IsOther};
+ghost use Rattle.spec_ledger.specs.Events.{BeginDone, HasNoAttempt, IsConflict, IsNotEntered, IsStale, EnterDone, LeaveDone, OpDone, CommitDone, IsOther};
 ghost use Rattle.spec_ledger.specs.Modes.{touched};
 ghost use Rattle.shared_book.specs.Taking.{Happened, HoldsOfTheBook};
 
-use boost::book::{BeginRefusal, Closed, CommitRefusal, OpRefusal, Run, Ticket};
+use boost::book::{
+    BeginRefusal, Closed, CommitRefusal, EnterRefusal, LeaveRefusal, OpRefusal, Run, Ticket,
+};
 use shared_book::{OtherBook, SharedBook};
 use spec_ledger::{Op, Reply};
 use std::alloc::Allocator;
@@ -41,6 +43,32 @@ pub fn op<A: Allocator + Copy>(
     ensures stale { result ≡ Err OpRefusal.Stale → HoldsOfTheBook (λ book. IsStale book ticket.now.call ticket.now.number) }
 {
     book.op(rt, ticket, op)
+}
+
+/// As [`shared_book::SharedBook::enter`].
+pub fn enter<A: Allocator + Copy>(
+    book: &SharedBook<'_, A>,
+    rt: &impl Wait,
+    ticket: &Ticket,
+) -> Result<(), EnterRefusal>
+    ensures ok { OnOk result (Happened (λ old new. EnterDone old new ticket.now.call ticket.now.number)) }
+    ensures stale { result ≡ Err EnterRefusal.Stale → HoldsOfTheBook (λ book. IsStale book ticket.now.call ticket.now.number) }
+{
+    book.enter(rt, ticket)
+}
+
+/// As [`shared_book::SharedBook::leave`].
+pub fn leave<A: Allocator + Copy>(
+    book: &SharedBook<'_, A>,
+    rt: &impl Wait,
+    ticket: &Ticket,
+    keep: bool,
+) -> Result<(), LeaveRefusal>
+    ensures ok { OnOk result (Happened (λ old new. LeaveDone old new ticket.now.call ticket.now.number keep)) }
+    ensures stale { result ≡ Err LeaveRefusal.Stale → HoldsOfTheBook (λ book. IsStale book ticket.now.call ticket.now.number) }
+    ensures not_entered { result ≡ Err LeaveRefusal.NotEntered → HoldsOfTheBook (λ book. IsNotEntered book ticket.now.call ticket.now.number) }
+{
+    book.leave(rt, ticket, keep)
 }
 
 /// As [`shared_book::SharedBook::commit`].

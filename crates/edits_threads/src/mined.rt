@@ -33,10 +33,12 @@ pub fn mine_core<'a, R: Threads + Wait + Sync, A: Allocator + Copy + Send + Sync
     workers: u32,
     tries: u32,
     pace: &P,
+    shards: u32,
 ) -> Result<MinedCore<A>, NoMemory>
     requires calls { length calls.now ≤ 65535 }
     requires workers { (1 ≤ workers) × (workers ≤ 64) }
     requires tries { (1 ≤ tries) × (tries ≤ 16) }
+    requires shards { (1 ≤ shards) × (shards ≤ 16) }
     ensures serial { IfOk result (λ core. Serial (contracts_view contracts.now) calls.now core.order.items cells.now.cells (positions core.receipts.items core.touched.items) core.cells.cells) }
     ensures admissible { IfOk result (λ core. IsAdmissible (limits calls.now) core.order.items block_fuel) }
     ensures receipts { IfOk result (λ core. length core.receipts.items ≡ length core.order.items) }
@@ -47,7 +49,7 @@ pub fn mine_core<'a, R: Threads + Wait + Sync, A: Allocator + Copy + Send + Sync
     ensures by_workers { IfOk result (λ core. core.by_workers ≤ length core.order.items) }
 {
     let core = mining::mine_core(
-        rt, alloc, contracts, cells, calls, block_fuel, workers, tries, pace,
+        rt, alloc, contracts, cells, calls, block_fuel, workers, tries, pace, shards,
     )?;
     Ok(core)
 }

@@ -1,5 +1,5 @@
 -- What stands at the end of a buffer, as far as a loop has come.
-use Rattle.std.proofs.Common.{◌≡◌, ℕ, ◌+◌, ◌<◌, true, false, List, [], ◌∷◌, ◌++◌, length, get_or, take, map, refl, sym, ap, ap₂, ◌∙◌, arith, append_assoc, rules, Option, Vec}
+use Rattle.std.proofs.Common.{◌≡◌, ℕ, ◌+◌, ◌<◌, true, List, [], ◌∷◌, ◌++◌, length, get_or, take, map, refl, sym, ap, ap₂, ◌∙◌, arith, append_assoc, rules, Option, Vec}
 use Rattle.std.proofs.lemmas.List.{take_more}
 use Rattle.wtypes.specs.declared.ValType.{ValType}
 use Rattle.wtypes.specs.declared.ValType.TheVariants as valtype
@@ -69,16 +69,8 @@ begins valtype.I32 ((n, valtype.I64) ∷ rs) = (1, (n, valtype.I64) ∷ rs, refl
 begins valtype.I64 ((n, valtype.I32) ∷ rs) = (1, (n, valtype.I32) ∷ rs, refl)
 begins valtype.I64 ((n, valtype.I64) ∷ rs) = (n + 1, rs, refl)
 
-before_other : (t u : ValType) (k : ℕ) (os : List (ℕ × ValType)) → same_type t u ≡ false → before_runs t ((k, u) ∷ os) ≡ (1, t) ∷ (k, u) ∷ os
-before_other t u k os e = rw e refl
-
 before_same : (t : ValType) (k : ℕ) (os : List (ℕ × ValType)) → before_runs t ((k, t) ∷ os) ≡ (k + 1, t) ∷ os
 before_same t k os = rw (same t) refl
-
-pub other_run : (t u : ValType) (us : List ValType) → same_type t u ≡ false → maximal_runs (t ∷ u ∷ us) ≡ (1, t) ∷ maximal_runs (u ∷ us)
-other_run t u us e =
-    let b = begins u (maximal_runs us) in
-    ap (before_runs t) b.2 ∙ before_other t u b.0 b.1 e ∙ ap (λ l. (1, t) ∷ l) (sym b.2)
 
 pub same_run : (t u : ValType) (us : List ValType) (n : ℕ) (os : List (ℕ × ValType)) → same_type t u ≡ true → maximal_runs (t ∷ us) ≡ (n, t) ∷ os → maximal_runs (t ∷ u ∷ us) ≡ (n + 1, t) ∷ os
 same_run t u us n os e f =

@@ -5,18 +5,23 @@ ghost use Rattle.expr_reader.specs.Outcome.{is_memory, refusal_before};
 use crate::LoadRefusal;
 use module_tree::limit::Limit;
 use std::alloc::{AllocError, AllocFailed};
+use thiserror::Error;
 
 /// Why a reader stopped, by how many bytes were left from the first byte of the item at fault on. Where these stand in
 /// the input is not known to it: [`Unread::ending_at`] makes the refusal of it.
-#[derive(Clone, Copy, Debug, PartialEq, Eq)]
+#[derive(Clone, Copy, Debug, PartialEq, Eq, Error)]
 pub enum Unread {
     /// The grammar has no such form, and so many bytes were left.
+    #[error("malformed where {0} bytes are left")]
     Malformed(usize),
     /// A form that this profile leaves out, and so many bytes were left.
+    #[error("a form that is not supported, where {0} bytes are left")]
     Unsupported(usize),
     /// A limit is passed.
+    #[error("more than {0}")]
     TooLarge(Limit),
     /// Memory was refused.
+    #[error("memory was refused")]
     NoMemory,
 }
 

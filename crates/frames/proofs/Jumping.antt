@@ -1,5 +1,5 @@
 -- What branches, returns and blocks do to the parts.
-use Rattle.std.proofs.Common.{◌≡◌, ℕ, zero, suc, ◌+◌, ◌-◌, ◌≤◌, true, false, List, [], ◌∷◌, ◌++◌, length, map, reverse, take, drop, refl, sym, ap, ◌∙◌, subst, arith, length-append}
+use Rattle.std.proofs.Common.{◌≡◌, ℕ, zero, suc, ◌+◌, ◌-◌, ◌≤◌, false, List, [], ◌∷◌, ◌++◌, length, map, reverse, take, drop, refl, sym, ap, ◌∙◌, subst, arith, length-append}
 use Rattle.std.proofs.lemmas.List.{length-drop, take-append-drop, reverse-append}
 use Rattle.std.proofs.Math.Seq.{drop-append_seam}
 use Rattle.frames.specs.declared.parts.Entry.{Entry}
@@ -84,14 +84,6 @@ call_below es e h = ap in_call (opens_push es e) ∙ by_scope (scope_of e.kind) 
     by_scope Block h = refl
     by_scope Loop h = refl
     by_scope (Frame f saved) h = absurd (cc)
-
-pub call_here : {A : Type 0} (es : List (Entry A)) (e : Entry A) → is_frame (scope_of e.kind) ≡ true → in_call (opens_of (es ++ e ∷ [])) ≡ opens_of (es ++ e ∷ [])
-call_here es e h = ap in_call (opens_push es e) ∙ by_scope (scope_of e.kind) h ∙ sym (opens_push es e)
-  where
-    by_scope : (k : Scope) → is_frame k ≡ true → from_call k (open_of e) (opens_of es) (in_call (opens_of es)) ≡ open_of e ∷ opens_of es
-    by_scope Block h = absurd (cc)
-    by_scope Loop h = absurd (cc)
-    by_scope (Frame f saved) h = refl
 
 -- ---- leaving and opening
 

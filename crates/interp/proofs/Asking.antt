@@ -12,6 +12,7 @@ use Rattle.spec_ledger.specs.declared.Op.{Op}
 use Rattle.spec_ledger.specs.declared.Reply.{Reply}
 use Rattle.spec_ledger.specs.declared.Reply.TheVariants as reply
 use Rattle.spec_ledger.specs.declared.Step.{Step}
+use Rattle.spec_ledger.specs.declared.Step.TheVariants.{Did}
 use Rattle.spec_execution.specs.Configuration.{Contract, Function, Hosted, defined, function_at, function_type, Seq, End, State, Config, Running, Trap, values, Invoke}
 use Rattle.spec_execution.specs.Reduction.{Next, Asks, Stuck, reduce, found, with_values, invoke, op_of, replied}
 use Rattle.spec_execution.specs.Run.{Reached, reduced, replied as gets, Reduces, next, IsReply}
@@ -253,7 +254,7 @@ module _ (s : Seen) (op : Op) (r : Reply) (m : IsMachine s) (waits : s.status �
   joined_asks : next s.contract (state s.view) (joined (invoking s.view s.asked) s.tail) ≡ Asks op (λ x. joined (going_on s.view op x) s.tail)
   joined_asks = reduce_joined s.tail s.contract 0 (state s.view) [] (invoking s.view s.asked) ∙ ap (joined_next s.tail (λ ws. reduce s.contract 0 (state s.view) ws s.tail)) waiting.asks
 
-  module _ (w : View) (tail : Seq) (frees : Frees s.contract (with_tail s.tail (config (record s.view { stack = stack }))) (with_tail tail (config w))) (ordered : IsOrdered w) (ready : IsReady w) (last : w.code ≡ [] → tail ≡ End) (trace : List Step) (recorded : trace ≡ s.trace ++ record { op = op; reply = r } ∷ []) where
+  module _ (w : View) (tail : Seq) (frees : Frees s.contract (with_tail s.tail (config (record s.view { stack = stack }))) (with_tail tail (config w))) (ordered : IsOrdered w) (ready : IsReady w) (last : w.code ≡ [] → tail ≡ End) (trace : List Step) (recorded : trace ≡ s.trace ++ Did op r ∷ []) where
     freed : Frees s.contract (Running (state s.view) (joined (going_on s.view op r) s.tail)) (with_tail tail (config w))
     freed = subst (λ (x : Config). Frees s.contract (with_tail s.tail x) (with_tail tail (config w))) same_config frees
 

@@ -7,3 +7,4 @@ pub mod Showing
 pub mod Outlook
 pub mod Copying
 pub mod Wanting
+pub mod Stepping

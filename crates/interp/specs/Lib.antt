@@ -1,6 +1,7 @@
 pub mod Codes
 pub mod Played
 pub mod Progress
+pub mod Going
 pub mod Machine
 pub mod Lent
 pub mod Run

@@ -3,6 +3,7 @@ use Rattle.std.specs.Prelude.{◌≡◌, ℕ, ◌+◌, ◌<◌, ◌≤◌, true,
 use Rattle.std.specs.Coded.{Coded, code_by, coded×, coded_ℕ, coded_list}
 use Rattle.spec_ledger.specs.contracts.Step as step
 use Rattle.spec_ledger.specs.declared.Step.{Step}
+use Rattle.spec_ledger.specs.declared.Step.TheVariants.{Did}
 use Rattle.spec_ledger.specs.declared.Op.{Op}
 use Rattle.spec_ledger.specs.declared.Reply.{Reply}
 use Rattle.spec_ledger.specs.declared.Outcome.{Outcome}
@@ -164,7 +165,7 @@ IsAwaited _ r = ⊥
 -- The reply is the last step of the trace, and the free reductions that follow it are made.
 pub record HasReplied (p : Progress) (op : Op) (r : Reply) (q : Progress) : Type 0 where
   pub same : IsSameCall p q
-  pub trace : q.trace ≡ p.trace ++ record { op = op; reply = r } ∷ []
+  pub trace : q.trace ≡ p.trace ++ Did op r ∷ []
   pub used : q.used ≡ p.used
   pub asked : IsAsking p.contract p.config op
   pub frees : Frees p.contract (Running asked.state (asked.go r)) q.config

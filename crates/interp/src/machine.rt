@@ -5,6 +5,7 @@ ghost use Rattle.spec_execution.specs.Reduction.{op_of};
 ghost use Rattle.interp.specs.Machine.{progress, IsMachine, IsCalling, HasStarted, HasBegun, HasAskedFor, HasRoom, params_of, arity_of, value_of_reply};
 ghost use Rattle.interp.specs.Progress.{NextIs, IsSameCall, MayTakeMemory, WantsMemory, IsTold, IsFree, IsAwaited, HasAnswered, IsFinishOf};
 ghost use Rattle.interp.specs.Run.{seen, IsKept, IsBegun, IsFirst};
+ghost use Rattle.interp.specs.Going.{HasTurned};
 
 use crate::finished::Finished;
 use crate::start::{Opened, StartRefusal, open_call, refusal_of};
@@ -54,6 +55,64 @@ fn next_turn<'a, A: Allocator + Copy>(run: &mut Run<'a, A>) -> Turn
     match run.status {
         Status::Running => make_turn(run),
         _ => tell(run),
+    }
+}
+
+// Makes turns up to the first that does not step.
+fn turn_on<'a, A: Allocator + Copy>(run: &mut Run<'a, A>) -> Turn
+    requires kept { IsKept run.old }
+    requires free { IsFree run.old.status }
+    ensures kept { IsKept run.new }
+    ensures turned { HasTurned (progress (seen run.old)) result (progress (seen run.new)) }
+    ensures stops { result ≢ Turn.Stepped }
+{
+    'turns: loop {
+        match run.status {
+            Status::Running => match make_turns(run) {
+                Turn::Stepped => {}
+                Turn::Host(op) => return Turn::Host(op),
+                Turn::NoMemory => return Turn::NoMemory,
+                Turn::Done(outcome) => return Turn::Done(outcome),
+            },
+            _ => return tell(run),
+        }
+    }
+}
+
+// The run goes on: it makes turns up to the first after which this is not sure. Between two of them nothing is asked but whether code and fuel are left.
+#[inline(always)]
+fn make_turns<'a, A: Allocator + Copy>(run: &mut Run<'a, A>) -> Turn
+    requires kept { IsKept run.old }
+    requires running { run.old.status ≡ Status.Running }
+    ensures kept { IsKept run.new }
+    ensures turned { HasTurned (progress (seen run.old)) result (progress (seen run.new)) }
+{
+    'turns: loop {
+        if run.parts.code.is_empty() {
+            return give_result(run);
+        }
+        if run.used == run.call.fuel() {
+            return run_out(run);
+        }
+        match execute(&run.lent, &mut run.parts) {
+            Ok(After::Ran) => {
+                run.used += 1;
+                settle_all(&mut run.parts, &mut run.waiting);
+            }
+            Ok(After::Fell(code)) => {
+                run.used += 1;
+                run.status = Status::Fallen(code);
+                return Turn::Stepped;
+            }
+            Ok(After::Calls(f)) => {
+                run.used += 1;
+                if (f as usize) < run.lent.hosts.len() {
+                    return ask(run, f);
+                }
+                return start_function(run, f);
+            }
+            Err(_) => return give_up(run),
+        }
     }
 }
 
@@ -260,7 +319,7 @@ fn take_answer<'a, A: Allocator + Copy>(run: &mut Run<'a, A>, reply: Reply)
 {
     if let Status::Asking(op) = run.status {
         take_reply(&mut run.parts.stack, op, reply);
-        record_step(&mut run.trace, Step { op, reply });
+        record_step(&mut run.trace, Step::Did(op, reply));
         run.status = Status::Running;
         settle_all(&mut run.parts, &mut run.waiting);
     }
@@ -375,6 +434,16 @@ impl<'a, A: Allocator + Copy> Machine<'a, A> {
         ensures same { result ≡ Turn.NoMemory → IsSameCall self.old self.new }
     {
         next_turn(&mut self.run)
+    }
+
+    /// Makes turns, as `next` does, up to the first that does not step, and answers what that one came to.
+    pub fn turn_on(&mut self) -> Turn
+        requires { IsFree self.old.status }
+        ensures turned { HasTurned self.old result self.new }
+        ensures stops { result ≢ Turn.Stepped }
+        ensures on_run { IsProgress self.new }
+    {
+        turn_on(&mut self.run)
     }
 
     /// Goes on with the host's reply to the operation that was asked for. Takes no memory.

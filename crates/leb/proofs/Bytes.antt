@@ -1,12 +1,8 @@
 -- The bytes of a number, the first of them.
 use Rattle.leb.specs.Signs.{signed_part, low_bits}
-use Rattle.std.proofs.Common.{Bool, true, false, ◌≡◌, ℕ, zero, suc, ◌+◌, ◌-◌, ◌/◌, ◌%◌, ◌<◌, ◌≤◌, List, [], ◌∷◌, ◌++◌, refl, sym, ap, ◌∙◌, arith, append_assoc}
+use Rattle.std.proofs.Common.{Bool, true, false, ◌≡◌, ℕ, zero, suc, ◌+◌, ◌-◌, ◌/◌, ◌%◌, ◌<◌, ◌≤◌, List, [], ◌∷◌, ◌++◌, sym, ap, ◌∙◌, arith, append_assoc}
 use Rattle.std.proofs.lemmas.Bool.{le-ltb, lt-ltb}
 use Rattle.spec_binary.specs.Shortest.{unsigned_bytes, signed_bytes}
-
-pub bytes_last : (more n : ℕ) → n < 128 → unsigned_bytes more n ≡ n ∷ []
-bytes_last zero n lt = refl
-bytes_last (suc more) n lt = rw (lt-ltb n 128 lt) refl
 
 pub bytes_more : (more n : ℕ) → 0 < more → 128 ≤ n → unsigned_bytes more n ≡ (n % 128 + 128) ∷ unsigned_bytes (more - 1) (n / 128)
 bytes_more zero n lt le = absurd (omega arith)

@@ -87,9 +87,6 @@ on s bs = elim s [ Go state ↦ after_string state bs | End ↦ Ok bs | Wrong �
 goes : (state to : InString) (b : ℕ) (bs : List ℕ) → step_of state b ≡ Go to → after_string state (b ∷ bs) ≡ after_string to bs
 goes state to b bs e = ap (λ s. on s bs) e
 
-test_goes : (t : Bool) (x y : Step) (to : InString) → t ≡ true → x ≡ Go to → cond t x y ≡ Go to
-test_goes t x y to e h = cond-true t x y e ∙ h
-
 plain_step : (b : ℕ) → is_plain b ≡ true → step_of Plain b ≡ Go Plain
 plain_step b h =
     let p = not_true _ (and_parts (nat_le 32 b) _ h).1 in

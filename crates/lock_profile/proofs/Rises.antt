@@ -57,10 +57,6 @@ rises_on {A = A} lock value (one ∷ more) l e =
     ap (λ (xs : List A). is_sorted lock_cmp (keyed lock value xs)) (behind_first one more (length (one ∷ more) - 1) (omega arith))
     ∙ sym (step lock value one more ∙ ap (λ b. b && is_sorted lock_cmp (keyed lock value more)) e)
 
-pub rises_not : {A V : Type 0} (lock : A → Lock) (value : A → V) (xs : List A) → 1 ≤ length xs → is_below_second lock xs ≡ false → false ≡ is_sorted lock_cmp (keyed lock value xs)
-rises_not lock value [] l e = absurd (omega arith)
-rises_not lock value (one ∷ more) l e = sym (step lock value one more ∙ ap (λ b. b && is_sorted lock_cmp (keyed lock value more)) e)
-
 -- ---- neighbours decide
 
 pub neighbours_below : (one next : Entry) (more : List Entry) → IsProfile (one ∷ next ∷ more) → (lock_cmp one.lock next.lock ≡ Less) × IsProfile (next ∷ more)

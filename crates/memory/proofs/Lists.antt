@@ -1,7 +1,7 @@
 -- Lists of pages and the bytes that they stand for.
-use Rattle.std.proofs.Common.{◌≡◌, ℕ, zero, suc, ◌+◌, ◌-◌, ◌*◌, ◌/◌, ◌%◌, ◌^◌, ◌<◌, ◌≤◌, refl, sym, ap, ◌∙◌, arith, subst, length}
+use Rattle.std.proofs.Common.{true≢false, ◌≡◌, ℕ, zero, suc, ◌+◌, ◌-◌, ◌*◌, ◌/◌, ◌%◌, ◌^◌, ◌<◌, ◌≤◌, refl, sym, ap, ◌∙◌, arith, subst, length}
 use Rattle.std.proofs.lemmas.Option.{slice_get_read}
-use Rattle.std.specs.Prelude.{All, List, [], ◌∷◌, ◌++◌, Option, Some, MatchOption, slice_get, slice_set, slice_index, replicate, map, Vec, vec_len, take, drop, Bool, true, false, ◌==◌, ◌⊎◌, Ok, Err}
+use Rattle.std.specs.Prelude.{All, List, [], ◌∷◌, ◌++◌, Option, Some, None, MatchOption, slice_get, slice_set, slice_index, replicate, map, Vec, vec_len, take, drop, Bool, true, false, ◌==◌, ◌⊎◌, Ok, Err}
 use Rattle.wtypes.specs.declared.TrapCode.TheVariants.{MemoryOutOfBounds}
 use Rattle.std.proofs.lemmas.List.{drop_more, ext_get_or}
 use Rattle.std.proofs.lemmas.Grind.{common_steps}
@@ -16,7 +16,8 @@ use Rattle.spec_numeric.specs.Memory.{written, load}
 use Rattle.memory.specs.Linear.{Memory, Grown, pages}
 use Rattle.std.specs.Int.{cast_signed, w32, w64, to_le_bytes, bytes_low_first, byte_at as le_byte}
 use Rattle.std.proofs.lemmas.Int.{to_z_pos}
-use Rattle.memory.specs.Pages.{byte_of, byte_in, bytes_in, IsPage, IsMade, number_in}
+use Rattle.std.specs.Vec.{with_items}
+use Rattle.memory.specs.Pages.{byte_of, byte_in, bytes_in, IsPage, IsMade, HasPut, number_in}
 
 -- ---- one page replaced
 
@@ -187,6 +188,87 @@ stored ps qs at news l h f g =
     overwritten (bytes_in ps) (bytes_in qs) news at (omega (arith, a, b, l)) (omega (arith, a))
     (λ k q. byte_at qs (at + k) (omega (arith, l)) ∙ f k q)
     (λ k s q. byte_at qs k (omega (arith, a, l)) ∙ g k s ∙ sym (byte_at ps k (omega (arith, a))))
+
+-- ---- a write in one page
+
+length_set : {X : Type 0} (xs : List X) (i : ℕ) (x : X) → length (slice_set xs i x) ≡ length xs
+length_set [] i x = refl
+length_set (y ∷ ys) zero x = refl
+length_set (y ∷ ys) (suc i) x = ap suc (length_set ys i x)
+
+-- the bytes are written into the page where they lie
+pub put_there : {A : Type 0} (ps : List (Vec ℕ A)) (at : ℕ) (news : List ℕ) (page next : Vec ℕ A) → slice_get ps (at / page_size) ≡ Some page → at / page_size < length ps → vec_len page ≡ page_size → length page.items ≡ page_size
+    → at % page_size + length news ≤ page_size → next.items ≡ written (at % page_size) news page.items
+    → bytes_in (slice_set ps (at / page_size) next) ≡ written at news (bytes_in ps)
+put_there ps at news page next found lt full long fits is =
+    let room : at % page_size + length news ≤ length page.items = omega (arith, fits, long) in
+    stored ps (slice_set ps (at / page_size) next) at news (length_set ps (at / page_size) next) (omega (arith, fits, lt))
+    (λ k l.
+    let there : (at + k) / page_size ≡ at / page_size = omega (arith, fits, l) in
+    let offset : (at + k) % page_size ≡ at % page_size + k = omega (arith, fits, l) in
+    let less : at % page_size + k - at % page_size ≡ k = omega arith in
+    ap (λ j. byte_of (slice_get (slice_set ps (at / page_size) next) j) ((at + k) % page_size)) there
+    ∙ (ap (λ o. byte_of o ((at + k) % page_size)) (here ps (at / page_size) next lt)
+    ∙ (ap (slice_index next.items) offset ∙ (ap (λ xs. slice_index xs (at % page_size + k)) is
+    ∙ (within page.items news (at % page_size) (at % page_size + k) room (omega arith) (omega (arith, l)) ∙ ap (slice_index news) less)))))
+    (λ k s. at_set (λ o. byte_of o (k % page_size) ≡ byte_of (slice_get ps (k / page_size)) (k % page_size)) ps (at / page_size) next (k / page_size)
+    (λ e. ap (λ xs. slice_index xs (k % page_size)) is
+    ∙ (elim s [
+      | inl b ↦ below page.items news (at % page_size) (k % page_size) room (omega (arith, b, e))
+      | inr b ↦ above page.items news (at % page_size) (k % page_size) room (omega (arith, b, e, fits))
+    ] ∙ sym (ap (λ j. byte_of (slice_get ps j) (k % page_size)) e ∙ ap (λ o. byte_of o (k % page_size)) found)))
+    refl)
+
+abbrev len_of : {A : Type 0} → Option (Vec ℕ A) → ℕ
+len_of None = 0
+len_of (Some page) = vec_len page
+
+front : (xs ys : List ℕ) (n : ℕ) → length xs ≡ n → take n (xs ++ ys) ≡ xs
+front [] ys zero h = refl
+front [] ys (suc n) h = absurd (omega (arith, h))
+front (x ∷ xs) ys zero h = absurd (omega (arith, h))
+front (x ∷ xs) ys (suc n) h = ap (λ l. x ∷ l) (front xs ys n (omega (arith, h)))
+
+full_of : {A : Type 0} (page : Vec ℕ A) → IsPage page → 0 < vec_len page → vec_len page ≡ page_size
+full_of page (inl e) h = absurd (omega (arith, e, h))
+full_of page (inr e) h = e
+
+-- the same of the page that was found at an index, twice
+pub put_here : {A : Type 0} (ps : List (Vec ℕ A)) (at : ℕ) (news : List ℕ) (page again : Vec ℕ A) (olds nexts : List ℕ) → All IsPage ps → at / page_size < length ps → page ≡ get_or ps (at / page_size) page → again ≡ get_or ps (at / page_size) again
+    → at % page_size + length news ≤ vec_len page → 0 < length news → olds ≡ again.items → nexts ≡ written (at % page_size) news olds
+    → HasPut true ps at news (slice_set ps (at / page_size) (with_items again nexts))
+put_here ps at news page again olds nexts whole lt is is' room some olds_are nexts_are =
+    let found : slice_get ps (at / page_size) ≡ Some page = slice_get_read ps (length ps) (at / page_size) page refl lt is in
+    let found' : slice_get ps (at / page_size) ≡ Some again = slice_get_read ps (length ps) (at / page_size) again refl lt is' in
+    let same_len : vec_len page ≡ vec_len again = ap len_of (sym found ∙ found') in
+    let full : vec_len again ≡ page_size = full_of again (subst IsPage (sym is') (whole (at / page_size) again lt)) (omega (arith, same_len, room, some)) in
+    let o = again.ok.0 in
+    let long : length again.items ≡ page_size = omega (arith, o, full) in
+    let fits' : at % page_size + length news ≤ page_size = omega (arith, same_len, room, full) in
+    let nexts_is : nexts ≡ written (at % page_size) news again.items = nexts_are ∙ ap (written (at % page_size) news) olds_are in
+    let length_nexts : length nexts ≡ again.len = ap length nexts_is ∙ (length_written again.items news (at % page_size) (omega (arith, long, fits')) ∙ omega (arith, o)) in (
+      length_set ps (at / page_size) (with_items again nexts),
+      omega (arith, fits', lt),
+      put_there ps at news again (with_items again nexts) found' lt full long fits' (front nexts (drop (length nexts) again.items) again.len length_nexts ∙ nexts_is),
+    )
+
+pub put_stored : {A : Type 0} (now : Memory) (ps qs : List (Vec ℕ A)) (max at : ℕ) (news : List ℕ) → record { bytes = bytes_in ps; max = max } ≡ now → HasPut true ps at news qs
+    → (at + length news ≤ length now.bytes) × (record { bytes = bytes_in qs; max = max } ≡ record now { bytes = written at news now.bytes })
+put_stored now ps qs max at news v p =
+    let l = length_bytes ps in
+    let fact = p.1 in
+    let room : at + length news ≤ length (bytes_in ps) = omega (arith, l, fact) in (
+      subst (λ (m : Memory). at + length news ≤ length m.bytes) v room,
+      ap (λ b. record { bytes = b; max = max }) p.2 ∙ ap (λ (m : Memory). record m { bytes = written at news m.bytes }) v,
+    )
+
+pub is_put : {A : Type 0} (b : Bool) (ps : List (Vec ℕ A)) (at : ℕ) (news : List ℕ) (qs : List (Vec ℕ A)) → b ≡ true → HasPut b ps at news qs → HasPut true ps at news qs
+is_put true ps at news qs e h = h
+is_put false ps at news qs e h = absurd (true≢false (sym e))
+
+pub not_put : {A : Type 0} (b : Bool) (ps : List (Vec ℕ A)) (at : ℕ) (news : List ℕ) (qs : List (Vec ℕ A)) → b ≡ false → HasPut b ps at news qs → qs ≡ ps
+not_put true ps at news qs e h = absurd (true≢false e)
+not_put false ps at news qs e h = h
 
 -- ---- new
 

@@ -1,7 +1,8 @@
 -- The bytes that a list of pages stands for. A page with no bytes of its own reads as zeros.
-use Rattle.std.specs.Prelude.{◌≡◌, ℕ, ◌+◌, ◌*◌, ◌/◌, ◌%◌, ◌≤◌, ◌⊎◌, List, length, map, slice_get, slice_index, Option, Some, None, MatchOption, zero, suc, All, Vec, vec_len}
+use Rattle.std.specs.Prelude.{◌≡◌, ℕ, ◌+◌, ◌*◌, ◌/◌, ◌%◌, ◌≤◌, ◌⊎◌, Bool, true, false, List, length, map, slice_get, slice_index, Option, Some, None, MatchOption, zero, suc, All, Vec, vec_len}
 use Rattle.std.specs.List.{range_with_len}
 use Rattle.spec_syntax.specs.Profile.{page_size, page_limit}
+use Rattle.spec_numeric.specs.Memory.{written}
 
 abbrev pub byte_of : {A : Type 0} → Option (Vec ℕ A) → ℕ → ℕ
 byte_of None j = 0
@@ -38,3 +39,8 @@ pub record IsSound {A : Type 0} (pages : List (Vec ℕ A)) (max : ℕ) : Type 0 
   pub whole : All IsPage pages
   pub fits : length pages ≤ max
   pub limit : max ≤ page_limit
+
+-- The bytes were written from an address on into pages that were there; or nothing was.
+abbrev pub HasPut : {A : Type 0} → Bool → List (Vec ℕ A) → ℕ → List ℕ → List (Vec ℕ A) → Type 0
+HasPut true old at bytes new = (length new ≡ length old) × (at + length bytes ≤ page_size * length old) × (bytes_in new ≡ written at bytes (bytes_in old))
+HasPut false old at bytes new = new ≡ old

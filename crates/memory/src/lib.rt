@@ -5,9 +5,9 @@
 ghost use Rattle.std.specs.Prelude.{◌≡◌, ℕ, ◌+◌, ◌*◌, ◌/◌, ◌%◌, ◌^◌, ◌<◌, ◌≤◌, ◌⊎◌, length, replicate, All, IfOk, IsErrOf, vec_len, ◌≢◌, slice_index, take, drop};
 ghost use Rattle.spec_syntax.specs.Profile.{page_size, page_limit};
 ghost use Rattle.spec_numeric.specs.Storage.{bytes_of_number};
-ghost use Rattle.spec_numeric.specs.Memory.{load};
+ghost use Rattle.spec_numeric.specs.Memory.{load, written};
 ghost use Rattle.memory.specs.Linear.{Memory, pages, Stored, Grown};
-ghost use Rattle.memory.specs.Pages.{byte_in, bytes_in, contents, IsPage, IsEmptyPage, IsMade, IsSound, number_in};
+ghost use Rattle.memory.specs.Pages.{byte_in, bytes_in, contents, IsPage, IsEmptyPage, IsMade, IsSound, HasPut, number_in};
 
 use std::alloc::{AllocError, Allocator};
 use std::marker::Model;
@@ -215,6 +215,56 @@ fn put_all<A: Allocator>(pages: &mut Vec<Vec<u8, A>, A>, at: usize, bytes: &[u8]
     }
 }
 
+/// Writes the bytes into a page from a place on.
+#[inline(always)]
+fn write_in(page: &mut [u8], at: usize, bytes: &[u8])
+    requires { at + length bytes.now ≤ length page.old }
+    ensures { page.new ≡ written at bytes.now page.old }
+{
+    page[at..at + bytes.len()].copy_from_slice(bytes);
+}
+
+/// Writes the bytes where they lie in one page that has bytes of its own, and tells whether they do. Else nothing changes.
+#[inline(always)]
+fn put_in_page<A: Allocator>(pages: &mut Vec<Vec<u8, A>, A>, at: usize, bytes: &[u8]) -> bool
+    requires whole { All IsPage pages.old.items }
+    requires some { 0 < length bytes.now }
+    requires short { length bytes.now ≤ 8 }
+    ensures whole { All IsPage pages.new.items }
+    ensures put { HasPut result pages.old.items at bytes.now pages.new.items }
+{
+    let index = at / PAGE_SIZE;
+    let offset = at % PAGE_SIZE;
+    if index >= pages.len() || offset + bytes.len() > pages[index].len() {
+        return false;
+    }
+    write_in(&mut pages[index], offset, bytes);
+    true
+}
+
+/// The same for the first bytes of these eight, by one write where they are one, two, four or eight.
+#[inline(always)]
+fn put_first<A: Allocator>(
+    pages: &mut Vec<Vec<u8, A>, A>,
+    at: usize,
+    bytes: &[u8],
+    width: u32,
+) -> bool
+    requires whole { All IsPage pages.old.items }
+    requires eight { length bytes.now ≡ 8 }
+    requires narrow { width ≤ 8 }
+    ensures whole { All IsPage pages.new.items }
+    ensures put { HasPut result pages.old.items at (take width bytes.now) pages.new.items }
+{
+    match width {
+        8 => put_in_page(pages, at, &bytes[..8]),
+        4 => put_in_page(pages, at, &bytes[..4]),
+        2 => put_in_page(pages, at, &bytes[..2]),
+        1 => put_in_page(pages, at, &bytes[..1]),
+        _ => false,
+    }
+}
+
 /// A list of pages with no bytes of their own.
 fn empty_pages<A: Allocator + Clone + Drop>(
     alloc: &A,
@@ -371,6 +421,7 @@ impl<A: Allocator + Clone + Drop> Linear<A> {
     /// # Errors
     ///
     /// `Trap` where the bytes do not all lie in memory, else `NoMemory` where a page was refused. Nothing changes.
+    #[inline(never)]
     pub fn store(
         &mut self,
         at: u32,
@@ -381,8 +432,12 @@ impl<A: Allocator + Clone + Drop> Linear<A> {
         requires { width ≤ 8 }
         ensures { Stored result self.old (at + offset) (bytes_of_number width value) self.new }
     {
+        let start = at as usize + offset as usize;
         let bytes = value.to_le_bytes();
-        self.write(at as usize + offset as usize, &bytes[..width as usize])
+        if put_first(&mut self.pages, start, &bytes, width) {
+            return Ok(());
+        }
+        self.write(start, &bytes[..width as usize])
     }
 
     /// Writes these bytes from the address `at` on, as the bytes of a data segment. No bytes take no memory.
@@ -398,6 +453,7 @@ impl<A: Allocator + Clone + Drop> Linear<A> {
     }
 
     // Each page that the bytes meet is made before the first byte is written; no bytes meet none.
+    #[inline(never)]
     fn write(&mut self, start: usize, bytes: &[u8]) -> Result<(), StoreRefusal>
         requires { start < 2 ^ 33 }
         ensures stored { Stored result self.old start bytes.now self.new }

@@ -12,8 +12,10 @@ use Rattle.lock_profile.specs.contracts.Touched as touched_row
 use Rattle.lock_profile.proofs.Held.TheSendSync as held
 use Rattle.intake.specs.contracts.intake.Intake as intake_row
 use Rattle.intake.proofs.intake.Intake.TheSendSync as intake
-use Rattle.shared_book.specs.contracts.shared.SharedBook as book_row
-use Rattle.shared_book.proofs.Crossing as book
+use Rattle.shards.specs.contracts.gate.NoGate as gate_row
+use Rattle.shards.specs.contracts.sharded.Shards as book_row
+use Rattle.shards.proofs.gate.NoGate.TheSendSync as gate
+use Rattle.shards.proofs.Crossing as book
 use Rattle.serial_block.proofs.Crossing.{crosses, vec_send, contract_sync, cells_sync, finished_send}
 use Rattle.mining.proofs.brake.Brake.TheSendSync as brake
 use Rattle.mining.specs.contracts.attempt.Committed as committed_row
@@ -37,8 +39,8 @@ module _ (B : RattleType) (g : Ghosts B.Denot) (send : IsSend B) (sync : IsSync 
   intake_sync : IsSync (intake_row.the_row B g)
   intake_sync = search (crosses, over.crosses, intake.the_sync) depth 60 fits 100000
 
-  book_sync : (a : NamedLft) → IsSync (book_row.the_row a B g)
-  book_sync a = book.book_sync B g send sync frees a (cells_sync B g send sync frees)
+  book_sync : (a : NamedLft) → IsSync (book_row.the_row a gate_row.the_row B g)
+  book_sync a = book.book_sync B g send sync frees a gate_row.the_row gate.the_sync (cells_sync B g send sync frees)
 
   -- the workers may share the job, where they may share the pace
   pub job_sync : (a b : NamedLft) (P : RattleType) → IsSync P → IsSync (job_row.the_row a b B P g)

@@ -9,7 +9,7 @@ ghost use Rattle.turn_loop.specs.Going.{MayGoOn, IsEnded};
 ghost use Rattle.mining.specs.Handed.{IsRunOf, IsCommitted};
 
 use crate::brake::Brake;
-use boost::book::{BeginRefusal, CommitRefusal, OpRefusal, Run, Ticket};
+use boost::book::{BeginRefusal, CommitRefusal, OpRefusal, Run};
 use call::Call;
 use intake::Intake;
 use interp::finished::Finished;
@@ -19,7 +19,7 @@ use link::deployed::Deployed as Contract;
 use lock_profile::Touched;
 use pace::{Pace, Step};
 use serial::touched_by;
-use shared_book::SharedBook;
+use shards::{NoGate, Shards, Ticket};
 use spec_ledger::{NoMemory, Op, Reply};
 use std::alloc::Allocator;
 use std::sync::Wait;
@@ -31,7 +31,7 @@ pub(crate) struct Job<'s, 'a, A: Allocator, P: Pace> {
     pub(crate) alloc: A,
     pub(crate) contracts: &'a [Contract<A>],
     pub(crate) calls: &'a [Call],
-    pub(crate) book: &'s SharedBook<'s, A>,
+    pub(crate) book: &'s Shards<'s, NoGate, A>,
     pub(crate) intake: &'s Intake<A>,
     pub(crate) pace: &'s P,
     /// How often a call is tried.
@@ -92,7 +92,7 @@ fn stop_at(refusal: OpRefusal, stops: bool) -> Stop {
 fn ask<A: Allocator + Copy, R: Wait, P: Pace>(
     rt: &R,
     job: &Job<'_, '_, A, P>,
-    ticket: &Ticket,
+    ticket: &mut Ticket,
     call: u32,
     n: u64,
     op: Op,
@@ -115,7 +115,7 @@ fn ask<A: Allocator + Copy, R: Wait, P: Pace>(
 fn ask_next<'a, A: Allocator + Copy, R: Wait, P: Pace>(
     rt: &R,
     job: &Job<'_, 'a, A, P>,
-    ticket: &Ticket,
+    ticket: &mut Ticket,
     call: u32,
     machine: &mut Machine<'a, A>,
     asked: &mut u64,
@@ -144,7 +144,7 @@ fn ask_next<'a, A: Allocator + Copy, R: Wait, P: Pace>(
 fn run<'a, A: Allocator + Copy, R: Wait, P: Pace>(
     rt: &R,
     job: &Job<'_, 'a, A, P>,
-    ticket: &Ticket,
+    ticket: &mut Ticket,
     call: u32,
     mut machine: Machine<'a, A>,
 ) -> Result<Finished<'a, A>, Stop>
@@ -180,7 +180,7 @@ fn rejected<'a, A: Allocator + Copy>(
 fn play<'a, A: Allocator + Copy, R: Wait, P: Pace>(
     rt: &R,
     job: &Job<'_, 'a, A, P>,
-    ticket: &Ticket,
+    ticket: &mut Ticket,
     number: u32,
 ) -> Result<Finished<'a, A>, Stop>
     requires { number < length job.now.calls.now }
@@ -253,12 +253,12 @@ fn attempt<'a, A: Allocator + Copy, R: Wait, P: Pace>(
     if told(job.pace, Step::Attempt { call, nth }) {
         return Err(Stop::Stopped);
     }
-    let ticket = match job.book.begin(rt, call) {
+    let mut ticket = match job.book.begin(rt, call) {
         Ok(ticket) => ticket,
         Err(BeginRefusal::NoMemory) => return Err(Stop::NoMemory),
         Err(_) => return Err(Stop::Refused),
     };
-    match play(rt, job, &ticket, call) {
+    match play(rt, job, &mut ticket, call) {
         Ok(finished) => commit(rt, job, ticket, call, finished),
         Err(stop) => {
             job.book.undo(rt, ticket);

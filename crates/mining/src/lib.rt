@@ -26,6 +26,9 @@ use std::thread::Threads;
 use world::World;
 use wtypes::NoMemory;
 
+/// How many shards the book of the workers has.
+const SHARDS: u32 = 16;
+
 /// What was mined.
 #[derive(Drop)]
 pub struct Mined<A: Allocator = Global> {
@@ -109,6 +112,7 @@ pub fn mine_in<R: Threads + Wait + Sync, A: Allocator + Copy + Send + Sync, P: P
         workers,
         tries,
         pace,
+        SHARDS,
     )?;
     let core = Core {
         receipts,

@@ -19,7 +19,8 @@ use intake::{Intake, Seat};
 use link::deployed::Deployed as Contract;
 use lock_profile::Touched;
 use pace::Pace;
-use shared_book::SharedBook;
+use shard_parts::CloseRefusal;
+use shards::{NoGate, Shards};
 use spec_ledger::{NoMemory, Receipt};
 use std::alloc::{Allocator, Global};
 use std::sync::Wait;
@@ -53,6 +54,9 @@ pub struct MinedCore<A: Allocator = Global> {
 /// nobody drew. Then these and the calls that were tried in vain or stopped run alone in rising number, and then each other call
 /// that still has room.
 ///
+/// The book that the workers share is in so many shards, each behind a lock of its own. Where these are not parts of one book at its end, no run
+/// stands, and all calls that have room run alone in rising number.
+///
 /// Whatever the workers do at once, the order is admissible, and the receipts, locks and cells are those of its calls run one
 /// after another in that order.
 ///
@@ -69,10 +73,12 @@ pub fn mine_core<'a, R: Threads + Wait + Sync, A: Allocator + Copy + Send + Sync
     workers: u32,
     tries: u32,
     pace: &P,
+    shards: u32,
 ) -> Result<MinedCore<A>, NoMemory>
     requires calls { length calls.now ≤ 65535 }
     requires workers { (1 ≤ workers) × (workers ≤ 64) }
     requires tries { (1 ≤ tries) × (tries ≤ 16) }
+    requires shards { (1 ≤ shards) × (shards ≤ 16) }
     ensures serial { IfOk result (λ core. Serial (contracts_view contracts.now) calls.now core.order.items cells.now.cells (positions core.receipts.items core.touched.items) core.cells.cells) }
     ensures admissible { IfOk result (λ core. IsAdmissible (limits calls.now) core.order.items block_fuel) }
     ensures receipts { IfOk result (λ core. length core.receipts.items ≡ length core.order.items) }
@@ -83,7 +89,7 @@ pub fn mine_core<'a, R: Threads + Wait + Sync, A: Allocator + Copy + Send + Sync
     ensures by_workers { IfOk result (λ core. core.by_workers ≤ length core.order.items) }
 {
     let count = calls.len() as u32;
-    let book = SharedBook::open(alloc, cells, count)?;
+    let book = Shards::open(alloc, cells.copy(alloc)?, count, shards, &NoGate)?;
     let Ok((intake, mut seats)) = Intake::open(alloc, count, block_fuel, workers + 1) else {
         return Err(NoMemory);
     };
@@ -111,14 +117,18 @@ pub fn mine_core<'a, R: Threads + Wait + Sync, A: Allocator + Copy + Send + Sync
     )
 }
 
-/// What is left of the book, unless it began with other cells.
-fn close<A: Allocator + Copy>(book: SharedBook<'_, A>, _cells: &Cells<A>) -> Option<Closed<A>>
-    requires { book ≡ _cells.now.cells }
-    ensures { IfSome result (IsSerialBook _cells.now.cells) }
+/// What is left of the book. None where its shards are not parts of one book: then no run stands.
+fn close<A: Allocator + Copy>(
+    book: Shards<'_, NoGate, A>,
+    _cells: &Cells<A>,
+) -> Result<Option<Closed<A>>, NoMemory>
+    requires { book.opening ≡ _cells.now.cells }
+    ensures { IfOk result (λ closed. IfSome closed (IsSerialBook _cells.now.cells)) }
 {
     match book.close() {
-        Ok(closed) => Some(closed),
-        Err(_) => None,
+        Ok(closed) => Ok(Some(closed)),
+        Err(CloseRefusal::Differs) => Ok(None),
+        Err(CloseRefusal::NoMemory) => Err(NoMemory),
     }
 }
 

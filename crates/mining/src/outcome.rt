@@ -228,44 +228,77 @@ fn tie<'a, A: Allocator + Copy>(
     calls: &'a [Call],
     cells: &'a Cells<A>,
     block_fuel: u64,
-    closed: Option<Closed<A>>,
+    closed: Closed<A>,
     runs: &[MadeRun<'a, A>],
     touched: Vec<Touched<A>, A>,
 ) -> Result<(Publishing<'a, A>, u32), NoMemory>
     requires calls { length calls.now < 2 ^ 32 }
-    requires closed { IfSome closed (IsSerialBook cells.now.cells) }
+    requires closed { IsSerialBook cells.now.cells closed }
     requires runs { AreMade (contracts_view contracts.now) calls.now runs.now touched.items }
     ensures job { IfOk result (λ r. IsJobOf (contracts_view contracts.now) calls.now cells.now.cells block_fuel r.0) }
     ensures taken { IfOk result (λ r. r.1 ≤ length r.0.order) }
 {
-    if let Some(closed) = closed {
-        let count = at_most(closed.entries.len());
-        let adopted = Publishing::adopt(
-            alloc, contracts, calls, cells, block_fuel, closed, runs, touched,
-        )?;
-        if let Some(publishing) = adopted {
-            return Ok((publishing, count));
-        }
+    let count = at_most(closed.entries.len());
+    let adopted = Publishing::adopt(
+        alloc, contracts, calls, cells, block_fuel, closed, runs, touched,
+    )?;
+    if let Some(publishing) = adopted {
+        return Ok((publishing, count));
     }
     let mut publishing = Publishing::open(alloc, contracts, calls, cells, block_fuel)?;
     let taken = take_runs(&mut publishing, runs)?;
     Ok((publishing, taken))
 }
 
+/// Publishes the runs of the workers in the order of their positions, and answers with how many calls that are, and then the calls that were set
+/// aside, alone in rising number. Nothing is published where the book in which the workers committed the runs is not closed.
+fn publish_runs<'a, A: Allocator + Copy>(
+    alloc: A,
+    contracts: &'a [Contract<A>],
+    calls: &'a [Call],
+    cells: &'a Cells<A>,
+    block_fuel: u64,
+    closed: Option<Closed<A>>,
+    worked: Worked<'a, A>,
+) -> Result<(Publishing<'a, A>, u32), NoMemory>
+    requires calls { length calls.now < 2 ^ 32 }
+    requires closed { IfSome closed (IsSerialBook cells.now.cells) }
+    requires runs { AreRuns (contracts_view contracts.now) calls.now worked }
+    ensures job { IfOk result (λ r. IsJobOf (contracts_view contracts.now) calls.now cells.now.cells block_fuel r.0) }
+    ensures taken { IfOk result (λ r. r.1 ≤ length r.0.order) }
+{
+    let Some(closed) = closed else {
+        let publishing = Publishing::open(alloc, contracts, calls, cells, block_fuel)?;
+        return Ok((publishing, 0));
+    };
+    let Worked {
+        committed,
+        mut set_aside,
+    } = worked;
+    set_aside.sort_unstable();
+    let (runs, touched) = apart(alloc, contracts, calls, committed)?;
+    let (mut publishing, by_workers) = tie(
+        alloc, contracts, calls, cells, block_fuel, closed, &runs, touched,
+    )?;
+    take_alone(&mut publishing, &set_aside)?;
+    Ok((publishing, by_workers))
+}
+
 /// Publishes the runs of the workers in the order of their positions, and then the other calls that have room: those that were
-/// set aside or that nobody drew first, in rising number. The book in which the workers committed the runs is closed, if it could be.
+/// set aside or that nobody drew first, in rising number. Where the book in which the workers committed the runs is not closed, all calls that have
+/// room run alone in rising number.
 pub(crate) fn publish<'a, A: Allocator + Copy>(
     alloc: A,
     contracts: &'a [Contract<A>],
     calls: &'a [Call],
     cells: &Cells<A>,
     block_fuel: u64,
-    closed: Option<Closed<A>>,
+    closed: Result<Option<Closed<A>>, NoMemory>,
     parts: Vec<Result<Worked<'a, A>, NoMemory>, A>,
     rest: Result<Vec<u32, A>, NoMemory>,
 ) -> Result<MinedCore<A>, NoMemory>
     requires calls { length calls.now < 2 ^ 32 }
-    requires closed { IfSome closed (IsSerialBook cells.now.cells) }
+    requires closed { IfOk closed (λ closed. IfSome closed (IsSerialBook cells.now.cells)) }
     requires runs { All (λ part. IfOk part (AreRuns (contracts_view contracts.now) calls.now)) parts.items }
     ensures serial { IfOk result (λ core. Serial (contracts_view contracts.now) calls.now core.order.items cells.now.cells (positions core.receipts.items core.touched.items) core.cells.cells) }
     ensures admissible { IfOk result (λ core. IsAdmissible (limits calls.now) core.order.items block_fuel) }
@@ -276,16 +309,10 @@ pub(crate) fn publish<'a, A: Allocator + Copy>(
     ensures left { IfOk result (λ core. AreLeft core.order.items (length calls.now) core.left.items) }
     ensures by_workers { IfOk result (λ core. core.by_workers ≤ length core.order.items) }
 {
-    let Worked {
-        committed,
-        mut set_aside,
-    } = gather(alloc, contracts, calls, parts, rest)?;
-    set_aside.sort_unstable();
-    let (runs, touched) = apart(alloc, contracts, calls, committed)?;
-    let (mut publishing, by_workers) = tie(
-        alloc, contracts, calls, cells, block_fuel, closed, &runs, touched,
+    let worked = gather(alloc, contracts, calls, parts, rest)?;
+    let (mut publishing, by_workers) = publish_runs(
+        alloc, contracts, calls, cells, block_fuel, closed?, worked,
     )?;
-    take_alone(&mut publishing, &set_aside)?;
     publishing.fill()?;
     let published = publishing.close()?;
     Ok(MinedCore {

@@ -1,6 +1,5 @@
 -- The names of instructions in the text format (Core Specification, 6.5 Instructions).
-use Rattle.std.specs.Prelude.{◌≡◌, ℕ, List}
-use Rattle.std.specs.List.{Contains}
+use Rattle.std.specs.Prelude.{◌≡◌, ℕ, List, Some}
 use Rattle.wtypes.specs.declared.ValType.{ValType}
 use Rattle.wtypes.specs.declared.ValType.TheVariants.{I32, I64}
 use Rattle.wtypes.specs.declared.Value.{Value}
@@ -8,7 +7,8 @@ use Rattle.wtypes.specs.declared.Value.TheVariants as value
 use Rattle.wtypes.specs.declared.PlainInstr.{PlainInstr}
 use Rattle.wtypes.specs.declared.PlainInstr.TheVariants.{Unreachable, Nop, Br, BrIf, Return, Call, CallIndirect, Drop, Select, LocalGet, LocalSet, LocalTee, GlobalGet, GlobalSet, Load, Store, MemorySize, MemoryGrow, Const, Unary, Binary, Test, Compare, Convert}
 use Rattle.spec_syntax.specs.Syntax.{Instr, Plain, BrTable, Block, Loop, If}
-use Rattle.spec_text.specs.declared.KeyWord.{KeyWord}
+use Rattle.spec_text.specs.Words.{beside}
+use Rattle.spec_text.specs.declared.TheConstants.{KEY_WORDS, OPERATORS}
 use Rattle.spec_text.specs.declared.KeyWord.TheVariants as word
 use Rattle.spec_text.specs.declared.Operator.{Operator}
 use Rattle.spec_text.specs.declared.Operator.TheVariants as o
@@ -46,10 +46,6 @@ operator_of (Test op) = o.Test op
 operator_of (Compare op) = o.Compare op
 operator_of (Convert op) = o.Convert op
 
--- the text stands beside this in a table of slices and values; `now` reads a slice
-abbrev pub IsBeside : {R V : Type 0} → (R → List ℕ) → List ℕ → V → List (R × V) → Type 0
-IsBeside now text v table = (e : _) × Contains table e × (now e.0 ≡ text) × (e.1 ≡ v)
-
 -- what names an instruction
 abbrev pub naming_of : Instr → Naming
 naming_of (Plain op) = naming.Operator (operator_of op)
@@ -58,11 +54,11 @@ naming_of (Block result body) = naming.Word word.Block
 naming_of (Loop result body) = naming.Word word.Loop
 naming_of (If result on_true on_false) = naming.Word word.If
 
--- the table of operators, or that of words, has this spelling beside it; `now` reads a slice
-abbrev pub IsSpelled : {R : Type 0} → (R → List ℕ) → List ℕ → Naming → List (R × Operator) → List (R × KeyWord) → Type 0
-IsSpelled now name (naming.Operator operator) operators words = IsBeside now name operator operators
-IsSpelled now name (naming.Word word) operators words = IsBeside now name word words
+-- read as a word of the text format, this is the operator, or the key word
+abbrev pub IsSpelled : List ℕ → Naming → Type 0
+IsSpelled name (naming.Operator operator) = beside (λ r. r.now) name OPERATORS ≡ Some operator
+IsSpelled name (naming.Word word) = beside (λ r. r.now) name KEY_WORDS ≡ Some word
 
--- the instruction has this name by these tables
-abbrev pub IsNameOf : {R : Type 0} → (R → List ℕ) → List ℕ → Instr → List (R × Operator) → List (R × KeyWord) → Type 0
-IsNameOf now name instr operators words = IsSpelled now name (naming_of instr) operators words
+-- the instruction has this name
+abbrev pub IsNameOf : List ℕ → Instr → Type 0
+IsNameOf name instr = IsSpelled name (naming_of instr)

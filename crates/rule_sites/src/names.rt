@@ -1,39 +1,58 @@
 //! The names of instructions.
 
-ghost use Rattle.std.specs.Prelude.{◌≡◌, IfSome};
+ghost use Rattle.std.specs.Prelude.{◌≡◌, IfSome, IsTrue};
+ghost use Rattle.spec_text.specs.Words.{beside};
+ghost use Rattle.spec_text.specs.declared.TheConstants.{KEY_WORDS, OPERATORS};
 ghost use Rattle.module_tree.specs.View.{instr_view};
 ghost use Rattle.rule_sites.specs.Names;
-ghost use Rattle.rule_sites.specs.Names.{IsBeside, IsSpelled, IsNameOf};
+ghost use Rattle.rule_sites.specs.Names.{IsSpelled, IsNameOf};
 
 use crate::operators::operator_of;
 use crate::same::is_operator;
 use module_tree::instr::Instr;
 use spec_text::{KEY_WORDS, KeyWord, OPERATORS, Operator};
 use std::alloc::Allocator;
-use std::str::from_utf8;
 
-/// The name beside an operator in a table.
-fn operator_name(table: &[(&'static [u8], Operator)], operator: Operator) -> Option<&'static [u8]>
-    ensures { IfSome result (λ name. IsBeside (λ r. r.now) name.now operator table.now) }
+/// What stands beside the text in the table.
+fn look_up<V: Copy>(table: &[(&[u8], V)], text: &[u8]) -> Option<V>
+    ensures { result ≡ beside (λ r. r.now) text.now table.now }
 {
     for entry in table {
-        if is_operator(entry.1, operator) {
-            return Some(entry.0);
+        if entry.0 == text {
+            return Some(entry.1);
         }
     }
     None
 }
 
-/// The spelling beside a word in a table.
-fn word_name(table: &[(&'static [u8], KeyWord)], word: KeyWord) -> Option<&'static [u8]>
-    ensures { IfSome result (λ name. IsBeside (λ r. r.now) name.now word table.now) }
+/// The key word that the text spells.
+fn key_word(text: &[u8]) -> Option<KeyWord>
+    ensures { result ≡ beside (λ r. r.now) text.now KEY_WORDS }
 {
-    for entry in table {
-        if entry.1 == word {
-            return Some(entry.0);
-        }
+    look_up(&KEY_WORDS, text)
+}
+
+/// The operator that the text names.
+fn operator(text: &[u8]) -> Option<Operator>
+    ensures { result ≡ beside (λ r. r.now) text.now OPERATORS }
+{
+    look_up(&OPERATORS, text)
+}
+
+/// Whether the text is this word, or names this operator.
+fn spells(text: &[u8], naming: Naming) -> bool
+    ensures { IsTrue result → IsSpelled text.now naming }
+{
+    match naming {
+        Naming::Operator(wanted) => match operator(text) {
+            Some(found) => is_operator(found, wanted),
+            None => false,
+        },
+        Naming::Word(wanted) => match key_word(text) {
+            Some(found) => found == wanted,
+            None => false,
+        },
     }
-    None
 }
 
 /// A word that names instructions in the text format.
@@ -58,33 +77,25 @@ fn naming_of<A: Allocator>(instr: &Instr<A>) -> Naming
     }
 }
 
-/// The name of what names an instruction, by the tables of the text format.
-fn spelling(
-    operators: &[(&'static [u8], Operator)],
-    words: &[(&'static [u8], KeyWord)],
-    naming: Naming,
-) -> Option<&'static [u8]>
-    ensures { IfSome result (λ name. IsSpelled (λ r. r.now) name.now naming operators.now words.now) }
+/// The first of these names that spells this.
+fn first_spelling<V>(table: &[(&'static [u8], V)], naming: Naming) -> Option<&'static [u8]>
+    ensures { IfSome result (λ name. IsSpelled name.now naming) }
 {
-    match naming {
-        Naming::Operator(operator) => operator_name(operators, operator),
-        Naming::Word(word) => word_name(words, word),
+    for entry in table {
+        if spells(entry.0, naming) {
+            return Some(entry.0);
+        }
     }
+    None
 }
 
-/// The name of an instruction: that which stands beside its operator in the one table, or beside its word in the other.
-pub fn name_in<A: Allocator>(
-    operators: &[(&'static [u8], Operator)],
-    words: &[(&'static [u8], KeyWord)],
-    instr: &Instr<A>,
-) -> Option<&'static [u8]>
-    ensures { IfSome result (λ name. IsNameOf (λ r. r.now) name.now (instr_view instr.now) operators.now words.now) }
+/// The name of an instruction: read as a word of the text format, it is the instruction's.
+pub(crate) fn name_of<A: Allocator>(instr: &Instr<A>) -> Option<&'static [u8]>
+    ensures { IfSome result (λ name. IsNameOf name.now (instr_view instr.now)) }
 {
-    spelling(operators, words, naming_of(instr))
-}
-
-/// The name of an instruction by the tables of the text format, as [`name_in`] has it. Each instruction has one.
-pub fn name_of<A: Allocator>(instr: &Instr<A>) -> Option<&'static str> {
-    let name = name_in(&OPERATORS, &KEY_WORDS, instr)?;
-    from_utf8(name).ok()
+    let naming = naming_of(instr);
+    match naming {
+        Naming::Operator(_) => first_spelling(&OPERATORS, naming),
+        Naming::Word(_) => first_spelling(&KEY_WORDS, naming),
+    }
 }

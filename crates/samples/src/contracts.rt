@@ -8,20 +8,25 @@ use link::deploy::deploy;
 use link::deployed::Deployed;
 use loader::load;
 use std::alloc::{AllocError, Allocator, Global};
+use thiserror::Error;
 use typing::check::check;
 use typing::valid::Valid;
 use wtypes::Value;
 
 /// Why a sample could not be made.
-#[derive(Debug, Clone, Copy, PartialEq, Eq)]
+#[derive(Clone, Copy, Debug, PartialEq, Eq, Error)]
 pub enum Unfit {
     /// The bytes spell no module within the limits, or memory was refused.
+    #[error("the bytes spell no module within the limits, or memory was refused")]
     NotLoaded,
     /// The module is not typed, or memory was refused.
+    #[error("the module is not typed, or memory was refused")]
     NotTyped,
     /// The module is not linked, or memory was refused.
+    #[error("the module is not linked, or memory was refused")]
     NotLinked,
     /// The call is not within its limits, or memory was refused.
+    #[error("the call is not within its limits, or memory was refused")]
     NotACall,
 }
 

@@ -5,9 +5,10 @@ use Rattle.spec_ledger.specs.declared.Inverse.{Inverse}
 use Rattle.spec_ledger.specs.declared.Op.{Op}
 use Rattle.spec_ledger.specs.declared.Reply.{Reply}
 use Rattle.spec_ledger.specs.declared.Step.{Step}
+use Rattle.spec_ledger.specs.declared.Step.TheVariants.{Did}
 use Rattle.spec_ledger.specs.Cells.{Cells, cells_after, reply_to, inverse_to}
-use Rattle.spec_ledger.specs.Book.{after, GetsReplies, inverses_of}
-use Rattle.spec_ledger.proofs.Traces.{after-append, GetsReplies-push, inverses_of-push}
+use Rattle.spec_ledger.specs.Book.{after, standing, GetsReplies, GetsRepliesFrom, unmarked, inverses_of}
+use Rattle.spec_ledger.proofs.Traces.{after-push, GetsReplies-push, standing-push, after-standing, inverses_of-append}
 use Rattle.storage.specs.Counts.{Store, opened}
 use Rattle.storage.specs.Counts.{opened_all}
 use Rattle.storage.proofs.Counted.{opened_all-push}
@@ -21,15 +22,16 @@ pub done_none : (start : Store) → AreDone start [] start []
 done_none start = record { replies = tt; cells = refl; inverses_are = refl; unsettled = refl }
 
 module _ (start now next : Store) (t u : List Step) (is js : List Inverse) (op : Op) (r : Reply) (d : AreDone start t now is)
-    (trace : u ≡ t ++ record { op = op; reply = r } ∷ []) (reply : r ≡ reply_to op now.cells)
+    (trace : u ≡ t ++ Did op r ∷ []) (reply : r ≡ reply_to op now.cells)
     (cells : next.cells ≡ cells_after op now.cells) (unsettled : next.unsettled ≡ opened (inverse_to op now.cells) now.unsettled)
     (inverses : js ≡ is ++ inverse_to op now.cells ∷ []) where
   pub done_more : AreDone start u next js
   done_more = record {
-    replies = subst (λ x. GetsReplies x start.cells) (sym trace) (GetsReplies-push t (record { op = op; reply = r }) start.cells d.replies (reply ∙ ap (reply_to op) d.cells));
-    cells = cells ∙ ap (cells_after op) d.cells ∙ sym (ap (λ x. after x start.cells) trace ∙ after-append t (record { op = op; reply = r } ∷ []) start.cells);
-    inverses_are = inverses ∙ (λ k. d.inverses_are k ++ inverse_to op (d.cells k) ∷ [])
-        ∙ sym (ap (λ x. inverses_of x start.cells) trace ∙ inverses_of-push t (record { op = op; reply = r }) start.cells);
+    replies = subst (λ x. GetsReplies x start.cells) (sym trace) (GetsReplies-push t op r start.cells d.replies (reply ∙ ap (reply_to op) d.cells));
+    cells = cells ∙ ap (cells_after op) d.cells ∙ sym (ap (λ x. after x start.cells) trace ∙ after-push t op r start.cells);
+    inverses_are = inverses ∙ (λ k. d.inverses_are k ++ inverse_to op ((d.cells ∙ after-standing t start.cells) k) ∷ [])
+        ∙ sym (ap (λ x. inverses_of (standing x) start.cells) trace ∙ ap (λ ops. inverses_of ops start.cells) (standing-push t op r)
+        ∙ inverses_of-append (standing t) (op ∷ []) start.cells);
     unsettled = unsettled ∙ ap (opened (inverse_to op now.cells)) d.unsettled
         ∙ sym (ap (λ x. opened_all x start.unsettled) inverses ∙ opened_all-push is (inverse_to op now.cells) start.unsettled);
   }
@@ -39,7 +41,7 @@ pub asked_more : (start now next : Store) (p q s : Progress) (is js : List Inver
     → next.unsettled ≡ opened (inverse_to op now.cells) now.unsettled → js ≡ is ++ inverse_to op now.cells ∷ [] → IsOnItsWay start p now is → IsOnItsWay start s next js
 asked_more start now next p q s is js op r asks answers reply cells unsettled inverses d =
     let replied : HasReplied q op r s = subst (λ x. AnsweredAt q r s x) asks.asking answers in
-    done_more start now next p.trace s.trace is js op r d (replied.trace ∙ ap (λ t. t ++ record { op = op; reply = r } ∷ []) asks.trace) reply cells unsettled inverses
+    done_more start now next p.trace s.trace is js op r d (replied.trace ∙ ap (λ t. t ++ Did op r ∷ []) asks.trace) reply cells unsettled inverses
 
 -- a run that starts is not waiting for a reply
 pub free_first : (x : Status) → GoesOn x → IsFree x
@@ -51,25 +53,3 @@ free_first status.NoMemory h = absurd h
 
 pub done_same : (start now next : Store) (t : List Step) (is js : List Inverse) → AreDone start t now is → next ≡ now → js ≡ is → AreDone start t next js
 done_same start now next t is js d n j = subst (λ x. AreDone start t x js) (sym n) (subst (AreDone start t now) (sym j) d)
-
--- each reply of a trace that gets its replies
-pub reply_at : (t : List Step) (i : ℕ) (d : Step) (m : Cells) → i < length t → GetsReplies t m → (get_or t i d).reply ≡ reply_to (get_or t i d).op (after (take i t) m)
-reply_at [] i d m below g = absurd (omega (arith, below))
-reply_at (s ∷ t) zero d m below g = g.0
-reply_at (s ∷ t) (suc i) d m below g = reply_at t i d (cells_after s.op m) (omega (arith, below)) g.1
-
--- a step of a trace that is done again: its reply, and one that differs
-module _ (start now next : Store) (t : List Step) (i : ℕ) (d : Step) (is js : List Inverse) (r : Reply) (below : i < length t) (done : AreDone start (take i t) now is)
-    (reply : r ≡ reply_to (get_or t i d).op now.cells) (cells : next.cells ≡ cells_after (get_or t i d).op now.cells)
-    (unsettled : next.unsettled ≡ opened (inverse_to (get_or t i d).op now.cells) now.unsettled) (inverses : js ≡ is ++ inverse_to (get_or t i d).op now.cells ∷ []) where
-  pub again_more : r ≡ (get_or t i d).reply → AreDone start (take (i + 1) t) next js
-  again_more same = done_more start now next (take i t) (take (i + 1) t) is js (get_or t i d).op (get_or t i d).reply done (take_more t i d below) (sym same ∙ reply) cells unsettled inverses
-
-  pub again_other : AreSomeDone start next js
-  again_other = record {
-    trace = take i t ++ record { op = (get_or t i d).op; reply = r } ∷ [];
-    done = done_more start now next (take i t) (take i t ++ record { op = (get_or t i d).op; reply = r } ∷ []) is js (get_or t i d).op r done refl reply cells unsettled inverses;
-  }
-
-  pub not_again : (r ≡ (get_or t i d).reply → ⊥) → GetsReplies t start.cells → ⊥
-  not_again apart gets = apart (reply ∙ ap (reply_to (get_or t i d).op) done.cells ∙ sym (reply_at t i d start.cells below gets))

@@ -7,8 +7,8 @@ use Rattle.spec_ledger.specs.declared.Outcome.{Outcome}
 use Rattle.spec_ledger.specs.declared.Step.{Step}
 use Rattle.spec_ledger.specs.Cells.{Cells, AreCells}
 use Rattle.spec_ledger.specs.Modes.{Modes, touched}
-use Rattle.spec_ledger.specs.Book.{after, back_all, has_returned}
-use Rattle.spec_ledger.proofs.Traces.{back_all-inverses}
+use Rattle.spec_ledger.specs.Book.{after, standing, inverses_of, back_all, has_returned}
+use Rattle.spec_ledger.proofs.Traces.{after-standing, back_all-inverses}
 use Rattle.storage.specs.Counts.{Store}
 use Rattle.storage.specs.Counts.{opened_all, closed_all, AreUnsettled}
 use Rattle.storage.proofs.Counted.{AreCounts-empty, AreUnsettled-opened_all, closed_all-opened_all}
@@ -29,7 +29,9 @@ module _ (start now : Store) (t : List Step) (is : List Inverse) (d : AreDone st
   ended = ap (closed_all is) counted ∙ closed_all-opened_all is empty AreCounts-empty
 
   pub undone : AreCells start.cells → back_all is now.cells ≡ start.cells
-  undone are = (λ k. back_all (d.inverses_are k) (d.cells k)) ∙ back_all-inverses t start.cells are
+  undone are =
+      (λ k. back_all (d.inverses_are k) (d.cells k)) ∙ ap (back_all (inverses_of (standing t) start.cells)) (after-standing t start.cells)
+      ∙ back_all-inverses (standing t) start.cells are
 
   pub taken_back : AreCells start.cells → (later : Store) → later.cells ≡ back_all is now.cells → later.unsettled ≡ closed_all is now.unsettled → later ≡ start
   taken_back are later cells counts =

@@ -3,3 +3,4 @@ pub mod Doing
 pub mod Ending
 pub mod Modes
 pub mod Orders
+pub mod Redoing

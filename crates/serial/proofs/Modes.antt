@@ -12,28 +12,40 @@ use Rattle.spec_ledger.specs.declared.Lock.{Lock}
 use Rattle.spec_ledger.specs.declared.Mode.{Mode}
 use Rattle.spec_ledger.specs.declared.Step.{Step}
 use Rattle.spec_ledger.specs.Cells.{lock_cmp, lock_of}
-use Rattle.spec_ledger.specs.Modes.{Modes, mode_of, join_held, mode_at, touched}
+use Rattle.spec_ledger.specs.declared.Step.TheVariants.{Did, Opened, Kept, Dropped}
+use Rattle.spec_ledger.specs.declared.Op.{Op}
+use Rattle.spec_ledger.specs.declared.Reply.{Reply}
+use Rattle.spec_ledger.specs.Modes.{Modes, mode_of, join_held, mode_at, ops_of, touched_by, touched}
 use Rattle.spec_ledger.proofs.Maps.{is_key, lock_cmp_total, lock_cmp-IsAntisymmetric}
-use Rattle.spec_ledger.proofs.Traces.{get-touched, mode_at-push}
+use Rattle.spec_ledger.proofs.Traces.{get-touched_by, mode_at-push, ops_of-append, touched-mark}
 use Rattle.lock_profile.specs.declared.Held.{Held}
 use Rattle.lock_profile.specs.Groups.{pairs, pair_of}
-use Rattle.serial.specs.Asking.{modes_in, asked}
+use Rattle.serial.specs.Asking.{modes_in, asked, asked_by}
 
 -- ---- one step more
 
-touched-push : (t : List Step) (s : Step) → touched (t ++ s ∷ []) ≡ asked (touched t) s.op
-touched-push t s = same_map lock_cmp_total lock_cmp-IsAntisymmetric _ _ (λ q.
-    get-touched (t ++ s ∷ []) q ∙ mode_at-push t s q
-    ∙ elim (eq_by_cmp lock_cmp q (lock_of s.op)) as (λ b. eq_by_cmp lock_cmp q (lock_of s.op) ≡ b
-    → cond b (Some (join_held (mode_of s.op) (mode_at q t))) (mode_at q t) ≡ cond b (Some (join_held (mode_of s.op) (get (touched t) (lock_of s.op)))) (get (touched t) q)) [
-      | true ↦ λ e. ap (λ x. Some (join_held (mode_of s.op) x)) (sym (get-touched t q) ∙ ap (get (touched t)) (is_key lock_cmp_total lock_cmp-IsAntisymmetric q (lock_of s.op) e))
-      | false ↦ λ _. sym (get-touched t q)
+touched_by-push : (t : List Op) (s : Op) → touched_by (t ++ s ∷ []) ≡ asked (touched_by t) s
+touched_by-push t s = same_map lock_cmp_total lock_cmp-IsAntisymmetric _ _ (λ q.
+    get-touched_by (t ++ s ∷ []) q ∙ mode_at-push t s q
+    ∙ elim (eq_by_cmp lock_cmp q (lock_of s)) as (λ b. eq_by_cmp lock_cmp q (lock_of s) ≡ b
+    → cond b (Some (join_held (mode_of s) (mode_at q t))) (mode_at q t) ≡ cond b (Some (join_held (mode_of s) (get (touched_by t) (lock_of s)))) (get (touched_by t) q)) [
+      | true ↦ λ e. ap (λ x. Some (join_held (mode_of s) x)) (sym (get-touched_by t q) ∙ ap (get (touched_by t)) (is_key lock_cmp_total lock_cmp-IsAntisymmetric q (lock_of s) e))
+      | false ↦ λ _. sym (get-touched_by t q)
     ] refl
-    ∙ sym (get-insert lock_cmp_total (touched t) (lock_of s.op) (join_held (mode_of s.op) (get (touched t) (lock_of s.op))) q))
+    ∙ sym (get-insert lock_cmp_total (touched_by t) (lock_of s) (join_held (mode_of s) (get (touched_by t) (lock_of s))) q))
 
-pub touched_more : (t : List Step) (i : ℕ) (d : Step) (held next : Modes) → i < length t → held ≡ touched (take i t) → next ≡ asked held (get_or t i d).op → next ≡ touched (take (i + 1) t)
+touched-push : (t : List Step) (op : Op) (r : Reply) → touched (t ++ Did op r ∷ []) ≡ asked (touched t) op
+touched-push t op r = ap touched_by (ops_of-append t (Did op r ∷ [])) ∙ touched_by-push (ops_of t) op
+
+touched_step : (t : List Step) (s : Step) → touched (t ++ s ∷ []) ≡ asked_by (touched t) s
+touched_step t (Did op r) = touched-push t op r
+touched_step t Opened = touched-mark t Opened tt
+touched_step t Kept = touched-mark t Kept tt
+touched_step t Dropped = touched-mark t Dropped tt
+
+pub touched_more : (t : List Step) (i : ℕ) (d : Step) (held next : Modes) → i < length t → held ≡ touched (take i t) → next ≡ asked_by held (get_or t i d) → next ≡ touched (take (i + 1) t)
 touched_more t i d held next below e f =
-    f ∙ ap (λ m. asked m (get_or t i d).op) e ∙ sym (ap touched (take_more t i d below) ∙ touched-push (take i t) (get_or t i d))
+    f ∙ ap (λ m. asked_by m (get_or t i d)) e ∙ sym (ap touched (take_more t i d below) ∙ touched_step (take i t) (get_or t i d))
 
 -- ---- the list of a map
 

@@ -1,7 +1,7 @@
 -- How far a call has come over cells that answer its operations.
 use Rattle.std.specs.Prelude.{◌≡◌, List}
 use Rattle.spec_ledger.specs.declared.Inverse.{Inverse}
-use Rattle.spec_ledger.specs.Book.{after, GetsReplies, inverses_of}
+use Rattle.spec_ledger.specs.Book.{after, standing, GetsReplies, inverses_of}
 use Rattle.storage.specs.Counts.{Store}
 use Rattle.storage.specs.Counts.{opened_all}
 use Rattle.spec_execution.specs.Configuration.{Deployed}
@@ -10,11 +10,11 @@ use Rattle.interp.specs.Played.{Played}
 use Rattle.interp.specs.Progress.{Progress}
 use Rattle.spec_ledger.specs.declared.Step.{Step}
 
--- the steps of a trace got their replies from the cells at the start, which they made these, and their inverses are these
+-- the steps of a trace got their replies from the cells at the start, which they made these, and the inverses of what stands are these
 pub record AreDone (start : Store) (trace : List Step) (now : Store) (inverses : List Inverse) : Type 0 where
   pub replies : GetsReplies trace start.cells
   pub cells : now.cells ≡ after trace start.cells
-  pub inverses_are : inverses ≡ inverses_of trace start.cells
+  pub inverses_are : inverses ≡ inverses_of (standing trace) start.cells
   pub unsettled : now.unsettled ≡ opened_all inverses start.unsettled
 
 -- some operations were done on the cells at the start, which have these inverses

@@ -1,12 +1,13 @@
-// The operations of a trace, done again.
+// The steps of a trace, done again.
 ghost use Rattle.std.specs.Prelude.{◌≡◌, ◌↔◌, [], Ok, true, false, IsTrue};
+ghost use Rattle.std.specs.FinMap as finite;
 ghost use Rattle.spec_ledger.specs.Book.{GetsReplies};
 ghost use Rattle.serial.specs.Playing.{AreDone, AreSomeDone};
 
 use crate::playing::act;
 use spec_ledger::{Inverse, NoMemory, Reply, Step};
 use std::alloc::Allocator;
-use storage::Cells;
+use storage::{Cells, take_back_to};
 
 fn is_same(a: Reply, b: Reply) -> bool
     ensures { IsTrue result ↔ (a ≡ b) }
@@ -14,22 +15,40 @@ fn is_same(a: Reply, b: Reply) -> bool
     a == b
 }
 
-/// Does the operations of a trace, and keeps their inverses, until a reply is not that of the trace. Answers whether each
-/// one is.
+/// Does the operations of a trace, and keeps the inverses of those that stand, until a reply is not that of the trace.
+/// Where a level is dropped, the inverses made in it are taken back. Answers whether each reply is that of the trace.
 pub(crate) fn act_again<A: Allocator + Copy>(
+    alloc: A,
     cells: &mut Cells<A>,
     inverses: &mut Vec<Inverse, A>,
     trace: &[Step],
 ) -> Result<bool, NoMemory>
-    requires { inverses.old.items ≡ [] }
+    requires none { inverses.old.items ≡ [] }
+    requires settled { cells.old.unsettled ≡ finite.empty }
     ensures all { result ≡ Ok true → AreDone cells.old trace.now cells.new inverses.new.items }
     ensures other { result ≡ Ok false → ¬ (GetsReplies trace.now cells.old.cells) }
     ensures some { AreSomeDone cells.old cells.new inverses.new.items }
 {
+    cells.hold();
+    // how many inverses there were at each open mark, the innermost last
+    let mut marks = Vec::new(alloc);
     for step in trace {
-        let reply = act(cells, inverses, step.op)?;
-        if !is_same(reply, step.reply) {
-            return Ok(false);
+        match *step {
+            Step::Did(op, reply) => {
+                let again = act(cells, inverses, op)?;
+                if !is_same(again, reply) {
+                    return Ok(false);
+                }
+            }
+            Step::Opened => marks.push(inverses.len())?,
+            Step::Kept => {
+                let _ = marks.pop();
+            }
+            Step::Dropped => {
+                if let Some(mark) = marks.pop() {
+                    take_back_to(cells, inverses, mark);
+                }
+            }
         }
     }
     Ok(true)

@@ -139,7 +139,7 @@ pub fn replay<A: Allocator + Copy>(
 {
     cells.hold();
     let mut inverses = Vec::new(alloc);
-    match act_again(cells, &mut inverses, finished.trace()) {
+    match act_again(alloc, cells, &mut inverses, finished.trace()) {
         Ok(true) => Ok(Some(conclude(alloc, finished, cells, inverses)?)),
         Ok(false) => {
             end_all(cells, inverses, false);

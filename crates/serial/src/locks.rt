@@ -1,7 +1,7 @@
 // The locks that a call asked for.
 ghost use Rattle.std.specs.Prelude.{◌≡◌, IfOk, OnOk};
 ghost use Rattle.spec_ledger.specs.Modes.{mode_of, touched};
-ghost use Rattle.serial.specs.Asking.{modes_in, asked};
+ghost use Rattle.serial.specs.Asking.{modes_in, asked, asked_by};
 
 use abstract_locks::join_to;
 use lock_profile::{Held, Touched};
@@ -33,6 +33,19 @@ fn ask<A: Allocator + Copy>(held: &mut BTreeMap<Lock, Mode, A>, op: Op) -> Resul
     Ok(())
 }
 
+/// Joins what a step asks for to what is held: a mark asks for nothing.
+fn ask_at<A: Allocator + Copy>(
+    held: &mut BTreeMap<Lock, Mode, A>,
+    step: Step,
+) -> Result<(), NoMemory>
+    ensures { OnOk result (modes_in held.new.entries ≡ asked_by (modes_in held.old.entries) step) }
+{
+    match step {
+        Step::Did(op, _) => ask(held, op),
+        Step::Opened | Step::Kept | Step::Dropped => Ok(()),
+    }
+}
+
 /// The locks of a map, with their modes.
 fn listed<A: Allocator + Copy>(
     alloc: A,
@@ -60,7 +73,7 @@ pub fn touched_by<A: Allocator + Copy>(alloc: A, trace: &[Step]) -> Result<Touch
 {
     let mut held = BTreeMap::new(alloc);
     for step in trace {
-        ask(&mut held, step.op)?;
+        ask_at(&mut held, *step)?;
     }
     listed(alloc, held)
 }

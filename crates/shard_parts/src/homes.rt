@@ -1,6 +1,8 @@
 // Which shard a lock belongs to, and whether a trace is a shard's part of another.
 ghost use Rattle.std.specs.Prelude.{◌≡◌, ◌<◌, [], IsTrue, ◌↔◌, false};
+ghost use Rattle.spec_ledger.specs.Modes.{ops_of};
 ghost use Rattle.spec_shards.specs.Shards.{part, shard_of};
+ghost use Rattle.shard_parts.specs.Steps.{asks_at, is_seen};
 
 use boost::trace::same_step;
 use spec_ledger::{Lock, Outcome, Step};
@@ -21,14 +23,36 @@ pub(crate) fn same_outcome(a: Outcome, b: Outcome) -> bool
     a == b
 }
 
-/// Whether these steps are a shard's part of a trace: those at its locks, in order.
+/// Whether a step is an operation at a lock of a shard.
+fn asks(step: Step, shard: u32, shards: u32) -> bool
+    requires { 0 < shards }
+    ensures { result ≡ asks_at (shard_of shards) shard step }
+{
+    match step {
+        Step::Did(op, _) => home(lock(op), shards) == shard,
+        Step::Opened | Step::Kept | Step::Dropped => false,
+    }
+}
+
+/// Whether a shard's part of a trace has a step: its operations, and every mark.
+fn sees(step: Step, shard: u32, shards: u32) -> bool
+    requires { 0 < shards }
+    ensures { result ≡ is_seen (shard_of shards) shard step }
+{
+    match step {
+        Step::Did(op, _) => home(lock(op), shards) == shard,
+        Step::Opened | Step::Kept | Step::Dropped => true,
+    }
+}
+
+/// Whether these steps are a shard's part of a trace: those at its locks and every mark, in order.
 pub fn is_part(own: &[Step], trace: &[Step], shard: u32, shards: u32) -> bool
     requires { 0 < shards }
     ensures { IsTrue result ↔ (own.now ≡ part (shard_of shards) shard trace.now) }
 {
     let mut next = 0;
     for step in trace {
-        if home(lock(step.op), shards) != shard {
+        if !sees(*step, shard, shards) {
             continue;
         }
         if next >= own.len() {
@@ -42,10 +66,15 @@ pub fn is_part(own: &[Step], trace: &[Step], shard: u32, shards: u32) -> bool
     next == own.len()
 }
 
-/// Whether a trace has a step at a lock of a shard.
+/// Whether a trace has an operation at a lock of a shard.
 pub(crate) fn touches(trace: &[Step], shard: u32, shards: u32) -> bool
     requires { 0 < shards }
-    ensures { (result ≡ false) ↔ ([] ≡ part (shard_of shards) shard trace.now) }
+    ensures { (result ≡ false) ↔ ([] ≡ ops_of (part (shard_of shards) shard trace.now)) }
 {
-    !is_part(&[], trace, shard, shards)
+    for step in trace {
+        if asks(*step, shard, shards) {
+            return true;
+        }
+    }
+    false
 }

@@ -1,1 +1,3 @@
+pub mod Crossing
+mod Strays
 mod Takings

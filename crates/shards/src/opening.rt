@@ -8,6 +8,13 @@ use std::alloc::Allocator;
 use std::sync::Mutex;
 use storage::{Cells, NoMemory};
 
+/// A shard behind its lock, and room behind both, so that the next shard's lock stands on another cache line than what changes in this one.
+#[derive(Drop)]
+pub(crate) struct Padded<A: Allocator> {
+    pub(crate) shard: Mutex<Shard<A>>,
+    _room: [u64; 8],
+}
+
 /// The cells of a shard's own locks.
 fn own_cells<A: Allocator + Copy>(
     alloc: A,
@@ -34,7 +41,7 @@ pub(crate) fn open_all<A: Allocator + Copy>(
     opening: &Cells<A>,
     calls: u32,
     shards: u32,
-) -> Result<Vec<Mutex<Shard<A>>, A>, NoMemory>
+) -> Result<Vec<Padded<A>, A>, NoMemory>
     requires { 0 < shards }
     ensures { IfOk result (λ all. vec_len all ≡ shards) }
 {
@@ -42,7 +49,11 @@ pub(crate) fn open_all<A: Allocator + Copy>(
     for shard in 0..shards {
         let own = own_cells(alloc, opening, shard, shards)?;
         let opened = Shard::open(alloc, own, calls)?;
-        if all.push(Mutex::new(opened)).is_err() {
+        let padded = Padded {
+            shard: Mutex::new(opened),
+            _room: [0; 8],
+        };
+        if all.push(padded).is_err() {
             return Err(NoMemory);
         }
     }
@@ -52,15 +63,15 @@ pub(crate) fn open_all<A: Allocator + Copy>(
 /// What is left of shards, the first of the first.
 pub(crate) fn parts_of<A: Allocator + Copy>(
     alloc: A,
-    mut shards: Vec<Mutex<Shard<A>>, A>,
+    mut shards: Vec<Padded<A>, A>,
 ) -> Result<Vec<Part<A>, A>, NoMemory>
     ensures { IfOk result (λ parts. vec_len parts ≡ vec_len shards) }
 {
     let mut parts = Vec::new(alloc);
     let count = shards.len();
     for _done in 0..count {
-        let shard = shards.remove(0).into_inner();
-        if parts.push(shard.close()).is_err() {
+        let Padded { shard, _room: _ } = shards.remove(0);
+        if parts.push(shard.into_inner().close()).is_err() {
             return Err(NoMemory);
         }
     }

@@ -1,5 +1,5 @@
 // The book in shards.
-ghost use Rattle.std.specs.Prelude.{◌≡◌, ◌≢◌, ◌<◌, ◌≤◌, ◌⊎◌, ◌↔◌, ◌^◌, ℕ, Err, IfOk, IfErr, OnOk, OnErr, false, length, replicate, slice_index_or, slice_set, true};
+ghost use Rattle.std.specs.Prelude.{◌≡◌, ◌≢◌, ◌<◌, ◌≤◌, ◌⊎◌, ◌↔◌, ◌^◌, ℕ, [], Err, IfOk, IfErr, IsTrue, OnOk, OnErr, false, length, replicate, slice_index_or, slice_set, true};
 ghost use Rattle.std.specs.FinMap as finite;
 ghost use Rattle.std.specs.List.{AllByRecursion};
 ghost use Rattle.spec_ledger.specs.Book.{AreDistinct, Content, IsDefined, call_is_new, settled};
@@ -7,17 +7,18 @@ ghost use Rattle.spec_ledger.specs.Cells.{lock_of};
 ghost use Rattle.spec_ledger.specs.Events.{IsOther, IsStale, OpDone, UndoDone};
 ghost use Rattle.spec_ledger.specs.Modes.{touched};
 ghost use Rattle.spec_shards.specs.Shards.{part, shard_of};
+ghost use Rattle.shard_parts.specs.Steps.{asks_at};
 ghost use Rattle.journal.specs.Journals.{Begins, Commits, IsJournal, IsLive, Journal as TheJournal};
 ghost use Rattle.shard.specs.Shard.{HasToWait, IsOver, IsReady, Shard as TheShard};
 ghost use Rattle.shards.specs.Taking.{HasOtherSteps, HoldsOfAShard, HoldsOfTheJournal, IsLawful};
 
 use crate::gate::Gate;
-use crate::opening::{open_all, parts_of};
+use crate::opening::{Padded, open_all, parts_of};
 use crate::ticket::Ticket;
 use boost::book::{BeginRefusal, Closed, CommitRefusal, OpRefusal, Run};
 use journal::Journal;
 use shard::Shard;
-use shard_parts::{CloseRefusal, close, home, is_part};
+use shard_parts::{CloseRefusal, close, home};
 use spec_ledger::{Op, Outcome, Reply, Step};
 use std::alloc::{Allocator, Global};
 use std::marker::Model;
@@ -32,10 +33,11 @@ use storage::{Cells, NoMemory, lock};
 #[derive(Drop)]
 pub struct Shards<'g, G: Gate, A: Allocator = Global> {
     alloc: A,
+    gate: &'g G,
+    shards: Vec<Padded<A>, A>,
+    // (what each operation reads stands before it, the journal's lock behind it)
     opening: Cells<A>,
     journal: Mutex<Journal<A>>,
-    shards: Vec<Mutex<Shard<A>>, A>,
-    gate: &'g G,
 }
 
 impl<'g, G: Gate, A: Allocator> Model for Shards<'g, G, A> {
@@ -76,6 +78,30 @@ fn copied<A: Allocator + Copy>(alloc: A, trace: &[Step]) -> Result<Vec<Step, A>,
     Ok(steps)
 }
 
+/// Whether a step is an operation in a shard that an attempt has not touched.
+fn strays(ticket: &Ticket, step: Step, shards: u32) -> bool
+    requires { 0 < shards }
+    ensures { IsTrue result → (shard : ℕ) × (slice_index_or ticket.now.touched shard false ≡ false) × (asks_at (shard_of shards) shard step ≡ true) }
+{
+    match step {
+        Step::Did(op, _) => !ticket.has_touched(home(lock(op), shards) as usize),
+        Step::Opened | Step::Kept | Step::Dropped => false,
+    }
+}
+
+/// Whether a trace has an operation in a shard that an attempt has not touched.
+fn has_strayed(ticket: &Ticket, trace: &[Step], shards: u32) -> bool
+    requires { 0 < shards }
+    ensures { IsTrue result → (shard : ℕ) × (slice_index_or ticket.now.touched shard false ≡ false) × ¬ ([] ≡ part (shard_of shards) shard trace.now) }
+{
+    for step in trace {
+        if strays(ticket, *step, shards) {
+            return true;
+        }
+    }
+    false
+}
+
 impl<'g, G: Gate, A: Allocator + Copy> Shards<'g, G, A> {
     /// A book of this many calls in this many shards, with no entry and no attempt, over these cells.
     ///
@@ -97,10 +123,10 @@ impl<'g, G: Gate, A: Allocator + Copy> Shards<'g, G, A> {
         let journal = Journal::open(alloc, calls)?;
         Ok(Shards {
             alloc,
+            gate,
+            shards: all,
             opening,
             journal: Mutex::new(journal),
-            shards: all,
-            gate,
         })
     }
 
@@ -147,7 +173,7 @@ impl<'g, G: Gate, A: Allocator + Copy> Shards<'g, G, A> {
         ensures conflict { result ≡ Err OpRefusal.Conflict → HoldsOfAShard (λ old. HasToWait old.book call number op) }
         ensures stale { result ≡ Err OpRefusal.Stale → HoldsOfAShard (λ old. IsOver old.book call number ⊎ (length old.book.begun ≤ call)) }
     {
-        let mut found = self.shards[shard as usize].lock(rt);
+        let mut found = self.shards[shard as usize].shard.lock(rt);
         look_at_shard(&found);
         self.gate.inside(shard);
         found.op(call, number, op)
@@ -182,7 +208,7 @@ impl<'g, G: Gate, A: Allocator + Copy> Shards<'g, G, A> {
         requires { shard < self.now.shards }
         ensures { HoldsOfAShard (λ old. IsStale old.book call number ⊎ ((new : Content) × UndoDone old.book new call number)) }
     {
-        let mut found = self.shards[shard].lock(rt);
+        let mut found = self.shards[shard].shard.lock(rt);
         look_at_shard(&found);
         found.undo(call, number);
     }
@@ -212,7 +238,7 @@ impl<'g, G: Gate, A: Allocator + Copy> Shards<'g, G, A> {
         ensures differs { result ≡ Err CommitRefusal.Differs → HoldsOfAShard (λ old. IsOther old.book ticket.now.call ticket.now.number (part (shard_of self.now.shards) shard trace.now)) }
         ensures memory { result ≢ Err CommitRefusal.NoMemory }
     {
-        let found = self.shards[shard].lock(rt);
+        let found = self.shards[shard].shard.lock(rt);
         look_at_shard(&found);
         found.look(
             ticket.call,
@@ -223,21 +249,23 @@ impl<'g, G: Gate, A: Allocator + Copy> Shards<'g, G, A> {
         )
     }
 
-    /// Looks at each shard, in rising number: that the attempt lives in those that it has touched with their parts of the run's trace, and that the trace has
-    /// no step at another.
+    /// Looks at each shard that an attempt has touched, in rising number: that it lives there with the shard's part of the run's trace; and that the trace
+    /// has no operation in another shard.
     fn look(&self, rt: &impl Wait, ticket: &Ticket, trace: &[Step]) -> Result<(), CommitRefusal>
         ensures stale { result ≡ Err CommitRefusal.Stale → HoldsOfAShard (λ old. IsStale old.book ticket.now.call ticket.now.number) }
         ensures differs { result ≡ Err CommitRefusal.Differs → HasOtherSteps self.now.shards ticket.now.call ticket.now.number ticket.now.touched trace.now }
         ensures memory { result ≢ Err CommitRefusal.NoMemory }
     {
+        if has_strayed(ticket, trace, self.count()) {
+            return Err(CommitRefusal::Differs);
+        }
         for shard in 0..self.shards.len() {
-            if ticket.has_touched(shard) {
-                match self.look_in(rt, shard, ticket, trace) {
-                    Ok(()) => (),
-                    Err(refusal) => return Err(refusal),
-                }
-            } else if !is_part(&[], trace, shard as u32, self.count()) {
-                return Err(CommitRefusal::Differs);
+            if !ticket.has_touched(shard) {
+                continue;
+            }
+            match self.look_in(rt, shard, ticket, trace) {
+                Ok(()) => (),
+                Err(refusal) => return Err(refusal),
             }
         }
         Ok(())
@@ -247,15 +275,15 @@ impl<'g, G: Gate, A: Allocator + Copy> Shards<'g, G, A> {
     fn end(&self, rt: &impl Wait, ticket: &Ticket, outcome: Outcome, position: u32) {
         for shard in 0..self.shards.len() {
             if ticket.has_touched(shard) {
-                let mut found = self.shards[shard].lock(rt);
+                let mut found = self.shards[shard].shard.lock(rt);
                 let _passed_over = found.end(ticket.call, ticket.number, outcome, position);
             }
         }
     }
 
-    /// Commits a live attempt, whose parts of the trace are those of the run, and answers its position in the journal. The journal's lock is held to the end, and
-    /// under it the lock of one shard at a time. A refusal changes nothing, and hands the ticket back. Where a shard does not take the entry, the book is not
-    /// closed.
+    /// Commits a live attempt, whose parts of the trace are those of the run, and answers its position in the journal. The trace is copied first; then the
+    /// journal's lock is held to the end, and under it the lock of one shard at a time. A refusal changes nothing, and hands the ticket back. Where a shard does
+    /// not take the entry, the book is not closed.
     pub fn commit(
         &self,
         rt: &impl Wait,
@@ -267,6 +295,9 @@ impl<'g, G: Gate, A: Allocator + Copy> Shards<'g, G, A> {
         ensures differs { IfErr result (λ e. e.1 ≡ CommitRefusal.Differs → HasOtherSteps self.now.shards ticket.call ticket.number ticket.touched run.now.trace.now) }
         ensures ticket { IfErr result (λ e. e.0 ≡ ticket) }
     {
+        let Ok(trace) = copied(self.alloc, run.trace) else {
+            return Err((ticket, CommitRefusal::NoMemory));
+        };
         let mut journal = self.journal.lock(rt);
         look_at_journal(&journal);
         if !journal.is_live(ticket.call, ticket.number) {
@@ -275,9 +306,6 @@ impl<'g, G: Gate, A: Allocator + Copy> Shards<'g, G, A> {
         if let Err(refusal) = self.look(rt, &ticket, run.trace) {
             return Err((ticket, refusal));
         }
-        let Ok(trace) = copied(self.alloc, run.trace) else {
-            return Err((ticket, CommitRefusal::NoMemory));
-        };
         match journal.commit(ticket.call, ticket.number, trace, run.outcome) {
             Ok(position) => {
                 self.end(rt, &ticket, run.outcome, position);
@@ -303,10 +331,10 @@ impl<'g, G: Gate, A: Allocator + Copy> Shards<'g, G, A> {
     {
         let Shards {
             alloc,
+            gate: _,
+            shards,
             opening,
             journal,
-            shards,
-            gate: _,
         } = self;
         let entries = journal.into_inner().into_entries();
         let parts = parts_of(alloc, shards)?;

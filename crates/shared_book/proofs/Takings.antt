@@ -1,5 +1,5 @@
 -- What holds of the book at hand holds of the book that was found under the lock.
-use Rattle.std.proofs.Common.{◌≡◌, IfErr, IfOk, inl, inr, sym, subst}
+use Rattle.std.proofs.Common.{◌≡◌, IfErr, IfOk, OnOk, inl, inr, sym, subst}
 use Rattle.std.specs.Prelude.{◌↔◌, ◌⊎◌, ℕ}
 use Rattle.std.proofs.lemmas.Result.{IfOk-weaker}
 use Rattle.std.specs.declared.result.Result.{Result}
@@ -16,6 +16,11 @@ pub happened : {T E : Type 0} (event : T → Content → Content → Type 0) (r 
     → IfOk r (λ x. event x old new) → IfOk r (λ x. Happened (event x))
 happened event r seen old new same lawful done =
     IfOk-weaker r (λ x. event x old new) (λ x. Happened (event x)) (λ x h. holds_of (λ b. (after : Content) × event x b after) seen old same lawful (new, h)) done
+
+pub passed : {T E : Type 0} (event : Content → Content → Type 0) (r : Result T E) (seen old new : Content) → old ≡ seen → IsLawful seen
+    → OnOk r (event old new) → OnOk r (Happened event)
+passed event (Ok x) seen old new same lawful done = holds_of (λ b. (after : Content) × event b after) seen old same lawful (new, done)
+passed event (Err e) seen old new same lawful done = tt
 
 pub refused : {T E : Type 0} (why : E → Type 0) (fact : Content → Type 0) (r : Result T E) (seen old : Content) → old ≡ seen → IsLawful seen
     → IfErr r (λ e. why e ↔ fact old) → IfErr r (λ e. why e → HoldsOfTheBook fact)

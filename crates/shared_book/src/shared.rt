@@ -1,13 +1,15 @@
 // The book behind a lock.
-ghost use Rattle.std.specs.Prelude.{◌≡◌, ◌≤◌, ◌⊎◌, Err, IfOk, IfErr, length};
+ghost use Rattle.std.specs.Prelude.{◌≡◌, ◌≤◌, ◌⊎◌, Err, IfOk, IfErr, OnOk, length};
 ghost use Rattle.std.specs.FinMap as finite;
 ghost use Rattle.std.specs.List.{AllByRecursion};
 ghost use Rattle.spec_ledger.specs.Book.{AreDistinct, Content, IsDefined, call_is_new, settled};
-ghost use Rattle.spec_ledger.specs.Events.{BeginDone, CommitDone, HasNoAttempt, IsConflict, IsOther, IsStale, OpDone, UndoDone};
+ghost use Rattle.spec_ledger.specs.Events.{BeginDone, CommitDone, EnterDone, HasNoAttempt, IsConflict, IsNotEntered, IsOther, IsStale, LeaveDone, OpDone, UndoDone};
 ghost use Rattle.spec_ledger.specs.Modes.{touched};
 ghost use Rattle.shared_book.specs.Taking.{Happened, HoldsOfTheBook, IsLawful};
 
-use boost::book::{BeginRefusal, Book, Closed, CommitRefusal, OpRefusal, Run, Ticket};
+use boost::book::{
+    BeginRefusal, Book, Closed, CommitRefusal, EnterRefusal, LeaveRefusal, OpRefusal, Run, Ticket,
+};
 use spec_ledger::{Op, Reply};
 use std::alloc::{Allocator, Global};
 use std::marker::Model;
@@ -85,6 +87,27 @@ impl<'c, A: Allocator + Copy> SharedBook<'c, A> {
         let mut book = self.book.lock(rt);
         look(&book);
         book.op(ticket, op)
+    }
+
+    /// Enters a level of a live attempt, and makes the room for the mark that closes it. A refusal changes nothing.
+    pub fn enter(&self, rt: &impl Wait, ticket: &Ticket) -> Result<(), EnterRefusal>
+        ensures ok { OnOk result (Happened (λ old new. EnterDone old new ticket.now.call ticket.now.number)) }
+        ensures stale { result ≡ Err EnterRefusal.Stale → HoldsOfTheBook (λ book. IsStale book ticket.now.call ticket.now.number) }
+    {
+        let mut book = self.book.lock(rt);
+        look(&book);
+        book.enter(ticket)
+    }
+
+    /// Leaves the innermost level of a live attempt, for which it takes no memory: its changes stand, or are taken back, last first. Its locks are held on. A refusal changes nothing.
+    pub fn leave(&self, rt: &impl Wait, ticket: &Ticket, keep: bool) -> Result<(), LeaveRefusal>
+        ensures ok { OnOk result (Happened (λ old new. LeaveDone old new ticket.now.call ticket.now.number keep)) }
+        ensures stale { result ≡ Err LeaveRefusal.Stale → HoldsOfTheBook (λ book. IsStale book ticket.now.call ticket.now.number) }
+        ensures not_entered { result ≡ Err LeaveRefusal.NotEntered → HoldsOfTheBook (λ book. IsNotEntered book ticket.now.call ticket.now.number) }
+    {
+        let mut book = self.book.lock(rt);
+        look(&book);
+        book.leave(ticket, keep)
     }
 
     /// Undoes a live attempt, for which it takes no memory. A stale ticket changes nothing.

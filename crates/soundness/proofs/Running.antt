@@ -10,10 +10,12 @@ use Rattle.spec_ledger.specs.declared.Op.{Op}
 use Rattle.spec_ledger.specs.declared.Op.TheVariants.{Get, Has, Put, Del, Add, Total}
 use Rattle.spec_ledger.specs.declared.Reply.{Reply}
 use Rattle.spec_ledger.specs.declared.Step.{Step}
+use Rattle.spec_ledger.specs.declared.Step.TheVariants.{Did}
 use Rattle.spec_ledger.specs.declared.Outcome.{Outcome}
 use Rattle.spec_ledger.specs.declared.Outcome.TheVariants.{Returned, Trapped, OutOfFuel}
 use Rattle.spec_ledger.specs.Cells.{Cells, number, reply_to, cells_after, map_at, counter_at}
 use Rattle.spec_ledger.specs.Book.{after, GetsReplies}
+use Rattle.spec_ledger.proofs.Traces.{GetsReplies-push}
 use Rattle.spec_execution.specs.Configuration.{Contract, Seq, State, Config, Running, Trap}
 use Rattle.spec_execution.specs.Reduction.{Next, Goes, Traps, Asks, Branches, Returns, Ended, Stuck}
 use Rattle.spec_execution.specs.Run.{next, goes, traps, IsReply, to_get, to_has, to_put, to_del, to_add, to_total, Reached, at_first, reduced, replied, IsRun, Ends, returns, trapped, exhausted, IsCharged, IsStuck, IsSafe, result_of}
@@ -37,9 +39,8 @@ reply_fits (Add p v) cells = to_add p v
 reply_fits (Total p) cells = to_total p _ (fits (number (get cells (counter_at p))))
 
 -- one reply more
-pub push : (trace : List Step) (op : Op) (cells : Cells) → GetsReplies trace cells → GetsReplies (trace ++ record { op = op; reply = reply_to op (after trace cells) } ∷ []) cells
-push [] op cells g = (refl, tt)
-push (s ∷ trace) op cells g = (g.0, push trace op (cells_after s.op cells) g.1)
+pub push : (trace : List Step) (op : Op) (cells : Cells) → GetsReplies trace cells → GetsReplies (trace ++ Did op (reply_to op (after trace cells)) ∷ []) cells
+push trace op cells g = GetsReplies-push trace op (reply_to op (after trace cells)) cells g refl
 
 -- ---- the run
 
@@ -112,7 +113,7 @@ module _ (c : Contract) (first : Config) (limit : ℕ) (cells : Cells) (safe : I
     by_asks op go e less =
         let r = reply_to op (after trace cells) in
         let lighter = less r in
-        again (trace ++ record { op = op; reply = r } ∷ []) used (Running s (go r))
+        again (trace ++ Did op r ∷ []) used (Running s (go r))
         (record { reached = replied trace used s q op go r h.reached e (reply_fits op (after trace cells)); replies = push trace op cells h.replies; within = h.within }) lt (omega (arith, lighter, w))
 
     by_next : (x : Next) → next c s q ≡ x → Ending (weight q) x → Found

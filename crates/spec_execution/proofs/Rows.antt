@@ -16,6 +16,7 @@ use Rattle.spec_syntax.specs.Syntax.{Instr, Plain, BrTable, Block, Loop, If, Ins
 use Rattle.spec_ledger.specs.declared.Op.{Op}
 use Rattle.spec_ledger.specs.declared.Reply.{Reply}
 use Rattle.spec_ledger.specs.declared.Step.{Step}
+use Rattle.spec_ledger.specs.declared.Step.TheVariants.{Did}
 use Rattle.spec_ledger.specs.declared.Op.TheVariants as op
 use Rattle.spec_ledger.specs.declared.Reply.TheVariants as reply
 use Rattle.spec_ledger.specs.declared.Outcome.TheVariants.{Returned, Trapped, OutOfFuel, Rejected}
@@ -96,13 +97,13 @@ adds : report 100 (first_module ∷ []) five (call_from 100 (I64 (pos 7) ∷ [])
   at_end = true;
   outcome = Returned (Some (I64 (pos 5)));
   fuel = 7;
-  trace = record { op = op.Add (record { contract = 0; key = 7 }) 5; reply = reply.Nothing } ∷ record { op = op.Total (record { contract = 0; key = 7 }); reply = reply.I64 (pos 5) } ∷ [];
+  trace = Did (op.Add (record { contract = 0; key = 7 }) 5) reply.Nothing ∷ Did (op.Total (record { contract = 0; key = 7 })) (reply.I64 (pos 5)) ∷ [];
 }
 unfolding walk reduce execute execute_plain
 adds = refl
 
 -- limits 6 and 7 of the same
-adds_with_6 : report 100 (first_module ∷ []) five (call_from 6 (I64 (pos 7) ∷ [])) ≡ record { at_end = true; outcome = OutOfFuel; fuel = 6; trace = record { op = op.Add (record { contract = 0; key = 7 }) 5; reply = reply.Nothing } ∷ [] }
+adds_with_6 : report 100 (first_module ∷ []) five (call_from 6 (I64 (pos 7) ∷ [])) ≡ record { at_end = true; outcome = OutOfFuel; fuel = 6; trace = Did (op.Add (record { contract = 0; key = 7 }) 5) reply.Nothing ∷ [] }
 unfolding walk reduce execute execute_plain
 adds_with_6 = refl
 

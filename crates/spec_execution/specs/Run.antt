@@ -11,6 +11,7 @@ use Rattle.spec_ledger.specs.declared.Op.TheVariants.{Get, Has, Put, Del, Add, T
 use Rattle.spec_ledger.specs.declared.Reply.{Reply}
 use Rattle.spec_ledger.specs.declared.Reply.TheVariants as reply
 use Rattle.spec_ledger.specs.declared.Step.{Step}
+use Rattle.spec_ledger.specs.declared.Step.TheVariants.{Did}
 use Rattle.spec_ledger.specs.declared.Outcome.{Outcome}
 use Rattle.spec_ledger.specs.declared.Outcome.TheVariants.{Returned, Trapped, OutOfFuel, Rejected}
 use Rattle.spec_numeric.specs.Operators.{same_type, type_of}
@@ -56,7 +57,7 @@ pub data IsReply : Op → Reply → Type 0 where
 pub data Reached (c : Contract) (first : Config) (limit : ℕ) : List Step → ℕ → Config → Type 0 where
   at_first : Reached c first limit [] 0 first
   reduced : (trace : List Step) (used : ℕ) (a : Config) (charge : ℕ) (b : Config) → Reached c first limit trace used a → Reduces c a charge b → used + charge ≤ limit → Reached c first limit trace (used + charge) b
-  replied : (trace : List Step) (used : ℕ) (s : State) (seq : Seq) (op : Op) (go : Reply → Seq) (r : Reply) → Reached c first limit trace used (Running s seq) → next c s seq ≡ Asks op go → IsReply op r → Reached c first limit (trace ++ record { op = op; reply = r } ∷ []) used (Running s (go r))
+  replied : (trace : List Step) (used : ℕ) (s : State) (seq : Seq) (op : Op) (go : Reply → Seq) (r : Reply) → Reached c first limit trace used (Running s seq) → next c s seq ≡ Asks op go → IsReply op r → Reached c first limit (trace ++ Did op r ∷ []) used (Running s (go r))
 
 -- the value of a result
 abbrev pub result_of : List Value → Option Value

@@ -1,21 +1,21 @@
 // What follows from the definitions of storage and of the book. Each law is the contract of a function with nothing to do.
-ghost use Rattle.std.specs.Prelude.{◌≡◌, ℕ, List};
+ghost use Rattle.std.specs.Prelude.{◌≡◌, ℕ, Bool, List};
 ghost use Rattle.std.specs.FinMap.{empty};
 ghost use Rattle.spec_ledger.specs.declared.Inverse.{Inverse};
 ghost use Rattle.spec_ledger.specs.declared.Op.{Op};
 ghost use Rattle.spec_ledger.specs.declared.Outcome.{Outcome};
 ghost use Rattle.spec_ledger.specs.declared.Reply.{Reply};
 ghost use Rattle.spec_ledger.specs.declared.Step.{Step};
-ghost use Rattle.spec_ledger.specs.Book.{Content, IsKept, after, back_all, inverses_of};
+ghost use Rattle.spec_ledger.specs.Book.{Content, IsKept, after, back_all, inverses_of, ops_after, standing};
 ghost use Rattle.spec_ledger.specs.Cells.{AreCells, Cells, back, cells_after, inverse_to, reply_to};
-ghost use Rattle.spec_ledger.specs.Events.{BeginDone, CommitDone, OpDone, UndoDone};
+ghost use Rattle.spec_ledger.specs.Events.{BeginDone, CommitDone, EnterDone, LeaveDone, OpDone, UndoDone};
 ghost use Rattle.spec_ledger.specs.Facts.{CellsAreSettledButForHolders, EntriesAreSerialRun, LiveAttemptsGoTogether, LiveTracesGetReplies};
 ghost use Rattle.spec_ledger.specs.Modes.{GoTogether};
 
 /// Taking back the inverse of an operation undoes it, and taking back those of a trace, last first, undoes the trace (PODC 2017, section 3: inverses).
 pub fn taking_back_undoes()
     ensures operation { (op : Op) (cells : Cells) → AreCells cells → back (inverse_to op cells) (cells_after op cells) ≡ cells }
-    ensures trace { (trace : List Step) (cells : Cells) → AreCells cells → back_all (inverses_of trace cells) (after trace cells) ≡ cells }
+    ensures trace { (trace : List Step) (cells : Cells) → AreCells cells → back_all (inverses_of (standing trace) cells) (after trace cells) ≡ cells }
 {}
 
 /// Two operations that go together commute: in either order they leave the same cells, and neither sees the other in its reply or its inverse (PODC 2017, section 3: abstract locks).
@@ -37,6 +37,8 @@ pub fn events_keep_a_book()
     ensures begun { (old new : Content) (call number : ℕ) → IsKept old → BeginDone old new call number → IsKept new }
     ensures operated { (old new : Content) (call number : ℕ) (op : Op) (reply : Reply) → IsKept old → OpDone old new call number op reply → IsKept new }
     ensures undone { (old new : Content) (call number : ℕ) → IsKept old → UndoDone old new call number → IsKept new }
+    ensures entered { (old new : Content) (call number : ℕ) → IsKept old → EnterDone old new call number → IsKept new }
+    ensures left { (old new : Content) (call number : ℕ) (keep : Bool) → IsKept old → LeaveDone old new call number keep → IsKept new }
     ensures committed { (old new : Content) (call number : ℕ) (trace : List Step) (outcome : Outcome) (position : ℕ) → IsKept old → CommitDone old new call number trace outcome position → IsKept new }
 {}
 
@@ -46,4 +48,9 @@ pub fn a_kept_book_has_its_facts()
     ensures cells { (b : Content) → IsKept b → CellsAreSettledButForHolders b }
     ensures replies { (b : Content) → IsKept b → LiveTracesGetReplies b }
     ensures modes { (b : Content) → IsKept b → LiveAttemptsGoTogether b }
+{}
+
+/// What a trace leaves are the cells after the operations that stand: what was dropped leaves nothing.
+pub fn what_stands_is_left()
+    ensures { (trace : List Step) (cells : Cells) → after trace cells ≡ ops_after (standing trace) cells }
 {}

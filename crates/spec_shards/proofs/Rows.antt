@@ -7,6 +7,7 @@ use Rattle.spec_ledger.specs.declared.Place.{Place}
 use Rattle.spec_ledger.specs.declared.Op.TheVariants.{Get, Put, Add}
 use Rattle.spec_ledger.specs.declared.Reply.TheVariants.{Nothing, I64}
 use Rattle.spec_ledger.specs.declared.Step.{Step}
+use Rattle.spec_ledger.specs.declared.Step.TheVariants.{Did}
 use Rattle.spec_ledger.specs.declared.Outcome.TheVariants.{Returned}
 use Rattle.spec_ledger.specs.Cells.{lock_cmp}
 use Rattle.spec_ledger.proofs.Maps.{lock_cmp_total}
@@ -21,13 +22,13 @@ abbrev eight : Place
 eight = record { contract = 0; key = 8 }
 
 abbrev put_at_seven : Step
-put_at_seven = record { op = Put seven 5; reply = Nothing }
+put_at_seven = Did (Put seven 5) Nothing
 
 abbrev get_at_eight : Step
-get_at_eight = record { op = Get eight; reply = I64 (pos 0) }
+get_at_eight = Did (Get eight) (I64 (pos 0))
 
 abbrev add_at_seven : Step
-add_at_seven = record { op = Add seven 1; reply = Nothing }
+add_at_seven = Did (Add seven 1) Nothing
 
 abbrev entry : ℕ → List Step → Entry
 entry call trace = record { call = call; trace = trace; outcome = Returned None; modes = touched trace }

@@ -1,5 +1,5 @@
 // The end of a call's changes: they stand, or are taken back.
-ghost use Rattle.std.specs.Prelude.{◌≡◌, if◌then◌else◌};
+ghost use Rattle.std.specs.Prelude.{◌≡◌, ◌≤◌, if◌then◌else◌, length, take, drop};
 ghost use Rattle.spec_ledger.specs.Book.{back_all, has_returned};
 ghost use Rattle.storage.specs.Counts.{AreUnsettled, closed_all};
 
@@ -14,6 +14,26 @@ pub fn take_all_back<A: Allocator + Copy>(cells: &mut Cells<A>, mut inverses: Ve
     ensures unsettled { cells.new.unsettled ≡ closed_all inverses.items cells.old.unsettled }
 {
     while let Some(inverse) = inverses.pop() {
+        cells.take_back(inverse);
+    }
+}
+
+/// Takes changes back, last first, until only the first so many are left. It takes no memory.
+pub fn take_back_to<A: Allocator + Copy>(
+    cells: &mut Cells<A>,
+    inverses: &mut Vec<Inverse, A>,
+    mark: usize,
+)
+    requires unsettled { AreUnsettled inverses.old.items cells.old.unsettled }
+    requires mark { mark ≤ length inverses.old.items }
+    ensures inverses { inverses.new.items ≡ take mark inverses.old.items }
+    ensures cells { cells.new.cells ≡ back_all (drop mark inverses.old.items) cells.old.cells }
+    ensures unsettled { cells.new.unsettled ≡ closed_all (drop mark inverses.old.items) cells.old.unsettled }
+{
+    while inverses.len() > mark {
+        let Some(inverse) = inverses.pop() else {
+            return;
+        };
         cells.take_back(inverse);
     }
 }

@@ -15,7 +15,7 @@ ghost use Rattle.storage.specs.Slots.{cells_in, counts_in, cell_back};
 ghost use Rattle.std.specs.FinMap as finite;
 ghost use Rattle.std.specs.Iterator.{YieldsFirst, item_count};
 
-pub use changes::{end_all, returned, settle_all, take_all_back};
+pub use changes::{end_all, returned, settle_all, take_all_back, take_back_to};
 pub use spec_ledger::{Inverse, Kind, Lock, NoMemory, Op, Place, Reply, Step};
 use std::alloc::{Allocator, Global};
 use std::collections::BTreeMap;

@@ -13,7 +13,7 @@ use lock_profile::Touched;
 use publish::{MadeRun, Published, Publishing};
 use serial::{run_alone, touched_by};
 use spec_ledger::Mode::{Add, Excl};
-use spec_ledger::Receipt;
+use spec_ledger::{Receipt, Step};
 use std::alloc::Global;
 use storage::Cells;
 use wtypes::Value;
@@ -239,7 +239,10 @@ fn commits(book: &mut Book, call: u32, finished: &Finished<'_, Global>) -> bool 
         return false;
     };
     for step in finished.trace() {
-        if book.op(&ticket, step.op) != Ok(step.reply) {
+        let Step::Did(op, reply) = *step else {
+            return false;
+        };
+        if book.op(&ticket, op) != Ok(reply) {
             return false;
         }
     }

@@ -125,8 +125,8 @@ fn core(alloc: Global, row: &Row) -> Option<Core> {
     }
 }
 
-/// The call held these locks.
-fn holds(touched: &Touched, locks: &[Held]) -> bool {
+/// The call held these locks, all of them of counters of contract 0.
+pub fn holds(touched: &Touched, locks: &[Held]) -> bool {
     touched.held().len() == locks.len()
         && touched.held().iter().zip(locks.iter()).all(|(held, (key, mode))| held.lock
             == lock((0, Counter, *key))

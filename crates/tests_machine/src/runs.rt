@@ -310,24 +310,22 @@ fn countdown(rt: HostRuntime) -> Result<(), Fail> {
 }
 
 // The first module's operations on its counter 7, with their replies.
-const ADDED: Step = Step {
-    op: Op::Add(
-        Place {
-            contract: 0,
-            key: 7,
-        },
-        5,
-    ),
-    reply: Reply::Nothing,
-};
-
-const TOTALLED: Step = Step {
-    op: Op::Total(Place {
+const ADD: Op = Op::Add(
+    Place {
         contract: 0,
         key: 7,
-    }),
-    reply: Reply::I64(12),
-};
+    },
+    5,
+);
+
+const TOTAL: Op = Op::Total(Place {
+    contract: 0,
+    key: 7,
+});
+
+const ADDED: Step = Step::Did(ADD, Reply::Nothing);
+
+const TOTALLED: Step = Step::Did(TOTAL, Reply::I64(12));
 
 #[test]
 fn turns(rt: HostRuntime) -> Result<(), Fail> {
@@ -344,9 +342,9 @@ fn turns(rt: HostRuntime) -> Result<(), Fail> {
         Turn::Stepped,
         Turn::Stepped,
         Turn::Stepped,
-        Turn::Host(ADDED.op),
+        Turn::Host(ADD),
         Turn::Stepped,
-        Turn::Host(TOTALLED.op),
+        Turn::Host(TOTAL),
         done,
         done,
     ]
@@ -419,10 +417,7 @@ fn host_calls(rt: HostRuntime) -> Result<(), Fail> {
         Op::Has(place(3)),
         Op::Del(place(-4)),
     ]
-    .map(|op| Step {
-        op,
-        reply: reply_to(op),
-    });
+    .map(|op| Step::Did(op, reply_to(op)));
     assert_eq!(rt; finished.trace(), trace.as_slice());
     Ok(())
 }
@@ -521,9 +516,9 @@ fn the_start_function_asks_the_host_before_the_entry(rt: HostRuntime) -> Result<
     'turns: for (number, turn) in [
         Turn::Stepped,
         Turn::Stepped,
-        Turn::Host(ADDED.op),
+        Turn::Host(ADD),
         Turn::Stepped,
-        Turn::Host(TOTALLED.op),
+        Turn::Host(TOTAL),
         done,
     ]
     .iter()

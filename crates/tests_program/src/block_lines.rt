@@ -2,7 +2,7 @@
 
 use crate::blocks::{BUMP, FIRST_AND_LAST, LEFT, NO_CALLS, TWO, WITHOUT_LAST};
 use crate::modules::{WORLD, WORLD_OF_FIRST, WORLD_OF_MANY, WORLD_WITH_2, WORLD_WITH_5};
-use crate::rows::Wanted::{self, Absent, All, Front, Part as Holds, Text};
+use crate::rows::Wanted::{self, Absent, All, Cut, Front, Part as Holds, Text};
 use crate::rows::{File, Line, NOTHING, Part, unlike};
 use std::alloc::Global;
 use std::process::Abort;
@@ -527,13 +527,23 @@ fn fails_as_told<R: Abort + Threads + Wait + Sync>(
     Ok(())
 }
 
-const CUT_SHORT: [Fault; 7] = [
-    (Some(0), None, b"w", &[("n", Absent)]),
-    (Some(1), None, b"c", &[("n", Absent)]),
-    (Some(2), None, b"b", &[("n", Absent)]),
-    (Some(4), None, b"b", &[("n", Absent)]),
-    (Some(5), None, b"n", &[A_BLOCK]),
-    (Some(7), None, b"n", &[A_BLOCK]),
+/// A beginning of the block.
+const PART_OF_BLOCK: (&str, Wanted) = ("b", Cut(&[(1, &BUMP)]));
+
+/// A beginning of the world after it.
+const PART_OF_NEXT: (&str, Wanted) = ("n", Cut(&WORLD_WITH_5));
+
+// the block is put in two pieces, and the world in three
+const CUT_SHORT: [Fault; 10] = [
+    (Some(0), None, b"w", &NONE_WRITTEN),
+    (Some(1), None, b"c", &NONE_WRITTEN),
+    (Some(2), None, b"b", &NONE_WRITTEN),
+    (Some(3), None, b"b", &[PART_OF_BLOCK, ("n", Absent)]),
+    (Some(4), None, b"b", &[PART_OF_BLOCK, ("n", Absent)]),
+    (Some(5), None, b"n", &[A_BLOCK, ("n", Absent)]),
+    (Some(6), None, b"n", &[A_BLOCK, PART_OF_NEXT]),
+    (Some(7), None, b"n", &[A_BLOCK, PART_OF_NEXT]),
+    (Some(8), None, b"n", &[A_BLOCK, PART_OF_NEXT]),
     (None, Some(0), b"stdout", &[A_BLOCK, NEXT]),
 ];
 

@@ -10,7 +10,8 @@ use wtypes::{TrapCode, Value};
 /// The contract, the fuel, the entry and the arguments of a call.
 type CallRow<'a> = (u32, u64, &'a str, &'a [Value]);
 
-const TEXT: &str =
+/// Three calls.
+pub(crate) const TEXT: &str =
     "0 100 run i64:7\n4294967295 18446744073709551615 caf\u{e9}:\t- i32:-2147483648 i64:9223372036854775807 i32:0\n7 0 f\n";
 
 const CALLS: [CallRow; 3] = [

@@ -16,6 +16,8 @@ mod files;
 #[cfg(test)]
 mod files_refused;
 #[cfg(test)]
+mod forged_calls;
+#[cfg(test)]
 mod inputs;
 #[cfg(test)]
 mod module_lines;
@@ -25,6 +27,8 @@ mod modules;
 mod paces;
 #[cfg(test)]
 mod rows;
+#[cfg(test)]
+mod rules;
 #[cfg(test)]
 mod texts_refused;
 #[cfg(test)]

@@ -66,7 +66,10 @@ fn begun<R: Wait>(rt: &R, book: &Shards<'_, NoGate>, call: u32) -> Result<Ticket
 
 /// Whether an operation gets this reply.
 fn replies<R: Wait>(rt: &R, book: &Shards<'_, NoGate>, ticket: &mut Ticket, step: &Step) -> bool {
-    book.op(rt, ticket, step.op) == Ok(step.reply)
+    match *step {
+        Step::Did(op, reply) => book.op(rt, ticket, op) == Ok(reply),
+        Step::Opened | Step::Kept | Step::Dropped => false,
+    }
 }
 
 /// Whether an attempt is committed at this position.
@@ -85,24 +88,15 @@ fn commits<R: Wait>(
 }
 
 pub(crate) fn adding(key: u64, value: u64) -> Step {
-    Step {
-        op: Op::Add(at(key), value),
-        reply: Reply::Nothing,
-    }
+    Step::Did(Op::Add(at(key), value), Reply::Nothing)
 }
 
 pub(crate) fn putting(key: u64, value: u64) -> Step {
-    Step {
-        op: Op::Put(at(key), value),
-        reply: Reply::Nothing,
-    }
+    Step::Did(Op::Put(at(key), value), Reply::Nothing)
 }
 
 pub(crate) fn getting(key: u64, value: i64) -> Step {
-    Step {
-        op: Op::Get(at(key)),
-        reply: Reply::I64(value),
-    }
+    Step::Did(Op::Get(at(key)), Reply::I64(value))
 }
 
 /// Two calls that add to one counter, of which the second is committed first.
@@ -188,13 +182,13 @@ fn is_refused<R: Wait>(
     }
 }
 
-const TOTAL_OF_100: Step = Step {
-    op: Op::Total(Place {
+const TOTAL_OF_100: Step = Step::Did(
+    Op::Total(Place {
         contract: 0,
         key: 7,
     }),
-    reply: Reply::I64(100),
-};
+    Reply::I64(100),
+);
 
 /// A total that is refused while another call adds, and each refusal of the book.
 fn refused_total<R: Wait>(rt: &R, alloc: Global, shards: u32) -> Result<bool, Fail> {

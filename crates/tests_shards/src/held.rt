@@ -1,8 +1,8 @@
 // An operation that is held inside its shard keeps no other shard closed.
-use crate::books::{RETURNED, adding, cell};
+use crate::books::{RETURNED, adding, at, cell};
 use boost::book::Run;
 use shards::{Gate, Shards};
-use spec_ledger::Kind;
+use spec_ledger::{Kind, Op};
 use std::alloc::Global;
 use std::sync::Wait;
 use std::sync::atomic::{AtomicBool, AtomicU64, Ordering};
@@ -56,7 +56,7 @@ fn add<R: Wait>(
     let Ok(mut ticket) = book.begin(rt, call) else {
         return false;
     };
-    if book.op(rt, &mut ticket, adding(key, 5).op).is_err() {
+    if book.op(rt, &mut ticket, Op::Add(at(key), 5)).is_err() {
         return false;
     }
     answered.fetch_add(1, Ordering::SeqCst);

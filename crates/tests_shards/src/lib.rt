@@ -8,4 +8,6 @@ mod held;
 #[cfg(test)]
 mod one_shard;
 #[cfg(test)]
+mod parts;
+#[cfg(test)]
 mod refused;

@@ -61,10 +61,7 @@ const TRAPPED: Outcome = Outcome::Trapped(TrapCode::Unreachable);
 
 const ADD_3: Op = Op::Add(SEVEN, 3);
 
-const ADDED_3: [Step; 1] = [Step {
-    op: ADD_3,
-    reply: Reply::Nothing,
-}];
+const ADDED_3: [Step; 1] = [Step::Did(ADD_3, Reply::Nothing)];
 
 const TOTAL: Op = Op::Total(SEVEN);
 

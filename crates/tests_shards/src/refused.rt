@@ -23,13 +23,16 @@ fn played<R: Wait, A: Allocator + Copy>(
         return Err(Fail::from("not begun"));
     };
     for step in trace {
-        let first = book.op(rt, &mut ticket, step.op);
+        let Step::Did(op, wanted) = *step else {
+            return Err(Fail::from("a mark"));
+        };
+        let first = book.op(rt, &mut ticket, op);
         let reply = if first == Err(OpRefusal::NoMemory) {
-            book.op(rt, &mut ticket, step.op)
+            book.op(rt, &mut ticket, op)
         } else {
             first
         };
-        if reply != Ok(step.reply) {
+        if reply != Ok(wanted) {
             return Err(Fail::from("another reply"));
         }
     }

@@ -12,7 +12,8 @@ use rand::RngExt;
 use rand_pcg::Pcg32;
 use samples::example;
 use serial::serial_core;
-use std::alloc::Global;
+use spec_ledger::{Outcome, Receipt};
+use std::alloc::{Allocator, Global};
 use std::sync::Wait;
 use std::test::Fail;
 use std::thread::Threads;
@@ -22,16 +23,17 @@ use world::World;
 use wtypes::Value;
 
 /// A call of contract 0: its entry and its numbers.
-type Row = (&'static str, [i64; 2]);
+pub(crate) type Row = (&'static str, [i64; 2]);
 
 /// The world of the example contract, without cells.
-fn world_of(alloc: Global) -> Result<World, Fail> {
-    let contracts = vec![in alloc; example(alloc)?]?;
+pub(crate) fn world_of<A: Allocator + Copy>(alloc: A) -> Result<World<A>, Fail> {
+    let mut contracts = Vec::new(alloc);
+    contracts.push(example(alloc)?)?;
     Ok(World::new(contracts, Cells::new(alloc)))
 }
 
 /// These calls, each with 100 of fuel.
-fn calls_of(alloc: Global, rows: &[Row]) -> Result<Vec<Call>, Fail>
+pub(crate) fn calls_of(alloc: Global, rows: &[Row]) -> Result<Vec<Call>, Fail>
     ensures { IfOk result (λ calls. length calls.items ≤ 65535) }
 {
     let mut calls = Vec::new(alloc);
@@ -96,7 +98,7 @@ fn reason_at<R: Threads + Wait + Sync, P: Pace>(
 }
 
 /// The calls of a block in its order.
-fn order_of(alloc: Global, block: &Block) -> Result<Vec<u32>, Fail> {
+pub(crate) fn order_of<A: Allocator>(alloc: Global, block: &Block<A>) -> Result<Vec<u32>, Fail> {
     let mut order = Vec::new(alloc);
     for position in block.positions() {
         order.push(position.call())?;
@@ -120,6 +122,20 @@ fn is_serial(alloc: Global, calls: &[Call], mined: &Mined) -> Result<bool, Fail>
 
 const BUMPS: [Row; 2] = [("bump", [7, 5]), ("bump", [7, -5])];
 
+/// What each of them comes to.
+const BUMPED: Receipt = Receipt {
+    outcome: Outcome::Returned(None),
+    used: 3,
+};
+
+/// Whether each position of a block has the receipt of a bump.
+fn are_bumped(block: &Block) -> bool {
+    block
+        .positions()
+        .iter()
+        .all(|position| position.receipt() == BUMPED)
+}
+
 /// What two calls come to that a miner is stopped at.
 #[derive(Drop)]
 struct Came {
@@ -138,7 +154,7 @@ fn bumps_at<R: Threads + Wait + Sync>(
     let calls = calls_of(alloc, &BUMPS)?;
     let pace = Stops::new(stopping);
     let mined = mined_at(rt, alloc, &calls, workers, &pace)?;
-    if mined.block.fuel() != 6 || !is_serial(alloc, &calls, &mined)? {
+    if !are_bumped(&mined.block) || !is_serial(alloc, &calls, &mined)? {
         return Err(Fail::from("no serial block of both"));
     }
     let bytes = written(alloc, &mined.block)?;

@@ -6,3 +6,5 @@
 mod blocks;
 #[cfg(test)]
 mod stopping;
+#[cfg(test)]
+mod undone;

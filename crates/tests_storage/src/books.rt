@@ -1,6 +1,8 @@
 // The worked examples of a book, by its calls and by events.
 use boost::attempt::Entry;
-use boost::book::{BeginRefusal, Book, Closed, CommitRefusal, OpRefusal, Run, Ticket};
+use boost::book::{
+    BeginRefusal, Book, Closed, CommitRefusal, EnterRefusal, LeaveRefusal, OpRefusal, Run, Ticket,
+};
 use boost::play::{Answer, Event};
 use spec_ledger::{Kind, Lock, Mode, Op, Outcome, Place, Reply, Step};
 use std::alloc::Global;
@@ -41,40 +43,25 @@ const RETURNED: Outcome = Outcome::Returned(None);
 
 const TRAPPED: Outcome = Outcome::Trapped(TrapCode::Unreachable);
 
-const PUT_9: Step = Step {
-    op: Op::Put(ONE, 9),
-    reply: Reply::Nothing,
-};
+const PUT_9: Step = Step::Did(Op::Put(ONE, 9), Reply::Nothing);
 
-const ADD_3: Step = Step {
-    op: Op::Add(SEVEN, 3),
-    reply: Reply::Nothing,
-};
+const ADD_3: Step = Step::Did(Op::Add(SEVEN, 3), Reply::Nothing);
 
-const ADD_5: Step = Step {
-    op: Op::Add(SEVEN, 5),
-    reply: Reply::Nothing,
-};
+const ADD_5: Step = Step::Did(Op::Add(SEVEN, 5), Reply::Nothing);
 
-const ADD_7: Step = Step {
-    op: Op::Add(SEVEN, 7),
-    reply: Reply::Nothing,
-};
+const ADD_7: Step = Step::Did(Op::Add(SEVEN, 7), Reply::Nothing);
 
-const ADD_LESS_5: Step = Step {
-    op: Op::Add(SEVEN, LESS_FIVE),
-    reply: Reply::Nothing,
-};
+const ADD_LESS_5: Step = Step::Did(Op::Add(SEVEN, LESS_FIVE), Reply::Nothing);
 
-const TOTAL_0: Step = Step {
-    op: Op::Total(SEVEN),
-    reply: Reply::I64(0),
-};
+const ADD_20: Step = Step::Did(Op::Add(SEVEN, 20), Reply::Nothing);
 
-const TOTAL_1: Step = Step {
-    op: Op::Total(SEVEN),
-    reply: Reply::I64(1),
-};
+const PUT_0: Step = Step::Did(Op::Put(ONE, 0), Reply::Nothing);
+
+const NOT_ENTERED: Answer = Answer::LeaveRefused(LeaveRefusal::NotEntered);
+
+const TOTAL_0: Step = Step::Did(Op::Total(SEVEN), Reply::I64(0));
+
+const TOTAL_1: Step = Step::Did(Op::Total(SEVEN), Reply::I64(1));
 
 /// What is done to a book, and what is there after it.
 #[derive(Drop)]
@@ -86,7 +73,7 @@ enum Act<'b> {
 }
 
 use Act::{Does, Holds};
-use Event::{Begin, Commit, Undo};
+use Event::{Begin, Commit, Enter, Leave, Undo};
 
 /// The events of a book of so many calls over these cells; then it is closed, with these cells and these committed calls. Where `lent`, the
 /// hand of call 1 holds the ticket of another book's first attempt of call 0.
@@ -100,7 +87,7 @@ struct Row<'b> {
     entries: &'b [(u32, Outcome)],
 }
 
-const ROWS: [Row; 9] = [
+const ROWS: [Row; 15] = [
     Row {
         name: "a cell that holds zero is there until it is undone",
         calls: 1,
@@ -390,6 +377,214 @@ const ROWS: [Row; 9] = [
         cells: &[(MAP_ONE, 9), (COUNTER_SEVEN, 5)],
         entries: &[(0, RETURNED)],
     },
+    Row {
+        name: "a dropped level takes back its own alone",
+        calls: 2,
+        lent: false,
+        opening: &[(COUNTER_SEVEN, 100)],
+        acts: &[
+            Does(Begin(0), Answer::Begun),
+            Does(Begin(1), Answer::Begun),
+            Does(Event::Op(0, Op::Add(SEVEN, 5)), NOTHING),
+            Does(Enter(0), Answer::Entered),
+            Does(Event::Op(0, Op::Add(SEVEN, 20)), NOTHING),
+            Does(Event::Op(1, Op::Add(SEVEN, 3)), NOTHING),
+            Holds(COUNTER_SEVEN, Some(128)),
+            Does(Leave(0, false), Answer::Left),
+            Holds(COUNTER_SEVEN, Some(108)),
+            Does(Event::Op(1, Op::Total(SEVEN)), CONFLICT),
+            Does(
+                Commit(
+                    1,
+                    Run {
+                        trace: &[ADD_3],
+                        outcome: RETURNED,
+                    },
+                ),
+                Answer::Committed(0),
+            ),
+            Does(
+                Commit(
+                    0,
+                    Run {
+                        trace: &[ADD_5, Step::Opened, ADD_20, Step::Dropped],
+                        outcome: RETURNED,
+                    },
+                ),
+                Answer::Committed(1),
+            ),
+        ],
+        cells: &[(COUNTER_SEVEN, 108)],
+        entries: &[(1, RETURNED), (0, RETURNED)],
+    },
+    Row {
+        name: "of levels two deep the inner one is dropped and the outer one kept",
+        calls: 1,
+        lent: false,
+        opening: &[(MAP_ONE, 1)],
+        acts: &[
+            Does(Begin(0), Answer::Begun),
+            Does(Enter(0), Answer::Entered),
+            Does(Event::Op(0, Op::Put(ONE, 9)), NOTHING),
+            Does(Event::Op(0, Op::Add(SEVEN, 5)), NOTHING),
+            Does(Enter(0), Answer::Entered),
+            Does(Event::Op(0, Op::Put(ONE, 0)), NOTHING),
+            Does(Event::Op(0, Op::Add(SEVEN, 3)), NOTHING),
+            Holds(MAP_ONE, Some(0)),
+            Holds(COUNTER_SEVEN, Some(8)),
+            Does(Leave(0, false), Answer::Left),
+            Holds(MAP_ONE, Some(9)),
+            Holds(COUNTER_SEVEN, Some(5)),
+            Does(Leave(0, true), Answer::Left),
+            Holds(MAP_ONE, Some(9)),
+            Holds(COUNTER_SEVEN, Some(5)),
+            Does(
+                Commit(
+                    0,
+                    Run {
+                        trace: &[
+                            Step::Opened,
+                            PUT_9,
+                            ADD_5,
+                            Step::Opened,
+                            PUT_0,
+                            ADD_3,
+                            Step::Dropped,
+                            Step::Kept,
+                        ],
+                        outcome: RETURNED,
+                    },
+                ),
+                Answer::Committed(0),
+            ),
+        ],
+        cells: &[(MAP_ONE, 9), (COUNTER_SEVEN, 5)],
+        entries: &[(0, RETURNED)],
+    },
+    Row {
+        name: "of levels two deep the inner one is kept and the outer one dropped",
+        calls: 1,
+        lent: false,
+        opening: &[],
+        acts: &[
+            Does(Begin(0), Answer::Begun),
+            Does(Event::Op(0, Op::Add(SEVEN, 5)), NOTHING),
+            Does(Enter(0), Answer::Entered),
+            Does(Event::Op(0, Op::Put(ONE, 9)), NOTHING),
+            Does(Enter(0), Answer::Entered),
+            Does(Event::Op(0, Op::Add(SEVEN, 3)), NOTHING),
+            Does(Leave(0, true), Answer::Left),
+            Holds(COUNTER_SEVEN, Some(8)),
+            Does(Leave(0, false), Answer::Left),
+            Holds(MAP_ONE, None),
+            Holds(COUNTER_SEVEN, Some(5)),
+        ],
+        cells: &[],
+        entries: &[],
+    },
+    Row {
+        name: "a commit and an undo with an open level",
+        calls: 3,
+        lent: false,
+        opening: &[],
+        acts: &[
+            Does(Begin(0), Answer::Begun),
+            Does(Enter(0), Answer::Entered),
+            Does(Event::Op(0, Op::Put(ONE, 9)), NOTHING),
+            Does(
+                Commit(
+                    0,
+                    Run {
+                        trace: &[PUT_9],
+                        outcome: RETURNED,
+                    },
+                ),
+                DIFFERS,
+            ),
+            Does(
+                Commit(
+                    0,
+                    Run {
+                        trace: &[Step::Opened, PUT_9],
+                        outcome: RETURNED,
+                    },
+                ),
+                Answer::Committed(0),
+            ),
+            Does(Begin(1), Answer::Begun),
+            Does(Event::Op(1, Op::Add(SEVEN, 5)), NOTHING),
+            Does(Enter(1), Answer::Entered),
+            Does(Event::Op(1, Op::Add(SEVEN, 3)), NOTHING),
+            Does(Undo(1), Answer::Undone),
+            Holds(COUNTER_SEVEN, None),
+            Does(Begin(2), Answer::Begun),
+            Does(Enter(2), Answer::Entered),
+            Does(Event::Op(2, Op::Add(SEVEN, 7)), NOTHING),
+            Does(
+                Commit(
+                    2,
+                    Run {
+                        trace: &[Step::Opened, ADD_7],
+                        outcome: TRAPPED,
+                    },
+                ),
+                Answer::Committed(1),
+            ),
+        ],
+        cells: &[(MAP_ONE, 9)],
+        entries: &[(0, RETURNED), (2, TRAPPED)],
+    },
+    Row {
+        name: "the locks of a dropped level are held on",
+        calls: 2,
+        lent: false,
+        opening: &[],
+        acts: &[
+            Does(Begin(0), Answer::Begun),
+            Does(Begin(1), Answer::Begun),
+            Does(Enter(0), Answer::Entered),
+            Does(Event::Op(0, Op::Put(ONE, 9)), NOTHING),
+            Does(Leave(0, false), Answer::Left),
+            Holds(MAP_ONE, None),
+            Does(Event::Op(1, Op::Get(ONE)), CONFLICT),
+            Does(Undo(0), Answer::Undone),
+            Does(Event::Op(1, Op::Get(ONE)), Answer::Replied(Reply::I64(0))),
+        ],
+        cells: &[],
+        entries: &[],
+    },
+    Row {
+        name: "each refusal of a level",
+        calls: 1,
+        lent: true,
+        opening: &[],
+        acts: &[
+            Does(Begin(0), Answer::Begun),
+            Does(Leave(0, true), NOT_ENTERED),
+            Does(Leave(0, false), NOT_ENTERED),
+            Does(Enter(0), Answer::Entered),
+            Does(Leave(0, true), Answer::Left),
+            Does(Leave(0, true), NOT_ENTERED),
+            Does(Undo(0), Answer::Undone),
+            Does(Begin(0), Answer::Begun),
+            Does(Enter(0), Answer::Entered),
+            Does(Enter(1), Answer::EnterRefused(EnterRefusal::Stale)),
+            Does(Leave(1, true), Answer::LeaveRefused(LeaveRefusal::Stale)),
+            Does(Leave(1, false), Answer::LeaveRefused(LeaveRefusal::Stale)),
+            Does(
+                Commit(
+                    0,
+                    Run {
+                        trace: &[Step::Opened],
+                        outcome: RETURNED,
+                    },
+                ),
+                Answer::Committed(0),
+            ),
+        ],
+        cells: &[],
+        entries: &[(0, RETURNED)],
+    },
 ];
 
 /// The tickets of the calls.
@@ -412,6 +607,14 @@ fn answer_to(book: &mut Book, hands: &mut Hands, event: &Event) -> Option<Answer
                 Err(refusal) => Some(Answer::OpRefused(refusal)),
             }
         }
+        Enter(call) => match book.enter(hands.get(*call as usize)?.as_ref()?) {
+            Ok(()) => Some(Answer::Entered),
+            Err(refusal) => Some(Answer::EnterRefused(refusal)),
+        },
+        Leave(call, keep) => match book.leave(hands.get(*call as usize)?.as_ref()?, *keep) {
+            Ok(()) => Some(Answer::Left),
+            Err(refusal) => Some(Answer::LeaveRefused(refusal)),
+        },
         Undo(call) => {
             book.undo(hands.get_mut(*call as usize)?.take()?);
             Some(Answer::Undone)
@@ -435,6 +638,7 @@ fn lacks_memory(answer: Answer) -> bool {
         answer,
         Answer::BeginRefused(BeginRefusal::NoMemory)
             | Answer::OpRefused(OpRefusal::NoMemory)
+            | Answer::EnterRefused(EnterRefusal::NoMemory)
             | Answer::CommitRefused(CommitRefusal::NoMemory)
     )
 }
@@ -565,7 +769,7 @@ struct List<'b> {
     entries: &'b [(u32, Outcome)],
 }
 
-const LISTS: [List; 2] = [
+const LISTS: [List; 3] = [
     List {
         name: "a failed adder is committed after another",
         events: &[
@@ -636,6 +840,50 @@ const LISTS: [List; 2] = [
         cells: &[],
         entries: &[],
     },
+    List {
+        name: "levels are entered and left",
+        events: &[
+            Enter(0),
+            Leave(0, true),
+            Begin(0),
+            Leave(0, false),
+            Enter(0),
+            Event::Op(0, Op::Add(SEVEN, 5)),
+            Leave(0, false),
+            Enter(0),
+            Event::Op(0, Op::Add(SEVEN, 3)),
+            Leave(0, true),
+            Commit(
+                0,
+                Run {
+                    trace: &[
+                        Step::Opened,
+                        ADD_5,
+                        Step::Dropped,
+                        Step::Opened,
+                        ADD_3,
+                        Step::Kept,
+                    ],
+                    outcome: RETURNED,
+                },
+            ),
+        ],
+        answers: &[
+            Answer::EnterRefused(EnterRefusal::Stale),
+            Answer::LeaveRefused(LeaveRefusal::Stale),
+            Answer::Begun,
+            NOT_ENTERED,
+            Answer::Entered,
+            NOTHING,
+            Answer::Left,
+            Answer::Entered,
+            NOTHING,
+            Answer::Left,
+            Answer::Committed(0),
+        ],
+        cells: &[(COUNTER_SEVEN, 3)],
+        entries: &[(0, RETURNED)],
+    },
 ];
 
 fn is_answered(alloc: Global, list: &List) -> bool {
@@ -664,46 +912,96 @@ struct Told<'b> {
     modes: &'b [(Lock, Option<Mode>)],
 }
 
-const TOTAL_3: Step = Step {
-    op: Op::Total(SEVEN),
-    reply: Reply::I64(3),
-};
+const TOTAL_3: Step = Step::Did(Op::Total(SEVEN), Reply::I64(3));
 
-/// An adder is committed, and after it a call that looks at the sum, adds to it and traps.
-const TWO_CALLS: [Event; 7] = [
-    Begin(1),
-    Event::Op(1, Op::Add(SEVEN, 3)),
-    Commit(
-        1,
-        Run {
-            trace: &[ADD_3],
-            outcome: RETURNED,
-        },
-    ),
-    Begin(0),
-    Event::Op(0, Op::Total(SEVEN)),
-    Event::Op(0, Op::Add(SEVEN, 5)),
-    Commit(
-        0,
-        Run {
-            trace: &[TOTAL_3, ADD_5],
-            outcome: TRAPPED,
-        },
-    ),
-];
+/// Events, and the entries of the book after them.
+struct Order<'b> {
+    name: &'b str,
+    events: &'b [Event<'b>],
+    told: &'b [Told<'b>],
+}
 
-const ORDER: [Told; 2] = [
-    Told {
-        call: 1,
-        trace: &[ADD_3],
-        outcome: RETURNED,
-        modes: &[(COUNTER_SEVEN, Some(Mode::Add)), (MAP_ONE, None)],
+const ORDERS: [Order; 2] = [
+    Order {
+        name: "an adder is committed, and after it a call that looks at the sum, adds to it and traps",
+        events: &[
+            Begin(1),
+            Event::Op(1, Op::Add(SEVEN, 3)),
+            Commit(
+                1,
+                Run {
+                    trace: &[ADD_3],
+                    outcome: RETURNED,
+                },
+            ),
+            Begin(0),
+            Event::Op(0, Op::Total(SEVEN)),
+            Event::Op(0, Op::Add(SEVEN, 5)),
+            Commit(
+                0,
+                Run {
+                    trace: &[TOTAL_3, ADD_5],
+                    outcome: TRAPPED,
+                },
+            ),
+        ],
+        told: &[
+            Told {
+                call: 1,
+                trace: &[ADD_3],
+                outcome: RETURNED,
+                modes: &[(COUNTER_SEVEN, Some(Mode::Add)), (MAP_ONE, None)],
+            },
+            Told {
+                call: 0,
+                trace: &[TOTAL_3, ADD_5],
+                outcome: TRAPPED,
+                modes: &[(COUNTER_SEVEN, Some(Mode::Excl)), (MAP_ONE, None)],
+            },
+        ],
     },
-    Told {
-        call: 0,
-        trace: &[TOTAL_3, ADD_5],
-        outcome: TRAPPED,
-        modes: &[(COUNTER_SEVEN, Some(Mode::Excl)), (MAP_ONE, None)],
+    Order {
+        name: "a call drops a level while another adds to the same counter: the modes of what is dropped stay",
+        events: &[
+            Begin(0),
+            Enter(0),
+            Event::Op(0, Op::Add(SEVEN, 5)),
+            Event::Op(0, Op::Put(ONE, 9)),
+            Begin(1),
+            Event::Op(1, Op::Add(SEVEN, 3)),
+            Leave(0, false),
+            Commit(
+                0,
+                Run {
+                    trace: &[Step::Opened, ADD_5, PUT_9, Step::Dropped],
+                    outcome: RETURNED,
+                },
+            ),
+            Commit(
+                1,
+                Run {
+                    trace: &[ADD_3],
+                    outcome: RETURNED,
+                },
+            ),
+        ],
+        told: &[
+            Told {
+                call: 0,
+                trace: &[Step::Opened, ADD_5, PUT_9, Step::Dropped],
+                outcome: RETURNED,
+                modes: &[
+                    (COUNTER_SEVEN, Some(Mode::Add)),
+                    (MAP_ONE, Some(Mode::Excl)),
+                ],
+            },
+            Told {
+                call: 1,
+                trace: &[ADD_3],
+                outcome: RETURNED,
+                modes: &[(COUNTER_SEVEN, Some(Mode::Add)), (MAP_ONE, None)],
+            },
+        ],
     },
 ];
 
@@ -717,15 +1015,15 @@ fn tells(entry: &Entry, told: &Told) -> bool {
             .all(|(lock, mode)| entry.mode(*lock) == *mode)
 }
 
-fn tell_the_order(alloc: Global) -> bool {
-    match Book::play(alloc, Cells::new(alloc), &TWO_CALLS) {
+fn tell_the_order(alloc: Global, order: &Order) -> bool {
+    match Book::play(alloc, Cells::new(alloc), order.events) {
         Ok((book, _answers)) => {
             let closed = book.close();
-            closed.entries.len() == ORDER.len()
+            closed.entries.len() == order.told.len()
                 && closed
                     .entries
                     .iter()
-                    .zip(ORDER.iter())
+                    .zip(order.told.iter())
                     .all(|(entry, told)| tells(entry, told))
         }
         Err(_) => false,
@@ -733,6 +1031,8 @@ fn tell_the_order(alloc: Global) -> bool {
 }
 
 #[test]
-fn an_order_is_read_from_entries(rt: HostRuntime) {
-    assert!(rt; tell_the_order(rt.alloc()));
+fn orders_are_read_from_entries(rt: HostRuntime) {
+    for order in &ORDERS {
+        assert!(rt; tell_the_order(rt.alloc(), order), "{}", order.name);
+    }
 }

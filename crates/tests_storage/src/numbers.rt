@@ -16,15 +16,9 @@ const COUNTER_SEVEN: Lock = Lock {
     key: 7,
 };
 
-const ADD_5: Step = Step {
-    op: Op::Add(SEVEN, 5),
-    reply: Reply::Nothing,
-};
+const ADD_5: Step = Step::Did(Op::Add(SEVEN, 5), Reply::Nothing);
 
-const ADD_3: Step = Step {
-    op: Op::Add(SEVEN, 3),
-    reply: Reply::Nothing,
-};
+const ADD_3: Step = Step::Did(Op::Add(SEVEN, 3), Reply::Nothing);
 
 const RETURNED: Outcome = Outcome::Returned(None);
 

@@ -2,6 +2,7 @@
 use boost::attempt::Entry;
 use boost::book::{Book, Closed};
 use shard_parts::{CloseRefusal, Part, close, home, is_part};
+use spec_ledger::Step::{Dropped, Kept, Opened};
 use spec_ledger::{Kind, Lock, Op, Outcome, Place, Reply, Step};
 use std::alloc::Global;
 use storage::Cells;
@@ -88,23 +89,14 @@ fn homes_of_locks(rt: HostRuntime) {
     }
 }
 
-const ADD_7: Step = Step {
-    op: Op::Add(SEVEN, 1),
-    reply: Reply::Nothing,
-};
+const ADD_7: Step = Step::Did(Op::Add(SEVEN, 1), Reply::Nothing);
 
-const ADD_8: Step = Step {
-    op: Op::Add(EIGHT, 1),
-    reply: Reply::Nothing,
-};
+const ADD_8: Step = Step::Did(Op::Add(EIGHT, 1), Reply::Nothing);
 
-const TOTAL_8: Step = Step {
-    op: Op::Total(EIGHT),
-    reply: Reply::I64(1),
-};
+const TOTAL_8: Step = Step::Did(Op::Total(EIGHT), Reply::I64(1));
 
 /// Steps, a trace, a shard of two, and whether the steps are its part of the trace.
-const PARTS: [(&[Step], &[Step], u32, bool); 9] = [
+const PARTS: [(&[Step], &[Step], u32, bool); 13] = [
     (&[], &[], 0, true),
     (&[], &[ADD_7], 0, true),
     (&[], &[ADD_7], 1, false),
@@ -114,6 +106,15 @@ const PARTS: [(&[Step], &[Step], u32, bool); 9] = [
     (&[TOTAL_8, ADD_8], &[ADD_8, ADD_7, TOTAL_8], 0, false),
     (&[ADD_8], &[ADD_8, ADD_7, TOTAL_8], 0, false),
     (&[ADD_7, ADD_7], &[ADD_8, ADD_7, TOTAL_8], 1, false),
+    (&[Opened, Kept], &[Opened, ADD_7, Kept], 0, true),
+    (
+        &[Opened, ADD_7, Dropped],
+        &[Opened, ADD_7, Dropped],
+        1,
+        true,
+    ),
+    (&[ADD_7], &[Opened, ADD_7, Kept], 1, false),
+    (&[Opened, ADD_7, Kept], &[Opened, ADD_7, Dropped], 1, false),
 ];
 
 #[test]

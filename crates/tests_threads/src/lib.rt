@@ -23,6 +23,8 @@ mod rationed_blocks;
 #[cfg(test)]
 mod refused_growths;
 #[cfg(test)]
+mod sharded_blocks;
+#[cfg(test)]
 mod shared_books;
 #[cfg(test)]
 mod shared_lanes;

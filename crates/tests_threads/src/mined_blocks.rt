@@ -162,7 +162,7 @@ pub(crate) const TRAPPED: Receipt = Receipt {
     used: 4,
 };
 
-const ROWS: [Row; 6] = [
+pub(crate) const ROWS: [Row; 6] = [
     Row {
         name: "no calls change nothing",
         cells: &[],

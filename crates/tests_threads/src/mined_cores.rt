@@ -18,6 +18,9 @@ use std::thread::Threads;
 use storage::Cells;
 use wtypes::Value;
 
+/// How many shards the book has.
+pub(crate) const COUNTS: [u32; 3] = [1, 2, 16];
+
 /// How calls are mined.
 #[derive(Clone, Copy)]
 struct How {
@@ -66,13 +69,14 @@ fn is_serial(alloc: Global, given: &Given, mined: &MinedCore) -> Result<bool, Fa
     Ok(alone.receipts == mined.receipts && same_locks && same_cells)
 }
 
-/// Mines calls at this pace.
+/// Mines calls at this pace, with the book in so many shards.
 fn mine_at<R: Threads + Wait + Sync, P: Pace>(
     rt: &R,
     alloc: Global,
     given: &Given,
     how: How,
     pace: &P,
+    shards: u32,
 ) -> Result<MinedCore, Fail> {
     let How {
         fuel,
@@ -82,6 +86,9 @@ fn mine_at<R: Threads + Wait + Sync, P: Pace>(
     } = how;
     let calls = given.calls.as_slice();
     if calls.len() > 65_535 || workers < 1 || workers > 64 || tries < 1 || tries > 16 {
+        return Err(Fail::from("outside the conditions"));
+    }
+    if shards < 1 || shards > 16 {
         return Err(Fail::from("outside the conditions"));
     }
     match mine_core(
@@ -94,6 +101,7 @@ fn mine_at<R: Threads + Wait + Sync, P: Pace>(
         workers,
         tries,
         pace,
+        shards,
     ) {
         Ok(mined) => Ok(mined),
         Err(_) => Err(Fail::from("refused")),
@@ -106,12 +114,13 @@ fn mine<R: Threads + Wait + Sync>(
     alloc: Global,
     given: &Given,
     how: How,
+    shards: u32,
 ) -> Result<MinedCore, Fail> {
     let Some(meeting) = how.meeting else {
-        return mine_at(rt, alloc, given, how, &NoPace);
+        return mine_at(rt, alloc, given, how, &NoPace, shards);
     };
     let pace = Meet::new(meeting, LOOKS);
-    let mined = mine_at(rt, alloc, given, how, &pace)?;
+    let mined = mine_at(rt, alloc, given, how, &pace, shards)?;
     if !pace.was_met() {
         return Err(Fail::from("the calls did not meet"));
     }
@@ -167,12 +176,17 @@ fn is_as_said(mined: &MinedCore, row: &Row) -> bool {
 
 /// Whether what is mined is what the row says, and what its calls come to one after another. The cells that were lent are as they
 /// were.
-fn is_mined<R: Threads + Wait + Sync>(rt: &R, alloc: Global, row: &Row) -> Result<bool, Fail> {
+fn is_mined<R: Threads + Wait + Sync>(
+    rt: &R,
+    alloc: Global,
+    row: &Row,
+    shards: u32,
+) -> Result<bool, Fail> {
     let mut given = make_given(alloc, row.cells)?;
     for (contract, key, fuel) in row.calls {
         given.calls.push(calling(alloc, *contract, *key, *fuel)?)?;
     }
-    let mined = mine(rt, alloc, &given, row.how)?;
+    let mined = mine(rt, alloc, &given, row.how, shards)?;
     Ok(
         is_as_said(&mined, row)
             && is_serial(alloc, &given, &mined)?
@@ -214,13 +228,14 @@ fn is_spread<R: Threads + Wait + Sync>(
     rt: &R,
     alloc: Global,
     spread: &Spread,
+    shards: u32,
 ) -> Result<bool, Fail> {
     let mut given = make_given(alloc, &[])?;
     for number in 0..spread.calls {
         let key = number.checked_rem(spread.keys).ok_or("some key")?;
         given.calls.push(calling(alloc, 0, i64::from(key), 7)?)?;
     }
-    let mined = mine(rt, alloc, &given, spread.how)?;
+    let mined = mine(rt, alloc, &given, spread.how, shards)?;
     Ok(
         mined.order.len() == spread.mined
             && mined.left.len() == spread.left
@@ -416,7 +431,13 @@ const SPREADS: [Spread; 2] = [
 #[test]
 fn calls_are_mined_as_said(rt: HostRuntime) -> Result<(), Fail> {
     for row in &ROWS {
-        assert!(rt; is_mined(&rt, rt.alloc(), row)?, "{}", row.name);
+        for shards in &COUNTS {
+            assert!(rt;
+                is_mined(&rt, rt.alloc(), row, *shards)?,
+                "{}, {shards}",
+                row.name
+            );
+        }
     }
     Ok(())
 }
@@ -424,7 +445,13 @@ fn calls_are_mined_as_said(rt: HostRuntime) -> Result<(), Fail> {
 #[test]
 fn many_calls_are_mined_as_said(rt: HostRuntime) -> Result<(), Fail> {
     for spread in &SPREADS {
-        assert!(rt; is_spread(&rt, rt.alloc(), spread)?, "{}", spread.name);
+        for shards in &COUNTS {
+            assert!(rt;
+                is_spread(&rt, rt.alloc(), spread, *shards)?,
+                "{}, {shards}",
+                spread.name
+            );
+        }
     }
     Ok(())
 }

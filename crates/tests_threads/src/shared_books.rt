@@ -1,8 +1,10 @@
 // Threads that share a book, and really meet in it.
 use crate::meetings::{LOOKS, hold};
-use boost::book::{BeginRefusal, Book, Closed, CommitRefusal, OpRefusal, Run, Ticket};
+use boost::book::{
+    BeginRefusal, Book, Closed, CommitRefusal, EnterRefusal, LeaveRefusal, OpRefusal, Run, Ticket,
+};
 use shared_book::SharedBook;
-use spec_ledger::{Kind, Lock, Op, Outcome, Place, Reply, Step};
+use spec_ledger::{Kind, Lock, Mode, Op, Outcome, Place, Reply, Step};
 use std::alloc::Global;
 use std::sync::Wait;
 use std::sync::atomic::{AtomicU64, Ordering};
@@ -46,29 +48,35 @@ fn returned(trace: &[Step]) -> Run<'_> {
     }
 }
 
-const TOTAL_OF_100: Step = Step {
-    op: Op::Total(SUM),
-    reply: Reply::I64(100),
-};
+const TOTAL_OF_100: Step = Step::Did(Op::Total(SUM), Reply::I64(100));
+
+/// A call that looks at the counter, adds to it in a level that is dropped, and looks again.
+const LEVELS: [Step; 9] = [
+    TOTAL_OF_100,
+    Step::Opened,
+    Step::Did(Op::Add(SUM, 20), Reply::Nothing),
+    Step::Opened,
+    Step::Kept,
+    Step::Dropped,
+    TOTAL_OF_100,
+    Step::Opened,
+    Step::Kept,
+];
 
 fn adding(value: u64) -> Step {
-    Step {
-        op: Op::Add(SUM, value),
-        reply: Reply::Nothing,
-    }
+    Step::Did(Op::Add(SUM, value), Reply::Nothing)
 }
 
 fn putting(place: Place, value: u64) -> Step {
-    Step {
-        op: Op::Put(place, value),
-        reply: Reply::Nothing,
-    }
+    Step::Did(Op::Put(place, value), Reply::Nothing)
 }
 
 /// What is asked of a book. Calls are named by their numbers, and a call's last ticket is its ticket.
 enum Asked {
     Begin(u32),
     Do(usize, Op),
+    Enter(usize),
+    Leave(usize, bool),
     Undo(usize),
     Commit(usize, &'static [Step]),
 }
@@ -80,6 +88,10 @@ enum Answer {
     NotBegun(BeginRefusal),
     Replied(Reply),
     NotDone(OpRefusal),
+    Entered,
+    NotEntered(EnterRefusal),
+    Left,
+    NotLeft(LeaveRefusal),
     Undone,
     Committed(u32),
     NotCommitted(CommitRefusal),
@@ -146,6 +158,28 @@ fn act<R: Wait>(rt: &R, book: &SharedBook<'_>, place: &Option<Ticket>, op: Op) -
     }
 }
 
+/// Enters a level of an attempt of a call.
+fn enter<R: Wait>(rt: &R, book: &SharedBook<'_>, place: &Option<Ticket>) -> Answer {
+    match place {
+        Some(ticket) => match book.enter(rt, ticket) {
+            Ok(()) => Answer::Entered,
+            Err(refusal) => Answer::NotEntered(refusal),
+        },
+        None => Answer::NoTicket,
+    }
+}
+
+/// Leaves the innermost level of an attempt of a call.
+fn leave<R: Wait>(rt: &R, book: &SharedBook<'_>, place: &Option<Ticket>, keep: bool) -> Answer {
+    match place {
+        Some(ticket) => match book.leave(rt, ticket, keep) {
+            Ok(()) => Answer::Left,
+            Err(refusal) => Answer::NotLeft(refusal),
+        },
+        None => Answer::NoTicket,
+    }
+}
+
 /// What a book answers to what is asked.
 fn ask<R: Wait>(
     rt: &R,
@@ -157,6 +191,14 @@ fn ask<R: Wait>(
         Asked::Begin(call) => begin(rt, book, tickets, *call),
         Asked::Do(call, op) => match tickets.get(*call) {
             Some(place) => act(rt, book, place, *op),
+            None => Answer::NoTicket,
+        },
+        Asked::Enter(call) => match tickets.get(*call) {
+            Some(place) => enter(rt, book, place),
+            None => Answer::NoTicket,
+        },
+        Asked::Leave(call, keep) => match tickets.get(*call) {
+            Some(place) => leave(rt, book, place, *keep),
             None => Answer::NoTicket,
         },
         Asked::Undo(call) => match tickets.get_mut(*call) {
@@ -171,7 +213,7 @@ fn ask<R: Wait>(
 }
 
 /// Which of two books is asked what, one after another, and what is answered.
-const SCRIPT: [(bool, Asked, Answer); 13] = [
+const SCRIPT: [(bool, Asked, Answer); 25] = [
     (
         true,
         Asked::Begin(2),
@@ -203,7 +245,43 @@ const SCRIPT: [(bool, Asked, Answer); 13] = [
     ),
     (
         true,
-        Asked::Commit(1, &[]),
+        Asked::Leave(1, true),
+        Answer::NotLeft(LeaveRefusal::NotEntered),
+    ),
+    (true, Asked::Enter(1), Answer::Entered),
+    (
+        false,
+        Asked::Enter(1),
+        Answer::NotEntered(EnterRefusal::Stale),
+    ),
+    (
+        false,
+        Asked::Leave(1, false),
+        Answer::NotLeft(LeaveRefusal::Stale),
+    ),
+    (
+        true,
+        Asked::Do(1, Op::Add(SUM, 20)),
+        Answer::Replied(Reply::Nothing),
+    ),
+    (true, Asked::Enter(1), Answer::Entered),
+    (true, Asked::Leave(1, true), Answer::Left),
+    (true, Asked::Leave(1, false), Answer::Left),
+    (
+        true,
+        Asked::Do(1, Op::Total(SUM)),
+        Answer::Replied(Reply::I64(100)),
+    ),
+    (true, Asked::Enter(1), Answer::Entered),
+    (true, Asked::Leave(1, true), Answer::Left),
+    (
+        true,
+        Asked::Leave(1, false),
+        Answer::NotLeft(LeaveRefusal::NotEntered),
+    ),
+    (
+        true,
+        Asked::Commit(1, &[TOTAL_OF_100]),
         Answer::NotCommitted(CommitRefusal::Differs),
     ),
     (
@@ -211,11 +289,7 @@ const SCRIPT: [(bool, Asked, Answer); 13] = [
         Asked::Commit(1, &[]),
         Answer::NotCommitted(CommitRefusal::Stale),
     ),
-    (
-        true,
-        Asked::Commit(1, &[TOTAL_OF_100]),
-        Answer::Committed(0),
-    ),
+    (true, Asked::Commit(1, &LEVELS), Answer::Committed(0)),
     (
         true,
         Asked::Begin(1),
@@ -302,6 +376,63 @@ fn two_attempts_are_live_at_once(rt: HostRuntime) -> Result<(), Fail> {
     Ok(())
 }
 
+/// Adds in a level, and drops it when the other call has added to the same counter.
+fn drop_beside<R: Wait>(rt: &R, book: &SharedBook<'_>, turns: &AtomicU64) -> Option<u32> {
+    let ticket = book.begin(rt, 0).ok()?;
+    book.op(rt, &ticket, Op::Add(SUM, 5)).ok()?;
+    book.enter(rt, &ticket).ok()?;
+    book.op(rt, &ticket, Op::Add(SUM, 20)).ok()?;
+    turns.fetch_add(1, Ordering::SeqCst);
+    if !hold(turns, 2, LOOKS) {
+        return None;
+    }
+    book.leave(rt, &ticket, false).ok()?;
+    turns.fetch_add(1, Ordering::SeqCst);
+    let trace = [adding(5), Step::Opened, adding(20), Step::Dropped];
+    book.commit(rt, ticket, &returned(&trace)).ok()
+}
+
+/// Adds while the level of the other call is open, and is committed when it was dropped.
+fn add_beside<R: Wait>(rt: &R, book: &SharedBook<'_>, turns: &AtomicU64) -> Option<u32> {
+    let ticket = book.begin(rt, 1).ok()?;
+    if !hold(turns, 1, LOOKS) {
+        return None;
+    }
+    book.op(rt, &ticket, Op::Add(SUM, 3)).ok()?;
+    turns.fetch_add(1, Ordering::SeqCst);
+    if !hold(turns, 3, LOOKS) {
+        return None;
+    }
+    book.commit(rt, ticket, &returned(&[adding(3)])).ok()
+}
+
+/// Whether a level that is dropped while another call adds to the same counter takes its own back alone, and both calls hold the counter to add.
+fn one_drops_beside<R: Threads + Wait + Sync>(rt: &R, alloc: Global) -> Result<bool, Fail> {
+    let mut cells = Cells::new(alloc);
+    cells.insert(cell(Kind::Counter, SUM), 100)?;
+    let book = SharedBook::open(alloc, &cells, 2)?;
+    let turns = AtomicU64::new(0);
+    let positions = thread::join(
+        rt,
+        || drop_beside(rt, &book, &turns),
+        || add_beside(rt, &book, &turns),
+    );
+    let either = positions == (Some(0), Some(1)) || positions == (Some(1), Some(0));
+    let closed = book.close()?;
+    Ok(
+        either
+            && closed.entries.iter().all(|entry| entry.mode(cell(Kind::Counter, SUM))
+                == Some(Mode::Add))
+            && closed.cells.get(cell(Kind::Counter, SUM)) == Some(108),
+    )
+}
+
+#[test]
+fn a_level_is_dropped_beside_an_adder(rt: HostRuntime) -> Result<(), Fail> {
+    assert!(rt; one_drops_beside(&rt, rt.alloc())?);
+    Ok(())
+}
+
 /// Holds a cell until the other call was refused there.
 fn keep_out<R: Wait>(rt: &R, book: &SharedBook<'_>, turns: &AtomicU64) -> Option<u32> {
     let ticket = book.begin(rt, 0).ok()?;
@@ -328,10 +459,7 @@ fn be_kept_out<R: Wait>(rt: &R, book: &SharedBook<'_>, turns: &AtomicU64) -> Opt
     }
     let again = book.begin(rt, 1).ok()?;
     let reply = book.op(rt, &again, Op::Get(HOT)).ok()?;
-    let trace = [Step {
-        op: Op::Get(HOT),
-        reply,
-    }];
+    let trace = [Step::Did(Op::Get(HOT), reply)];
     let position = book.commit(rt, again, &returned(&trace)).ok()?;
     if reply == Reply::I64(9) {
         Some(position)
@@ -413,7 +541,7 @@ fn trace_of<R: Wait>(
     let mut trace = Vec::new(alloc);
     for op in ops(call) {
         let reply = book.op(rt, ticket, op).ok()?;
-        trace.push(Step { op, reply }).ok()?;
+        trace.push(Step::Did(op, reply)).ok()?;
         thread::yield_now();
     }
     Some(trace)
@@ -479,7 +607,9 @@ fn replayed(alloc: Global, done: &[Done]) -> Result<Cells, Fail> {
         };
         let ticket = book.begin(next.call)?;
         for step in next.trace.iter() {
-            book.op(&ticket, step.op)?;
+            if let Step::Did(op, _) = *step {
+                book.op(&ticket, op)?;
+            }
         }
         let run = Run {
             trace: next.trace.as_slice(),

@@ -22,16 +22,9 @@ pub record Halfway {X : Type 0} (next : List Word → Next X) (whole : Read (Lis
   pub enough : length rest < turns
   pub same : whole ≡ prefixed found (repeated next turns rest)
 
-prefixed-nil : {X : Type 0} (r : Read (List X)) → prefixed [] r ≡ r
-prefixed-nil None = refl
-prefixed-nil (Some r) = refl
-
 prefixed-more : {X : Type 0} (xs : List X) (x : X) (r : Read (List X)) → prefixed xs (more_of x r) ≡ prefixed (xs ++ x ∷ []) r
 prefixed-more xs x None = refl
 prefixed-more xs x (Some r) = ap (λ ys. Some (ys, r.1)) (sym (append_assoc xs (x ∷ []) r.0))
-
-pub halfway_start : {X : Type 0} (next : List Word → Next X) (ws : List Word) → Halfway next (repeated next (suc (length ws)) ws) ws []
-halfway_start next ws = record { turns = suc (length ws); enough = omega arith; same = sym (prefixed-nil (repeated next (suc (length ws)) ws)) }
 
 abbrev pub turn : {X : Type 0} → (List Word → Next X) → ℕ → Next X → Read (List X)
 turn next n o = o >>= λ r. elim r.0 [ None ↦ Some ([], r.1) | Some x ↦ more_of x (repeated next n r.1) ]

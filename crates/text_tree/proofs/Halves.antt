@@ -1,10 +1,9 @@
 -- Fields, one after another: those read so far, and what is left.
-use Rattle.std.proofs.Common.{◌≡◌, ℕ, Bool, true, false, cond, List, [], ◌∷◌, ◌++◌, Option, Some, None, refl, sym, ap, ◌∙◌, subst, append_assoc}
+use Rattle.std.proofs.Common.{◌≡◌, Bool, true, false, cond, List, [], ◌∷◌, ◌++◌, Option, Some, None, refl, sym, ap, ◌∙◌, subst, append_assoc}
 use Rattle.std.proofs.lemmas.List.{append-nil}
 use Rattle.spec_text.specs.declared.KeyWord.{KeyWord}
 use Rattle.spec_text.specs.declared.KeyWord.TheVariants as k
-use Rattle.spec_text.specs.Lexical.{Token}
-use Rattle.spec_text.specs.Words.{Word, LeftBracket, RightBracket, Key, AreWords}
+use Rattle.spec_text.specs.Words.{Word, LeftBracket, RightBracket, Key}
 use Rattle.spec_text.specs.Placed as N
 use Rattle.spec_text.specs.Grammar as G
 use Rattle.spec_text.specs.Grammar.{OptionalId, FieldWords, Fields, IsModule}
@@ -14,7 +13,7 @@ use Rattle.text_body.proofs.Pieces.{none_some, some_same, id_is_read}
 use Rattle.text_tree.specs.declared.parts.Inner.TheVariants as inner
 use Rattle.text_tree.specs.Order.{in_order}
 use Rattle.text_tree.specs.Reading.{opened_at, func_head_at, global_head_at, segment_head_at, elem_tail_at, data_tail_at, next_key_at, forbids_of, defined_behind, started_behind}
-use Rattle.text_tree.specs.Texts.{OfField, AreFields, NoFields, IsTree, NoTree, NoText, TextsAreOne}
+use Rattle.text_tree.specs.Texts.{OfField, AreFields, NoFields, IsTree, NoTree, TextsAreOne}
 use Rattle.text_tree.proofs.Plain.{IsPlain, plain_read}
 use Rattle.text_tree.proofs.Bodied.{no_tail, bodied_is_one, func_of, func_splits, global_of, global_splits, elem_of, elem_splits, data_of, data_splits}
 use Rattle.text_tree.proofs.Readers.{opened_found}
@@ -205,9 +204,3 @@ modules_are_one {gs = gs} (G.module_is i h) (G.module_is j l) = fields_are_one h
 
 pub texts_are_one : WordsAreOne → TextsAreOne
 texts_are_one one tokens fs gs a b = modules_are_one a.2.0 (subst (λ (ws : List Word). IsModule ws gs) (one tokens b.0 a.0 b.1 a.1) b.2.0)
-
-pub text_refused : WordsAreOne → (tokens : List Token) (ws : List Word) → AreWords tokens ws → NoTree ws → NoText tokens
-text_refused one tokens ws a n = λ fs t. n fs (subst (λ (xs : List Word). IsTree xs fs) (one tokens t.0 ws t.1 a) t.2)
-
-pub no_text : (tokens : List Token) → ((ws : List Word) → AreWords tokens ws → ⊥) → NoText tokens
-no_text tokens n = λ fs t. n t.0 t.1

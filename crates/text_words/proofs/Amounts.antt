@@ -1,7 +1,7 @@
 -- The values of integers, as they are read and in the grammar.
 use Rattle.std.proofs.Common.{◌≡◌, ◌≢◌, ℕ, ◌+◌, ◌*◌, ◌-◌, ◌%◌, ◌^◌, ◌<◌, ◌≤◌, Bool, true, false, ◌&&◌, cond, List, [], ◌∷◌, Option, Some, None, refl, sym, ap, ◌∙◌, subst, arith, inl, inr}
 use Rattle.std.specs.Prelude.{◌==◌, nat_le, option_map, IfSome, IfNone}
-use Rattle.std.proofs.lemmas.Bool.{cond-true, cond-false, eqb-true, ne_eqb, leb-true, le-leb, lt-leb, and_parts, and_right, cases_lt}
+use Rattle.std.proofs.lemmas.Bool.{cond-true, cond-false, eqb-true, ne_eqb, leb-true, le-leb, and_parts, and_right}
 use Rattle.spec_text.specs.Lexical.{is_digit, is_hex}
 use Rattle.spec_text.specs.Numbers.{Decimal, decimal_end, decimal_digit, decimal_apart, Hexadecimal, hexadecimal_end, hexadecimal_digit, hexadecimal_apart, Magnitude, decimal, hexadecimal, IsU32, IsBits, no_sign, plus, minus}
 use Rattle.lexer.specs.Reading.{hex_value, digit_test}
@@ -105,13 +105,6 @@ capped_found limit n (Some m) e = elim (chosen (nat_le m limit) (Some m) None (S
   | inl h ↦ (h.1, subst (λ (x : ℕ). x ≤ limit) (some_same m n h.1) (leb-true m limit h.0))
   | inr h ↦ absurd (none_some n h.1)
 ]
-
-pub capped_over : (limit n : ℕ) (o : Option ℕ) → o ≡ Some n → limit < n → capped limit o ≡ None
-capped_over limit n o e l = ap (capped limit) e ∙ cond-false (nat_le n limit) (Some n) None (lt-leb n limit l)
-
-pub capped_none : (limit : ℕ) (o : Option ℕ) → ((n : ℕ) → n < 2 ^ 64 → o ≡ Some n → ⊥) → limit < 2 ^ 64 → capped limit o ≡ None
-capped_none limit None h l = refl
-capped_none limit (Some n) h l = cond-false (nat_le n limit) (Some n) None (elim (cases_lt n (2 ^ 64)) [ inl b ↦ absurd (h n b refl) | inr g ↦ lt-leb n limit (omega arith) ])
 
 -- ---- bits
 

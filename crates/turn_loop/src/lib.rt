@@ -1,4 +1,4 @@
-//! The one loop over a machine's turns. Who runs a call goes from one operation of storage to the next, and answers each.
+//! The one way over a machine's turns. Who runs a call goes from one operation of storage to the next, and answers each.
 #![tactic(auto)]
 
 ghost use Rattle.std.specs.Prelude.{IfOk, IfSome, OnErr, None, Ok, ◌≡◌};
@@ -24,12 +24,10 @@ pub fn next_op<'a, A: Allocator + Copy>(
     ensures on_run { IsProgress machine.new }
     ensures no_memory { OnErr result (HasLacked machine.old machine.new) }
 {
-    'turns: loop {
-        match machine.next() {
-            Turn::Stepped => {}
-            Turn::Host(op) => return Ok(Some(op)),
-            Turn::Done(_) => return Ok(None),
-            Turn::NoMemory => return Err(NoMemory),
-        }
+    match machine.turn_on() {
+        Turn::Host(op) => Ok(Some(op)),
+        Turn::Done(_) => Ok(None),
+        Turn::NoMemory => Err(NoMemory),
+        Turn::Stepped => unreachable!(),
     }
 }

@@ -3,3 +3,4 @@ pub mod Answers
 pub mod FaultLaws
 pub mod Refusals
 pub mod Modules
+pub mod Places

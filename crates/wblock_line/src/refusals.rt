@@ -1,16 +1,22 @@
 //! Why a module's bytes give no contract.
 
-ghost use Rattle.std.specs.Prelude.{Some};
+ghost use Rattle.std.specs.Prelude.{◌≡◌, ◌++◌, Some, None, IfOk, string_bytes};
+ghost use Rattle.module_tree.specs.Modules.{module_view};
+ghost use Rattle.wblock_words.specs.Sentences.{Begins, broken_place};
+ghost use Rattle.wblock_line.specs.Places.{TellsPlace, TellsRefusal, TellsRule};
 ghost use Rattle.wblock_line.specs.Refusals.{refusal_text};
 
-use crate::sites::{import_text, site_text};
+use crate::sites::import_text;
 use body_typing::rule::Rule;
 use loader::load;
 use module_tree::limit::Limit;
 use module_tree::module::{Export, ExportDesc, Module};
+use rule_sites::{item_text, site_text};
 use std::alloc::{AllocError, Allocator, Global};
 use std::fmt;
-use wblock_words::{form_words, import_words, limit_words, room_words, rule_words, segment_words};
+use wblock_words::{
+    form_words, import_words, limit_words, room_words, rule_words, segment_words, shown,
+};
 
 /// Why a module's bytes give no contract, printed as `refused load N P`, `refused check RULE F O` or `refused deploy N I`.
 #[derive(Clone, Copy, Debug, PartialEq, Eq)]
@@ -93,23 +99,84 @@ fn export_of<A: Allocator>(module: &Module<A>, func: u32) -> Option<&str> {
     None
 }
 
-/// The sentence of a rule that a module of these bytes breaks. The function is named by its export.
+/// The sentence of a rule that a module breaks at this instruction of a function, which is named by its export.
+fn body_words<A: Allocator>(
+    alloc: Global,
+    tree: &Module<A>,
+    rule: Rule,
+    func: u32,
+    ordinal: u32,
+) -> Result<String, AllocError>
+    ensures { IfOk result (λ s. TellsPlace (string_bytes s) (module_view tree.now) func ordinal) }
+{
+    let words = rule_words(alloc, rule, Some(func), export_of(tree, func), ordinal)?;
+    let site = site_text(alloc, tree, func, ordinal, rule)?;
+    joined(alloc, &words, &site)
+}
+
+/// One text behind another.
+fn joined(alloc: Global, front: &String, back: &String) -> Result<String, AllocError>
+    ensures { IfOk result (λ s. string_bytes s ≡ string_bytes front.now ++ string_bytes back.now) }
+{
+    format!(in alloc; "{front}{back}")
+}
+
+/// The name of an export that has the name of one before it, as it is shown.
+fn repeated_text<A: Allocator>(
+    alloc: Global,
+    module: &Module<A>,
+    rule: Rule,
+    item: u32,
+) -> Result<String, AllocError> {
+    match module.exports.get(item as usize) {
+        Some(export) if rule == Rule::ExportName => {
+            let name = shown(export.name.as_str());
+            format!(in alloc; "; found: `{name}` again")
+        }
+        _ => Ok(String::new(alloc)),
+    }
+}
+
+/// The sentence of a rule that a module breaks outside bodies, by this item of the list at fault.
+fn item_words<A: Allocator>(
+    alloc: Global,
+    module: &Module<A>,
+    rule: Rule,
+    item: u32,
+) -> Result<String, AllocError>
+    ensures { IfOk result (λ s. Begins (broken_place None item) (string_bytes s)) }
+{
+    let words = rule_words(alloc, rule, None, None, item)?;
+    let repeated = repeated_text(alloc, module, rule, item)?;
+    let found = item_text(alloc, module, rule, item)?;
+    let said = format!(in alloc; "{repeated}{found}")?;
+    joined(alloc, &words, &said)
+}
+
+/// The sentence of a rule that a module of these bytes breaks at this instruction of a function.
 fn untyped_words(
     alloc: Global,
     bytes: &[u8],
     rule: Rule,
-    func: Option<u32>,
+    func: u32,
     ordinal: u32,
-) -> Result<String, AllocError> {
-    let Some(number) = func else {
-        return rule_words(alloc, rule, None, None, ordinal);
-    };
-    let Ok(module) = load(alloc, bytes) else {
-        return rule_words(alloc, rule, func, None, ordinal);
-    };
-    let words = rule_words(alloc, rule, func, export_of(&module, number), ordinal)?;
-    let site = site_text(alloc, &module, number, ordinal, rule == Rule::Operand)?;
-    format!(in alloc; "{words}{site}")
+) -> Result<String, AllocError>
+    ensures { IfOk result (λ s. TellsRule (string_bytes s) bytes.now func ordinal) }
+{
+    match load(alloc, bytes) {
+        Ok(tree) => body_words(alloc, &tree, rule, func, ordinal),
+        Err(_) => rule_words(alloc, rule, Some(func), None, ordinal),
+    }
+}
+
+/// The sentence of a rule that a module of these bytes breaks outside bodies.
+fn unlisted_words(alloc: Global, bytes: &[u8], rule: Rule, item: u32) -> Result<String, AllocError>
+    ensures { IfOk result (λ s. Begins (broken_place None item) (string_bytes s)) }
+{
+    match load(alloc, bytes) {
+        Ok(module) => item_words(alloc, &module, rule, item),
+        Err(_) => rule_words(alloc, rule, None, None, item),
+    }
 }
 
 /// The names of an import of a module of these bytes; none where memory is refused.
@@ -146,16 +213,23 @@ fn import_fault_words(
 
 impl ModuleRefusal {
     /// The sentence of the refusal of a module of these bytes: what is wrong, where, and what to do. It has no newline.
-    pub fn words(self, alloc: Global, bytes: &[u8]) -> Result<String, AllocError> {
+    pub fn words(self, alloc: Global, bytes: &[u8]) -> Result<String, AllocError>
+        ensures { IfOk result (λ s. TellsRefusal self bytes.now (string_bytes s)) }
+    {
         match self {
             ModuleRefusal::Malformed(at) => form_words(alloc, at, false),
             ModuleRefusal::Unsupported(at) => form_words(alloc, at, true),
             ModuleRefusal::TooLarge(limit) => limit_words(alloc, limit),
             ModuleRefusal::Untyped {
                 rule,
-                func,
+                func: Some(func),
                 ordinal,
             } => untyped_words(alloc, bytes, rule, func, ordinal),
+            ModuleRefusal::Untyped {
+                rule,
+                func: None,
+                ordinal,
+            } => unlisted_words(alloc, bytes, rule, ordinal),
             ModuleRefusal::UnknownImport(import) => {
                 import_fault_words(alloc, bytes, import, false)
             }

@@ -4,6 +4,7 @@ use Rattle.std.proofs.lemmas.Bool.Decides.{nat_tests}
 use Rattle.spec_ledger.specs.declared.Op.{Op}
 use Rattle.spec_ledger.specs.declared.Reply.{Reply}
 use Rattle.spec_ledger.specs.declared.Step.{Step}
+use Rattle.spec_ledger.specs.declared.Step.TheVariants.{Did}
 use Rattle.spec_ledger.specs.declared.Outcome.{Outcome}
 use Rattle.spec_ledger.specs.declared.Outcome.TheVariants.{Returned, Trapped, OutOfFuel, Rejected}
 use Rattle.spec_execution.specs.Configuration.{Deployed, Contract, Seq, State, Config, Running, Trap}
@@ -61,7 +62,7 @@ module _ (host : List Step → Op → Reply) (fit : (trace : List Step) (op : Op
         let w = within (used + charge) limit (nat_le (used + charge) limit) _ p refl g in
         subst At w.1 (reduced trace used (Running s q) charge (Trap s t) r (traps s q charge t e) w.0)
     by_next trace used s q (Asks op go) p r e g =
-        let same : record { trace = trace ++ record { op = op; reply = host trace op } ∷ []; used = used; config = Running s (go (host trace op)) } ≡ p = cc in
+        let same : record { trace = trace ++ Did op (host trace op) ∷ []; used = used; config = Running s (go (host trace op)) } ≡ p = cc in
         subst At same (replied trace used s q op go (host trace op) r e (fit trace op))
     by_next trace used s q (Branches charge l vs) p r e g = absurd (cc)
     by_next trace used s q (Returns charge vs) p r e g = absurd (cc)

@@ -1,4 +1,5 @@
 pub mod Computing
+pub mod MarkRows
 pub mod Rows
 pub mod States
 pub mod Text

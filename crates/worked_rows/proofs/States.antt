@@ -9,6 +9,7 @@ use Rattle.spec_syntax.specs.Syntax.{Plain, nothing}
 use Rattle.spec_ledger.specs.declared.Op.TheVariants as op
 use Rattle.spec_ledger.specs.declared.Reply.TheVariants as reply
 use Rattle.spec_ledger.specs.declared.Step.{Step}
+use Rattle.spec_ledger.specs.declared.Step.TheVariants.{Did}
 use Rattle.spec_ledger.specs.Cells.{Cells}
 use Rattle.spec_execution.specs.Configuration.{Deployed, Contract, Seq, End, Val, Code, Label, Frame, Invoke, State, Config, Running, Trap}
 use Rattle.spec_execution.specs.Reduction.{Goes, reduce, execute, execute_plain, replied}
@@ -104,7 +105,7 @@ abbrev count_start : Config
 count_start = first (at_0 counts) 2 (I64 (pos 9) ∷ [])
 
 abbrev added : List Step
-added = record { op = op.Add nine 5; reply = reply.Nothing } ∷ []
+added = Did (op.Add nine 5) reply.Nothing ∷ []
 
 count_three : Turned (at_0 counts) count_start 5 3 added before_the_total
 unfolding reduce execute execute_plain

@@ -15,6 +15,7 @@ use Rattle.spec_ledger.specs.declared.Outcome.{Outcome}
 use Rattle.spec_ledger.specs.declared.Outcome.TheVariants.{Returned}
 use Rattle.spec_ledger.specs.declared.Reply.TheVariants as reply
 use Rattle.spec_ledger.specs.declared.Step.{Step}
+use Rattle.spec_ledger.specs.declared.Step.TheVariants.{Did}
 use Rattle.spec_ledger.specs.Modes.{touched}
 use Rattle.spec_execution.specs.Configuration.{Deployed, Seq, End, Val, Code, Label, Frame, State, Config, Running}
 use Rattle.spec_execution.specs.Run.{ContractCall}
@@ -87,13 +88,13 @@ returned n = Returned (Some (I64 (pos n)))
 
 -- what `counts` asks, where it comes to this total
 abbrev pub adds_and_reads : (total : ℕ) → List Step
-adds_and_reads total = record { op = op.Add nine 5; reply = reply.Nothing } ∷ record { op = op.Total nine; reply = reply.I64 (pos total) } ∷ []
+adds_and_reads total = Did (op.Add nine 5) reply.Nothing ∷ Did (op.Total nine) (reply.I64 (pos total)) ∷ []
 
 -- what `keeps` asks, where it gets this
 abbrev pub puts_and_deletes : (got : ℕ) → List Step
 puts_and_deletes got =
-    record { op = op.Put nine 5; reply = reply.Nothing } ∷ record { op = op.Has nine; reply = reply.I32 (pos 1) } ∷ record { op = op.Get nine; reply = reply.I64 (pos got) }
-    ∷ record { op = op.Del nine; reply = reply.I32 (pos 1) } ∷ []
+    Did (op.Put nine 5) reply.Nothing ∷ Did (op.Has nine) (reply.I32 (pos 1)) ∷ Did (op.Get nine) (reply.I64 (pos got))
+    ∷ Did (op.Del nine) (reply.I32 (pos 1)) ∷ []
 
 -- what a call of `counts` comes to, with this total
 abbrev pub counted : (total : ℕ) → Ran

@@ -10,7 +10,6 @@ use Rattle.spec_typing.specs.Linking.{IsLinked}
 use Rattle.spec_typing.specs.Laws.{Refuses}
 use Rattle.spec_block.specs.Worlds.{Contract}
 use Rattle.spec_block.proofs.OneWorld.{TreesAreUnique}
-use Rattle.loader.specs.Refusals.{NoModule}
 use Rattle.body_typing.specs.declared.scope.TypeRefusal.{TypeRefusal}
 use Rattle.body_typing.specs.declared.scope.TypeRefusal.TheVariants.{At, NoMemory}
 use Rattle.typing.specs.Judged.{Denies}
@@ -24,9 +23,6 @@ spelled_by body c is = subst (λ (w : List ℕ). Spells w c.tree) (sym is.is) is
 
 same_tree : TreesAreUnique → (body : List ℕ) (m : Module) (c : Contract) → Spells body m → IsBody body c → c.tree ≡ m
 same_tree unique body m c spelled is = unique body c.tree m (spelled_by body c is) spelled
-
-pub not_loaded : (body : List ℕ) → NoModule body → IsNoBody body
-not_loaded body none = λ c is. none c.tree (spelled_by body c is)
 
 pub not_typed : TreesAreUnique → (body : List ℕ) (m : Module) → Spells body m → (e : TypeRefusal) → e ≢ NoMemory → Denies e (ModuleTyped m) → IsNoBody body
 not_typed unique body m spelled (At func ordinal rule) other untyped = λ c is. ∥∥₁_elim is.tree.linked (λ a b. absurd a) (λ l. untyped (subst ModuleTyped (same_tree unique body m c spelled is) l.typed))

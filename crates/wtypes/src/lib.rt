@@ -64,23 +64,31 @@ pub struct Limits {
 }
 
 /// Why a run traps (Core Specification, 4.2.2 Results: `trap`). The numbers are those of receipts.
-#[derive(Clone, Copy, Debug, PartialEq, Eq)]
+#[derive(Clone, Copy, Debug, PartialEq, Eq, Error)]
 pub enum TrapCode {
     /// The instruction `unreachable` was executed.
+    #[error("the instruction `unreachable` was executed")]
     Unreachable = 1,
     /// A division or remainder by zero.
+    #[error("a division or remainder by zero")]
     DivideByZero = 2,
     /// A signed quotient that has no signed reading.
+    #[error("a signed quotient that has no signed reading")]
     IntegerOverflow = 3,
     /// A load or store past the end of memory.
+    #[error("a load or store past the end of memory")]
     MemoryOutOfBounds = 4,
     /// An indirect call past the end of the table.
+    #[error("an indirect call past the end of the table")]
     ElementOutOfTable = 5,
     /// An indirect call of an element that holds no function.
+    #[error("an indirect call of an element that holds no function")]
     EmptyElement = 6,
     /// An indirect call of a function of another type.
+    #[error("an indirect call of a function of another type")]
     TypeMismatch = 7,
     /// A call that would make one frame more than the profile allows.
+    #[error("a call that would make one frame too many")]
     CallDepth = 8,
 }
 

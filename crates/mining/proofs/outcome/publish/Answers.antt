@@ -4,7 +4,7 @@ use Rattle.mining.proofs.outcome.publish.Goals as goal
 pub returns-clause-by_workers : goal.returns-clause-by_workers
 returns-clause-by_workers g c =
     let gone = c.in_ok-fill.ensures.gone_on in
-    let more = length-append c.take_alone.new.publishing.order gone.more in
+    let more = length-append c.in_ok-publishing.publishing.order gone.more in
     let filled = ap (λ xs. length xs) gone.order in
     let closed = ap (λ xs. length xs) c.in_ok-published.ensures.order in
-    omega (arith, c.in_ok-publishing.ensures.taken, c.in_ok-take_alone.ensures.order, filled, more, closed)
+    omega (arith, c.in_ok-publishing.ensures.taken, filled, more, closed)

@@ -9,7 +9,7 @@ take_runs-requires g c =
     let opened = c.in_ok-publishing.ensures in
     made_for (contracts_view c.args.contracts.now) c.args.calls.now c.args.runs.now c.args.touched.items c.in_ok-publishing.publishing c.requires.runs (ap (λ (p : Publication). p.contracts) opened) (ap (λ (p : Publication). p.calls) opened)
 
-pub returns-in-Some-adopted-clause-taken : goal.returns-in-Some-adopted-clause-taken
-returns-in-Some-adopted-clause-taken g c =
-    let long = adopted_length c.in-Some.closed.entries.items c.in_ok-adopted.adopted _ c.in-Some-adopted.publishing c.in_ok-adopted.ensures.adopted c.in-Some-adopted.is refl in
+pub returns-in-Some-clause-taken : goal.returns-in-Some-clause-taken
+returns-in-Some-clause-taken g c =
+    let long = adopted_length c.args.closed.entries.items c.in_ok-adopted.adopted _ c.in-Some.publishing c.in_ok-adopted.ensures.adopted c.in-Some.is refl in
     omega (arith, long, c.at_most-count.ensures, c.len.ensures)

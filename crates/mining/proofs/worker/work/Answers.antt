@@ -1,4 +1,4 @@
-use Rattle.std.proofs.Common.{◌≡◌, List, sym, subst}
+use Rattle.std.proofs.Common.{◌≡◌, sym, subst}
 use Rattle.interp.specs.Lent.{contracts_view}
 use Rattle.mining.specs.Handed.{AreAllRuns}
 use Rattle.mining.proofs.worker.work.Goals as goal

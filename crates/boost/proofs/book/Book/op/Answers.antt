@@ -2,7 +2,7 @@ use Rattle.std.proofs.Common.{arith, ◌≡◌, set, true, false, refl, sym, sub
 use Rattle.spec_ledger.specs.Book.{Content}
 use Rattle.std.specs.List.{AllByRecursion}
 use Rattle.spec_ledger.specs.Events.{OpDone, IsConflict, IsStale}
-use Rattle.boost.proofs.Events.{found_not_stale, no_conflict, are_standing, call_row, row_of, AreCounts-here, granted_here, extended_here, conflict_here, IsBook-op, OpDone-op}
+use Rattle.boost.proofs.Events.{found_here, found_not_stale, no_conflict, are_standing, call_row, row_of, AreCounts-here, granted_here, extended_here, conflict_here, IsBook-op, OpDone-op}
 use Rattle.boost.proofs.book.Book.op.Goals as goal
 
 pub may_take-requires : goal.may_take-requires
@@ -95,3 +95,30 @@ pub find-requires : goal.find-requires
 find-requires g c =
     let b : Content = record { opening = c.self.inside.opening.cells; now = c.self.inside.cells.cells; entries = c.self.inside.entries.items; attempts = c.self.inside.attempts.items; begun = c.self.inside.begun.items } in
     are_standing b c.self.inside.cells.unsettled c.self.inside.locks c.self.inside.standings.items c.self.invariant.0 c.deref.result.now c.deref-2.result.now c.deref.ensures.value c.deref-2.ensures.value
+
+pub returns-then-not-may_take-clause-stale : goal.returns-then-not-may_take-clause-stale
+returns-then-not-may_take-clause-stale g c =
+    let b : Content = record { opening = c.self.inside.opening.cells; now = c.self.inside.cells.cells; entries = c.self.inside.entries.items; attempts = c.self.inside.attempts.items; begun = c.self.inside.begun.items } in (
+      λ e. cc,
+      λ h. absurd
+          (found_not_stale b c.args.ticket.now.call c.args.ticket.now.number _ _ _ (found_here b c.self.inside.cells.unsettled c.self.inside.locks c.self.inside.standings.items c.self.invariant.0 c.args.ticket.now.call c.args.ticket.now.number c.in-Some.i c.deref.result.now c.deref.ensures.value c.in-Some.ensures.found)
+          (subst (λ x. IsStale x c.args.ticket.now.call c.args.ticket.now.number) (sym c.self.view_is) h)),
+    )
+
+pub returns-in_default-act-clause-stale : goal.returns-in_default-act-clause-stale
+returns-in_default-act-clause-stale g c =
+    let b : Content = record { opening = c.self.inside.opening.cells; now = c.self.inside.cells.cells; entries = c.self.inside.entries.items; attempts = c.self.inside.attempts.items; begun = c.self.inside.begun.items } in (
+      λ e. cc,
+      λ h. absurd
+          (found_not_stale b c.args.ticket.now.call c.args.ticket.now.number _ _ _ (found_here b c.self.inside.cells.unsettled c.self.inside.locks c.self.inside.standings.items c.self.invariant.0 c.args.ticket.now.call c.args.ticket.now.number c.in-Some.i c.deref.result.now c.deref.ensures.value c.in-Some.ensures.found)
+          (subst (λ x. IsStale x c.args.ticket.now.call c.args.ticket.now.number) (sym c.self.view_is) h)),
+    )
+
+pub returns-clause-stale : goal.returns-clause-stale
+returns-clause-stale g c =
+    let b : Content = record { opening = c.self.inside.opening.cells; now = c.self.inside.cells.cells; entries = c.self.inside.entries.items; attempts = c.self.inside.attempts.items; begun = c.self.inside.begun.items } in (
+      λ e. cc,
+      λ h. absurd
+          (found_not_stale b c.args.ticket.now.call c.args.ticket.now.number _ _ _ (found_here b c.self.inside.cells.unsettled c.self.inside.locks c.self.inside.standings.items c.self.invariant.0 c.args.ticket.now.call c.args.ticket.now.number c.in-Some.i c.deref.result.now c.deref.ensures.value c.in-Some.ensures.found)
+          (subst (λ x. IsStale x c.args.ticket.now.call c.args.ticket.now.number) (sym c.self.view_is) h)),
+    )

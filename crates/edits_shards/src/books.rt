@@ -1,0 +1,83 @@
+//! The book in shards.
+
+ghost use Rattle.std.specs.Prelude.{◌≡◌, ◌≤◌, ◌⊎◌, ℕ, Err, IfErr, IfOk, OnErr, OnOk, false, length, replicate, slice_set, true};
+ghost use Rattle.std.specs.FinMap as finite;
+ghost use Rattle.std.specs.List.{AllByRecursion};
+ghost use Rattle.spec_ledger.specs.Book.{AreDistinct, Content, IsDefined, call_is_new, settled};
+ghost use Rattle.spec_ledger.specs.Cells.{lock_of};
+ghost use Rattle.spec_ledger.specs.Events.{IsStale, OpDone};
+ghost use Rattle.spec_ledger.specs.Modes.{touched};
+ghost use Rattle.spec_shards.specs.Shards.{shard_of};
+ghost use Rattle.journal.specs.Journals.{Begins, Commits, IsLive, Journal as TheJournal};
+ghost use Rattle.shard.specs.Shard.{HasToWait, IsOver, IsReady, Shard as TheShard};
+ghost use Rattle.shards.specs.Taking.{HasOtherSteps, HoldsOfAShard, HoldsOfTheJournal};
+
+use boost::book::{BeginRefusal, Closed, CommitRefusal, OpRefusal, Run};
+use shard_parts::CloseRefusal;
+use shards::{Gate, Shards, Ticket};
+use spec_ledger::{Op, Reply};
+use std::alloc::Allocator;
+use std::sync::Wait;
+
+/// As [`Shards::begin`].
+pub fn begin<G: Gate, A: Allocator + Copy>(
+    book: &Shards<'_, G, A>,
+    rt: &impl Wait,
+    call: u32,
+) -> Result<Ticket, BeginRefusal>
+    ensures call { IfOk result (λ ticket. ticket.call ≡ call) }
+    ensures touched { IfOk result (λ ticket. ticket.touched ≡ replicate 16 false) }
+    ensures ok { IfOk result (λ ticket. HoldsOfTheJournal (λ old. (new : TheJournal) × Begins old new call ticket.number)) }
+    ensures no_such_call { result ≡ Err BeginRefusal.NoSuchCall → HoldsOfTheJournal (λ old. length old.begun ≤ call) }
+    ensures live { result ≡ Err BeginRefusal.Live → HoldsOfTheJournal (λ old. (number : ℕ) × IsLive old call number) }
+    ensures committed { result ≡ Err BeginRefusal.Committed → HoldsOfTheJournal (λ old. ¬ (call_is_new call old.entries)) }
+{
+    book.begin(rt, call)
+}
+
+/// As [`Shards::op`].
+pub fn op<G: Gate, A: Allocator + Copy>(
+    book: &Shards<'_, G, A>,
+    rt: &impl Wait,
+    ticket: &mut Ticket,
+    op: Op,
+) -> Result<Reply, OpRefusal>
+    ensures ok { IfOk result (λ reply. HoldsOfAShard (λ old. (new : TheShard) × (ready : Content) × IsReady old.book ready ticket.old.call ticket.old.number × OpDone ready new.book ticket.old.call ticket.old.number op reply)) }
+    ensures conflict { result ≡ Err OpRefusal.Conflict → HoldsOfAShard (λ old. HasToWait old.book ticket.old.call ticket.old.number op) }
+    ensures stale { result ≡ Err OpRefusal.Stale → HoldsOfAShard (λ old. IsOver old.book ticket.old.call ticket.old.number ⊎ (length old.book.begun ≤ ticket.old.call)) }
+    ensures call { ticket.new.call ≡ ticket.old.call }
+    ensures number { ticket.new.number ≡ ticket.old.number }
+    ensures touched { OnOk result (ticket.new.touched ≡ slice_set ticket.old.touched (shard_of book.now.shards (lock_of op)) true) }
+    ensures err { OnErr result (ticket.new ≡ ticket.old) }
+{
+    book.op(rt, ticket, op)
+}
+
+/// As [`Shards::commit`].
+pub fn commit<G: Gate, A: Allocator + Copy>(
+    book: &Shards<'_, G, A>,
+    rt: &impl Wait,
+    ticket: Ticket,
+    run: &Run<'_>,
+) -> Result<u32, (Ticket, CommitRefusal)>
+    ensures ok { IfOk result (λ position. HoldsOfTheJournal (λ old. (new : TheJournal) × Commits old new ticket.call ticket.number run.now.trace.now run.now.outcome position)) }
+    ensures stale { IfErr result (λ e. e.1 ≡ CommitRefusal.Stale → HoldsOfTheJournal (λ old. ¬ (IsLive old ticket.call ticket.number)) ⊎ HoldsOfAShard (λ old. IsStale old.book ticket.call ticket.number)) }
+    ensures differs { IfErr result (λ e. e.1 ≡ CommitRefusal.Differs → HasOtherSteps book.now.shards ticket.call ticket.number ticket.touched run.now.trace.now) }
+    ensures ticket { IfErr result (λ e. e.0 ≡ ticket) }
+{
+    book.commit(rt, ticket, run)
+}
+
+/// As [`Shards::close`].
+pub fn close<G: Gate, A: Allocator + Copy>(
+    book: Shards<'_, G, A>,
+) -> Result<Closed<A>, CloseRefusal>
+    ensures opening { IfOk result (λ closed. closed.opening.cells ≡ book.entry.opening) }
+    ensures replies { IfOk result (λ closed. IsDefined closed.opening.cells closed.entries.items) }
+    ensures distinct { IfOk result (λ closed. AreDistinct closed.entries.items) }
+    ensures modes { IfOk result (λ closed. AllByRecursion (λ e. e.modes ≡ touched e.trace) closed.entries.items) }
+    ensures cells { IfOk result (λ closed. closed.cells.cells ≡ settled closed.opening.cells closed.entries.items) }
+    ensures settled { IfOk result (λ closed. closed.cells.unsettled ≡ finite.empty) }
+{
+    book.close()
+}

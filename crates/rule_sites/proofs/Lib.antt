@@ -1,0 +1,2 @@
+mod Deeper
+mod Stacks

@@ -1,0 +1,16 @@
+use Rattle.std.proofs.Common.{◌≡◌, ◌≤◌, vec_len, length, take, drop}
+use Rattle.spec_ledger.specs.Book.{back_all}
+use Rattle.storage.specs.Counts.{closed_all, AreUnsettled}
+use Rattle.storage.proofs.changes.take_back_to.Given as goal
+
+abbrev pub invariant-loop-inverses : goal.invariant-loop-inverses
+invariant-loop-inverses g l = record {
+  some : l.fn.mark ≤ length l.inverses.items;
+  kept : take l.fn.mark l.inverses.items ≡ take l.fn.mark l.fn.inverses.items;
+  cells : back_all (drop l.fn.mark l.inverses.items) l.cells.cells ≡ back_all (drop l.fn.mark l.fn.inverses.items) l.fn.cells.cells;
+  counts : closed_all (drop l.fn.mark l.inverses.items) l.cells.unsettled ≡ closed_all (drop l.fn.mark l.fn.inverses.items) l.fn.cells.unsettled;
+  unsettled : AreUnsettled l.inverses.items l.cells.unsettled;
+}
+
+abbrev pub decreases-loop-inverses : goal.decreases-loop-inverses
+decreases-loop-inverses g l = vec_len l.inverses

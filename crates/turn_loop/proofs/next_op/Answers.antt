@@ -1,0 +1,11 @@
+use Rattle.turn_loop.proofs.Going.{come_to, has_ended, has_lacked}
+use Rattle.turn_loop.proofs.next_op.Goals as goal
+
+pub returns-in-Host-clause-asks : goal.returns-in-Host-clause-asks
+returns-in-Host-clause-asks g c = come_to _ _ _ c.in-Host.ensures.turned c.turn_on.ensures.on_run
+
+pub returns-in-Done-clause-ended : goal.returns-in-Done-clause-ended
+returns-in-Done-clause-ended g c e = has_ended _ _ _ c.in-Done.ensures.turned
+
+pub returns-in-NoMemory-clause-no_memory : goal.returns-in-NoMemory-clause-no_memory
+returns-in-NoMemory-clause-no_memory g c = has_lacked _ _ c.in-NoMemory.ensures.turned
