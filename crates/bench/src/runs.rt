@@ -10,7 +10,7 @@ use std::alloc::Allocator;
 /// Makes the turns of a run up to its end. `None` where the host was asked for an operation, or where memory was refused.
 pub fn run_to_end<'a, A: Allocator + Copy>(mut machine: Machine<'a, A>) -> Option<Finished<'a, A>>
     requires { IsFree machine.status }
-    ensures contracts { IfSome result (λ f. f.contracts ≡ machine.entry.contracts) }
+    ensures setting { IfSome result (λ f. f.setting ≡ machine.entry.setting) }
     ensures call { IfSome result (λ f. f.call ≡ machine.entry.call) }
 {
     'turns: loop {

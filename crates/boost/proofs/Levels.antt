@@ -51,7 +51,7 @@ closed_since stood false a m are =
     ∙ closed_all-opened_all (drop n a.inverses) (opened_all (take n a.inverses) m) (AreCounts-opened_all (take n a.inverses) m are)
 
 -- the rows of locks, where an attempt stands in for another of its call and modes
-same_rows : (p : List Attempt) (a c : Attempt) (q : List Attempt) (rows : List Modes) → c.call ≡ a.call → c.modes ≡ a.modes → rows_with (p ++ a ∷ q) rows ≡ rows_with (p ++ c ∷ q) rows
+pub same_rows : (p : List Attempt) (a c : Attempt) (q : List Attempt) (rows : List Modes) → c.call ≡ a.call → c.modes ≡ a.modes → rows_with (p ++ a ∷ q) rows ≡ rows_with (p ++ c ∷ q) rows
 same_rows p a c q rows e f =
     rows_with-append p (a ∷ q) rows ∙ (λ i. rows_with q (set (rows_with p rows) (sym e i) (sym f i))) ∙ sym (rows_with-append p (c ∷ q) rows)
 

@@ -1,13 +1,14 @@
 // What the book keeps of a call: its live attempt, or its committed entry.
-ghost use Rattle.std.specs.Prelude.{◌≡◌, ◌+◌, ◌<◌, ◌≤◌, ℕ, ◌∷◌, [], ◌++◌, true, false, IfOk, OnOk, OnErr, IsTrue, ◌↔◌, Some, if◌then◌else◌, length, slice_set};
+ghost use Rattle.std.specs.Prelude.{◌≡◌, ◌+◌, ◌<◌, ◌≤◌, ℕ, List, ◌∷◌, [], ◌++◌, true, false, IfOk, OnOk, OnErr, IsTrue, ◌↔◌, Some, if◌then◌else◌, length, map, reverse, slice_set};
 ghost use Rattle.spec_ledger.specs.Cells.{reply_to, cells_after, inverse_to};
 ghost use Rattle.spec_ledger.specs.Book.{extended, entry_of, standing_at, with_step, fresh as fresh_of};
 ghost use Rattle.spec_ledger.specs.declared.Step.TheVariants as TheStep;
 ghost use Rattle.storage.specs.Counts.{AreCounts, AreUnsettled, Store, opened};
 ghost use Rattle.spec_ledger.specs.Cells.{lock_cmp, lock_of};
-ghost use Rattle.spec_ledger.specs.Modes.{mode_of, touched};
+ghost use Rattle.spec_ledger.specs.Modes.{mode_of, ops_of, touched};
 ghost use Rattle.boost.specs.Asked.{asked_by};
 ghost use Rattle.boost.specs.Marks.{IsLeft};
+ghost use Rattle.boost.specs.Numbered.{marked as marked_of};
 ghost use Rattle.std.specs.FinMap as finite;
 ghost use Rattle.std.specs.Ordering.{eq_by_cmp};
 ghost use Rattle.abstract_locks.specs.Table.{asked, row_at};
@@ -111,6 +112,27 @@ fn asked_at(at: Lock, step: Step, held: Option<Mode>) -> Option<Mode>
     }
 }
 
+/// Notes a mark in the list of those that are open, before and after which there is nothing to take back.
+fn note_mark<A: Allocator>(noted: &mut Vec<usize, A>, mark: Step) -> Result<(), NoMemory>
+    ensures { OnOk result ((trace : List Step) → ops_of (trace ++ mark ∷ []) ≡ [] → reverse noted.old.items ≡ map length (standing_at trace).marks → reverse noted.new.items ≡ map length (standing_at (trace ++ mark ∷ [])).marks) }
+{
+    match mark {
+        Step::Did(_, _) => Ok(()),
+        Step::Opened => match noted.push(0) {
+            Ok(()) => Ok(()),
+            Err(_) => Err(NoMemory),
+        },
+        Step::Kept => {
+            noted.pop();
+            Ok(())
+        }
+        Step::Dropped => {
+            noted.pop();
+            Ok(())
+        }
+    }
+}
+
 /// A live try of a call. Its trace has room for the marks that close its open levels, so that leaving one takes no memory.
 #[derive(Drop)]
 pub struct Attempt<A: Allocator = Global> {
@@ -186,6 +208,17 @@ impl<A: Allocator + Copy> Attempt<A> {
             Err(_) => unreachable!(),
         }
         Ok(reply)
+    }
+
+    /// Makes the room for one level more, so that the next that is entered takes no memory. What is seen stays.
+    pub(crate) fn make_room(&mut self) -> Result<(), NoMemory>
+        ensures { self.new ≡ self.old }
+    {
+        self.trace
+            .reserve(2 + self.marks.len())
+            .map_err(|_| NoMemory)?;
+        self.marks.reserve(1).map_err(|_| NoMemory)?;
+        Ok(())
     }
 
     /// Enters a level. The room for its mark and for the one that closes it is made first; where memory is refused, all is as it was.
@@ -302,6 +335,30 @@ impl<A: Allocator + Copy> Attempt<A> {
             inverses: Vec::new(alloc),
             marks: Vec::new(alloc),
         }
+    }
+
+    /// An attempt that has made these marks of levels and done nothing else, with room for those that close its open levels.
+    pub(crate) fn marked(alloc: A, call: u32, number: u64, marks: &[Step]) -> Result<Self, NoMemory>
+        requires { ops_of marks.now ≡ [] }
+        ensures { IfOk result (λ attempt. attempt ≡ marked_of call number marks.now) }
+    {
+        let mut trace = Vec::new(alloc);
+        let mut noted = Vec::new(alloc);
+        for mark in marks {
+            note_mark(&mut noted, *mark)?;
+            match trace.push(*mark) {
+                Ok(()) => (),
+                Err(_) => return Err(NoMemory),
+            }
+        }
+        trace.reserve(noted.len()).map_err(|_| NoMemory)?;
+        Ok(Attempt {
+            call,
+            number,
+            trace,
+            inverses: Vec::new(alloc),
+            marks: noted,
+        })
     }
 
     pub(crate) fn call(&self) -> u32

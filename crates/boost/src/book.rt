@@ -5,7 +5,8 @@ ghost use Rattle.spec_ledger.specs.Book.{Content, IsKept, IsGranted, extended, a
 ghost use Rattle.spec_ledger.specs.Facts.{CellsAreSettledButForHolders, EntriesAreSerialRun, LiveAttemptsGoTogether, LiveTracesGetReplies};
 ghost use Rattle.spec_ledger.specs.Events.{IsStale, BeginDone, HasNoAttempt, OpDone, IsConflict, EnterDone, LeaveDone, IsNotEntered, UndoDone, CommitDone, IsOther, IsUndoneLast};
 ghost use Rattle.boost.specs.Kept.{AreStanding, IsBook, IsPlace};
-ghost use Rattle.boost.specs.Numbered.{BegunAs, HasTrace, IsPassed};
+ghost use Rattle.boost.specs.Numbered.{BegunAs, BegunWith, HasTrace, IsPassed};
+ghost use Rattle.spec_ledger.specs.Modes.{ops_of};
 ghost use Rattle.std.specs.FinMap as finite;
 
 use crate::attempt::{Attempt, Entry, mode};
@@ -205,6 +206,20 @@ impl<A: Allocator + Copy> Book<A> {
             return Err(OpRefusal::NoMemory);
         };
         Ok(reply)
+    }
+
+    /// Makes the room for one level more of a live attempt, so that the next `enter` of it takes no memory. What is seen stays.
+    pub fn make_room(&mut self, ticket: &Ticket) -> Result<(), EnterRefusal>
+        ensures stale { (result ≡ Err EnterRefusal.Stale) ↔ IsStale self.old ticket.now.call ticket.now.number }
+        ensures same { self.new ≡ self.old }
+    {
+        let Some(i) = find(&self.attempts, &self.standings, ticket) else {
+            return Err(EnterRefusal::Stale);
+        };
+        let Ok(()) = self.attempts[i].make_room() else {
+            return Err(EnterRefusal::NoMemory);
+        };
+        Ok(())
     }
 
     /// Enters a level of a live attempt: adds its mark to the trace, and makes the room for the mark that closes it, which later operations and levels leave.
@@ -473,6 +488,31 @@ impl<A: Allocator + Copy> Book<A> {
         self.begun[call as usize] = number + 1;
         self.standings[call as usize] = Standing::Live(place);
         Ok(Ticket { call, number })
+    }
+
+    /// Makes these marks of levels in the attempt that was begun last and has done nothing, as one that begins in the midst of a call. The room for the marks that close its open levels is made with them. Where memory is refused, all is as it was.
+    pub fn mark(&mut self, ticket: &Ticket, marks: &[Step]) -> Result<(), NoMemory>
+        requires newest { (former : Content) × BegunAs former self.old ticket.now.call ticket.now.number }
+        requires marks { ops_of marks.now ≡ [] }
+        ensures ok { OnOk result ((former : Content) → BegunAs former self.old ticket.now.call ticket.now.number → BegunWith former self.new ticket.now.call ticket.now.number marks.now) }
+        ensures err { OnErr result (self.new ≡ self.old) }
+    {
+        let Ok(attempt) = Attempt::marked(self.alloc, ticket.call, ticket.number, marks) else {
+            return Err(NoMemory);
+        };
+        let last = self.attempts.len() - 1;
+        self.attempts[last] = attempt;
+        Ok(())
+    }
+
+    /// Takes the marks back that the attempt which was begun last has made, and that are all that it has done.
+    pub fn unmark(&mut self, ticket: &Ticket)
+        requires { (former : Content) × (marks : List Step) × BegunWith former self.old ticket.now.call ticket.now.number marks }
+        ensures { (former : Content) → (marks : List Step) → BegunWith former self.old ticket.now.call ticket.now.number marks → BegunAs former self.new ticket.now.call ticket.now.number }
+    {
+        let attempt = Attempt::fresh(self.alloc, ticket.call, ticket.number);
+        let last = self.attempts.len() - 1;
+        self.attempts[last] = attempt;
     }
 
     /// Takes the newest begin back, given how many attempts of its call were begun before: the book is as it was before the begin. Refuses, and changes nothing, where the ticket's attempt is not the newest or has done an operation, and where no begin leaves this book from that count.

@@ -6,9 +6,11 @@ use Rattle.spec_ledger.specs.declared.Outcome.{Outcome}
 use Rattle.spec_ledger.specs.declared.Step.{Step}
 use Rattle.spec_ledger.specs.Cells.{Cells}
 use Rattle.storage.specs.Counts.{Store}
-use Rattle.spec_execution.specs.Configuration.{Deployed, Contract, Config}
+use Rattle.spec_execution.specs.Configuration.{Setting}
 use Rattle.spec_execution.specs.Run.{ContractCall}
-use Rattle.spec_execution.specs.Turns.{Turned, opened, turned, IsState, shown, place_of}
+use Rattle.spec_execution.specs.Levels.{Levels}
+use Rattle.spec_execution.specs.Turns.{shown, place_of}
+use Rattle.spec_execution.specs.Turning.{Turned, opened, turned, IsState}
 use Rattle.interp.specs.Progress.{Progress}
 use Rattle.interp.specs.Shown.{ending, ending_of, place_shown}
 use Rattle.debugger.specs.declared.cursor.Cursor.{Cursor}
@@ -29,43 +31,43 @@ at_copy c d h k =
 
 pub run_copy : {A : Type 0} (c d : Cursor A) → IsCopy c d → IsSameRun c d
 run_copy c d k = record {
-  call = record { contracts = ap (λ p. p.contracts) k.machine; call = ap (λ p. p.call) k.machine; contract = ap (λ p. p.contract) k.machine; func = ap (λ p. p.func) k.machine };
+  call = record { setting = ap (λ p. p.setting) k.machine; call = ap (λ p. p.call) k.machine; contract = ap (λ p. p.contract) k.machine; func = ap (λ p. p.func) k.machine };
   start = k.start;
 }
 
 pub run_on : {A : Type 0} (c d e : Cursor A) → IsSameRun c d → IsSameRun d e → IsSameRun c e
 run_on c d e h k = record {
-  call = record { contracts = k.call.contracts ∙ h.call.contracts; call = k.call.call ∙ h.call.call; contract = k.call.contract ∙ h.call.contract; func = k.call.func ∙ h.call.func };
+  call = record { setting = k.call.setting ∙ h.call.setting; call = k.call.call ∙ h.call.call; contract = k.call.contract ∙ h.call.contract; func = k.call.func ∙ h.call.func };
   start = k.start ∙ h.start;
 }
 
 pub run_back : {A : Type 0} (c d : Cursor A) → IsSameRun c d → IsSameRun d c
 run_back c d h = record {
-  call = record { contracts = sym h.call.contracts; call = sym h.call.call; contract = sym h.call.contract; func = sym h.call.func };
+  call = record { setting = sym h.call.setting; call = sym h.call.call; contract = sym h.call.contract; func = sym h.call.func };
   start = sym h.start;
 }
 
 -- no run makes more turns than its limit
-within : (c : Contract) (start : Config) (limit k : ℕ) (t : List Step) (x : Config) → Turned c start limit k t x → k ≤ limit
-within c start limit k t x (opened y f r) = omega arith
-within c start limit k t x (turned n front steps y z w lt turn) = omega (arith, lt)
+within : (setting : Setting) (start : Levels) (limit k : ℕ) (t : List Step) (x : Levels) → Turned setting start limit k t x → k ≤ limit
+within setting start limit k t x (opened y marks f r) = omega arith
+within setting start limit k t x (turned n front steps y z w lt turn) = omega (arith, lt)
 
 pub at_within : {A : Type 0} (c : Cursor A) → IsAt c → c.machine.used ≤ c.machine.call.fuel
 at_within c h = within _ _ _ _ _ _ h.turned
 
 -- ---- two states of one run
 
-module _ {A : Type 0} (c : Cursor A) (h : IsAt c) (contracts : List Deployed) (call : ContractCall) (cells : Cells) (k : ℕ) (x : Config) (state : IsState contracts call cells k x)
-    (same_contracts : contracts ≡ c.machine.contracts) (same_call : call ≡ c.machine.call) (same_cells : cells ≡ c.start.now.cells) (same_turns : k ≡ c.machine.used) where
-  there : IsState c.machine.contracts c.machine.call c.start.now.cells c.machine.used x
+module _ {A : Type 0} (c : Cursor A) (h : IsAt c) (setting : Setting) (call : ContractCall) (cells : Cells) (k : ℕ) (x : Levels) (state : IsState setting call cells k x)
+    (same_setting : setting ≡ c.machine.setting) (same_call : call ≡ c.machine.call) (same_cells : cells ≡ c.start.now.cells) (same_turns : k ≡ c.machine.used) where
+  there : IsState c.machine.setting c.machine.call c.start.now.cells c.machine.used x
   there =
-      subst (λ (ds : List Deployed). IsState ds c.machine.call c.start.now.cells c.machine.used x) same_contracts
-      (subst (λ (l : ContractCall). IsState contracts l c.start.now.cells c.machine.used x) same_call
-      (subst (λ (m : Cells). IsState contracts call m c.machine.used x) same_cells
-      (subst (λ (n : ℕ). IsState contracts call cells n x) same_turns state)))
+      subst (λ (ds : Setting). IsState ds c.machine.call c.start.now.cells c.machine.used x) same_setting
+      (subst (λ (l : ContractCall). IsState setting l c.start.now.cells c.machine.used x) same_call
+      (subst (λ (m : Cells). IsState setting call m c.machine.used x) same_cells
+      (subst (λ (n : ℕ). IsState setting call cells n x) same_turns state)))
 
   pub same_config : x ≡ c.machine.config
-  same_config = one_state c.machine.contracts c.machine.call c.start.now.cells c.machine.used x c.machine.config there (is_sight c.machine c.start.now.cells c.cells.cells [] h).state
+  same_config = one_state c.machine.setting c.machine.call c.start.now.cells c.machine.used x c.machine.config there (is_sight c.machine c.start.now.cells c.cells.cells [] h).state
 
 -- turns that stop before a state that was reached do not stop at an end
 no_end : (o : Option Outcome) → o ≡ None → IsSome o → ⊥
@@ -75,12 +77,12 @@ no_end (Some r) e h = absurd (cc)
 module _ {A : Type 0} (here cursor : Cursor A) (h : IsAt here) (k : IsAt cursor) (run : IsSameRun here cursor) where
   goes_on_before : cursor.machine.used < here.machine.used → ending cursor.machine ≡ None
   goes_on_before below =
-      let e : IsOnTheWay here.machine.contracts here.machine.call here.start.now.cells here.machine.contract cursor.machine.used =
-      earlier here.machine.contracts here.machine.call here.start.now.cells here.machine.used cursor.machine.used here.machine.config (is_sight here.machine here.start.now.cells here.cells.cells [] h).state below in
+      let e : IsOnTheWay here.machine.setting here.machine.call here.start.now.cells cursor.machine.used =
+      earlier here.machine.setting here.machine.call here.start.now.cells here.machine.used cursor.machine.used here.machine.config (is_sight here.machine here.start.now.cells here.cells.cells [] h).state below in
       let config_is : e.config ≡ cursor.machine.config =
-      same_config cursor k here.machine.contracts here.machine.call here.start.now.cells cursor.machine.used e.config e.state (sym run.call.contracts) (sym run.call.call) (ap (λ s. s.cells) (sym run.start)) refl in
-      ap₂ (λ (c : Contract) (l : ContractCall). ending_of c l.fuel cursor.machine.used cursor.machine.config) run.call.contract run.call.call
-      ∙ ap (ending_of here.machine.contract here.machine.call.fuel cursor.machine.used) (sym config_is) ∙ e.goes_on
+      same_config cursor k here.machine.setting here.machine.call here.start.now.cells cursor.machine.used e.config e.state (sym run.call.setting) (sym run.call.call) (ap (λ s. s.cells) (sym run.start)) refl in
+      ap₂ (λ (ds : Setting) (l : ContractCall). ending_of ds l.fuel cursor.machine.used cursor.machine.config) run.call.setting run.call.call
+      ∙ ap (ending_of here.machine.setting here.machine.call.fuel cursor.machine.used) (sym config_is) ∙ e.goes_on
 
   pub reaches : (n : ℕ) → cursor.machine.used ≤ n → n ≤ here.machine.used → (cursor.machine.used ≡ n) ⊎ IsSome (ending cursor.machine) → cursor.machine.used ≡ n
   reaches n most less (inl e) = e
@@ -96,9 +98,9 @@ module _ {A : Type 0} (c d : Cursor A) (k : IsAt d) (run : IsSameRun c d) (u : S
   pub same_place : u.turns ≡ d.machine.used → place_at u ≡ place_shown d.machine
   same_place turns =
       let config_is : u.config ≡ d.machine.config =
-      same_config d k u.contracts u.call u.cells u.turns u.config is.state (same.contracts ∙ sym run.call.contracts) (same.call ∙ sym run.call.call) (same.cells ∙ ap (λ s. s.cells) (sym run.start)) turns in
-      ap₂ (λ (c : Contract) (l : ContractCall). place_of (shown c l.fuel u.turns u.config)) (same.contract ∙ sym run.call.contract) (same.call ∙ sym run.call.call)
-      ∙ ap₂ (λ (n : ℕ) (x : Config). place_of (shown d.machine.contract d.machine.call.fuel n x)) turns config_is
+      same_config d k u.setting u.call u.cells u.turns u.config is.state (same.setting ∙ sym run.call.setting) (same.call ∙ sym run.call.call) (same.cells ∙ ap (λ s. s.cells) (sym run.start)) turns in
+      ap (λ (l : ContractCall). place_of (shown u.config.inner.contract l.fuel u.turns u.config.inner.config)) (same.call ∙ sym run.call.call)
+      ∙ ap₂ (λ (n : ℕ) (x : Levels). place_of (shown x.inner.contract d.machine.call.fuel n x.inner.config)) turns config_is
 
 -- one turn more, at whose end there is no break
 pub no_break_more : {A : Type 0} (breaks : List (ℕ × ℕ)) (c e : Cursor A) (m n : ℕ) → IsOfRun c e → e.machine.used ≡ n + 1 → is_set_at breaks (place_shown e.machine) ≡ false
@@ -187,12 +189,12 @@ module _ {A : Type 0} (here start end : Cursor A) (breaks set : List (ℕ × ℕ
   continued before after before_is after_is =
       let first : start.machine.used ≡ here.machine.used = ap (λ p. p.used) k.machine in
       record {
-        same = record { run = record { contracts = run.call.contracts; call = run.call.call; contract = run.call.contract; cells = ap (λ s. s.cells) run.start }; breaks = refl };
+        same = record { run = record { setting = run.call.setting; call = run.call.call; contract = run.call.contract; cells = ap (λ s. s.cells) run.start }; breaks = refl };
         turns = omega (arith, first, before_is, after_is, no_less moves);
         moves = has_moved moves first;
         stops = stops_at stops;
         least = λ u is same above below. ap (λ bs. is_set_at bs (place_at u)) (sym set_is)
-            ∙ least u is (record { contracts = same.contracts; call = same.call; contract = same.contract; cells = same.cells }) (omega (arith, first, above)) below;
+            ∙ least u is (record { setting = same.setting; call = same.call; contract = same.contract; cells = same.cells }) (omega (arith, first, above)) below;
       }
     where
       has_moved : (start.machine.used < end.machine.used) ⊎ (IsSome (ending start.machine) × (end ≡ start)) → start.machine.used ≡ here.machine.used → (0 < after - before) ⊎ IsSome (ending here.machine)

@@ -3,7 +3,7 @@ use Rattle.std.specs.Prelude.{◌≡◌, ℕ, ◌+◌, ◌*◌, ◌<◌, ◌≤�
 use Rattle.debugger.specs.declared.session.Refusal.{Refusal}
 use Rattle.debugger.specs.declared.session.Refusal.TheVariants.{BeforeStart, NoSuchPlace, OutOfRange, NoMemory}
 use Rattle.spec_ledger.specs.Cells.{Cells}
-use Rattle.spec_execution.specs.Configuration.{Deployed}
+use Rattle.spec_execution.specs.Configuration.{Setting}
 use Rattle.spec_execution.specs.Run.{ContractCall}
 use Rattle.spec_execution.specs.Turns.{state_of}
 use Rattle.debugger.specs.Breaks.{is_set_at, with_break, without_break, instr_there}
@@ -17,8 +17,8 @@ code_of OutOfRange = 3
 code_of NoMemory = 4
 
 -- the call over these cells, before its first turn, without a break
-pub record IsOpened (contracts : List Deployed) (call : ContractCall) (cells : Cells) (s : Sight) : Type 0 where
-  pub contracts_are : s.contracts ≡ contracts
+pub record IsOpened (setting : Setting) (call : ContractCall) (cells : Cells) (s : Sight) : Type 0 where
+  pub setting_is : s.setting ≡ setting
   pub call_is : s.call ≡ call
   pub cells_are : s.cells ≡ cells
   pub turns : s.turns ≡ 0
@@ -26,7 +26,7 @@ pub record IsOpened (contracts : List Deployed) (call : ContractCall) (cells : C
 
 -- the same call over the same cells
 pub record IsSameRun (s t : Sight) : Type 0 where
-  pub contracts : t.contracts ≡ s.contracts
+  pub setting : t.setting ≡ s.setting
   pub call : t.call ≡ s.call
   pub contract : t.contract ≡ s.contract
   pub cells : t.cells ≡ s.cells
@@ -89,6 +89,6 @@ Clears s p (Err r) t = (r ≡ NoSuchPlace) × (instr_there s.contract.deployed.t
 
 -- the bytes, exactly where all of them lie in memory
 abbrev pub Reads : {A : Type 0} → Sight → (from count : ℕ) → Result (Vec ℕ A) Refusal → Type 0
-Reads s from count (Ok bytes) = (from + count ≤ length (state_of s.config).memory) × (bytes.items ≡ take count (drop from (state_of s.config).memory))
-Reads s from count (Err OutOfRange) = length (state_of s.config).memory < from + count
-Reads s from count (Err r) = (r ≡ NoMemory) × (from + count ≤ length (state_of s.config).memory)
+Reads s from count (Ok bytes) = (from + count ≤ length (state_of s.config.inner.config).memory) × (bytes.items ≡ take count (drop from (state_of s.config.inner.config).memory))
+Reads s from count (Err OutOfRange) = length (state_of s.config.inner.config).memory < from + count
+Reads s from count (Err r) = (r ≡ NoMemory) × (from + count ≤ length (state_of s.config.inner.config).memory)

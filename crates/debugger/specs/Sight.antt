@@ -5,51 +5,52 @@ use Rattle.wtypes.specs.declared.Value.{Value}
 use Rattle.spec_ledger.specs.declared.Outcome.{Outcome}
 use Rattle.spec_ledger.specs.Cells.{Cells}
 use Rattle.spec_ledger.specs.Codes.{coded_cells}
-use Rattle.spec_execution.specs.Configuration.{Deployed, Contract, Config}
-use Rattle.spec_execution.specs.Codes.{coded_config}
+use Rattle.spec_execution.specs.Configuration.{Setting, Contract, Config}
 use Rattle.spec_execution.specs.Run.{ContractCall, opening, Opens}
-use Rattle.spec_execution.specs.Turns.{IsState, shown, state_of, stack_of, locals_of, place_of}
-use Rattle.interp.specs.Codes.{coded_deployed, coded_contract, coded_call}
+use Rattle.spec_execution.specs.Levels.{Levels}
+use Rattle.spec_execution.specs.Turns.{shown, state_of, stack_of, locals_of, place_of}
+use Rattle.spec_execution.specs.Turning.{IsState}
+use Rattle.interp.specs.Codes.{coded_setting, coded_contract, coded_levels, coded_call}
 use Rattle.interp.specs.Progress.{Progress}
 use Rattle.interp.specs.Shown.{ending_of, unless_ended}
 
 -- a call alone over cells, how many of its turns were made, and the configuration that it has come to; and the breaks
 pub record Sight : Type 0 where
-  pub contracts : List Deployed
+  pub setting : Setting
   pub call : ContractCall
   -- the contract that is called
   pub contract : Contract
   -- the cells at the start
   pub cells : Cells
   pub turns : ℕ
-  pub config : Config
+  pub config : Levels
   pub breaks : List (ℕ × ℕ)
 
 abbrev pub coded_sight : Coded Sight
 coded_sight =
-    code_by (List Deployed × (ContractCall × (Contract × (Cells × (ℕ × (Config × List (ℕ × ℕ)))))))
-    (coded× (coded_list coded_deployed) (coded× coded_call (coded× coded_contract (coded× coded_cells (coded× coded_ℕ (coded× coded_config (coded_list (coded× coded_ℕ coded_ℕ))))))))
-    (λ s. (s.contracts, (s.call, (s.contract, (s.cells, (s.turns, (s.config, s.breaks)))))))
-    (λ p. record { contracts = p.0; call = p.1.0; contract = p.1.1.0; cells = p.1.1.1.0; turns = p.1.1.1.1.0; config = p.1.1.1.1.1.0; breaks = p.1.1.1.1.1.1 }) (λ _. refl)
+    code_by (Setting × (ContractCall × (Contract × (Cells × (ℕ × (Levels × List (ℕ × ℕ)))))))
+    (coded× coded_setting (coded× coded_call (coded× coded_contract (coded× coded_cells (coded× coded_ℕ (coded× coded_levels (coded_list (coded× coded_ℕ coded_ℕ))))))))
+    (λ s. (s.setting, (s.call, (s.contract, (s.cells, (s.turns, (s.config, s.breaks)))))))
+    (λ p. record { setting = p.0; call = p.1.0; contract = p.1.1.0; cells = p.1.1.1.0; turns = p.1.1.1.1.0; config = p.1.1.1.1.1.0; breaks = p.1.1.1.1.1.1 }) (λ _. refl)
 
 -- the state after so many turns, of the contract that the call opens with
 pub record IsSight (s : Sight) : Type 0 where
   pub func : ℕ
-  pub opens : opening s.contracts s.call ≡ Opens s.contract func
-  pub state : IsState s.contracts s.call s.cells s.turns s.config
+  pub opens : opening s.setting s.call ≡ Opens s.contract func
+  pub state : IsState s.setting s.call s.cells s.turns s.config
 
 abbrev pub sight_of : Progress → Cells → List (ℕ × ℕ) → Sight
-sight_of p start breaks = record { contracts = p.contracts; call = p.call; contract = p.contract; cells = start; turns = p.used; config = p.config; breaks = breaks }
+sight_of p start breaks = record { setting = p.setting; call = p.call; contract = p.contract; cells = start; turns = p.used; config = p.config; breaks = breaks }
 
--- ---- what is read off the state
+-- ---- what is read off the state: off its innermost level
 
 -- how the run has ended, if it has
 abbrev pub ending_at : Sight → Option Outcome
-ending_at s = ending_of s.contract s.call.fuel s.turns s.config
+ending_at s = ending_of s.setting s.call.fuel s.turns s.config
 
 -- where the fuel is out, the state alone
 abbrev pub config_at : Sight → Config
-config_at s = shown s.contract s.call.fuel s.turns s.config
+config_at s = shown s.config.inner.contract s.call.fuel s.turns s.config.inner.config
 
 -- the function and the ordinal of the instruction to come
 abbrev pub place_at : Sight → Option (ℕ × ℕ)
@@ -61,7 +62,7 @@ stack_at s = stack_of (config_at s)
 
 -- the locals of the innermost frame; after the end none
 abbrev pub locals_at : Sight → List Value
-locals_at s = unless_ended (ending_at s) (locals_of s.config)
+locals_at s = unless_ended (ending_at s) (locals_of s.config.inner.config)
 
 abbrev pub globals_at : Sight → List Value
-globals_at s = (state_of s.config).globals
+globals_at s = (state_of s.config.inner.config).globals

@@ -2,7 +2,7 @@
 ghost use Rattle.std.specs.Prelude.{◌≡◌, ◌+◌, ◌<◌, ◌≤◌, ◌⊎◌, Ok, true, false, None, IsSome, IfOk, IfErr, OnOk};
 ghost use Rattle.spec_execution.specs.Run.{IsReply, opening};
 ghost use Rattle.spec_ledger.specs.Cells.{cells_after, reply_to};
-ghost use Rattle.interp.specs.Lent.{contracts_view};
+ghost use Rattle.interp.specs.Lent.{setting_view};
 ghost use Rattle.interp.specs.Progress.{IsSameCall};
 ghost use Rattle.interp.specs.Shown.{ending};
 ghost use Rattle.interp.specs.Starting.{IsRefusedFor, HasPlace, wrong_in};
@@ -39,10 +39,10 @@ pub fn open<'a, A: Allocator + Copy>(
     start: &'a Cells<A>,
     call: &'a Call,
 ) -> Result<Cursor<'a, A>, StartRefusal>
-    ensures opened { IfOk result (λ cursor. IsOpened (contracts_view contracts.now) call.now start.now.cells cursor) }
+    ensures opened { IfOk result (λ cursor. IsOpened (setting_view contracts.now) call.now start.now.cells cursor) }
     ensures at { IfOk result (λ cursor. IsAt cursor) }
-    ensures refused { IfErr result (λ refusal. IsRefusedFor refusal (opening (contracts_view contracts.now) call.now)) }
-    ensures place { IfErr result (λ refusal. HasPlace (wrong_in (contracts_view contracts.now) call.now) refusal) }
+    ensures refused { IfErr result (λ refusal. IsRefusedFor refusal (opening (setting_view contracts.now) call.now)) }
+    ensures place { IfErr result (λ refusal. HasPlace (wrong_in (setting_view contracts.now) call.now) refusal) }
 {
     let machine = Machine::start(alloc, contracts, call)?;
     match start.copy(alloc) {

@@ -1,5 +1,5 @@
 //! A debugger of one call, which runs alone over given cells: forward and back by turns, on to a break, and what is read
-//! of each state. A turn is one charged reduction with the free ones that follow it.
+//! of each state. A turn is one charged move with the free ones that follow it.
 #![tactic(auto)]
 
 mod breaks;

@@ -187,7 +187,7 @@ fn go_on<'a, A: Allocator + Copy>(
 impl<'a, A: Allocator + Copy> Session<'a, A> {
     ghost use Rattle.std.specs.Prelude.{◌≡◌, IfOk, IfErr};
     ghost use Rattle.spec_execution.specs.Run.{opening};
-    ghost use Rattle.interp.specs.Lent.{contracts_view};
+    ghost use Rattle.interp.specs.Lent.{setting_view};
     ghost use Rattle.interp.specs.Starting.{IsRefusedFor, HasPlace, wrong_in};
     ghost use Rattle.debugger.specs.Sight.{IsSight, ending_at, place_at, stack_at, locals_at, globals_at};
     ghost use Rattle.debugger.specs.Commands.{IsOpened, Steps, GoesBack, Continues, Breaks, Clears, Reads};
@@ -203,9 +203,9 @@ impl<'a, A: Allocator + Copy> Session<'a, A> {
         cells: &'a Cells<A>,
         call: &'a Call,
     ) -> Result<Session<'a, A>, StartRefusal>
-        ensures opened { IfOk result (λ session. IsOpened (contracts_view contracts.now) call.now cells.now.cells session) }
-        ensures refused { IfErr result (λ refusal. IsRefusedFor refusal (opening (contracts_view contracts.now) call.now)) }
-        ensures place { IfErr result (λ refusal. HasPlace (wrong_in (contracts_view contracts.now) call.now) refusal) }
+        ensures opened { IfOk result (λ session. IsOpened (setting_view contracts.now) call.now cells.now.cells session) }
+        ensures refused { IfErr result (λ refusal. IsRefusedFor refusal (opening (setting_view contracts.now) call.now)) }
+        ensures place { IfErr result (λ refusal. HasPlace (wrong_in (setting_view contracts.now) call.now) refusal) }
     {
         let origin = open(alloc, contracts, cells, call)?;
         match copy(alloc, &origin) {

@@ -2,7 +2,7 @@
 
 ghost use Rattle.std.specs.Prelude.{◌≡◌, ◌<◌, ◌^◌, [], IfOk, IfSome, IsSome, length, map, ◌↔◌, IsTrue, Ok, Some, true, false, OnErr, slice_get, OnOk};
 ghost use Rattle.std.specs.FinMap as finite;
-ghost use Rattle.interp.specs.Lent.{contracts_view};
+ghost use Rattle.interp.specs.Lent.{setting_view};
 ghost use Rattle.publish.specs.Publication.{MayFollow, HasTaken, IsSameJob, HasGoneOn, Sweep, limits, AreLeft, fuel_used};
 ghost use Rattle.publish.specs.Adoption.{AreMade, MayFollowBy, ran_by};
 ghost use Rattle.spec_ledger.specs.Book.{GetsReplies, IsDefined, settled};
@@ -29,7 +29,7 @@ pub fn open<'a, A: Allocator + Copy>(
     fuel: u64,
 ) -> Result<Publishing<'a, A>, NoMemory>
     requires { length calls.now < 2 ^ 32 }
-    ensures { IfOk result (λ p. p ≡ record { contracts = contracts_view contracts.now; calls = calls.now; opening = cells.now.cells; fuel = fuel; order = []; ran = []; cells = cells.now.cells }) }
+    ensures { IfOk result (λ p. p ≡ record { setting = setting_view contracts.now; calls = calls.now; opening = cells.now.cells; fuel = fuel; order = []; ran = []; cells = cells.now.cells }) }
 {
     Publishing::open(alloc, contracts, calls, cells, fuel)
 }
@@ -49,9 +49,9 @@ pub fn adopt<'a, A: Allocator + Copy>(
     requires replies { IsDefined cells.now.cells closed.entries.items }
     requires cells { closed.cells.cells ≡ settled cells.now.cells closed.entries.items }
     requires settled { closed.cells.unsettled ≡ finite.empty }
-    requires runs { AreMade (contracts_view contracts.now) calls.now runs.now touched.items }
+    requires runs { AreMade (setting_view contracts.now) calls.now runs.now touched.items }
     ensures answer { IfOk result (λ o. IsSome o ↔ MayFollowBy (limits calls.now) fuel [] closed.entries.items runs.now) }
-    ensures adopted { IfOk result (λ o. IfSome o (λ p. p ≡ record { contracts = contracts_view contracts.now; calls = calls.now; opening = cells.now.cells; fuel = fuel; order = map (λ e. e.call) closed.entries.items; ran = ran_by runs.now touched.items; cells = closed.cells.cells })) }
+    ensures adopted { IfOk result (λ o. IfSome o (λ p. p ≡ record { setting = setting_view contracts.now; calls = calls.now; opening = cells.now.cells; fuel = fuel; order = map (λ e. e.call) closed.entries.items; ran = ran_by runs.now touched.items; cells = closed.cells.cells })) }
 {
     Publishing::adopt(alloc, contracts, calls, cells, fuel, closed, runs, touched)
 }
@@ -69,7 +69,7 @@ pub fn take_run<'a, A: Allocator + Copy>(
     call: u32,
     finished: &Finished<'_, A>,
 ) -> Result<bool, NoMemory>
-    requires contracts { finished.now.contracts ≡ publishing.old.contracts }
+    requires contracts { finished.now.setting ≡ publishing.old.setting }
     requires call { slice_get publishing.old.calls call ≡ Some finished.now.call }
     ensures answer { IfOk result (λ taken. IsTrue taken ↔ (MayFollow publishing.old call × GetsReplies finished.now.trace publishing.old.cells)) }
     ensures taken { result ≡ Ok true → HasTaken publishing.old call publishing.new }
@@ -113,7 +113,7 @@ pub fn close<'a, A: Allocator + Copy>(
     ensures touched { IfOk result (λ published. length published.touched.items ≡ length publishing.entry.order) }
     ensures cells { IfOk result (λ published. published.cells.cells ≡ publishing.entry.cells) }
     ensures settled { IfOk result (λ published. published.cells.unsettled ≡ finite.empty) }
-    ensures serial { IfOk result (λ published. Serial publishing.entry.contracts publishing.entry.calls published.order.items publishing.entry.opening (positions published.receipts.items published.touched.items) published.cells.cells) }
+    ensures serial { IfOk result (λ published. Serial publishing.entry.setting publishing.entry.calls published.order.items publishing.entry.opening (positions published.receipts.items published.touched.items) published.cells.cells) }
     ensures fuel { IfOk result (λ published. published.fuel ≡ fuel_used publishing.entry.ran) }
     ensures left { IfOk result (λ published. AreLeft published.order.items (length publishing.entry.calls) published.left.items) }
 {

@@ -1,14 +1,16 @@
 //! The book.
 
-ghost use Rattle.std.specs.Prelude.{◌≡◌, ◌≢◌, ◌↔◌, IfOk, IfSome, IfNone, OnOk, OnErr, Err, IfErr, ◌≤◌, List, [], length, replicate, slice_index};
-ghost use Rattle.spec_ledger.specs.Events.{IsStale, OpDone, IsConflict, EnterDone, LeaveDone, IsNotEntered, CommitDone, IsOther, BeginDone, HasNoAttempt};
+ghost use Rattle.std.specs.Prelude.{◌≡◌, ◌≢◌, ◌↔◌, ◌⊎◌, IfOk, IfSome, IfNone, OnOk, OnErr, Err, IfErr, ◌≤◌, List, [], length, map, replicate, slice_index};
+ghost use Rattle.spec_ledger.specs.Events.{IsStale, OpDone, IsConflict, EnterDone, LeaveDone, IsNotEntered, CommitDone, IsOther, BeginDone, HasNoAttempt, UndoDone};
 ghost use Rattle.spec_ledger.specs.Book.{Content, call_is_new};
 ghost use Rattle.boost.specs.Numbered.{BegunAs, HasTrace, IsPassed};
+ghost use Rattle.boost.specs.Play.{Plays, event_of, opened};
 
 use boost::book::{
     BeginAsRefusal, BeginRefusal, Book, CommitRefusal, EnterRefusal, LeaveRefusal, OpRefusal, Run,
     Ticket,
 };
+use boost::play::{Answer, Event};
 use spec_ledger::{NoMemory, Op, Outcome, Reply, Step};
 use std::alloc::Allocator;
 use storage::Cells;
@@ -122,6 +124,14 @@ pub fn unbegin<A: Allocator + Copy>(
     book.unbegin(ticket, count)
 }
 
+/// As [`Book::undo`].
+pub fn undo<A: Allocator + Copy>(book: &mut Book<A>, ticket: Ticket)
+    ensures stale { IsStale book.old ticket.call ticket.number → book.new ≡ book.old }
+    ensures done { IsStale book.old ticket.call ticket.number ⊎ UndoDone book.old book.new ticket.call ticket.number }
+{
+    book.undo(ticket)
+}
+
 /// As [`Book::trace_of`].
 pub fn trace_of<'b, A: Allocator + Copy>(book: &'b Book<A>, ticket: &Ticket) -> Option<&'b [Step]>
     ensures found { IfSome result (λ trace. HasTrace book.now ticket.now.call ticket.now.number trace.now) }
@@ -143,4 +153,15 @@ pub fn end<A: Allocator + Copy>(
     ensures err { OnErr result (book.new ≡ book.old) }
 {
     book.end(ticket, outcome)
+}
+
+/// As [`Book::play`].
+pub fn play<A: Allocator + Copy>(
+    alloc: A,
+    opening: Cells<A>,
+    events: &[Event<'_>],
+) -> Result<(Book<A>, Vec<Answer, A>), NoMemory>
+    ensures { IfOk result (λ both. Plays (opened opening.cells 65535) (map event_of events.now) both.1.items both.0) }
+{
+    Book::play(alloc, opening, events)
 }

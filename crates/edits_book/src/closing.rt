@@ -6,7 +6,7 @@ ghost use Rattle.spec_ledger.specs.Book.{settled};
 
 use boost::attempt::Entry;
 use boost::book::{Book, Closed};
-use spec_ledger::{Lock, Mode, Step};
+use spec_ledger::{Lock, Mode, Outcome, Step};
 use std::alloc::Allocator;
 
 /// As [`Book::close`].
@@ -24,6 +24,13 @@ pub fn trace<A: Allocator>(entry: &Entry<A>) -> &[Step]
     ensures { result.now ≡ entry.now.trace }
 {
     entry.trace()
+}
+
+/// As [`Entry::outcome`].
+pub fn outcome<A: Allocator>(entry: &Entry<A>) -> Outcome
+    ensures { result ≡ entry.now.outcome }
+{
+    entry.outcome()
 }
 
 /// As [`Entry::has_trace`].

@@ -18,10 +18,10 @@ pub fn op<A: Allocator + Copy>(
     number: u64,
     op: Op,
 ) -> Result<Reply, OpRefusal>
-    ensures ok { IfOk result (λ reply. (ready : Content) × IsReady shard.old.book ready call number × OpDone ready shard.new.book call number op reply) }
+    ensures ok { IfOk result (λ reply. (ready : Content) × IsReady shard.old.book ready call number [] × OpDone ready shard.new.book call number op reply) }
     ensures positions { shard.new.positions ≡ shard.old.positions }
     ensures stale { (result ≡ Err OpRefusal.Stale) ↔ (IsOver shard.old.book call number ⊎ (length shard.old.book.begun ≤ call)) }
-    ensures conflict { result ≢ Err OpRefusal.NoMemory → (result ≡ Err OpRefusal.Conflict) ↔ HasToWait shard.old.book call number op }
+    ensures conflict { result ≢ Err OpRefusal.NoMemory → (result ≡ Err OpRefusal.Conflict) ↔ HasToWait shard.old.book call number [] op }
     ensures err { OnErr result (shard.new ≡ shard.old) }
 {
     shard.op(call, number, op)

@@ -1,7 +1,7 @@
 //! What the debugger prints.
 
 ghost use Rattle.std.specs.Prelude.{◌≡◌, IsTrue, IfOk, IfErr, OnOk, MatchOption, string_bytes};
-ghost use Rattle.interp.specs.Lent.{contracts_view};
+ghost use Rattle.interp.specs.Lent.{setting_view};
 ghost use Rattle.wblock_debug.specs.Prints.{IsDebugged};
 ghost use Rattle.wblock_line.specs.Answers.{CountsFault, IsOfFile};
 ghost use Rattle.wblock_blocks.specs.Inputs.{IsNextInput};
@@ -24,7 +24,7 @@ pub fn debug_call<A: Allocator + Copy>(
     call: &Call,
     commands: &[Command],
 ) -> Result<Printed<A>, NoMemory>
-    ensures { IfOk result (λ p. IsDebugged (contracts_view contracts.now) cells.now.cells call.now commands.now p.refused (string_bytes p.text)) }
+    ensures { IfOk result (λ p. IsDebugged (setting_view contracts.now) cells.now.cells call.now commands.now p.refused (string_bytes p.text)) }
 {
     wblock_debug::debug_call(alloc, contracts, cells, call, commands)
 }

@@ -2,7 +2,7 @@
 
 ghost use Rattle.std.specs.Prelude.{◌≡◌, IfOk, IfErr, MatchResult};
 ghost use Rattle.spec_execution.specs.Run.{opening};
-ghost use Rattle.interp.specs.Lent.{contracts_view};
+ghost use Rattle.interp.specs.Lent.{setting_view};
 ghost use Rattle.interp.specs.Progress.{NextIs, IsFree, IsProgress, IsAwaited, HasAnswered, IsFinishOf, IsUnfinished, IsStartOf};
 ghost use Rattle.interp.specs.Starting.{IsRefusedFor, HasPlace, wrong_in};
 
@@ -21,10 +21,10 @@ pub fn start<'a, A: Allocator + Copy>(
     contracts: &'a [Deployed<A>],
     call: &'a Call,
 ) -> Result<Machine<'a, A>, StartRefusal>
-    ensures start { IfOk result (λ m. IsStartOf (contracts_view contracts.now) call.now m) }
+    ensures start { IfOk result (λ m. IsStartOf (setting_view contracts.now) call.now m) }
     ensures on_run { IfOk result (λ m. IsProgress m) }
-    ensures refused { IfErr result (λ refusal. IsRefusedFor refusal (opening (contracts_view contracts.now) call.now)) }
-    ensures place { IfErr result (λ refusal. HasPlace (wrong_in (contracts_view contracts.now) call.now) refusal) }
+    ensures refused { IfErr result (λ refusal. IsRefusedFor refusal (opening (setting_view contracts.now) call.now)) }
+    ensures place { IfErr result (λ refusal. HasPlace (wrong_in (setting_view contracts.now) call.now) refusal) }
 {
     Machine::start(alloc, contracts, call)
 }

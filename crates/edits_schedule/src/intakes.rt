@@ -1,14 +1,31 @@
 //! The intake.
 
-ghost use Rattle.std.specs.Prelude.{◌≡◌, ◌<◌, false, IsSome, IfSome, IfNone, ◌+◌, ◌≤◌, true, length};
+ghost use Rattle.std.specs.Prelude.{◌≡◌, ◌<◌, false, IfOk, IsSome, IfSome, IfNone, ◌+◌, ◌≤◌, true, length};
 ghost use Rattle.std.specs.List.{All, sum};
-ghost use Rattle.intake.specs.Accounts.{drew, told_done, saw, grant, refuse};
-ghost use Rattle.intake.specs.Intakes.{IsSeatOf};
+ghost use Rattle.intake.specs.Accounts.{limits, drew, told_done, saw, grant, refuse};
+ghost use Rattle.intake.specs.Intakes.{IsNewSeatOf, IsSeatOf};
 ghost use Rattle.intake.specs.Seats.{account, IsEachOnce, granted_to, refused_to};
 
 use intake::{Intake, Seat};
 use std::alloc::Allocator;
 use std::sync::Wait;
+use wtypes::NoMemory;
+
+/// As [`intake::Intake::open`].
+pub fn open<A: Allocator>(
+    alloc: A,
+    calls: u32,
+    block_fuel: u64,
+    seats: u32,
+) -> Result<(Intake<A>, Vec<Seat, A>), NoMemory>
+where
+    A: Clone,
+    requires { 0 < seats }
+    ensures limits { IfOk result (λ r. r.0.limits ≡ limits calls block_fuel seats) }
+    ensures seats { IfOk result (λ r. (length r.1.items ≡ seats) × All (IsNewSeatOf r.0) r.1.items) }
+{
+    Intake::open(alloc, calls, block_fuel, seats)
+}
 
 /// As [`intake::Intake::draw`].
 pub fn draw<A: Allocator>(intake: &Intake<A>, seat: &mut Seat) -> Option<u32>

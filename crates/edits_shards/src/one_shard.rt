@@ -2,14 +2,44 @@
 
 ghost use Rattle.std.specs.Prelude.{◌≡◌, ◌≢◌, ◌<◌, ◌⊎◌, ◌↔◌, ◌++◌, ◌∷◌, [], OnOk, OnErr, Err, List, length};
 ghost use Rattle.spec_ledger.specs.declared.Step.{Step};
-ghost use Rattle.spec_ledger.specs.Events.{CommitDone, IsOther, IsStale, UndoDone};
+ghost use Rattle.spec_ledger.specs.Events.{CommitDone, EnterDone, IsNotEntered, IsOther, IsStale, LeaveDone, UndoDone};
 ghost use Rattle.spec_shards.specs.Shards.{part, shard_of};
 ghost use Rattle.shard.specs.Shard.{IsNext};
 
-use boost::book::CommitRefusal;
+use boost::book::{CommitRefusal, EnterRefusal, LeaveRefusal};
 use shard::{EndRefusal, Shard};
 use spec_ledger::{Outcome, Step};
 use std::alloc::Allocator;
+
+/// As [`Shard::enter`].
+pub fn enter<A: Allocator + Copy>(
+    shard: &mut Shard<A>,
+    call: u32,
+    number: u64,
+) -> Result<(), EnterRefusal>
+    ensures ok { OnOk result (EnterDone shard.old.book shard.new.book call number) }
+    ensures positions { shard.new.positions ≡ shard.old.positions }
+    ensures stale { (result ≡ Err EnterRefusal.Stale) ↔ IsStale shard.old.book call number }
+    ensures err { OnErr result (shard.new ≡ shard.old) }
+{
+    shard.enter(call, number)
+}
+
+/// As [`Shard::leave`].
+pub fn leave<A: Allocator + Copy>(
+    shard: &mut Shard<A>,
+    call: u32,
+    number: u64,
+    keep: bool,
+) -> Result<(), LeaveRefusal>
+    ensures ok { OnOk result (LeaveDone shard.old.book shard.new.book call number keep) }
+    ensures positions { shard.new.positions ≡ shard.old.positions }
+    ensures stale { (result ≡ Err LeaveRefusal.Stale) ↔ IsStale shard.old.book call number }
+    ensures not_entered { (result ≡ Err LeaveRefusal.NotEntered) ↔ IsNotEntered shard.old.book call number }
+    ensures err { OnErr result (shard.new ≡ shard.old) }
+{
+    shard.leave(call, number, keep)
+}
 
 /// As [`Shard::undo`].
 pub fn undo<A: Allocator + Copy>(shard: &mut Shard<A>, call: u32, number: u64)

@@ -4,7 +4,7 @@ ghost use Rattle.std.specs.Prelude.{◌≡◌, IfOk, OnErr, ◌↔◌, IfSome, I
 ghost use Rattle.std.specs.FinMap as finite;
 ghost use Rattle.std.specs.List.{All};
 ghost use Rattle.spec_execution.specs.Exec.{Executes};
-ghost use Rattle.interp.specs.Lent.{contracts_view};
+ghost use Rattle.interp.specs.Lent.{setting_view};
 ghost use Rattle.spec_ledger.specs.Book.{GetsReplies};
 ghost use Rattle.spec_ledger.specs.Modes.{touched};
 ghost use Rattle.spec_execution.specs.Serial.{Serial};
@@ -27,7 +27,7 @@ pub fn execute<A: Allocator + Copy>(
     cells: &mut Cells<A>,
 ) -> Result<Executed<A>, NoMemory>
     requires { cells.old.unsettled ≡ finite.empty }
-    ensures executed { IfOk result (λ e. Executes (contracts_view contracts.now) call.now cells.old.cells cells.new.cells e.receipt.outcome e.receipt.used e.touched) }
+    ensures executed { IfOk result (λ e. Executes (setting_view contracts.now) call.now cells.old.cells cells.new.cells e.receipt.outcome e.receipt.used e.touched) }
     ensures settled { cells.new.unsettled ≡ finite.empty }
     ensures err { OnErr result (cells.new ≡ cells.old) }
 {
@@ -41,7 +41,7 @@ pub fn replay<A: Allocator + Copy>(
     cells: &mut Cells<A>,
 ) -> Result<Option<Executed<A>>, NoMemory>
     requires { cells.old.unsettled ≡ finite.empty }
-    ensures executed { IfOk result (λ o. IfSome o (λ e. Executes finished.now.contracts finished.now.call cells.old.cells cells.new.cells e.receipt.outcome e.receipt.used e.touched)) }
+    ensures executed { IfOk result (λ o. IfSome o (λ e. Executes finished.now.setting finished.now.call cells.old.cells cells.new.cells e.receipt.outcome e.receipt.used e.touched)) }
     ensures replies { IfOk result (λ o. IsSome o ↔ GetsReplies finished.now.trace cells.old.cells) }
     ensures other { IfOk result (λ o. IfNone o (cells.new ≡ cells.old)) }
     ensures settled { cells.new.unsettled ≡ finite.empty }
@@ -66,7 +66,7 @@ pub fn serial_core<A: Allocator + Copy>(
     order: &[u32],
 ) -> Result<Core<A>, NoMemory>
     requires { All (λ number. number < length calls.now) order.now }
-    ensures serial { IfOk result (λ core. Serial (contracts_view contracts.now) calls.now order.now cells.now.cells (positions core.receipts.items core.touched.items) core.cells.cells) }
+    ensures serial { IfOk result (λ core. Serial (setting_view contracts.now) calls.now order.now cells.now.cells (positions core.receipts.items core.touched.items) core.cells.cells) }
     ensures receipts { IfOk result (λ core. length core.receipts.items ≡ length order.now) }
     ensures touched { IfOk result (λ core. length core.touched.items ≡ length order.now) }
     ensures settled { IfOk result (λ core. core.cells.unsettled ≡ finite.empty) }

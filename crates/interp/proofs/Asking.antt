@@ -13,10 +13,13 @@ use Rattle.spec_ledger.specs.declared.Reply.{Reply}
 use Rattle.spec_ledger.specs.declared.Reply.TheVariants as reply
 use Rattle.spec_ledger.specs.declared.Step.{Step}
 use Rattle.spec_ledger.specs.declared.Step.TheVariants.{Did}
-use Rattle.spec_execution.specs.Configuration.{Contract, Function, Hosted, defined, function_at, function_type, Seq, End, State, Config, Running, Trap, values, Invoke}
-use Rattle.spec_execution.specs.Reduction.{Next, Asks, Stuck, reduce, found, with_values, invoke, op_of, replied}
-use Rattle.spec_execution.specs.Run.{Reached, reduced, replied as gets, Reduces, next, IsReply}
-use Rattle.spec_execution.specs.Turns.{Frees, none, one_more, by_trap, not_asked}
+use Rattle.spec_execution.specs.Configuration.{Setting, Contract, Function, Hosted, defined, function_at, function_type, Seq, End, State, Config, Running, Trap, values, Invoke}
+use Rattle.spec_execution.specs.Reduction.{Of, Next, Asks, Stuck, reduce, found, with_values, invoke, op_of, wish_of, replied}
+use Rattle.spec_execution.specs.Run.{Reduces, next, IsReply}
+use Rattle.spec_execution.specs.Levels.{On, alone, by_next, move, Reached}
+use Rattle.spec_execution.specs.Turning.{IsTurn}
+use Rattle.spec_execution.proofs.Lifting.{lifted, rests}
+use Rattle.spec_execution.specs.Turns.{Frees, none, one_more, by_trap}
 use Rattle.interp.specs.declared.turns.Turn.{Turn}
 use Rattle.interp.specs.declared.turns.Turn.TheVariants as turn
 use Rattle.interp.specs.declared.turns.Status.{Status}
@@ -24,45 +27,53 @@ use Rattle.interp.specs.declared.turns.Status.TheVariants as status
 use Rattle.sequences.specs.Meaning.{Open, View, listed, put, height, around, frames, at, state, whole, config, calling, invoking, sequence, Stands, IsOrdered, IsFineCall, IsReady, ChargedCall}
 use Rattle.sequences.specs.Plain.{onto}
 use Rattle.sequences.specs.Calls.{HasEntered}
-use Rattle.interp.specs.Progress.{HasStepped, HasAsked, HasAnswered, AnsweredAt, NextIs}
-use Rattle.interp.specs.Machine.{Seen, on, first_of, progress, Reaches, IsWaiting, IsAt, IsMachine, IsCalling, IsStarted, HasStarted, IsAskedFor, HasAskedFor, params_of, arity_of, going_on, value_of_reply}
+use Rattle.interp.specs.Progress.{IsAsking, HasStepped, HasAsked, HasAnswered, AnsweredAt, NextIs}
+use Rattle.interp.specs.Machine.{Seen, on, first_of, config_of, progress, Reaches, IsWaiting, IsAt, IsMachine, IsCalling, IsStarted, HasStarted, IsAskedFor, HasAskedFor, params_of, arity_of, going_on, value_of_reply}
 use Rattle.sequences.specs.Context.{values_onto, lift, lift_asks}
 use Rattle.sequences.specs.Charging.{next_whole, fine_at, above, Stands_at, length-onto, onto_top, put-append}
 use Rattle.sequences.specs.Finding.{onto_is}
 use Rattle.sequences.specs.Calling.{with_values_is, reverse_onto}
 use Rattle.sequences.specs.Tails.{joined, with_tail, joined_next}
 use Rattle.sequences.specs.Joining.{reduce_joined, reduces_joined, stuck_joined, at_rest}
-use Rattle.interp.proofs.Turning.{live_of, reached_by_frees, below}
+use Rattle.interp.proofs.Alone.{alone_reduced, alone_replied, frees_alone, turn_alone}
+use Rattle.interp.proofs.Turning.{live_of, by_frees, never_stuck, below}
+
+-- the host is asked, by a level that stands alone
+abbrev pub asking_alone : (setting : Setting) (k : Contract) (x : State) (q : Seq) (op : Op) (go : Reply → Seq) → next k x q ≡ Asks (Of op) go → IsAsking setting (alone k (Running x q)) op
+asking_alone setting k x q op go e = record { go = λ (r : Reply). alone k (Running x (go r)); asks = ap (by_next setting (alone k (Running x q)).inner [] x) e }
 
 -- what a charged call leads to
 pub calling_of : (s : Seen) (f : ℕ) (w : View) → IsMachine s → s.status ≡ status.Running → s.used ≢ s.call.fuel → ChargedCall s.contract s.view f w → IsCalling (record s { used = s.used + 1; view = w }) f
 calling_of s f w m running left charge = record {
   opens = m.opens;
   safe = m.safe;
-  reached = reduced s.trace s.used _ 1 _ (live_of s m running).reached (reduces_joined s.tail s.contract 1 (config s.view) (calling w f) charge.reduces) (below s m running left);
+  reached = alone_reduced s.setting s.contract (first_of s) s.call.fuel s.trace s.used _ _ 1 (live_of s m running).reached (reduces_joined s.tail s.contract 1 (config s.view) (calling w f) charge.reduces) (below s m running left);
   ordered = charge.ordered;
   within = below s m running left;
 }
 
 pub fine_call : (s : Seen) (f : ℕ) → IsCalling s f → IsFineCall s.contract s.view f
-fine_call s f calls = record { not_stuck = λ h. calls.safe _ _ _ _ calls.reached (stuck_joined s.tail s.contract (state s.view) (invoking s.view f) h) }
+fine_call s f calls = record { not_stuck = λ h. never_stuck s calls.safe _ _ _ _ calls.reached (stuck_joined s.tail s.contract (state s.view) (invoking s.view f) h) }
 
 -- a turn of a charged call, once its function has started
 pub call_stepped : (s : Seen) (f : ℕ) (w : View) (t : Seen) → s.status ≡ status.Running → ChargedCall s.contract s.view f w → IsStarted (record s { used = s.used + 1; view = w }) f t → HasStepped (progress s) (progress t)
 call_stepped s f w t running charge started = subst (λ (x : Status). HasStepped (progress (on s x)) (progress t)) (sym running) (record {
-  same = record { contracts = started.same.contracts; call = started.same.call; contract = started.same.contract; func = started.same.func };
+  same = record { setting = started.same.setting; call = started.same.call; contract = started.same.contract; func = started.same.func };
   trace = started.same.trace;
   used = started.same.used;
-  turn = record { charged = with_tail s.tail (calling w f); one = reduces_joined s.tail s.contract 1 (config s.view) (calling w f) charge.reduces; replied = with_tail s.tail (calling w f); answer = not_asked (with_tail s.tail (calling w f)); free = started.frees; at_rest = started.at_rest };
+  turn = subst (λ (k : Contract). IsTurn s.setting (alone s.contract (with_tail s.tail (config s.view))) [] (alone k (config_of t))) (sym started.same.contract)
+      (turn_alone s.setting s.contract (with_tail s.tail (config s.view)) (with_tail s.tail (calling w f)) (config_of t) (reduces_joined s.tail s.contract 1 (config s.view) (calling w f) charge.reduces) started.frees started.at_rest);
   goes_on = started.goes_on;
 })
 
 pub call_asked : (s : Seen) (f : ℕ) (w : View) (op : Op) (t : Seen) → s.status ≡ status.Running → ChargedCall s.contract s.view f w → IsAskedFor (record s { used = s.used + 1; view = w }) f op t → HasAsked (progress s) op (progress t)
 call_asked s f w op t running charge asked = subst (λ (x : Status). HasAsked (progress (on s x)) op (progress t)) (sym running) (record {
-  same = record { contracts = asked.same.contracts; call = asked.same.call; contract = asked.same.contract; func = asked.same.func };
+  same = record { setting = asked.same.setting; call = asked.same.call; contract = asked.same.contract; func = asked.same.func };
   trace = asked.same.trace;
   used = asked.same.used;
-  charged = subst (λ (x : Config). Reduces s.contract (with_tail s.tail (config s.view)) 1 x) (sym asked.config) (reduces_joined s.tail s.contract 1 (config s.view) (calling w f) charge.reduces);
+  charged = subst (λ (k : Contract). move s.setting (alone s.contract (with_tail s.tail (config s.view))) ≡ On 1 [] (alone k (config_of t))) (sym asked.same.contract)
+      (lifted s.setting (alone s.contract (with_tail s.tail (config s.view))).inner [] (with_tail s.tail (config s.view)) (config_of t) 1
+      (subst (λ (x : Config). Reduces s.contract (with_tail s.tail (config s.view)) 1 x) (sym asked.config) (reduces_joined s.tail s.contract 1 (config s.view) (calling w f) charge.reduces)));
   asking = asked.asking;
 })
 
@@ -75,16 +86,16 @@ module _ (s : Seen) (f : ℕ) (calls : IsCalling s f) where
     all_frees = one_more _ _ _ (reduces_joined s.tail s.contract 0 (calling s.view f) (config mid) enters.reduces) frees
 
     come : Reaches started_seen (config w)
-    come = reached_by_frees _ _ _ _ _ _ _ calls.reached calls.within all_frees
+    come = by_frees s s.trace s.used _ _ calls.reached calls.within all_frees
 
     pub machine_started : IsMachine started_seen
     machine_started = record { opens = calls.opens; safe = calls.safe; at = record { reached = come; ordered = ordered; ready = ready; last = last; within = calls.within } }
 
     pub is_started : IsStarted s f started_seen
     is_started = record {
-      same = record { contracts = refl; call = refl; contract = refl; func = refl; trace = refl; used = refl };
+      same = record { setting = refl; call = refl; contract = refl; func = refl; trace = refl; used = refl };
       frees = all_frees;
-      at_rest = at_rest s.contract w tail (record { not_stuck = λ h. calls.safe _ _ _ _ come (stuck_joined tail s.contract (state w) (sequence w) h) }) ready last;
+      at_rest = at_rest s.contract w tail (record { not_stuck = λ h. never_stuck s calls.safe _ _ _ _ come (stuck_joined tail s.contract (state w) (sequence w) h) }) ready last;
       goes_on = tt;
     }
 
@@ -99,12 +110,12 @@ module _ (s : Seen) (f : ℕ) (calls : IsCalling s f) where
     machine_trapped = subst (λ (v : View). IsMachine (fallen_seen v)) (sym same) (record {
       opens = calls.opens;
       safe = calls.safe;
-      at = record { reached = reached_by_frees _ _ _ _ _ _ _ calls.reached calls.within falls_joined; within = calls.within };
+      at = record { reached = by_frees s s.trace s.used _ _ calls.reached calls.within falls_joined; within = calls.within };
     })
 
     pub is_trapped : IsStarted s f (fallen_seen w)
     is_trapped = subst (λ (v : View). IsStarted s f (fallen_seen v)) (sym same) (record {
-      same = record { contracts = refl; call = refl; contract = refl; func = refl; trace = refl; used = refl };
+      same = record { setting = refl; call = refl; contract = refl; func = refl; trace = refl; used = refl };
       frees = falls_joined;
       at_rest = by_trap (state s.view) t;
       goes_on = tt;
@@ -142,7 +153,7 @@ module _ (s : Seen) (f : ℕ) (calls : IsCalling s f) where
         by_test : (x : Bool) → nat_le (arity_of h) (length (onto (drop (height v.entries) v.stack) [])) ≡ x → height v.entries + arity_of h ≤ length v.stack
         by_test true x = above v.entries v.stack (arity_of h) calls.ordered.stands (leb-true _ _ x)
         by_test false x = absurd (fine_at c v.base v.entries v.stack v.locals (Invoke f rest) (fine_call s f calls).not_stuck (inner
-            ∙ ap (λ y. if y then Asks (op_of c.number h (reverse (take (arity_of h) (onto (drop (height v.entries) v.stack) [])))) (λ r. values (drop (arity_of h) (onto (drop (height v.entries) v.stack) [])) (replied r rest)) else Stuck) x))
+            ∙ ap (λ y. if y then Asks (wish_of c.number h (reverse (take (arity_of h) (onto (drop (height v.entries) v.stack) [])))) (λ r. values (drop (arity_of h) (onto (drop (height v.entries) v.stack) [])) (replied r rest)) else Stuck) x))
 
     abbrev cut : ℕ
     cut = length v.stack - arity_of h
@@ -153,7 +164,7 @@ module _ (s : Seen) (f : ℕ) (calls : IsCalling s f) where
     stands_cut : Stands v.entries (length (take cut v.stack))
     stands_cut = Stands_at v.entries (length v.stack) _ (omega (arith, host_room, length-take cut v.stack)) calls.ordered.stands
 
-    local_asks : reduce c (frames v.entries 0) b (onto (drop (height v.entries) v.stack) []) (Invoke f rest) ≡ Asks op (λ r. values (onto (drop (height v.entries) (take cut v.stack)) []) (replied r rest))
+    local_asks : reduce c (frames v.entries 0) b (onto (drop (height v.entries) v.stack) []) (Invoke f rest) ≡ Asks (Of op) (λ r. values (onto (drop (height v.entries) (take cut v.stack)) []) (replied r rest))
     local_asks =
         inner
         ∙ ap (λ vs. with_values (arity_of h) vs (λ top below. invoke c (frames v.entries 0) b f (Hosted h) (reverse top) below rest))
@@ -166,12 +177,12 @@ module _ (s : Seen) (f : ℕ) (calls : IsCalling s f) where
     same_below : take (height v.entries) v.stack ≡ take (height v.entries) (take cut v.stack)
     same_below = ap (take (height v.entries)) (sym (take-append-drop cut v.stack)) ∙ take-append-le (height v.entries) (take cut v.stack) (drop cut v.stack) (omega (arith, host_room, length-take cut v.stack))
 
-    asks_named : next c (state v) (invoking v f) ≡ Asks op (λ r. whole v.entries (take cut v.stack) v.locals (replied r rest))
+    asks_named : next c (state v) (invoking v f) ≡ Asks (Of op) (λ r. whole v.entries (take cut v.stack) v.locals (replied r rest))
     asks_named =
         next_whole c v.base v.entries v.stack v.locals (Invoke f rest)
         ∙ ap (lift v.base v.entries (take (height v.entries) v.stack) v.locals) local_asks
-        ∙ lift_asks v.base v.entries (take (height v.entries) v.stack) v.locals op (λ r. values (onto (drop (height v.entries) (take cut v.stack)) []) (replied r rest))
-        ∙ ap (Asks op) (fun_ext (λ r.
+        ∙ lift_asks v.base v.entries (take (height v.entries) v.stack) v.locals (Of op) (λ r. values (onto (drop (height v.entries) (take cut v.stack)) []) (replied r rest))
+        ∙ ap (Asks (Of op)) (fun_ext (λ r.
         ap (λ x. around v.entries x v.locals (values (onto (drop (height v.entries) (take cut v.stack)) []) (replied r rest))) same_below
         ∙ ap (around v.entries (take (height v.entries) (take cut v.stack)) v.locals) (values_onto (drop (height v.entries) (take cut v.stack)) [] (replied r rest))))
 
@@ -207,12 +218,12 @@ module _ (s : Seen) (f : ℕ) (calls : IsCalling s f) where
         ordered = calls.ordered;
         within = calls.within;
         room = subst (λ n. height v.entries + n ≤ length v.stack) (sym (op_params h (drop cut v.stack))) host_room;
-        asks = asks_named ∙ ap (λ n. Asks op (λ r. whole v.entries (take (length v.stack - n) v.stack) v.locals (replied r rest))) (sym (op_params h (drop cut v.stack)));
+        asks = asks_named ∙ ap (λ n. Asks (Of op) (λ r. whole v.entries (take (length v.stack - n) v.stack) v.locals (replied r rest))) (sym (op_params h (drop cut v.stack)));
       };
     })
 
     pub is_asked_for : (o : Op) → IsAskedFor s f o (asked_seen o)
-    is_asked_for o = record { same = record { contracts = refl; call = refl; contract = refl; func = refl; trace = refl; used = refl }; config = refl; asking = refl }
+    is_asked_for o = record { same = record { setting = refl; call = refl; contract = refl; func = refl; trace = refl; used = refl }; config = refl; asking = refl }
 
 -- ---- the host's reply
 
@@ -251,16 +262,16 @@ module _ (s : Seen) (op : Op) (r : Reply) (m : IsMachine s) (waits : s.status �
       (whole_push s.view.entries kept (value_of_reply r) s.view.locals (listed s.view.code End) kept_high
       ∙ ap (whole s.view.entries kept s.view.locals) (sym (replied_is r (listed s.view.code End))))
 
-  joined_asks : next s.contract (state s.view) (joined (invoking s.view s.asked) s.tail) ≡ Asks op (λ x. joined (going_on s.view op x) s.tail)
+  joined_asks : next s.contract (state s.view) (joined (invoking s.view s.asked) s.tail) ≡ Asks (Of op) (λ x. joined (going_on s.view op x) s.tail)
   joined_asks = reduce_joined s.tail s.contract 0 (state s.view) [] (invoking s.view s.asked) ∙ ap (joined_next s.tail (λ ws. reduce s.contract 0 (state s.view) ws s.tail)) waiting.asks
 
   module _ (w : View) (tail : Seq) (frees : Frees s.contract (with_tail s.tail (config (record s.view { stack = stack }))) (with_tail tail (config w))) (ordered : IsOrdered w) (ready : IsReady w) (last : w.code ≡ [] → tail ≡ End) (trace : List Step) (recorded : trace ≡ s.trace ++ Did op r ∷ []) where
     freed : Frees s.contract (Running (state s.view) (joined (going_on s.view op r) s.tail)) (with_tail tail (config w))
     freed = subst (λ (x : Config). Frees s.contract (with_tail s.tail x) (with_tail tail (config w))) same_config frees
 
-    come_back : Reached s.contract (first_of s) s.call.fuel trace s.used (with_tail tail (config w))
-    come_back = subst (λ (t : List Step). Reached s.contract (first_of s) s.call.fuel t s.used (with_tail tail (config w))) (sym recorded)
-        (reached_by_frees _ _ _ _ _ _ _ (gets s.trace s.used _ _ op _ r waiting.reached joined_asks fit) waiting.within freed)
+    come_back : Reached s.setting (first_of s) s.call.fuel trace s.used (alone s.contract (with_tail tail (config w)))
+    come_back = subst (λ (t : List Step). Reached s.setting (first_of s) s.call.fuel t s.used (alone s.contract (with_tail tail (config w)))) (sym recorded)
+        (by_frees s _ s.used _ _ (alone_replied s.setting s.contract (first_of s) s.call.fuel s.trace s.used _ _ op _ r waiting.reached joined_asks fit) waiting.within freed)
 
     abbrev answered_seen : Seen
     answered_seen = record s { trace = trace; view = w; tail = tail; status = status.Running }
@@ -270,12 +281,12 @@ module _ (s : Seen) (op : Op) (r : Reply) (m : IsMachine s) (waits : s.status �
 
     pub has_answered : HasAnswered (progress s) r (progress answered_seen)
     has_answered = subst (λ (x : Status). AnsweredAt (progress (on s x)) r (progress answered_seen) x) (sym waits) (record {
-      same = record { contracts = refl; call = refl; contract = refl; func = refl };
+      same = record { setting = refl; call = refl; contract = refl; func = refl };
       trace = recorded;
       used = refl;
-      asked = record { state = state s.view; seq = joined (invoking s.view s.asked) s.tail; go = λ x. joined (going_on s.view op x) s.tail; is = refl; asks = joined_asks };
-      frees = freed;
-      at_rest = at_rest s.contract w tail (record { not_stuck = λ h. m.safe _ _ _ _ come_back (stuck_joined tail s.contract (state w) (sequence w) h) }) ready last;
+      asked = asking_alone s.setting s.contract (state s.view) (joined (invoking s.view s.asked) s.tail) op (λ x. joined (going_on s.view op x) s.tail) joined_asks;
+      frees = frees_alone s.setting s.contract _ _ freed;
+      at_rest = rests s.setting s.contract _ (at_rest s.contract w tail (record { not_stuck = λ h. never_stuck s m.safe _ _ _ _ come_back (stuck_joined tail s.contract (state w) (sequence w) h) }) ready last);
       running = refl;
     })
 

@@ -8,8 +8,10 @@ use Rattle.wtypes.specs.declared.HostCall.{HostCall}
 use Rattle.wtypes.specs.declared.HostCall.TheVariants as host
 use Rattle.spec_syntax.specs.Syntax.{Module}
 use Rattle.spec_typing.specs.Linking.{IsLinked}
-use Rattle.spec_execution.specs.Configuration.{Deployed, Contract, Seq, End, Invoke, Config, Running, arguments, fresh}
-use Rattle.spec_execution.specs.Run.{ContractCall, opening, Opens, after_start, first, Reached, at_first, IsSafe}
+use Rattle.spec_execution.specs.Configuration.{Setting, Contract, Seq, End, Invoke, Config, Running, arguments, fresh}
+use Rattle.spec_execution.specs.Run.{ContractCall, opening, Opens, after_start, first}
+use Rattle.spec_execution.specs.Levels.{alone as one_level, first_level, Reached, at_first, IsSafe}
+use Rattle.spec_execution.proofs.Lifting.{rests as rests_alone}
 use Rattle.spec_execution.specs.Turns.{Frees, IsAtRest}
 use Rattle.soundness.specs.Laws.{DeployedCallsAreSafe}
 use Rattle.module_tree.specs.declared.module.Module as in_memory
@@ -26,15 +28,16 @@ use Rattle.sequences.specs.Meaning.{View, height, state, sequence, config, calli
 use Rattle.sequences.specs.Tails.{with_tail}
 use Rattle.frames.specs.Waiting.{alone}
 use Rattle.interp.specs.Progress.{IsStartOf, GoesOn}
-use Rattle.interp.specs.Machine.{Seen, on, progress, first_of, arity_of, IsAt, IsLive, IsMachine, IsCalling, IsSame, HasStarted, HasBegun}
+use Rattle.interp.specs.Machine.{Seen, on, config_of, progress, first_of, arity_of, IsAt, IsLive, IsMachine, IsCalling, IsSame, HasStarted, HasBegun}
 use Rattle.sequences.specs.Joining.{stuck_joined, at_rest}
 use Rattle.sequences.specs.Finding.{read_at}
-use Rattle.interp.proofs.Turning.{reached_by_frees}
+use Rattle.interp.proofs.Alone.{frees_alone}
+use Rattle.interp.proofs.Turning.{by_frees, never_stuck}
 use Rattle.interp.proofs.Asking.{host_room}
 
 -- no configuration is stuck: from what linking keeps
-pub safe_of : (contracts : List Deployed) (call : ContractCall) (c : Contract) (func : ℕ) → ∥ IsLinked c.deployed.tree c.deployed.hosts ∥₁ → DeployedCallsAreSafe → opening contracts call ≡ Opens c func → IsSafe c (first c func call.args) call.fuel
-safe_of contracts call c func linked law opens = λ trace used s seq reached stuck. ∥∥₁_elim linked (λ a b. absurd a) (λ l. law contracts call c func l opens trace used s seq reached stuck)
+pub safe_of : (setting : Setting) (call : ContractCall) (c : Contract) (func : ℕ) → ∥ IsLinked c.deployed.tree c.deployed.hosts ∥₁ → DeployedCallsAreSafe → opening setting call ≡ Opens c func → IsSafe setting (first_level c func call.args) call.fuel
+safe_of setting call c func linked law opens = λ trace used a reached stuck. ∥∥₁_elim linked (λ a b. absurd a) (λ l. law setting call c func l opens trace used a reached stuck)
 
 -- with nothing open and the entry waiting, the first configuration is the one in which the start function is called, or else the waiting one itself
 first_without : (m : Module) (start : Option ℕ) (rest : Seq) → start ≡ None → with_tail rest (config (alone (fresh m) [] [])) ≡ Running (fresh m) (after_start start rest)
@@ -48,22 +51,22 @@ module _ (s : Seen) (view : s.view ≡ alone (fresh s.contract.deployed.tree) []
   abbrev m : Module
   m = s.contract.deployed.tree
 
-  pub opens_without : m.start ≡ None → with_tail s.tail (config s.view) ≡ first_of s
+  pub opens_without : m.start ≡ None → with_tail s.tail (config s.view) ≡ first s.contract s.func s.call.args
   opens_without e = ap (λ v. with_tail s.tail (config v)) view ∙ first_without m m.start s.tail e ∙ ap (λ q. Running (fresh m) (after_start m.start q)) tail
 
-  pub opens_with : (f : ℕ) → m.start ≡ Some f → with_tail s.tail (calling s.view f) ≡ first_of s
+  pub opens_with : (f : ℕ) → m.start ≡ Some f → with_tail s.tail (calling s.view f) ≡ first s.contract s.func s.call.args
   opens_with f e = ap (λ v. with_tail s.tail (calling v f)) view ∙ first_with m m.start s.tail f e ∙ ap (λ q. Running (fresh m) (after_start m.start q)) tail
 
   module _ (trace : s.trace ≡ []) (used : s.used ≡ 0) where
     -- at the first configuration
-    pub reached_first : (x : Config) → x ≡ first_of s → Reached s.contract (first_of s) s.call.fuel s.trace s.used x
+    pub reached_first : (x : Config) → x ≡ first s.contract s.func s.call.args → Reached s.setting (first_of s) s.call.fuel s.trace s.used (one_level s.contract x)
     reached_first x e =
-        subst (λ t. Reached s.contract (first_of s) s.call.fuel t s.used x) (sym trace)
-        (subst (λ n. Reached s.contract (first_of s) s.call.fuel [] n x) (sym used)
-        (subst (λ (y : Config). Reached s.contract (first_of s) s.call.fuel [] 0 y) (sym e) at_first))
+        subst (λ t. Reached s.setting (first_of s) s.call.fuel t s.used (one_level s.contract x)) (sym trace)
+        (subst (λ n. Reached s.setting (first_of s) s.call.fuel [] n (one_level s.contract x)) (sym used)
+        (subst (λ (y : Config). Reached s.setting (first_of s) s.call.fuel [] 0 (one_level s.contract y)) (sym e) at_first))
 
     -- the call of the start function
-    pub start_calling : opening s.contracts s.call ≡ Opens s.contract s.func → IsSafe s.contract (first_of s) s.call.fuel → (f : ℕ) → m.start ≡ Some f → IsCalling s f
+    pub start_calling : opening s.setting s.call ≡ Opens s.contract s.func → IsSafe s.setting (first_of s) s.call.fuel → (f : ℕ) → m.start ≡ Some f → IsCalling s f
     start_calling opens safe f e = record {
       opens = opens;
       safe = safe;
@@ -101,31 +104,31 @@ module _ (s : Seen) (view : s.view ≡ alone (fresh s.contract.deployed.tree) []
         by_test false e = ltb-false _ _ e
 
     -- what a machine is before its first turn
-    pub start_of : (t : Seen) (x : Config) → x ≡ first_of s → IsSame s t → Frees s.contract x (progress t).config → IsAtRest s.contract (progress t).config → GoesOn t.status → IsStartOf s.contracts s.call (progress t)
+    pub start_of : (t : Seen) (x : Config) → x ≡ first s.contract s.func s.call.args → IsSame s t → Frees s.contract x (config_of t) → IsAtRest s.contract (config_of t) → GoesOn t.status → IsStartOf s.setting s.call (progress t)
     start_of t x e same frees at_rest goes_on = record {
-      contracts = same.contracts;
+      setting = same.setting;
       call_is = same.call;
       trace = same.trace ∙ trace;
       used = same.used ∙ used;
-      frees = subst (λ (y : Config). Frees t.contract y (progress t).config) (e ∙ firsts) (subst (λ (k : Contract). Frees k x (progress t).config) (sym same.contract) frees);
-      at_rest = subst (λ (k : Contract). IsAtRest k (progress t).config) (sym same.contract) at_rest;
+      frees = frees_alone t.setting t.contract _ (config_of t) (subst (λ (y : Config). Frees t.contract y (config_of t)) (e ∙ firsts) (subst (λ (k : Contract). Frees k x (config_of t)) (sym same.contract) frees));
+      at_rest = rests_alone t.setting t.contract (config_of t) (subst (λ (k : Contract). IsAtRest k (config_of t)) (sym same.contract) at_rest);
       goes_on = goes_on;
     }
       where
-        firsts : first_of s ≡ first t.contract t.func t.call.args
+        firsts : first s.contract s.func s.call.args ≡ first t.contract t.func t.call.args
         firsts = ap (λ k. first k s.func s.call.args) (sym same.contract) ∙ ap (λ f. first t.contract f s.call.args) (sym same.func) ∙ ap (λ (k : ContractCall). first t.contract t.func k.args) (sym same.call)
 
     -- with no start function the entry is entered, and what is at its end is left
-    module _ (opens : opening s.contracts s.call ≡ Opens s.contract s.func) (safe : IsSafe s.contract (first_of s) s.call.fuel) (none : m.start ≡ None) (running : s.status ≡ status.Running)
+    module _ (opens : opening s.setting s.call ≡ Opens s.contract s.func) (safe : IsSafe s.setting (first_of s) s.call.fuel) (none : m.start ≡ None) (running : s.status ≡ status.Running)
         (w : View) (rest : Seq) (frees : Frees s.contract (with_tail s.tail (config s.view)) (with_tail rest (config w))) (ordered : IsOrdered w) (ready : IsReady w) (last : w.code ≡ [] → rest ≡ End) where
       abbrev entered_seen : Seen
       entered_seen = record s { view = w; tail = rest }
 
-      come : Reached s.contract (first_of s) s.call.fuel s.trace s.used (with_tail rest (config w))
-      come = reached_by_frees _ _ _ _ _ _ _ (reached_first _ (opens_without none)) (omega (arith, used)) frees
+      come : Reached s.setting (first_of s) s.call.fuel s.trace s.used (one_level s.contract (with_tail rest (config w)))
+      come = by_frees s s.trace s.used _ _ (reached_first _ (opens_without none)) (omega (arith, used)) frees
 
       rests : IsAtRest s.contract (with_tail rest (config w))
-      rests = at_rest s.contract w rest (record { not_stuck = λ h. safe _ _ _ _ come (stuck_joined rest s.contract (state w) (sequence w) h) }) ready last
+      rests = at_rest s.contract w rest (record { not_stuck = λ h. never_stuck s safe _ _ _ _ come (stuck_joined rest s.contract (state w) (sequence w) h) }) ready last
 
       pub machine_entered : IsMachine entered_seen
       machine_entered = record {
@@ -135,8 +138,8 @@ module _ (s : Seen) (view : s.view ≡ alone (fresh s.contract.deployed.tree) []
       }
 
       pub has_entered : HasBegun s turn.Stepped entered_seen
-      has_entered = subst (λ (x : Status). IsStartOf s.contracts s.call (progress (on entered_seen x))) (sym running)
-          (start_of (on entered_seen status.Running) _ (opens_without none) (record { contracts = refl; call = refl; contract = refl; func = refl; trace = refl; used = refl }) frees rests tt)
+      has_entered = subst (λ (x : Status). IsStartOf s.setting s.call (progress (on entered_seen x))) (sym running)
+          (start_of (on entered_seen status.Running) _ (opens_without none) (record { setting = refl; call = refl; contract = refl; func = refl; trace = refl; used = refl }) frees rests tt)
 
     -- the start function is called
     pub has_started : (f : ℕ) → m.start ≡ Some f → (a : Turn) (t : Seen) → HasStarted s f a t → HasBegun s a t

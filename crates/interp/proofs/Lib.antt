@@ -1,3 +1,4 @@
+pub mod Alone
 pub mod Turning
 pub mod Asking
 pub mod Going

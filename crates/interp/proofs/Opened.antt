@@ -4,7 +4,7 @@ use Rattle.std.specs.Prelude.{if◌then◌else◌, nat_lt}
 use Rattle.wtypes.specs.declared.Value.{Value}
 use Rattle.wtypes.specs.declared.HostCall.{HostCall}
 use Rattle.spec_syntax.specs.Syntax.{ExportDesc, ExportFunc, ExportTable, ExportMemory, ExportGlobal, FuncType, Func}
-use Rattle.spec_execution.specs.Configuration.{Deployed, Contract, Function, Hosted, Defined, function_at}
+use Rattle.spec_execution.specs.Configuration.{Setting, Deployed, Contract, Function, Hosted, Defined, function_at}
 use Rattle.spec_execution.specs.Run.{ContractCall, opening, Opens, Refused, by_wrong, by_function, by_export, by_contract, wrong_argument, exported}
 use Rattle.std.proofs.lemmas.Bool.{eqb-true}
 use Rattle.frames.specs.Waiting.{IsEntry}
@@ -63,8 +63,8 @@ function_found c k f func args (Some (Defined t g)) e = by_test (length args == 
     by_test true h e = record { type = t; function = g; there = refl; fit = eqb-true _ _ h; same = wrong_contract c k f func _ e }
     by_test false h e = absurd (cc)
 
-pub opened_entry : (contracts : List Deployed) (call : ContractCall) (k : Contract) (func : ℕ) → opening contracts call ≡ Opens k func → IsEntry k func call.args
-opened_entry contracts call k func e = by_place (slice_get contracts call.contract) e
+pub opened_entry : (setting : Setting) (call : ContractCall) (k : Contract) (func : ℕ) → opening setting call ≡ Opens k func → IsEntry k func call.args
+opened_entry setting call k func e = by_place (slice_get setting.contracts call.contract) e
   where
     by_place : (o : Option Deployed) → by_contract call o ≡ Opens k func → IsEntry k func call.args
     by_place None e = absurd (cc)

@@ -1,15 +1,19 @@
 -- What a machine shows while its run goes on, and at its end.
-use Rattle.std.proofs.Common.{◌≡◌, ◌≢◌, ℕ, ◌≤◌, Bool, true, false, true≢false, List, [], ◌∷◌, length, drop, refl, sym, ap, ◌∙◌, subst, arith, Option, Some, None, inl, inr}
+use Rattle.std.proofs.Common.{◌≡◌, ◌≢◌, ℕ, ℤ, ◌≤◌, Bool, true, false, true≢false, List, [], ◌∷◌, length, drop, refl, sym, ap, ◌∙◌, subst, arith, Option, Some, None, inl, inr}
 use Rattle.std.specs.Prelude.{if◌then◌else◌, ◌==◌, ◌&&◌, ◌⊎◌}
 use Rattle.std.proofs.lemmas.Bool.{ne_eqb, eq-eqb}
 use Rattle.wtypes.specs.declared.Value.{Value}
 use Rattle.spec_ledger.specs.declared.Op.{Op}
+use Rattle.spec_ledger.specs.declared.Reply.{Reply}
+use Rattle.spec_ledger.specs.declared.Step.{Step}
 use Rattle.spec_ledger.specs.declared.Outcome.{Outcome}
 use Rattle.spec_ledger.specs.declared.Outcome.TheVariants.{Returned, Trapped, OutOfFuel, Rejected}
 use Rattle.spec_execution.specs.Configuration as c
-use Rattle.spec_execution.specs.Configuration.{Contract, Seq, End, Config, Running}
-use Rattle.spec_execution.specs.Reduction.{reduce, Next, Goes, Traps, Asks, Branches, Returns, Ended, Stuck}
-use Rattle.spec_execution.specs.Run.{next, IsCharged, result_of, Ends, returns, trapped, exhausted}
+use Rattle.spec_execution.specs.Configuration.{Setting, Contract, Seq, End, State, Config, Running}
+use Rattle.spec_execution.specs.Reduction.{reduce, Wish, Of, Ask, Answer, Next, Goes, Traps, Asks, Branches, Returns, Ended, Stuck}
+use Rattle.spec_execution.specs.Run.{next, IsCharged, result_of, Opening, Refused, Opens}
+use Rattle.spec_execution.specs.Levels.{Level, Levels, Move, On, Host, Over, Nowhere, alone, asked, entering, by_next, move, IsChargedMove, Ends, over, exhausted}
+use Rattle.spec_execution.proofs.Lifting.{charged_lifted}
 use Rattle.spec_execution.specs.Turns.{is_to_come, state_of, stack_in, locals_in, place_in, place_of, stack_of, locals_of}
 use Rattle.interp.specs.declared.turns.Status.{Status}
 use Rattle.interp.specs.declared.turns.Status.TheVariants as status
@@ -24,27 +28,21 @@ use Rattle.sequences.specs.Rest.{is_charged, is_ended}
 use Rattle.sequences.specs.Tails.{joined, with_tail, joined_next}
 use Rattle.sequences.specs.Joining.{joined_end, charged_joined, reduce_joined}
 use Rattle.interp.proofs.Showing.{stack_whole, locals_whole, place_whole, call-le, Stops, IsHidden, hidden_end, hidden_stop, stops_whole}
-use Rattle.interp.proofs.Turning.{live_of, fine}
+use Rattle.interp.proofs.Turning.{live_of, fine, end_values}
 
 -- ---- one step, in or out of fuel
 
-pub charged_out : (n : Next) → IsCharged n → ending_by true n ≡ Some OutOfFuel
-charged_out (Goes charge s q) h = ap (λ b. if b then Some OutOfFuel else None) (eq-eqb charge 1 h)
-charged_out (Traps charge t) h = ap (λ b. if b then Some OutOfFuel else None) (eq-eqb charge 1 h)
-charged_out (Asks op go) h = absurd h
-charged_out (Branches charge l vs) h = absurd h
-charged_out (Returns charge vs) h = absurd h
-charged_out (Ended vs) h = absurd h
-charged_out Stuck h = absurd h
+pub charged_out : (m : Move) → IsChargedMove m → ending_by true m ≡ Some OutOfFuel
+charged_out (On charge marks x) h = ap (λ b. if b then Some OutOfFuel else None) (eq-eqb charge 1 h)
+charged_out (Host op go) h = absurd h
+charged_out (Over o) h = absurd h
+charged_out Nowhere h = absurd h
 
-charged_in : (n : Next) → IsCharged n → ending_by false n ≡ None
-charged_in (Goes charge s q) h = refl
-charged_in (Traps charge t) h = refl
-charged_in (Asks op go) h = absurd h
-charged_in (Branches charge l vs) h = absurd h
-charged_in (Returns charge vs) h = absurd h
-charged_in (Ended vs) h = absurd h
-charged_in Stuck h = absurd h
+charged_in : (m : Move) → IsChargedMove m → ending_by false m ≡ None
+charged_in (On charge marks x) h = refl
+charged_in (Host op go) h = absurd h
+charged_in (Over o) h = absurd h
+charged_in Nowhere h = absurd h
 
 -- what is shown, by whether the fuel is out
 pick_in : (b : Bool) (x y : Config) → is_out (if b then Some OutOfFuel else None) ≡ false → (if b then x else y) ≡ y
@@ -63,33 +61,73 @@ picked : (b : Bool) → leaves_stack (if b then Some OutOfFuel else None) ≡ fa
 picked true h = refl
 picked false h = absurd (true≢false h)
 
-in_fuel : (b : Bool) (n : Next) (x y : Config) → is_out (ending_by b n) ≡ false → (if b && is_to_come n then x else y) ≡ y
-in_fuel b (Ended vs) x y h = ap (λ (t : Bool). if t then x else y) (and_false b)
-in_fuel b (Goes charge s q) x y h = pick_in (b && (charge == 1)) x y h
-in_fuel b (Traps charge t) x y h = pick_in (b && (charge == 1)) x y h
-in_fuel b (Asks op go) x y h = pick_in (b && false) x y h
-in_fuel b (Branches charge l vs) x y h = pick_in (b && false) x y h
-in_fuel b (Returns charge vs) x y h = pick_in (b && false) x y h
-in_fuel b Stuck x y h = pick_in (b && false) x y h
+not_out : (b : Bool) (n : ℕ) → (if b then Some OutOfFuel else None) ≡ Some (Rejected n) → ⊥
+not_out true n e = cc
+not_out false n e = cc
 
-out_of_fuel : (b : Bool) (n : Next) (x y : Config) → is_out (ending_by b n) ≡ true → (if b && is_to_come n then x else y) ≡ x
-out_of_fuel b (Ended vs) x y h = absurd (true≢false (sym h))
-out_of_fuel b (Goes charge s q) x y h = pick_out (b && (charge == 1)) x y h
-out_of_fuel b (Traps charge t) x y h = pick_out (b && (charge == 1)) x y h
-out_of_fuel b (Asks op go) x y h = pick_out (b && false) x y h
-out_of_fuel b (Branches charge l vs) x y h = pick_out (b && false) x y h
-out_of_fuel b (Returns charge vs) x y h = pick_out (b && false) x y h
-out_of_fuel b Stuck x y h = pick_out (b && false) x y h
+-- what stands alone, by what it does next
+module _ (setting : Setting) (l : Level) (st : State) (b : Bool) where
+  -- a level that is entered, or not, is no end
+  entering_in : (go : Reply → Seq) (v : ℤ) (o : Opening) → ending_by b (entering l [] st go v o) ≡ None
+  entering_in go v (Opens k f) = ap (λ (t : Bool). if t then Some OutOfFuel else None) (and_false b)
+  entering_in go v (Refused status) = ap (λ (t : Bool). if t then Some OutOfFuel else None) (and_false b)
 
--- a run that goes on or is out of fuel, and leaves no stack, is out of fuel
-no_stack_out : (b : Bool) (n : Next) → leaves_stack (ending_by b n) ≡ false → is_out (ending_by b n) ≡ true
-no_stack_out b (Ended vs) h = absurd (true≢false h)
-no_stack_out b (Goes charge s q) h = picked (b && (charge == 1)) h
-no_stack_out b (Traps charge t) h = picked (b && (charge == 1)) h
-no_stack_out b (Asks op go) h = picked (b && false) h
-no_stack_out b (Branches charge l vs) h = picked (b && false) h
-no_stack_out b (Returns charge vs) h = picked (b && false) h
-no_stack_out b Stuck h = picked (b && false) h
+  asks_in : (w : Wish) (go : Reply → Seq) → (ending_by b (by_next setting l [] st (Asks w go)) ≡ None)
+  asks_in (Of op) go = refl
+  asks_in (Ask n e v) go = entering_in go v (asked setting 0 n e)
+  asks_in Answer go = ap (λ (t : Bool). if t then Some OutOfFuel else None) (and_false b)
+
+  in_fuel_by : (n : Next) (x y : Config) → is_out (ending_by b (by_next setting l [] st n)) ≡ false → (if b && is_to_come n then x else y) ≡ y
+  in_fuel_by (Ended vs) x y h = ap (λ (t : Bool). if t then x else y) (and_false b)
+  in_fuel_by (Goes charge s q) x y h = pick_in (b && (charge == 1)) x y h
+  in_fuel_by (Traps charge t) x y h = pick_in (b && (charge == 1)) x y h
+  in_fuel_by (Asks w go) x y h = ap (λ (t : Bool). if t then x else y) (and_false b)
+  in_fuel_by (Branches charge k vs) x y h = ap (λ (t : Bool). if t then x else y) (and_false b)
+  in_fuel_by (Returns charge vs) x y h = ap (λ (t : Bool). if t then x else y) (and_false b)
+  in_fuel_by Stuck x y h = ap (λ (t : Bool). if t then x else y) (and_false b)
+
+  out_of_fuel_by : (n : Next) (x y : Config) → is_out (ending_by b (by_next setting l [] st n)) ≡ true → (if b && is_to_come n then x else y) ≡ x
+  out_of_fuel_by (Ended vs) x y h = absurd (true≢false (sym h))
+  out_of_fuel_by (Goes charge s q) x y h = pick_out (b && (charge == 1)) x y h
+  out_of_fuel_by (Traps charge t) x y h = pick_out (b && (charge == 1)) x y h
+  out_of_fuel_by (Asks w go) x y h = absurd (true≢false (sym h ∙ ap is_out (asks_in w go)))
+  out_of_fuel_by (Branches charge k vs) x y h = absurd (true≢false (sym h))
+  out_of_fuel_by (Returns charge vs) x y h = absurd (true≢false (sym h))
+  out_of_fuel_by Stuck x y h = absurd (true≢false (sym h))
+
+  -- a run that goes on or is out of fuel, and leaves no stack, is out of fuel
+  no_stack_out_by : (n : Next) → leaves_stack (ending_by b (by_next setting l [] st n)) ≡ false → is_out (ending_by b (by_next setting l [] st n)) ≡ true
+  no_stack_out_by (Ended vs) h = absurd (true≢false h)
+  no_stack_out_by (Goes charge s q) h = picked (b && (charge == 1)) h
+  no_stack_out_by (Traps charge t) h = picked (b && (charge == 1)) h
+  no_stack_out_by (Asks w go) h = absurd (true≢false (sym (ap leaves_stack (asks_in w go)) ∙ h))
+  no_stack_out_by (Branches charge k vs) h = absurd (true≢false h)
+  no_stack_out_by (Returns charge vs) h = absurd (true≢false h)
+  no_stack_out_by Stuck h = absurd (true≢false h)
+
+  no_rejection_by : (n : Next) (k : ℕ) → ending_by b (by_next setting l [] st n) ≡ Some (Rejected k) → ⊥
+  no_rejection_by (Ended vs) k e = cc
+  no_rejection_by (Goes charge s q) k e = not_out (b && (charge == 1)) k e
+  no_rejection_by (Traps charge t) k e = not_out (b && (charge == 1)) k e
+  no_rejection_by (Asks w go) k e = let no : None ≡ Some (Rejected k) = sym (asks_in w go) ∙ e in cc
+  no_rejection_by (Branches charge m vs) k e = cc
+  no_rejection_by (Returns charge vs) k e = cc
+  no_rejection_by Stuck k e = cc
+
+module _ (setting : Setting) (k : Contract) (st : State) (q : Seq) (b : Bool) where
+  in_fuel : (x y : Config) → is_out (ending_by b (move setting (alone k (Running st q)))) ≡ false → (if b && is_to_come (next k st q) then x else y) ≡ y
+  in_fuel x y h = in_fuel_by setting (alone k (Running st q)).inner st b (next k st q) x y h
+
+  out_of_fuel : (x y : Config) → is_out (ending_by b (move setting (alone k (Running st q)))) ≡ true → (if b && is_to_come (next k st q) then x else y) ≡ x
+  out_of_fuel x y h = out_of_fuel_by setting (alone k (Running st q)).inner st b (next k st q) x y h
+
+  no_stack_out : leaves_stack (ending_by b (move setting (alone k (Running st q)))) ≡ false → is_out (ending_by b (move setting (alone k (Running st q)))) ≡ true
+  no_stack_out h = no_stack_out_by setting (alone k (Running st q)).inner st b (next k st q) h
+
+-- a call that has opened is not refused
+no_rejection : (setting : Setting) (k : Contract) (limit used : ℕ) (x : Config) (n : ℕ) → ending_of setting limit used (alone k x) ≡ Some (Rejected n) → ⊥
+no_rejection setting k limit used (Running s q) n e = no_rejection_by setting (alone k (Running s q)).inner s (used == limit) (next k s q) n e
+no_rejection setting k limit used (c.Trap s t) n e = cc
 
 stack_in_fuel : (o : Option Outcome) → leaves_stack o ≡ true → is_out o ≡ false
 stack_in_fuel None h = refl
@@ -107,8 +145,7 @@ no_items (x ∷ xs) e = absurd (true≢false (sym e ∙ ne_eqb (length (x ∷ xs
 module _ (s : Seen) (m : IsMachine s) (running : s.status ≡ status.Running) where
   pub ends_returned : s.view.code ≡ [] → ending (progress s) ≡ Some (Returned (result_of (onto s.view.stack [])))
   ends_returned none_left = subst (λ (x : Status). ending (progress (on s x)) ≡ Some (Returned (result_of (onto s.view.stack [])))) (sym running)
-      (ap (λ q. ending_by (s.used == s.call.fuel) (next s.contract (state s.view) q)) (ap (joined (sequence s.view)) ((live_of s m running).last none_left) ∙ joined_end (sequence s.view))
-      ∙ ap (ending_by (s.used == s.call.fuel)) (is_ended s.contract s.view none_left ((live_of s m running).ready none_left)))
+      (ap (λ n. ending_by (s.used == s.call.fuel) (by_next s.setting (alone s.contract (with_tail s.tail (config s.view))).inner [] (state s.view) n)) (end_values s m running none_left))
 
   charged : s.view.code ≢ [] → IsCharged (next s.contract (state s.view) (joined (sequence s.view) s.tail))
   charged some_left = charged_joined s.tail s.contract (state s.view) (sequence s.view) (by_code s.view.code refl)
@@ -117,41 +154,34 @@ module _ (s : Seen) (m : IsMachine s) (running : s.status ≡ status.Running) wh
       by_code [] e = absurd (some_left e)
       by_code (i ∷ is) e = is_charged s.contract s.view i is (fine s m running) e
 
+  charged_move : s.view.code ≢ [] → IsChargedMove (move s.setting (alone s.contract (with_tail s.tail (config s.view))))
+  charged_move some_left = charged_lifted s.setting (alone s.contract (with_tail s.tail (config s.view))).inner [] (state s.view) (joined (sequence s.view) s.tail) (charged some_left)
+
   pub ends_exhausted : s.view.code ≢ [] → s.used ≡ s.call.fuel → ending (progress s) ≡ Some OutOfFuel
   ends_exhausted some_left full = subst (λ (x : Status). ending (progress (on s x)) ≡ Some OutOfFuel) (sym running)
-      (ap (λ b. ending_by b (next s.contract (state s.view) (joined (sequence s.view) s.tail))) (eq-eqb s.used s.call.fuel full) ∙ charged_out _ (charged some_left))
+      (ap (λ b. ending_by b (move s.setting (alone s.contract (with_tail s.tail (config s.view))))) (eq-eqb s.used s.call.fuel full) ∙ charged_out _ (charged_move some_left))
 
   pub goes_on : s.view.code ≢ [] → (s.used ≡ s.call.fuel → ⊥) → ending (progress s) ≡ None
   goes_on some_left left = subst (λ (x : Status). ending (progress (on s x)) ≡ None) (sym running)
-      (ap (λ b. ending_by b (next s.contract (state s.view) (joined (sequence s.view) s.tail))) (ne_eqb s.used s.call.fuel left) ∙ charged_in _ (charged some_left))
+      (ap (λ b. ending_by b (move s.setting (alone s.contract (with_tail s.tail (config s.view))))) (ne_eqb s.used s.call.fuel left) ∙ charged_in _ (charged_move some_left))
 
 -- after the end
 over_of : (s : Seen) → IsMachine s → (o : Outcome) → s.status ≡ status.Ended o → IsOver s o
 over_of s m o e = subst (IsAt s) e m.at
 
-ended_by : (c : Contract) (limit used : ℕ) (x : Config) (o : Outcome) → Ends c limit used x o → ending_of c limit used x ≡ Some o
-ended_by c limit n x o (returns used s seq vs e) = ap (ending_by (used == limit)) e
-ended_by c limit n x o (trapped used s t) = refl
-ended_by c limit n x o (exhausted s seq h) = ap (λ b. ending_by b (next c s seq)) (eq-eqb limit limit refl) ∙ charged_out (next c s seq) h
+pub ended_by : (setting : Setting) (limit used : ℕ) (x : Levels) (o : Outcome) (marks : List Step) → Ends setting limit used x o marks → ending_of setting limit used x ≡ Some o
+ended_by setting limit used x o marks (over n y out e) = ap (ending_by (n == limit)) e
+ended_by setting limit used x o marks (exhausted y h) = ap (λ b. ending_by b (move setting y)) (eq-eqb limit limit refl) ∙ charged_out (move setting y) h
 
 pub tells_end : (s : Seen) → IsMachine s → (o : Outcome) → s.status ≡ status.Ended o → ending (progress s) ≡ Some o
-tells_end s m o e = subst (λ (x : Status). ending (progress (on s x)) ≡ Some o) (sym e) (ended_by s.contract s.call.fuel s.used _ o (over_of s m o e).ends)
-
-abbrev IsNoRejection : Outcome → Type 0
-IsNoRejection (Rejected n) = ⊥
-IsNoRejection _ = Unit {0}
-
-no_rejection : (c : Contract) (limit used : ℕ) (x : Config) (o : Outcome) → Ends c limit used x o → IsNoRejection o
-no_rejection c limit n x o (returns used s seq vs e) = tt
-no_rejection c limit n x o (trapped used s t) = tt
-no_rejection c limit n x o (exhausted s seq h) = tt
+tells_end s m o e = subst (λ (x : Status). ending (progress (on s x)) ≡ Some o) (sym e) (ended_by s.setting s.call.fuel s.used _ o [] (over_of s m o e).ends)
 
 -- while the host is asked
 pub asks_on : (s : Seen) → IsMachine s → (op : Op) → s.status ≡ status.Asking op → ending (progress s) ≡ None
 asks_on s m op asking =
     let waiting : IsWaiting s op = subst (IsAt s) asking m.at in
     subst (λ (x : Status). ending (progress (on s x)) ≡ None) (sym asking)
-    (ap (ending_by (s.used == s.call.fuel)) (reduce_joined s.tail s.contract 0 (state s.view) [] (invoking s.view s.asked) ∙ ap (joined_next s.tail (λ ws. reduce s.contract 0 (state s.view) ws s.tail)) waiting.asks) ∙ ap (λ (b : Bool). if b then Some OutOfFuel else None) (and_false (s.used == s.call.fuel)))
+    (ap (λ n. ending_by (s.used == s.call.fuel) (by_next s.setting (alone s.contract (with_tail s.tail (calling s.view s.asked))).inner [] (state s.view) n)) (reduce_joined s.tail s.contract 0 (state s.view) [] (invoking s.view s.asked) ∙ ap (joined_next s.tail (λ ws. reduce s.contract 0 (state s.view) ws s.tail)) waiting.asks))
 
 -- ---- what is shown
 
@@ -188,7 +218,7 @@ shows_locals s m (status.Ended r) is o e = absurd (let no : None ≡ Some r = e 
 shows_locals s m status.NoMemory is o e = absurd o
 
 pub shows_none : (s : Seen) (r : Outcome) → Some r ≡ ending (progress s) → [] ≡ locals_shown (progress s)
-shows_none s r e = ap (λ o. unless_ended o (locals_of (progress s).config)) e
+shows_none s r e = ap (λ o. unless_ended o (locals_of (progress s).config.inner.config)) e
 
 call_within : (s : Seen) → IsOrdered s.view → height (in_call s.view.entries) ≤ length s.view.stack
 call_within s o = omega (arith, call-le s.view.entries (length s.view.stack) o.stands, height-le s.view.entries (length s.view.stack) o.stands)
@@ -203,7 +233,7 @@ module _ (s : Seen) (m : IsMachine s) where
   running_stack : s.status ≡ status.Running → is_out (ending (progress s)) ≡ false → drop (height (in_call s.view.entries)) s.view.stack ≡ stack_shown (progress s)
   running_stack e left =
       subst (λ (x : Status). is_out (ending (progress (on s x))) ≡ false → drop (height (in_call s.view.entries)) s.view.stack ≡ stack_shown (progress (on s x))) (sym e)
-      (λ h. sym (ap stack_of (in_fuel (s.used == s.call.fuel) (next s.contract (state s.view) (joined (sequence s.view) s.tail)) _ _ h)
+      (λ h. sym (ap stack_of (in_fuel s.setting s.contract (state s.view) (joined (sequence s.view) s.tail) (s.used == s.call.fuel) _ _ h)
       ∙ (running_hidden s (live_of s m e)).stack []
       ∙ stack_whole s.view.entries s.view.stack s.view.locals (listed s.view.code End) (live_of s m e).ordered.stands
       ∙ stack_listed s.view.code _)) left
@@ -212,7 +242,7 @@ module _ (s : Seen) (m : IsMachine s) where
   asking_stack op e left =
       let waiting : IsWaiting s op = subst (IsAt s) e m.at in
       subst (λ (x : Status). is_out (ending (progress (on s x))) ≡ false → drop (height (in_call s.view.entries)) s.view.stack ≡ stack_shown (progress (on s x))) (sym e)
-      (λ h. sym (ap stack_of (in_fuel (s.used == s.call.fuel) (next s.contract (state s.view) (joined (invoking s.view s.asked) s.tail)) _ _ h)
+      (λ h. sym (ap stack_of (in_fuel s.setting s.contract (state s.view) (joined (invoking s.view s.asked) s.tail) (s.used == s.call.fuel) _ _ h)
       ∙ (asking_hidden s).stack []
       ∙ stack_whole s.view.entries s.view.stack s.view.locals (c.Invoke s.asked (listed s.view.code End)) waiting.ordered.stands)) left
 
@@ -226,7 +256,7 @@ module _ (s : Seen) (m : IsMachine s) where
   returned_stack : (r : Option Value) → s.status ≡ status.Ended (Returned r) → drop (height (in_call s.view.entries)) s.view.stack ≡ stack_shown (progress s)
   returned_stack r e =
       subst (λ (x : Status). drop (height (in_call s.view.entries)) s.view.stack ≡ stack_shown (progress (on s x))) (sym e)
-      (sym (ap stack_of (in_fuel (s.used == s.call.fuel) (next s.contract (state s.view) (joined (sequence s.view) s.tail)) _ _ (returned_in r e))
+      (sym (ap stack_of (in_fuel s.setting s.contract (state s.view) (joined (sequence s.view) s.tail) (s.used == s.call.fuel) _ _ (returned_in r e))
       ∙ (running_hidden s (returned_live r e)).stack []
       ∙ stack_whole s.view.entries s.view.stack s.view.locals (listed s.view.code End) (returned_live r e).ordered.stands
       ∙ stack_listed s.view.code _))
@@ -255,26 +285,26 @@ module _ (s : Seen) (m : IsMachine s) where
       by_outcome : (o : Outcome) → s.status ≡ status.Ended o → ((r : Option Value) → o ≡ Returned r → ⊥) → [] ≡ stack_shown (progress (on s (status.Ended o)))
       by_outcome (Returned r) e other = absurd (other r refl)
       by_outcome (Trapped t) e other = refl
-      by_outcome OutOfFuel e other = sym (ap stack_of (out_of_fuel (s.used == s.call.fuel) (next s.contract (state s.view) (joined (sequence s.view) s.tail)) _ _ (out_at_end e)))
-      by_outcome (Rejected n) e other = absurd (no_rejection s.contract s.call.fuel s.used _ (Rejected n) (over_of s m (Rejected n) e).ends)
+      by_outcome OutOfFuel e other = sym (ap stack_of (out_of_fuel s.setting s.contract (state s.view) (joined (sequence s.view) s.tail) (s.used == s.call.fuel) _ _ (out_at_end e)))
+      by_outcome (Rejected n) e other = absurd (no_rejection s.setting s.contract s.call.fuel s.used (with_tail s.tail (config s.view)) n (ended_by s.setting s.call.fuel s.used (alone s.contract (with_tail s.tail (config s.view))) (Rejected n) [] (over_of s m (Rejected n) e).ends))
 
   pub ended_place : (o : Outcome) → s.status ≡ status.Ended o → None ≡ place_shown (progress s)
   ended_place o e = subst (λ (x : Status). None ≡ place_shown (progress (on s x))) (sym e) (by_outcome o e)
     where
       by_outcome : (o : Outcome) → s.status ≡ status.Ended o → None ≡ place_shown (progress (on s (status.Ended o)))
       by_outcome (Returned r) e =
-          sym (ap place_of (in_fuel (s.used == s.call.fuel) (next s.contract (state s.view) (joined (sequence s.view) s.tail)) _ _ (returned_in r e))
+          sym (ap place_of (in_fuel s.setting s.contract (state s.view) (joined (sequence s.view) s.tail) (s.used == s.call.fuel) _ _ (returned_in r e))
           ∙ (running_hidden s (returned_live r e)).place None
           ∙ place_whole s.view.entries s.view.stack s.view.locals (listed s.view.code End)
           ∙ ap (λ (is : List Item). place_in (function_in (in_call s.view.entries)) (listed is End)) (over_of s m (Returned r) e).at_end.1)
       by_outcome (Trapped t) e = refl
-      by_outcome OutOfFuel e = sym (ap place_of (out_of_fuel (s.used == s.call.fuel) (next s.contract (state s.view) (joined (sequence s.view) s.tail)) _ _ (out_at_end e)))
-      by_outcome (Rejected n) e = absurd (no_rejection s.contract s.call.fuel s.used _ (Rejected n) (over_of s m (Rejected n) e).ends)
+      by_outcome OutOfFuel e = sym (ap place_of (out_of_fuel s.setting s.contract (state s.view) (joined (sequence s.view) s.tail) (s.used == s.call.fuel) _ _ (out_at_end e)))
+      by_outcome (Rejected n) e = absurd (no_rejection s.setting s.contract s.call.fuel s.used (with_tail s.tail (config s.view)) n (ended_by s.setting s.call.fuel s.used (alone s.contract (with_tail s.tail (config s.view))) (Rejected n) [] (over_of s m (Rejected n) e).ends))
 
   pub running_place : s.status ≡ status.Running → is_out (ending (progress s)) ≡ false → place_in (function_in (in_call s.view.entries)) (listed s.view.code End) ≡ place_shown (progress s)
   running_place e left =
       subst (λ (x : Status). is_out (ending (progress (on s x))) ≡ false → place_in (function_in (in_call s.view.entries)) (listed s.view.code End) ≡ place_shown (progress (on s x))) (sym e)
-      (λ h. sym (ap place_of (in_fuel (s.used == s.call.fuel) (next s.contract (state s.view) (joined (sequence s.view) s.tail)) _ _ h)
+      (λ h. sym (ap place_of (in_fuel s.setting s.contract (state s.view) (joined (sequence s.view) s.tail) (s.used == s.call.fuel) _ _ h)
       ∙ (running_hidden s (live_of s m e)).place None
       ∙ place_whole s.view.entries s.view.stack s.view.locals (listed s.view.code End))) left
 
@@ -284,9 +314,9 @@ module _ (s : Seen) (m : IsMachine s) where
       by_status : (y : Status) → IsShown y → s.status ≡ y → (y ≡ status.Running → is_out (ending (progress s)) ≡ true) → None ≡ place_shown (progress (on s y))
       by_status status.Running o e out =
           let h : is_out (ending (progress (on s status.Running))) ≡ true = subst (λ (z : Status). is_out (ending (progress (on s z))) ≡ true) e (out refl) in
-          sym (ap place_of (out_of_fuel (s.used == s.call.fuel) (next s.contract (state s.view) (joined (sequence s.view) s.tail)) _ _ h))
+          sym (ap place_of (out_of_fuel s.setting s.contract (state s.view) (joined (sequence s.view) s.tail) (s.used == s.call.fuel) _ _ h))
       by_status (status.Asking op) o e out =
-          sym (ap place_of (in_fuel (s.used == s.call.fuel) (next s.contract (state s.view) (joined (invoking s.view s.asked) s.tail)) _ _
+          sym (ap place_of (in_fuel s.setting s.contract (state s.view) (joined (invoking s.view s.asked) s.tail) (s.used == s.call.fuel) _ _
           (ap is_out (subst (λ (z : Status). ending (progress (on s z)) ≡ None) e (asks_on s m op e))))
           ∙ (asking_hidden s).place None
           ∙ place_whole s.view.entries s.view.stack s.view.locals (c.Invoke s.asked (listed s.view.code End)))
@@ -318,8 +348,8 @@ module _ (s : Seen) (m : IsMachine s) where
   shows_no_stack x o e h = subst (λ (y : Status). [] ≡ stack_shown (progress (on s y))) (sym e) (by_status x o e (subst (λ (y : Status). leaves_stack (ending (progress (on s y))) ≡ false) e h))
     where
       by_status : (y : Status) → IsShown y → s.status ≡ y → leaves_stack (ending (progress (on s y))) ≡ false → [] ≡ stack_shown (progress (on s y))
-      by_status status.Running o e h = sym (ap stack_of (out_of_fuel (s.used == s.call.fuel) (next s.contract (state s.view) (joined (sequence s.view) s.tail)) _ _ (no_stack_out (s.used == s.call.fuel) (next s.contract (state s.view) (joined (sequence s.view) s.tail)) h)))
-      by_status (status.Asking op) o e h = sym (ap stack_of (out_of_fuel (s.used == s.call.fuel) (next s.contract (state s.view) (joined (invoking s.view s.asked) s.tail)) _ _ (no_stack_out (s.used == s.call.fuel) (next s.contract (state s.view) (joined (invoking s.view s.asked) s.tail)) h)))
+      by_status status.Running o e h = sym (ap stack_of (out_of_fuel s.setting s.contract (state s.view) (joined (sequence s.view) s.tail) (s.used == s.call.fuel) _ _ (no_stack_out s.setting s.contract (state s.view) (joined (sequence s.view) s.tail) (s.used == s.call.fuel) h)))
+      by_status (status.Asking op) o e h = sym (ap stack_of (out_of_fuel s.setting s.contract (state s.view) (joined (invoking s.view s.asked) s.tail) (s.used == s.call.fuel) _ _ (no_stack_out s.setting s.contract (state s.view) (joined (invoking s.view s.asked) s.tail) (s.used == s.call.fuel) h)))
       by_status (status.Fallen t) o e h = refl
       by_status (status.Ended r) o e h = subst (λ (y : Status). [] ≡ stack_shown (progress (on s y))) e (ended_stack r e (λ v q. absurd (true≢false (sym (ap leaves_stack (subst (λ (y : Status). ending (progress (on s y)) ≡ Some r) e (tells_end s m r e) ∙ ap Some q)) ∙ h))))
       by_status status.NoMemory o e h = absurd o

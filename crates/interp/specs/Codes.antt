@@ -1,6 +1,6 @@
 -- Codes of modules, calls and machines, by which a proof tells values apart.
-use Rattle.std.specs.Prelude.{◌≡◌, ◌⊎◌, ℕ, Bool, List, Option, refl}
-use Rattle.std.specs.Coded.{Coded, code_by, coded×, coded⊎, coded_ℕ, coded_bool, coded_list, coded_option}
+use Rattle.std.specs.Prelude.{◌≡◌, ◌⊎◌, ℕ, ℤ, Bool, List, Option, refl}
+use Rattle.std.specs.Coded.{Coded, code_by, coded×, coded⊎, coded_ℕ, coded_ℤ, coded_bool, coded_list, coded_option}
 use mathlib.Core.Logic.{inl, inr}
 use Rattle.wtypes.specs.contracts.ValType as valtype
 use Rattle.wtypes.specs.contracts.Value as value
@@ -10,7 +10,9 @@ use Rattle.wtypes.specs.declared.Value.{Value}
 use Rattle.wtypes.specs.declared.HostCall.{HostCall}
 use Rattle.spec_syntax.specs.Syntax.{Instrs, FuncType, Limits, GlobalType, ImportDesc, ImportFunc, ImportTable, ImportMemory, ImportGlobal, ExportDesc, ExportFunc, ExportTable, ExportMemory, ExportGlobal, Import, Func, Global, Export, Element, DataSegment, Module}
 use Rattle.spec_syntax.specs.Codes.{coded_instrs}
-use Rattle.spec_execution.specs.Configuration.{Deployed, Contract}
+use Rattle.spec_execution.specs.Configuration.{Setting, Deployed, Contract, Config}
+use Rattle.spec_execution.specs.Codes.{coded_config}
+use Rattle.spec_execution.specs.Levels.{Level, Levels}
 use Rattle.spec_execution.specs.Run.{ContractCall}
 
 abbrev pub coded_numbers : Coded (List ℕ)
@@ -113,6 +115,17 @@ coded_deployed = code_by (Module × List HostCall) (coded× coded_module (coded_
 
 abbrev pub coded_contract : Coded Contract
 coded_contract = code_by (ℕ × Deployed) (coded× coded_ℕ coded_deployed) (λ c. (c.number, c.deployed)) (λ p. record { number = p.0; deployed = p.1 }) (λ _. refl)
+
+abbrev pub coded_setting : Coded Setting
+coded_setting = code_by (List Deployed) (coded_list coded_deployed) (λ s. s.contracts) (λ ds. record { contracts = ds }) (λ _. refl)
+
+abbrev pub coded_level : Coded Level
+coded_level =
+    code_by (Contract × (Config × ℤ)) (coded× coded_contract (coded× coded_config coded_ℤ))
+    (λ l. (l.contract, (l.config, l.answer))) (λ p. record { contract = p.0; config = p.1.0; answer = p.1.1 }) (λ _. refl)
+
+abbrev pub coded_levels : Coded Levels
+coded_levels = code_by (Level × List Level) (coded× coded_level (coded_list coded_level)) (λ c. (c.inner, c.outer)) (λ p. record { inner = p.0; outer = p.1 }) (λ _. refl)
 
 abbrev pub coded_call : Coded ContractCall
 coded_call =

@@ -3,10 +3,13 @@ use Rattle.std.specs.Prelude.{List, map}
 use Rattle.module_tree.specs.Modules.{module_view}
 use Rattle.link.specs.declared.deployed.Deployed as in_memory
 use Rattle.link.specs.Parts.{tree_of, hosts_of}
-use Rattle.spec_execution.specs.Configuration.{Deployed}
+use Rattle.spec_execution.specs.Configuration.{Setting, Deployed}
 
 abbrev pub contract_view : {A : Type 0} → in_memory.Deployed A → Deployed
 contract_view d = record { tree = module_view (tree_of d); hosts = hosts_of d }
 
 abbrev pub contracts_view : {A : Type 0} → List (in_memory.Deployed A) → List Deployed
 contracts_view ds = map contract_view ds
+
+abbrev pub setting_view : {A : Type 0} → List (in_memory.Deployed A) → Setting
+setting_view ds = record { contracts = contracts_view ds }

@@ -12,9 +12,10 @@ use Rattle.spec_ledger.specs.declared.Reply.TheVariants as reply
 use Rattle.spec_ledger.specs.declared.Step.{Step}
 use Rattle.spec_ledger.specs.declared.Outcome.{Outcome}
 use Rattle.spec_ledger.specs.declared.Outcome.TheVariants.{Returned, Trapped, OutOfFuel, Rejected}
-use Rattle.spec_execution.specs.Configuration.{Deployed, Contract, Seq, End, Config, Trap}
-use Rattle.spec_execution.specs.Reduction.{Asks, replied}
-use Rattle.spec_execution.specs.Run.{ContractCall, opening, Opens, first, next, Reached, Ends, IsSafe}
+use Rattle.spec_execution.specs.Configuration.{Setting, Contract, Seq, End, Config, Trap}
+use Rattle.spec_execution.specs.Reduction.{Of, Asks, replied}
+use Rattle.spec_execution.specs.Run.{ContractCall, opening, Opens, next}
+use Rattle.spec_execution.specs.Levels.{Levels, alone, first_level, Reached, Ends, IsSafe}
 use Rattle.spec_execution.specs.Turns.{Frees, IsAtRest}
 use Rattle.interp.specs.declared.turns.Status.{Status}
 use Rattle.interp.specs.declared.turns.Status.TheVariants as status
@@ -24,9 +25,9 @@ use Rattle.sequences.specs.Meaning.{View, height, whole, listed, config, calling
 use Rattle.interp.specs.Progress.{Progress, GoesOn, IsStartOf}
 use Rattle.sequences.specs.Tails.{with_tail}
 
--- the parts of a machine in the words of the definitions; tail is what waits behind all that is open, asked the number of the import that is called while the host is asked
+-- the parts of a machine in the words of the definitions, of one level, since no machine makes another; tail is what waits behind all that is open, asked the number of the import that is called while the host is asked
 pub record Seen : Type 0 where
-  pub contracts : List Deployed
+  pub setting : Setting
   pub call : ContractCall
   pub contract : Contract
   pub func : ℕ
@@ -40,8 +41,8 @@ pub record Seen : Type 0 where
 abbrev pub on : Seen → Status → Seen
 on s x = record s { status = x }
 
-abbrev pub first_of : Seen → Config
-first_of s = first s.contract s.func s.call.args
+abbrev pub first_of : Seen → Levels
+first_of s = first_level s.contract s.func s.call.args
 
 abbrev pub ended_at : View → Outcome → Config
 ended_at v (Trapped t) = Trap (state v) t
@@ -56,11 +57,15 @@ config_at v f (status.Asking op) = calling v f
 config_at v f (status.Ended o) = ended_at v o
 config_at v f status.NoMemory = config v
 
+-- the configuration of its one level
+abbrev pub config_of : Seen → Config
+config_of s = with_tail s.tail (config_at s.view s.asked s.status)
+
 abbrev pub progress : Seen → Progress
-progress s = record { contracts = s.contracts; call = s.call; contract = s.contract; func = s.func; trace = s.trace; used = s.used; config = with_tail s.tail (config_at s.view s.asked s.status); status = s.status }
+progress s = record { setting = s.setting; call = s.call; contract = s.contract; func = s.func; trace = s.trace; used = s.used; config = alone s.contract (config_of s); status = s.status }
 
 abbrev pub Reaches : Seen → Config → Type 0
-Reaches s x = Reached s.contract (first_of s) s.call.fuel s.trace s.used (with_tail s.tail x)
+Reaches s x = Reached s.setting (first_of s) s.call.fuel s.trace s.used (alone s.contract (with_tail s.tail x))
 
 -- how many arguments an operation takes
 abbrev pub params_of : Op → ℕ
@@ -102,7 +107,7 @@ pub record IsWaiting (s : Seen) (op : Op) : Type 0 where
   pub ordered : IsOrdered s.view
   pub within : s.used ≤ s.call.fuel
   pub room : height s.view.entries + params_of op ≤ length s.view.stack
-  pub asks : next s.contract (state s.view) (invoking s.view s.asked) ≡ Asks op (going_on s.view op)
+  pub asks : next s.contract (state s.view) (invoking s.view s.asked) ≡ Asks (Of op) (going_on s.view op)
 
 -- where it returned, no code is left
 abbrev pub IsAtEnd : Seen → Outcome → Type 0
@@ -112,7 +117,7 @@ IsAtEnd s _ = Unit {0}
 -- a run that has ended
 pub record IsOver (s : Seen) (o : Outcome) : Type 0 where
   pub reached : Reaches s (ended_at s.view o)
-  pub ends : Ends s.contract s.call.fuel s.used (with_tail s.tail (ended_at s.view o)) o
+  pub ends : Ends s.setting s.call.fuel s.used (alone s.contract (with_tail s.tail (ended_at s.view o))) o []
   pub within : s.used ≤ s.call.fuel
   pub at_end : IsAtEnd s o
 
@@ -125,21 +130,21 @@ IsAt s status.NoMemory = Unit {0}
 
 -- what each machine keeps
 pub record IsMachine (s : Seen) : Type 0 where
-  pub opens : opening s.contracts s.call ≡ Opens s.contract s.func
-  pub safe : IsSafe s.contract (first_of s) s.call.fuel
+  pub opens : opening s.setting s.call ≡ Opens s.contract s.func
+  pub safe : IsSafe s.setting (first_of s) s.call.fuel
   pub at : IsAt s s.status
 
 -- A call of a function is to come, which was charged or opens the run.
 pub record IsCalling (s : Seen) (f : ℕ) : Type 0 where
-  pub opens : opening s.contracts s.call ≡ Opens s.contract s.func
-  pub safe : IsSafe s.contract (first_of s) s.call.fuel
+  pub opens : opening s.setting s.call ≡ Opens s.contract s.func
+  pub safe : IsSafe s.setting (first_of s) s.call.fuel
   pub reached : Reaches s (calling s.view f)
   pub ordered : IsOrdered s.view
   pub within : s.used ≤ s.call.fuel
 
 -- the same call, trace and fuel
 pub record IsSame (s t : Seen) : Type 0 where
-  pub contracts : t.contracts ≡ s.contracts
+  pub setting : t.setting ≡ s.setting
   pub call : t.call ≡ s.call
   pub contract : t.contract ≡ s.contract
   pub func : t.func ≡ s.func
@@ -149,8 +154,8 @@ pub record IsSame (s t : Seen) : Type 0 where
 -- what comes of a call of a function of the module: free reductions, until an instruction is to come or the run has ended
 pub record IsStarted (s : Seen) (f : ℕ) (t : Seen) : Type 0 where
   pub same : IsSame s t
-  pub frees : Frees s.contract (with_tail s.tail (calling s.view f)) (progress t).config
-  pub at_rest : IsAtRest s.contract (progress t).config
+  pub frees : Frees s.contract (with_tail s.tail (calling s.view f)) (config_of t)
+  pub at_rest : IsAtRest s.contract (config_of t)
   pub goes_on : GoesOn t.status
 
 abbrev pub HasStarted : Seen → ℕ → Turn → Seen → Type 0
@@ -160,14 +165,14 @@ HasStarted s f _ t = ⊥
 
 -- what comes of the beginning: free reductions of the first configuration
 abbrev pub HasBegun : Seen → Turn → Seen → Type 0
-HasBegun s turn.Stepped t = IsStartOf s.contracts s.call (progress t)
+HasBegun s turn.Stepped t = IsStartOf s.setting s.call (progress t)
 HasBegun s turn.NoMemory t = t.status ≡ status.NoMemory
 HasBegun s _ t = ⊥
 
 -- what comes of a call of an import: the host is asked
 pub record IsAskedFor (s : Seen) (f : ℕ) (op : Op) (t : Seen) : Type 0 where
   pub same : IsSame s t
-  pub config : (progress t).config ≡ with_tail s.tail (calling s.view f)
+  pub config : config_of t ≡ with_tail s.tail (calling s.view f)
   pub asking : t.status ≡ status.Asking op
 
 abbrev pub HasAskedFor : Seen → ℕ → Turn → Seen → Type 0

@@ -9,58 +9,55 @@ use Rattle.spec_ledger.specs.declared.Reply.{Reply}
 use Rattle.spec_ledger.specs.declared.Outcome.{Outcome}
 use Rattle.spec_ledger.specs.declared.Outcome.TheVariants.{Trapped}
 use Rattle.spec_syntax.specs.Syntax.{Instr}
-use Rattle.spec_execution.specs.Configuration.{Deployed, Contract, Seq, End, Val, Code, Free, Label, Frame, Invoke, State, Config, Running, Trap}
-use Rattle.spec_execution.specs.Reduction.{Asks}
-use Rattle.spec_execution.specs.Codes.{coded_config}
-use Rattle.spec_execution.specs.Run.{ContractCall, opening, Opens, first, next, Reduces, Reached, Ends, IsReply}
-use Rattle.spec_execution.specs.Turns.{Frees, IsAtRest, IsTurn}
+use Rattle.spec_execution.specs.Configuration.{Setting, Contract, Seq, End, Val, Code, Free, Label, Frame, Invoke, State, Config, Running, Trap}
+use Rattle.spec_execution.specs.Run.{ContractCall, opening, Opens, IsReply}
+use Rattle.spec_execution.specs.Levels.{Levels, On, Host, alone, first_level, move, Reached, Ends}
+use Rattle.spec_execution.specs.Turning.{FreeMoves, Rests, IsTurn}
 use Rattle.operands.specs.Taking.{takes_memory}
 use Rattle.interp.specs.contracts.turns.Status as status_of
 use Rattle.interp.specs.declared.turns.Status.{Status}
 use Rattle.interp.specs.declared.turns.Status.TheVariants as status
 use Rattle.interp.specs.declared.turns.Turn.{Turn}
 use Rattle.interp.specs.declared.turns.Turn.TheVariants as turn
-use Rattle.interp.specs.Codes.{coded_deployed, coded_contract, coded_call}
+use Rattle.interp.specs.Codes.{coded_setting, coded_contract, coded_levels, coded_call}
 use Rattle.interp.specs.Played.{Played}
 
 pub record Progress : Type 0 where
-  pub contracts : List Deployed
+  pub setting : Setting
   pub call : ContractCall
   -- the contract that is called, and the number of the function
   pub contract : Contract
   pub func : ℕ
   pub trace : List Step
   pub used : ℕ
-  pub config : Config
+  pub config : Levels
   pub status : Status
 
 abbrev pub coded_progress : Coded Progress
 coded_progress =
-    code_by (List Deployed × (ContractCall × (Contract × (ℕ × (List Step × (ℕ × (Config × Status)))))))
-    (coded× (coded_list coded_deployed) (coded× coded_call (coded× coded_contract (coded× coded_ℕ (coded× (coded_list step.the_row.coded) (coded× coded_ℕ (coded× coded_config status_of.the_row.coded)))))))
-    (λ m. (m.contracts, (m.call, (m.contract, (m.func, (m.trace, (m.used, (m.config, m.status))))))))
-    (λ p. record { contracts = p.0; call = p.1.0; contract = p.1.1.0; func = p.1.1.1.0; trace = p.1.1.1.1.0; used = p.1.1.1.1.1.0; config = p.1.1.1.1.1.1.0; status = p.1.1.1.1.1.1.1 }) (λ _. refl)
+    code_by (Setting × (ContractCall × (Contract × (ℕ × (List Step × (ℕ × (Levels × Status)))))))
+    (coded× coded_setting (coded× coded_call (coded× coded_contract (coded× coded_ℕ (coded× (coded_list step.the_row.coded) (coded× coded_ℕ (coded× coded_levels status_of.the_row.coded)))))))
+    (λ m. (m.setting, (m.call, (m.contract, (m.func, (m.trace, (m.used, (m.config, m.status))))))))
+    (λ p. record { setting = p.0; call = p.1.0; contract = p.1.1.0; func = p.1.1.1.0; trace = p.1.1.1.1.0; used = p.1.1.1.1.1.0; config = p.1.1.1.1.1.1.0; status = p.1.1.1.1.1.1.1 }) (λ _. refl)
 
 -- The host is asked for this operation.
-pub record IsAsking (c : Contract) (config : Config) (op : Op) : Type 0 where
-  pub state : State
-  pub seq : Seq
-  pub go : Reply → Seq
-  pub is : config ≡ Running state seq
-  pub asks : next c state seq ≡ Asks op go
+pub record IsAsking (setting : Setting) (config : Levels) (op : Op) : Type 0 where
+  pub go : Reply → Levels
+  pub asks : move setting config ≡ Host op go
 
 -- what the status says of the configuration
 abbrev pub IsAs : Progress → Status → Type 0
-IsAs p status.Running = IsAtRest p.contract p.config
-IsAs p (status.Fallen t) = Ends p.contract p.call.fuel p.used p.config (Trapped t)
-IsAs p (status.Asking op) = IsAsking p.contract p.config op
-IsAs p (status.Ended o) = Ends p.contract p.call.fuel p.used p.config o
+IsAs p status.Running = Rests p.setting p.config
+IsAs p (status.Fallen t) = Ends p.setting p.call.fuel p.used p.config (Trapped t) []
+IsAs p (status.Asking op) = IsAsking p.setting p.config op
+IsAs p (status.Ended o) = Ends p.setting p.call.fuel p.used p.config o []
 IsAs p status.NoMemory = Unit {0}
 
--- It has come to this configuration on a run of its call over its contracts.
+-- It has come to this configuration, which is one level, on a run of its call over its contracts.
 pub record IsOnRun (p : Progress) : Type 0 where
-  pub opens : opening p.contracts p.call ≡ Opens p.contract p.func
-  pub reached : Reached p.contract (first p.contract p.func p.call.args) p.call.fuel p.trace p.used p.config
+  pub opens : opening p.setting p.call ≡ Opens p.contract p.func
+  pub reached : Reached p.setting (first_level p.contract p.func p.call.args) p.call.fuel p.trace p.used p.config
+  pub one_level : p.config ≡ alone p.contract p.config.inner.config
   pub within : p.used ≤ p.call.fuel
   pub is_as : IsAs p p.status
 
@@ -74,7 +71,7 @@ pub record IsProgress (p : Progress) : Type 0 where
 
 -- the same call over the same contracts
 pub record IsSameCall (p q : Progress) : Type 0 where
-  pub contracts : q.contracts ≡ p.contracts
+  pub setting : q.setting ≡ p.setting
   pub call : q.call ≡ p.call
   pub contract : q.contract ≡ p.contract
   pub func : q.func ≡ p.func
@@ -90,26 +87,26 @@ GoesOn status.Running = Unit {0}
 GoesOn (status.Fallen t) = Unit {0}
 GoesOn _ = ⊥
 
--- one charged reduction, and the free ones that follow
+-- one charged move, and the free ones that follow
 pub record HasStepped (p q : Progress) : Type 0 where
   pub same : IsSameCall p q
   pub trace : q.trace ≡ p.trace
   pub used : q.used ≡ p.used + 1
-  pub turn : IsTurn p.contract p.config [] q.config
+  pub turn : IsTurn p.setting p.config [] q.config
   pub goes_on : GoesOn q.status
 
--- the charged reduction of a call of an import, which asks for an operation
+-- the charged move of a call of an import, which asks for an operation
 pub record HasAsked (p : Progress) (op : Op) (q : Progress) : Type 0 where
   pub same : IsSameCall p q
   pub trace : q.trace ≡ p.trace
   pub used : q.used ≡ p.used + 1
-  pub charged : Reduces p.contract p.config 1 q.config
+  pub charged : move p.setting p.config ≡ On 1 [] q.config
   pub asking : q.status ≡ status.Asking op
 
 -- the run has ended, and no turn is made
 pub record IsDone (p : Progress) (o : Outcome) (q : Progress) : Type 0 where
   pub same : q ≡ record p { status = status.Ended o }
-  pub ends : Ends p.contract p.call.fuel p.used p.config o
+  pub ends : Ends p.setting p.call.fuel p.used p.config o []
 
 -- what a turn does, by what it answers
 abbrev pub NextIs : Progress → Turn → Progress → Type 0
@@ -138,7 +135,7 @@ instr_of (Trap s t) = None
 pub record MayTakeMemory (p : Progress) : Type 0 where
   pub fuel : p.used < p.call.fuel
   pub instr : Instr
-  pub to_come : instr_of p.config ≡ Some instr
+  pub to_come : instr_of p.config.inner.config ≡ Some instr
   pub takes : takes_memory instr ≡ true
 
 -- Memory was refused before; or the run goes on, by an instruction that may take memory.
@@ -167,9 +164,9 @@ pub record HasReplied (p : Progress) (op : Op) (r : Reply) (q : Progress) : Type
   pub same : IsSameCall p q
   pub trace : q.trace ≡ p.trace ++ Did op r ∷ []
   pub used : q.used ≡ p.used
-  pub asked : IsAsking p.contract p.config op
-  pub frees : Frees p.contract (Running asked.state (asked.go r)) q.config
-  pub at_rest : IsAtRest p.contract q.config
+  pub asked : IsAsking p.setting p.config op
+  pub frees : FreeMoves p.setting (asked.go r) [] q.config
+  pub at_rest : Rests p.setting q.config
   pub running : q.status ≡ status.Running
 
 abbrev pub AnsweredAt : Progress → Reply → Progress → Status → Type 0
@@ -181,7 +178,7 @@ HasAnswered p r q = AnsweredAt p r q p.status
 
 -- what a machine that has ended gives
 pub record IsFinishOf (p : Progress) (f : Played) : Type 0 where
-  pub contracts : f.contracts ≡ p.contracts
+  pub setting : f.setting ≡ p.setting
   pub call : f.call ≡ p.call
   pub trace : f.trace ≡ p.trace
   pub used : f.used ≡ p.used
@@ -192,11 +189,11 @@ IsUnfinished (status.Ended o) = ⊥
 IsUnfinished _ = Unit {0}
 
 -- the machine of a call, before the first turn: the opening's free reductions are made
-pub record IsStartOf (lent : List Deployed) (call : ContractCall) (p : Progress) : Type 0 where
-  pub contracts : p.contracts ≡ lent
+pub record IsStartOf (lent : Setting) (call : ContractCall) (p : Progress) : Type 0 where
+  pub setting : p.setting ≡ lent
   pub call_is : p.call ≡ call
   pub trace : p.trace ≡ []
   pub used : p.used ≡ 0
-  pub frees : Frees p.contract (first p.contract p.func p.call.args) p.config
-  pub at_rest : IsAtRest p.contract p.config
+  pub frees : FreeMoves p.setting (first_level p.contract p.func p.call.args) [] p.config
+  pub at_rest : Rests p.setting p.config
   pub goes_on : GoesOn p.status

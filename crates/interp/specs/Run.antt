@@ -6,16 +6,17 @@ use Rattle.frames.specs.Views.{view}
 use Rattle.operands.specs.Lent.{contract_of, base_of}
 use Rattle.frames.specs.Steps.{IsCounted}
 use Rattle.execute.specs.Steps.{Suits}
-use Rattle.interp.specs.Lent.{contracts_view}
+use Rattle.interp.specs.Lent.{setting_view}
 use Rattle.frames.specs.Waiting.{alone, tail_of, Waits, HasEach}
 use Rattle.interp.specs.declared.turns.Status.TheVariants as status
 use Rattle.spec_execution.specs.Configuration.{End, Invoke, arguments, fresh}
-use Rattle.spec_execution.specs.Run.{opening, Opens, IsSafe}
+use Rattle.spec_execution.specs.Run.{opening, Opens}
+use Rattle.spec_execution.specs.Levels.{IsSafe}
 use Rattle.interp.specs.Machine.{Seen, first_of, IsMachine, IsCalling, HasRoom}
 
 abbrev pub seen : {A : Type 0} → Run A → Seen
 seen r = record {
-  contracts = contracts_view r.contracts.now;
+  setting = setting_view r.contracts.now;
   call = r.call.now;
   contract = contract_of r.lent;
   func = r.func;
@@ -37,8 +38,8 @@ pub record IsKept {A : Type 0} (r : Run A) : Type 0 where
 
 -- its call opens, and is safe
 pub record IsBegun {A : Type 0} (r : Run A) : Type 0 where
-  pub opens : opening (seen r).contracts (seen r).call ≡ Opens (seen r).contract (seen r).func
-  pub safe : IsSafe (seen r).contract (first_of (seen r)) (seen r).call.fuel
+  pub opens : opening (seen r).setting (seen r).call ≡ Opens (seen r).contract (seen r).func
+  pub safe : IsSafe (seen r).setting (first_of (seen r)) (seen r).call.fuel
   pub suits : Suits (contract_of r.lent) r.parts
   pub waits : Waits (contract_of r.lent) r.call.now.args r.waiting
   pub place : HasEach r.waiting

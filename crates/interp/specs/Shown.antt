@@ -2,11 +2,10 @@
 use Rattle.std.specs.Prelude.{◌≡◌, ℕ, ◌+◌, ◌==◌, ◌&&◌, ◌<◌, ◌≤◌, Bool, true, false, List, [], Option, Some, None, Result, Ok, Err, if◌then◌else◌, length, take, drop, Vec}
 use Rattle.wtypes.specs.declared.Value.{Value}
 use Rattle.spec_ledger.specs.declared.Outcome.{Outcome}
-use Rattle.spec_ledger.specs.declared.Outcome.TheVariants.{Returned, Trapped, OutOfFuel}
-use Rattle.spec_execution.specs.Configuration.{Contract, Config, Running, Trap}
-use Rattle.spec_execution.specs.Reduction.{Next, Ended}
-use Rattle.spec_execution.specs.Run.{next, result_of}
-use Rattle.spec_execution.specs.Turns.{is_to_come, shown, state_of, stack_of, locals_of, place_of}
+use Rattle.spec_ledger.specs.declared.Outcome.TheVariants.{Returned, OutOfFuel}
+use Rattle.spec_execution.specs.Configuration.{Setting, Config}
+use Rattle.spec_execution.specs.Levels.{Levels, Move, On, Over, move}
+use Rattle.spec_execution.specs.Turns.{shown, state_of, stack_of, locals_of, place_of}
 use Rattle.interp.specs.declared.readers.BytesRefusal.{BytesRefusal}
 use Rattle.interp.specs.declared.readers.BytesRefusal.TheVariants as refusal
 use Rattle.interp.specs.declared.turns.Status.{Status}
@@ -14,13 +13,13 @@ use Rattle.interp.specs.declared.turns.Status.TheVariants as status
 use Rattle.interp.specs.Progress.{Progress}
 
 -- how a run has ended, if it has
-abbrev pub ending_by : (out : Bool) → Next → Option Outcome
-ending_by out (Ended vs) = Some (Returned (result_of vs))
-ending_by out n = if out && is_to_come n then Some OutOfFuel else None
+abbrev pub ending_by : (out : Bool) → Move → Option Outcome
+ending_by out (Over o) = Some o
+ending_by out (On charge marks c) = if out && (charge == 1) then Some OutOfFuel else None
+ending_by out _ = None
 
-abbrev pub ending_of : Contract → (limit k : ℕ) → Config → Option Outcome
-ending_of c limit k (Running s seq) = ending_by (k == limit) (next c s seq)
-ending_of c limit k (Trap s t) = Some (Trapped t)
+abbrev pub ending_of : Setting → (limit k : ℕ) → Levels → Option Outcome
+ending_of setting limit k c = ending_by (k == limit) (move setting c)
 
 -- the locals of the innermost frame, where the run has not ended
 abbrev pub unless_ended : Option Outcome → List Value → List Value
@@ -37,20 +36,20 @@ leaves_stack None = true
 leaves_stack (Some (Returned r)) = true
 leaves_stack (Some _) = false
 
--- ---- of a machine
+-- ---- of a machine: what its innermost level shows
 
 abbrev pub ending : Progress → Option Outcome
-ending p = ending_of p.contract p.call.fuel p.used p.config
+ending p = ending_of p.setting p.call.fuel p.used p.config
 
 -- what is shown: where the fuel is out, the state alone
 abbrev pub config_shown : Progress → Config
-config_shown p = shown p.contract p.call.fuel p.used p.config
+config_shown p = shown p.config.inner.contract p.call.fuel p.used p.config.inner.config
 
 abbrev pub stack_shown : Progress → List Value
 stack_shown p = stack_of (config_shown p)
 
 abbrev pub locals_shown : Progress → List Value
-locals_shown p = unless_ended (ending p) (locals_of p.config)
+locals_shown p = unless_ended (ending p) (locals_of p.config.inner.config)
 
 abbrev pub place_shown : Progress → Option (ℕ × ℕ)
 place_shown p = place_of (config_shown p)

@@ -1,7 +1,7 @@
 -- Whether a call starts.
 use Rattle.std.specs.Prelude.{◌≡◌, ℕ, List, [], Option, Some, None, slice_get, option_and_then}
 use Rattle.spec_ledger.specs.declared.Outcome.TheVariants.{Rejected}
-use Rattle.spec_execution.specs.Configuration.{Deployed}
+use Rattle.spec_execution.specs.Configuration.{Setting}
 use Rattle.spec_execution.specs.Run.{ContractCall, Opening, Opens, Refused, opening}
 use Rattle.opening.specs.Views.{wrong_of}
 use Rattle.interp.specs.declared.start.StartRefusal.{StartRefusal}
@@ -23,8 +23,8 @@ IsRefusedFor NoContract o = o ≡ Refused 6
 IsRefusedFor NoMemory o = IsOpened o
 
 -- the least argument that is not of its parameter's type, in a call over these contracts
-abbrev pub wrong_in : List Deployed → ContractCall → Option ℕ
-wrong_in contracts call = option_and_then (wrong_of call) (slice_get contracts call.contract)
+abbrev pub wrong_in : Setting → ContractCall → Option ℕ
+wrong_in setting call = option_and_then (wrong_of call) (slice_get setting.contracts call.contract)
 
 -- a refusal for an argument's type has this argument's place
 abbrev pub HasPlace : Option ℕ → StartRefusal → Type 0
@@ -32,11 +32,11 @@ HasPlace wrong (ArgType place) = wrong ≡ Some place
 HasPlace wrong _ = Unit {0}
 
 -- the empty run of a call that is refused
-pub record IsRejection (contracts : List Deployed) (call : ContractCall) (f : Played) : Type 0 where
-  pub lent : f.contracts ≡ contracts
+pub record IsRejection (setting : Setting) (call : ContractCall) (f : Played) : Type 0 where
+  pub lent : f.setting ≡ setting
   pub call_is : f.call ≡ call
   pub trace : f.trace ≡ []
   pub used : f.used ≡ 0
   pub code : ℕ
   pub outcome : f.outcome ≡ Rejected code
-  pub refused : opening contracts call ≡ Refused code
+  pub refused : opening setting call ≡ Refused code

@@ -3,7 +3,7 @@ ghost use Rattle.std.specs.Prelude.{◌≡◌, Some, option_map, IfSome, IfNone}
 ghost use Rattle.spec_execution.specs.Run.{opening};
 ghost use Rattle.interp.specs.Played.{IsPlayed};
 ghost use Rattle.interp.specs.Starting.{IsOpened, IsRejection};
-ghost use Rattle.interp.specs.Lent.{contracts_view};
+ghost use Rattle.interp.specs.Lent.{setting_view};
 
 use crate::start::open_call;
 use call::Call;
@@ -25,15 +25,15 @@ pub struct Finished<'a, A: Allocator> {
 
 impl<'a, A: Allocator> Model for Finished<'a, A> {
     ghost use Rattle.interp.specs.Played.{Played, coded_played, IsPlayed};
-    ghost use Rattle.interp.specs.Lent.{contracts_view};
+    ghost use Rattle.interp.specs.Lent.{setting_view};
 
     ghost Value = { Played };
 
     ghost coded = { coded_played };
 
-    ghost view = { λ f. record { contracts = contracts_view f.contracts.now; call = f.call.now; trace = f.trace.items; outcome = f.outcome; used = f.used } };
+    ghost view = { λ f. record { setting = setting_view f.contracts.now; call = f.call.now; trace = f.trace.items; outcome = f.outcome; used = f.used } };
 
-    ghost invariant = { λ f. IsPlayed (record { contracts = contracts_view f.contracts.now; call = f.call.now; trace = f.trace.items; outcome = f.outcome; used = f.used }) };
+    ghost invariant = { λ f. IsPlayed (record { setting = setting_view f.contracts.now; call = f.call.now; trace = f.trace.items; outcome = f.outcome; used = f.used }) };
 }
 
 impl<'a, A: Allocator + Copy> Finished<'a, A> {
@@ -45,8 +45,8 @@ impl<'a, A: Allocator + Copy> Finished<'a, A> {
         outcome: Outcome,
         used: u64,
     ) -> Finished<'a, A>
-        requires { IsPlayed (record { contracts = contracts_view contracts.now; call = call.now; trace = trace.items; outcome = outcome; used = used }) }
-        ensures { result ≡ record { contracts = contracts_view contracts.now; call = call.now; trace = trace.items; outcome = outcome; used = used } }
+        requires { IsPlayed (record { setting = setting_view contracts.now; call = call.now; trace = trace.items; outcome = outcome; used = used }) }
+        ensures { result ≡ record { setting = setting_view contracts.now; call = call.now; trace = trace.items; outcome = outcome; used = used } }
     {
         Finished {
             contracts,
@@ -64,8 +64,8 @@ impl<'a, A: Allocator + Copy> Finished<'a, A> {
         contracts: &'a [Deployed<A>],
         call: &'a Call,
     ) -> Option<Finished<'a, A>>
-        ensures some { IfSome result (λ f. IsRejection (contracts_view contracts.now) call.now f) }
-        ensures none { IfNone result (IsOpened (opening (contracts_view contracts.now) call.now)) }
+        ensures some { IfSome result (λ f. IsRejection (setting_view contracts.now) call.now f) }
+        ensures none { IfNone result (IsOpened (opening (setting_view contracts.now) call.now)) }
     {
         match open_call(contracts, call) {
             Ok(_) => None,
@@ -78,7 +78,7 @@ impl<'a, A: Allocator + Copy> Finished<'a, A> {
 
     /// The contracts.
     pub fn contracts(&self) -> &'a [Deployed<A>]
-        ensures { contracts_view result.now ≡ self.now.contracts }
+        ensures { setting_view result.now ≡ self.now.setting }
     {
         self.contracts
     }

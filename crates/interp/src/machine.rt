@@ -474,7 +474,7 @@ impl<'a, A: Allocator + Copy> Machine<'a, A> {
 
 ghost use Rattle.link.specs.Parts.{hosts_of};
 ghost use Rattle.spec_execution.specs.Run.{opening, Opens};
-ghost use Rattle.interp.specs.Lent.{contract_view, contracts_view};
+ghost use Rattle.interp.specs.Lent.{contract_view, setting_view};
 ghost use Rattle.interp.specs.Progress.{IsStartOf};
 ghost use Rattle.std.specs.Prelude.{IfOk};
 
@@ -482,7 +482,7 @@ impl<'a, A: Allocator + Copy> Machine<'a, A> {
     ghost use Rattle.std.specs.Prelude.{◌≡◌, ◌≤◌, length, IfOk, IfErr};
     ghost use Rattle.link.specs.Parts.{hosts_of};
     ghost use Rattle.spec_execution.specs.Run.{opening, Opens};
-    ghost use Rattle.interp.specs.Lent.{contract_view, contracts_view};
+    ghost use Rattle.interp.specs.Lent.{contract_view, setting_view};
     ghost use Rattle.interp.specs.Progress.{IsStartOf, IsProgress};
     ghost use Rattle.interp.specs.Starting.{IsRefusedFor, HasPlace, wrong_in};
 
@@ -497,10 +497,10 @@ impl<'a, A: Allocator + Copy> Machine<'a, A> {
         contracts: &'a [Deployed<A>],
         call: &'a Call,
     ) -> Result<Machine<'a, A>, StartRefusal>
-        ensures start { IfOk result (λ m. IsStartOf (contracts_view contracts.now) call.now m) }
+        ensures start { IfOk result (λ m. IsStartOf (setting_view contracts.now) call.now m) }
         ensures on_run { IfOk result (λ m. IsProgress m) }
-        ensures refused { IfErr result (λ refusal. IsRefusedFor refusal (opening (contracts_view contracts.now) call.now)) }
-        ensures place { IfErr result (λ refusal. HasPlace (wrong_in (contracts_view contracts.now) call.now) refusal) }
+        ensures refused { IfErr result (λ refusal. IsRefusedFor refusal (opening (setting_view contracts.now) call.now)) }
+        ensures place { IfErr result (λ refusal. HasPlace (wrong_in (setting_view contracts.now) call.now) refusal) }
     {
         match open_call(contracts, call) {
             Ok(Opened { deployed, func }) => {
@@ -521,9 +521,9 @@ impl<'a, A: Allocator + Copy> Machine<'a, A> {
         deployed: &'a Deployed<A>,
         func: u32,
     ) -> Result<Machine<'a, A>, NoMemory>
-        requires opens { opening (contracts_view contracts.now) call.now ≡ Opens (record { number = call.now.contract; deployed = contract_view deployed.now }) func }
+        requires opens { opening (setting_view contracts.now) call.now ≡ Opens (record { number = call.now.contract; deployed = contract_view deployed.now }) func }
         requires defined { length (hosts_of deployed.now) ≤ func }
-        ensures start { IfOk result (λ m. IsStartOf (contracts_view contracts.now) call.now m) }
+        ensures start { IfOk result (λ m. IsStartOf (setting_view contracts.now) call.now m) }
         ensures on_run { IfOk result (λ m. IsProgress m) }
     {
         deployed_calls_are_safe();

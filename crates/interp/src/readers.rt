@@ -120,7 +120,7 @@ fn place_of_run<'a, A: Allocator + Copy>(run: &Run<'a, A>) -> Option<(u32, u32)>
 
 // The globals.
 fn globals_of_run<'b, 'a, A: Allocator + Copy>(run: &'b Run<'a, A>) -> &'b [Value]
-    ensures { result.now ≡ (state_of (progress (seen run.now)).config).globals }
+    ensures { result.now ≡ (state_of (progress (seen run.now)).config.inner.config).globals }
 {
     &run.parts.instance.globals
 }
@@ -131,7 +131,7 @@ fn bytes_of_run<'a, A: Allocator + Copy>(
     from: u64,
     count: u64,
 ) -> Result<Vec<u8, A>, BytesRefusal>
-    ensures { IsReadOf (progress (seen run.now)).config from count result }
+    ensures { IsReadOf (progress (seen run.now)).config.inner.config from count result }
 {
     let memory = &run.parts.instance.memory;
     let length = memory.len() as u64;
@@ -243,7 +243,7 @@ impl<'a, A: Allocator + Copy> Machine<'a, A> {
 
     /// The globals. After the end they are as they stood.
     pub fn globals(&self) -> &[Value]
-        ensures { result.now ≡ (state_of self.now.config).globals }
+        ensures { result.now ≡ (state_of self.now.config.inner.config).globals }
     {
         globals_of_run(&self.run)
     }
@@ -254,7 +254,7 @@ impl<'a, A: Allocator + Copy> Machine<'a, A> {
     ///
     /// `OutOfRange` exactly where the bytes do not all lie in memory, else `NoMemory` where memory was refused.
     pub fn bytes(&self, from: u64, count: u64) -> Result<Vec<u8, A>, BytesRefusal>
-        ensures { IsReadOf self.now.config from count result }
+        ensures { IsReadOf self.now.config.inner.config from count result }
     {
         bytes_of_run(&self.run, from, count)
     }

@@ -4,7 +4,7 @@ ghost use Rattle.spec_execution.specs.Run.{opening, Opens, Refused};
 ghost use Rattle.link.specs.Parts.{hosts_of};
 ghost use Rattle.opening.specs.Views as opening_views;
 ghost use Rattle.opening.specs.Views.{code_of};
-ghost use Rattle.interp.specs.Lent.{contract_view, contracts_view};
+ghost use Rattle.interp.specs.Lent.{contract_view, setting_view};
 ghost use Rattle.interp.specs.Starting.{IsRefusedFor, HasPlace, wrong_in};
 
 use call::Call;
@@ -63,10 +63,10 @@ pub(crate) fn open_call<'a, A: Allocator + Copy>(
     contracts: &'a [Deployed<A>],
     call: &Call,
 ) -> Result<Opened<'a, A>, Refusal>
-    ensures opens { IfOk result (λ opened. opening (contracts_view contracts.now) call.now ≡ Opens (record { number = call.now.contract; deployed = contract_view opened.deployed.now }) opened.func) }
+    ensures opens { IfOk result (λ opened. opening (setting_view contracts.now) call.now ≡ Opens (record { number = call.now.contract; deployed = contract_view opened.deployed.now }) opened.func) }
     ensures defined { IfOk result (λ opened. length (hosts_of opened.deployed.now) ≤ opened.func) }
-    ensures refused { IfErr result (λ refusal. opening (contracts_view contracts.now) call.now ≡ Refused (code_of refusal)) }
-    ensures place { IfErr result (λ refusal. opening_views.HasPlace (wrong_in (contracts_view contracts.now) call.now) refusal) }
+    ensures refused { IfErr result (λ refusal. opening (setting_view contracts.now) call.now ≡ Refused (code_of refusal)) }
+    ensures place { IfErr result (λ refusal. opening_views.HasPlace (wrong_in (setting_view contracts.now) call.now) refusal) }
 {
     let Some(deployed) = contracts.get(call.contract() as usize) else {
         return Err(Refusal::NoContract);

@@ -4,7 +4,7 @@ use Rattle.std.specs.FinMap.{empty}
 use Rattle.spec_ledger.specs.Book.{IsDefined, settled}
 use Rattle.spec_ledger.specs.Cells.{Cells}
 use Rattle.spec_ledger.specs.Modes.{touched}
-use Rattle.spec_execution.specs.Configuration.{Deployed}
+use Rattle.spec_execution.specs.Configuration.{Setting}
 use Rattle.spec_execution.specs.Run.{ContractCall}
 use Rattle.interp.specs.Played.{Played}
 use Rattle.boost.specs.declared.book.Closed.{Closed}
@@ -14,24 +14,24 @@ use Rattle.mining.specs.declared.attempt.Committed.{Committed}
 use Rattle.mining.specs.declared.worker.Worked.{Worked}
 
 -- a run of the call of this number over these contracts
-pub record IsRunOf (contracts : List Deployed) (calls : List ContractCall) (number : ℕ) (f : Played) : Type 0 where
-  pub lent : f.contracts ≡ contracts
+pub record IsRunOf (setting : Setting) (calls : List ContractCall) (number : ℕ) (f : Played) : Type 0 where
+  pub lent : f.setting ≡ setting
   pub call_is : slice_get calls number ≡ Some f.call
 
 -- a run of a call, with the locks that it asked for
-pub record IsCommitted {A : Type 0} (contracts : List Deployed) (calls : List ContractCall) (c : Committed A) : Type 0 where
-  pub run : IsRunOf contracts calls c.call c.finished
+pub record IsCommitted {A : Type 0} (setting : Setting) (calls : List ContractCall) (c : Committed A) : Type 0 where
+  pub run : IsRunOf setting calls c.call c.finished
   pub locks : c.touched ≡ touched c.finished.trace
 
-abbrev pub AreAllRuns : {A : Type 0} → List Deployed → List ContractCall → List (Committed A) → Type 0
-AreAllRuns contracts calls cs = All (IsCommitted contracts calls) cs
+abbrev pub AreAllRuns : {A : Type 0} → Setting → List ContractCall → List (Committed A) → Type 0
+AreAllRuns setting calls cs = All (IsCommitted setting calls) cs
 
-abbrev pub AreRuns : {A : Type 0} → List Deployed → List ContractCall → Worked A → Type 0
-AreRuns contracts calls w = AreAllRuns contracts calls w.committed.items
+abbrev pub AreRuns : {A : Type 0} → Setting → List ContractCall → Worked A → Type 0
+AreRuns setting calls w = AreAllRuns setting calls w.committed.items
 
 -- a run, apart from its locks
-abbrev pub IsMadeRun : {A : Type 0} → List Deployed → List ContractCall → MadeRun A → Type 0
-IsMadeRun contracts calls r = IsRunOf contracts calls r.call r.finished
+abbrev pub IsMadeRun : {A : Type 0} → Setting → List ContractCall → MadeRun A → Type 0
+IsMadeRun setting calls r = IsRunOf setting calls r.call r.finished
 
 -- the entries of a closed book are a serial run over these cells, to the book's, in which nothing is unsettled
 pub record IsSerialBook {A : Type 0} (opening : Cells) (b : Closed A) : Type 0 where
@@ -40,8 +40,8 @@ pub record IsSerialBook {A : Type 0} (opening : Cells) (b : Closed A) : Type 0 w
   pub settled : b.cells.unsettled ≡ empty
 
 -- calls of these over these contracts and opening cells, within this fuel, are being published
-pub record IsJobOf (contracts : List Deployed) (calls : List ContractCall) (opening : Cells) (fuel : ℕ) (p : Publication) : Type 0 where
-  pub lent : p.contracts ≡ contracts
+pub record IsJobOf (setting : Setting) (calls : List ContractCall) (opening : Cells) (fuel : ℕ) (p : Publication) : Type 0 where
+  pub lent : p.setting ≡ setting
   pub calls_are : p.calls ≡ calls
   pub opened_with : p.opening ≡ opening
   pub within : p.fuel ≡ fuel

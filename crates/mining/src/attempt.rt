@@ -2,7 +2,7 @@
 ghost use Rattle.std.specs.Prelude.{◌≡◌, ◌<◌, ◌≤◌, ◌^◌, Ok, true, false, IfOk, OnOk, IfSome, length};
 ghost use Rattle.spec_execution.specs.Run.{IsReply};
 ghost use Rattle.spec_execution.specs.Run.{opening};
-ghost use Rattle.interp.specs.Lent.{contracts_view};
+ghost use Rattle.interp.specs.Lent.{setting_view};
 ghost use Rattle.interp.specs.Starting.{IsOpened, IsRejection};
 ghost use Rattle.interp.specs.Progress.{IsFree, IsSameCall};
 ghost use Rattle.turn_loop.specs.Going.{MayGoOn, IsEnded};
@@ -92,7 +92,7 @@ fn stop_at(refusal: OpRefusal, stops: bool) -> Stop {
 fn ask<A: Allocator + Copy, R: Wait, P: Pace>(
     rt: &R,
     job: &Job<'_, '_, A, P>,
-    ticket: &mut Ticket,
+    ticket: &mut Ticket<A>,
     call: u32,
     n: u64,
     op: Op,
@@ -115,7 +115,7 @@ fn ask<A: Allocator + Copy, R: Wait, P: Pace>(
 fn ask_next<'a, A: Allocator + Copy, R: Wait, P: Pace>(
     rt: &R,
     job: &Job<'_, 'a, A, P>,
-    ticket: &mut Ticket,
+    ticket: &mut Ticket<A>,
     call: u32,
     machine: &mut Machine<'a, A>,
     asked: &mut u64,
@@ -144,13 +144,13 @@ fn ask_next<'a, A: Allocator + Copy, R: Wait, P: Pace>(
 fn run<'a, A: Allocator + Copy, R: Wait, P: Pace>(
     rt: &R,
     job: &Job<'_, 'a, A, P>,
-    ticket: &mut Ticket,
+    ticket: &mut Ticket<A>,
     call: u32,
     mut machine: Machine<'a, A>,
 ) -> Result<Finished<'a, A>, Stop>
     requires free { IsFree machine.status }
     requires limit { machine.call.fuel < 2 ^ 64 }
-    ensures contracts { IfOk result (λ finished. finished.contracts ≡ machine.entry.contracts) }
+    ensures setting { IfOk result (λ finished. finished.setting ≡ machine.entry.setting) }
     ensures call { IfOk result (λ finished. finished.call ≡ machine.entry.call) }
 {
     let mut asked = 0;
@@ -167,8 +167,8 @@ fn rejected<'a, A: Allocator + Copy>(
     contracts: &'a [Contract<A>],
     call: &'a Call,
 ) -> Finished<'a, A>
-    requires { ¬ IsOpened (opening (contracts_view contracts.now) call.now) }
-    ensures { IsRejection (contracts_view contracts.now) call.now result }
+    requires { ¬ IsOpened (opening (setting_view contracts.now) call.now) }
+    ensures { IsRejection (setting_view contracts.now) call.now result }
 {
     match Finished::rejected(alloc, contracts, call) {
         Some(finished) => finished,
@@ -180,11 +180,11 @@ fn rejected<'a, A: Allocator + Copy>(
 fn play<'a, A: Allocator + Copy, R: Wait, P: Pace>(
     rt: &R,
     job: &Job<'_, 'a, A, P>,
-    ticket: &mut Ticket,
+    ticket: &mut Ticket<A>,
     number: u32,
 ) -> Result<Finished<'a, A>, Stop>
     requires { number < length job.now.calls.now }
-    ensures { IfOk result (IsRunOf (contracts_view job.now.contracts.now) job.now.calls.now number) }
+    ensures { IfOk result (IsRunOf (setting_view job.now.contracts.now) job.now.calls.now number) }
 {
     let call = &job.calls[number as usize];
     let _limit = call.fuel();
@@ -199,12 +199,12 @@ fn play<'a, A: Allocator + Copy, R: Wait, P: Pace>(
 fn commit<'a, A: Allocator + Copy, R: Wait, P: Pace>(
     rt: &R,
     job: &Job<'_, 'a, A, P>,
-    ticket: Ticket,
+    ticket: Ticket<A>,
     call: u32,
     finished: Finished<'a, A>,
 ) -> Result<Came<'a, A>, Stop>
-    requires { IsRunOf (contracts_view job.now.contracts.now) job.now.calls.now call finished }
-    ensures { IfOk result (λ came. IfSome came.run (IsCommitted (contracts_view job.now.contracts.now) job.now.calls.now)) }
+    requires { IsRunOf (setting_view job.now.contracts.now) job.now.calls.now call finished }
+    ensures { IfOk result (λ came. IfSome came.run (IsCommitted (setting_view job.now.contracts.now) job.now.calls.now)) }
 {
     if told(job.pace, Step::Commit { call }) {
         job.book.undo(rt, ticket);
@@ -248,7 +248,7 @@ fn attempt<'a, A: Allocator + Copy, R: Wait, P: Pace>(
     nth: u32,
 ) -> Result<Came<'a, A>, Stop>
     requires { call < length job.now.calls.now }
-    ensures { IfOk result (λ came. IfSome came.run (IsCommitted (contracts_view job.now.contracts.now) job.now.calls.now)) }
+    ensures { IfOk result (λ came. IfSome came.run (IsCommitted (setting_view job.now.contracts.now) job.now.calls.now)) }
 {
     if told(job.pace, Step::Attempt { call, nth }) {
         return Err(Stop::Stopped);
@@ -275,7 +275,7 @@ pub(crate) fn try_call<'a, A: Allocator + Copy, R: Wait, P: Pace>(
     call: u32,
 ) -> Result<Came<'a, A>, NoMemory>
     requires { call < length job.now.calls.now }
-    ensures { IfOk result (λ came. IfSome came.run (IsCommitted (contracts_view job.now.contracts.now) job.now.calls.now)) }
+    ensures { IfOk result (λ came. IfSome came.run (IsCommitted (setting_view job.now.contracts.now) job.now.calls.now)) }
 {
     for nth in 0..job.tries {
         job.brake.begin();

@@ -16,9 +16,12 @@ const ROW: u64 = 8;
 #[derive(Drop)]
 pub(crate) struct Brake {
     workers: u64,
+    // (what all workers change stands on other cache lines than what they read)
+    _before: [u64; 8],
     running: AtomicU64,
     most: AtomicU64,
     row: AtomicU64,
+    _behind: [u64; 8],
 }
 
 impl Brake {
@@ -27,9 +30,11 @@ impl Brake {
         let workers = u64::from(workers);
         Brake {
             workers,
+            _before: [0; 8],
             running: AtomicU64::new(0),
             most: AtomicU64::new(workers),
             row: AtomicU64::new(0),
+            _behind: [0; 8],
         }
     }
 

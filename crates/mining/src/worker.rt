@@ -1,6 +1,6 @@
 // A worker: it draws calls until none is left or the pace stops it. The caller draws the rest.
 ghost use Rattle.std.specs.Prelude.{◌≡◌, ◌<◌, IfOk, OnOk, length};
-ghost use Rattle.interp.specs.Lent.{contracts_view};
+ghost use Rattle.interp.specs.Lent.{setting_view};
 ghost use Rattle.intake.specs.Intakes.{IsSeatOf};
 ghost use Rattle.mining.specs.Handed.{AreRuns};
 
@@ -10,6 +10,12 @@ use pace::Pace;
 use spec_ledger::NoMemory;
 use std::alloc::Allocator;
 use std::sync::Wait;
+
+/// How many bytes a piece of room has: fewer than what the C library takes from the system by itself.
+const PIECE: usize = 65_000;
+
+/// For how many calls of a block each worker takes a piece.
+const CALLS_OF_A_PIECE: usize = 512;
 
 /// What a worker hands back.
 #[derive(Drop)]
@@ -29,8 +35,8 @@ fn work_on<'a, A: Allocator + Copy, R: Wait, P: Pace>(
     worked: &mut Worked<'a, A>,
 ) -> Result<bool, NoMemory>
     requires call { call < length job.now.calls.now }
-    requires runs { AreRuns (contracts_view job.now.contracts.now) job.now.calls.now worked.old }
-    ensures { OnOk result (AreRuns (contracts_view job.now.contracts.now) job.now.calls.now worked.new) }
+    requires runs { AreRuns (setting_view job.now.contracts.now) job.now.calls.now worked.old }
+    ensures { OnOk result (AreRuns (setting_view job.now.contracts.now) job.now.calls.now worked.new) }
 {
     let Came { run, stops } = try_call(rt, job, call)?;
     match run {
@@ -38,6 +44,16 @@ fn work_on<'a, A: Allocator + Copy, R: Wait, P: Pace>(
         None => worked.set_aside.push(call)?,
     }
     Ok(stops)
+}
+
+/// Takes memory in large pieces, and gives it back: about a worker's share of what many calls keep. The C library lets the heap of a thread grow
+/// page by page, with a call of the system for each, but what it has grown to once it keeps.
+fn make_room<A: Allocator + Copy>(alloc: A, calls: usize) -> Result<(), NoMemory> {
+    let mut pieces: Vec<Vec<u8, A>, A> = Vec::new(alloc);
+    for _ in 0..calls / CALLS_OF_A_PIECE {
+        pieces.push(Vec::with_capacity(alloc, PIECE)?)?;
+    }
+    Ok(())
 }
 
 /// Draws calls until none is left or the pace stops the worker. A call whose limit cannot be reserved is left out.
@@ -48,8 +64,9 @@ pub(crate) fn work<'a, A: Allocator + Copy, R: Wait, P: Pace>(
 ) -> Result<Worked<'a, A>, NoMemory>
     requires calls { job.now.intake.now.limits.calls ≡ length job.now.calls.now }
     requires seat { IsSeatOf job.now.intake.now seat }
-    ensures { IfOk result (AreRuns (contracts_view job.now.contracts.now) job.now.calls.now) }
+    ensures { IfOk result (AreRuns (setting_view job.now.contracts.now) job.now.calls.now) }
 {
+    make_room(job.alloc, job.calls.len())?;
     let mut worked = Worked {
         committed: Vec::new(job.alloc),
         set_aside: Vec::new(job.alloc),

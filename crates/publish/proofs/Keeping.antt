@@ -10,7 +10,7 @@ use Rattle.spec_ledger.specs.declared.Receipt.{Receipt}
 use Rattle.spec_ledger.specs.Cells.{Cells}
 use Rattle.spec_ledger.specs.Modes.{Modes}
 use Rattle.storage.specs.Counts.{Counts}
-use Rattle.spec_execution.specs.Configuration.{Deployed}
+use Rattle.spec_execution.specs.Configuration.{Setting}
 use Rattle.spec_execution.specs.Run.{ContractCall}
 use Rattle.spec_execution.specs.Exec.{Executes}
 use Rattle.spec_execution.specs.Serial.{Ran, Serial}
@@ -32,7 +32,7 @@ last_or_before order n position call at =
     ]
 
 module _ (p : Publication) (n : ℕ) (call : ContractCall) (at : slice_get p.calls n ≡ Some call) (follows : MayFollow p n) (next : Cells) (r : Ran)
-    (executed : Executes p.contracts call p.cells next r.receipt.outcome r.receipt.used r.touched) (o : IsSerialOrder p) where
+    (executed : Executes p.setting call p.cells next r.receipt.outcome r.receipt.used r.touched) (o : IsSerialOrder p) where
   abbrev followed : Publication
   followed = record p { order = p.order ++ n ∷ []; ran = p.ran ++ r ∷ []; cells = next }
 
@@ -52,7 +52,7 @@ module _ (p : Publication) (n : ℕ) (call : ContractCall) (at : slice_get p.cal
 
   pub order_more : IsSerialOrder followed
   order_more = record {
-    serial = Serial-push p.contracts p.calls p.order p.opening p.cells next p.ran n r call o.serial at executed;
+    serial = Serial-push p.setting p.calls p.order p.opening p.cells next p.ran n r call o.serial at executed;
     distinct = distinct_more;
     known = known_more;
     within = let push = limits_of-push (limits p.calls) p.order n in let fits = follows.room.fits in let within = o.within in omega arith;
@@ -75,9 +75,9 @@ abbrev pub IsKeptWith : Publication → Cells → Beside → Type 0
 IsKeptWith p cells b = IsKept (with_parts p cells b) b.receipts b.touched b.marks b.remaining b.used b.counts
 
 -- nothing is published
-module _ (contracts : List Deployed) (calls : List ContractCall) (opening : Cells) (fuel : ℕ) where
+module _ (setting : Setting) (calls : List ContractCall) (opening : Cells) (fuel : ℕ) where
   abbrev pub opened : Publication
-  opened = record { contracts = contracts; calls = calls; opening = opening; fuel = fuel; order = []; ran = []; cells = opening }
+  opened = record { setting = setting; calls = calls; opening = opening; fuel = fuel; order = []; ran = []; cells = opening }
 
   pub kept_none : (counts : Counts) → length calls < 2 ^ 32 → counts ≡ empty → IsKept opened [] [] (replicate (length calls) false) fuel 0 counts
   kept_none counts few settled = record {
@@ -101,13 +101,13 @@ module _ (contracts : List Deployed) (calls : List ContractCall) (opening : Cell
 -- one call more
 module _ (p : Publication) (b : Beside) (n limit : ℕ) (call : ContractCall) (next : Cells) (r : Receipt) (m : Modes) (kept : IsKeptWith p p.cells b)
     (at : slice_get p.calls n ≡ Some call) (limit_is : limit ≡ call.fuel) (follows : MayFollow (with_parts p p.cells b) n)
-    (executed : Executes p.contracts call p.cells next r.outcome r.used m) where
+    (executed : Executes p.setting call p.cells next r.outcome r.used m) where
   pub fits : limit ≤ b.remaining
   fits = let f = follows.room.fits in let l = limit_at p.calls n call at in let rest = kept.rest in omega arith
 
   pub fits_used : p.fuel < 2 ^ 64 → b.used + r.used < 2 ^ 64
   fits_used top =
-      let within = executes_within p.contracts call p.cells next r.outcome r.used m executed in
+      let within = executes_within p.setting call p.cells next r.outcome r.used m executed in
       let f = fits in let rest = kept.rest in let used = kept.used_within in omega arith
 
   abbrev pub more : Beside
@@ -120,7 +120,7 @@ module _ (p : Publication) (b : Beside) (n limit : ℕ) (call : ContractCall) (n
       let limit_of = limit_at p.calls n call at in
       let used_more = fuel_used-push (positions b.receipts b.touched) (record { receipt = r; touched = m }) in
       let rest = kept.rest in
-      let within = executes_within p.contracts call p.cells next r.outcome r.used m executed in
+      let within = executes_within p.setting call p.cells next r.outcome r.used m executed in
       record {
         order = subst (λ ran. IsSerialOrder (record p { order = b.order ++ n ∷ []; ran = ran; cells = next })) (sym pushed)
             (order_more (with_parts p p.cells b) n call at follows next (record { receipt = r; touched = m }) executed kept.order);
@@ -172,12 +172,12 @@ may_follow p b n call kept at answer says =
 -- ---- what stands
 
 pub gone_nowhere : (p : Publication) → HasGoneOn p p
-gone_nowhere p = record { same = record { contracts = refl; calls = refl; opening = refl; fuel = refl }; more = []; order = sym (append-nil p.order); more_ran = []; ran = sym (append-nil p.ran) }
+gone_nowhere p = record { same = record { setting = refl; calls = refl; opening = refl; fuel = refl }; more = []; order = sym (append-nil p.order); more_ran = []; ran = sym (append-nil p.ran) }
 
 pub gone_further : (p q r : Publication) (n : ℕ) → HasGoneOn p q → HasTaken q n r → HasGoneOn p r
 gone_further p q r n g t = record {
   same = record {
-    contracts = ap (λ (x : Publication). x.contracts) t.is ∙ g.same.contracts;
+    setting = ap (λ (x : Publication). x.setting) t.is ∙ g.same.setting;
     calls = ap (λ (x : Publication). x.calls) t.is ∙ g.same.calls;
     opening = ap (λ (x : Publication). x.opening) t.is ∙ g.same.opening;
     fuel = ap (λ (x : Publication). x.fuel) t.is ∙ g.same.fuel;
@@ -190,11 +190,11 @@ gone_further p q r n g t = record {
 
 -- ---- how much there is
 
-serial_length : (contracts : List Deployed) (calls : List ContractCall) (order : List ℕ) (cells last : Cells) (rs : List Ran) → Serial contracts calls order cells rs last → length rs ≡ length order
-serial_length contracts calls [] cells last [] s = refl
-serial_length contracts calls [] cells last (x ∷ rs) s = absurd s
-serial_length contracts calls (n ∷ order) cells last [] s = absurd s
-serial_length contracts calls (n ∷ order) cells last (x ∷ rs) s = ap (λ k. suc k) (serial_length contracts calls order s.1 last rs s.4)
+serial_length : (setting : Setting) (calls : List ContractCall) (order : List ℕ) (cells last : Cells) (rs : List Ran) → Serial setting calls order cells rs last → length rs ≡ length order
+serial_length setting calls [] cells last [] s = refl
+serial_length setting calls [] cells last (x ∷ rs) s = absurd s
+serial_length setting calls (n ∷ order) cells last [] s = absurd s
+serial_length setting calls (n ∷ order) cells last (x ∷ rs) s = ap (λ k. suc k) (serial_length setting calls order s.1 last rs s.4)
 
 positions_length : (rs : List Receipt) (ms : List Modes) → length rs ≡ length ms → length (positions rs ms) ≡ length rs
 positions_length [] ms e = refl
@@ -203,6 +203,6 @@ positions_length (r ∷ rs) (m ∷ ms) e = ap (λ k. suc k) (positions_length rs
 
 pub as_many : (p : Publication) (b : Beside) → IsKeptWith p p.cells b → (length b.receipts ≡ length b.order) × (length b.touched ≡ length b.order)
 as_many p b kept =
-    let all = serial_length p.contracts p.calls b.order p.opening p.cells (positions b.receipts b.touched) kept.order.serial in
+    let all = serial_length p.setting p.calls b.order p.opening p.cells (positions b.receipts b.touched) kept.order.serial in
     let receipts = positions_length b.receipts b.touched kept.even in
     let even = kept.even in (omega arith, omega arith)

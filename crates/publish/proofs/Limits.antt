@@ -8,8 +8,9 @@ use Rattle.spec_ledger.specs.declared.Step.{Step}
 use Rattle.spec_ledger.specs.Cells.{Cells}
 use Rattle.spec_ledger.specs.Modes.{Modes}
 use Rattle.spec_ledger.specs.Order.{limits_of}
-use Rattle.spec_execution.specs.Configuration.{Deployed, Contract, Config}
-use Rattle.spec_execution.specs.Run.{ContractCall, Reached, at_first, reduced, replied, RunsWith, refused, ran}
+use Rattle.spec_execution.specs.Configuration.{Setting}
+use Rattle.spec_execution.specs.Run.{ContractCall}
+use Rattle.spec_execution.specs.Levels.{Levels, Reached, at_first, moved, replied, RunsWith, refused, ran}
 use Rattle.spec_execution.specs.Exec.{Executes}
 use Rattle.spec_execution.specs.Serial.{Ran}
 use Rattle.publish.specs.Publication.{limits, fuel_used}
@@ -28,16 +29,16 @@ fuel_used-push rs r =
     sum-map (λ (x : Ran). x.receipt.used) (rs ++ r ∷ []) ∙ sum_by_push (λ (x : Ran). x.receipt.used) rs r
     ∙ ap (λ s. s + r.receipt.used) (sym (sum-map (λ (x : Ran). x.receipt.used) rs))
 
-module _ (c : Contract) (first : Config) (limit : ℕ) where
-  reached_within : (trace : List Step) (used : ℕ) (last : Config) → Reached c first limit trace used last → used ≤ limit
+module _ (setting : Setting) (start : Levels) (limit : ℕ) where
+  reached_within : (trace : List Step) (used : ℕ) (last : Levels) → Reached setting start limit trace used last → used ≤ limit
   reached_within trace used last at_first = omega arith
-  reached_within trace used last (reduced t u a charge b r red h) = h
-  reached_within trace used last (replied t u s seq op go r reached asks fits) = reached_within t u _ reached
+  reached_within trace used last (moved t u a charge marks b r e h) = h
+  reached_within trace used last (replied t u a op go r reached asks fits) = reached_within t u a reached
 
-runs_within : (contracts : List Deployed) (call : ContractCall) (trace : List Step) (o : Outcome) (used : ℕ) → RunsWith contracts call trace o used → used ≤ call.fuel
-runs_within contracts call trace o used (refused code e) = omega arith
-runs_within contracts call trace o used (ran c func t p f e run) = reached_within c _ call.fuel t f run.last run.reached
+runs_within : (setting : Setting) (call : ContractCall) (trace : List Step) (o : Outcome) (used : ℕ) → RunsWith setting call trace o used → used ≤ call.fuel
+runs_within setting call trace o used (refused code e) = omega arith
+runs_within setting call trace o used (ran c func t p f e run) = reached_within setting _ call.fuel run.before f run.last run.reached
 
 -- no call uses more than its limit
-pub executes_within : (contracts : List Deployed) (call : ContractCall) (cells later : Cells) (o : Outcome) (used : ℕ) (locks : Modes) → Executes contracts call cells later o used locks → used ≤ call.fuel
-executes_within contracts call cells later o used locks e = runs_within contracts call e.trace o used e.run
+pub executes_within : (setting : Setting) (call : ContractCall) (cells later : Cells) (o : Outcome) (used : ℕ) (locks : Modes) → Executes setting call cells later o used locks → used ≤ call.fuel
+executes_within setting call cells later o used locks e = runs_within setting call e.trace o used e.run

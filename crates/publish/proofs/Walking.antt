@@ -8,8 +8,9 @@ use Rattle.spec_ledger.specs.declared.Receipt.{Receipt}
 use Rattle.spec_ledger.specs.Book.{Entry, GetsReplies, IsDefined, after, has_returned, settled, settled_by}
 use Rattle.spec_ledger.specs.Cells.{Cells}
 use Rattle.spec_ledger.specs.Modes.{Modes}
-use Rattle.spec_execution.specs.Configuration.{Deployed}
-use Rattle.spec_execution.specs.Run.{ContractCall, RunsWith}
+use Rattle.spec_execution.specs.Configuration.{Setting}
+use Rattle.spec_execution.specs.Run.{ContractCall}
+use Rattle.spec_execution.specs.Levels.{RunsWith}
 use Rattle.spec_execution.specs.Exec.{Executes}
 use Rattle.serial.specs.Positions.{positions}
 use Rattle.serial.proofs.Orders.{positions-push}
@@ -20,11 +21,11 @@ use Rattle.publish.proofs.Keeping.{Beside, with_parts, IsKeptWith, opened, fits,
 
 -- ---- how many there are
 
-pub as_many_locks : {A : Type 0} (contracts : List Deployed) (calls : List ContractCall) (rs : List (MadeRun A)) (ms : List Modes) → AreMade contracts calls rs ms → length ms ≡ length rs
-as_many_locks contracts calls [] [] made = refl
-as_many_locks contracts calls [] (m ∷ ms) made = absurd made
-as_many_locks contracts calls (r ∷ rs) [] made = absurd made
-as_many_locks contracts calls (r ∷ rs) (m ∷ ms) made = let h = as_many_locks contracts calls rs ms made.1 in omega arith
+pub as_many_locks : {A : Type 0} (setting : Setting) (calls : List ContractCall) (rs : List (MadeRun A)) (ms : List Modes) → AreMade setting calls rs ms → length ms ≡ length rs
+as_many_locks setting calls [] [] made = refl
+as_many_locks setting calls [] (m ∷ ms) made = absurd made
+as_many_locks setting calls (r ∷ rs) [] made = absurd made
+as_many_locks setting calls (r ∷ rs) (m ∷ ms) made = let h = as_many_locks setting calls rs ms made.1 in omega arith
 
 pub as_many_entries : {A : Type 0} (limits : List ℕ) (fuel : ℕ) (order : List ℕ) (es : List Entry) (rs : List (MadeRun A)) → MayFollowBy limits fuel order es rs → length es ≡ length rs
 as_many_entries limits fuel order [] [] f = refl
@@ -41,14 +42,14 @@ pub record IsWalked {A : Type 0} (p : Publication) (es : List Entry) (rs : List 
   pub last : settled now es' ≡ settled p.opening es
   pub order : b.order ++ map (λ (e : Entry). e.call) es' ≡ map (λ (e : Entry). e.call) es
   pub ran : positions b.receipts b.touched ++ ran_by rs' ms' ≡ ran_by rs ms
-  pub made : AreMade p.contracts p.calls rs' ms'
+  pub made : AreMade p.setting p.calls rs' ms'
   pub follow : MayFollowBy (limits p.calls) p.fuel b.order es' rs' ↔ MayFollowBy (limits p.calls) p.fuel [] es rs
 
 -- nothing yet
-pub walked_none : {A : Type 0} (contracts : List Deployed) (calls : List ContractCall) (opening : Cells) (fuel : ℕ) (es : List Entry) (rs : List (MadeRun A)) (ms : List Modes) (b : Beside)
-    → IsKeptWith (opened contracts calls opening fuel) opening b → b.order ≡ [] → b.receipts ≡ [] → IsDefined opening es → AreMade contracts calls rs ms
-    → IsWalked (opened contracts calls opening fuel) es rs ms b es rs ms
-walked_none contracts calls opening fuel es rs ms b kept order receipts defined made = record {
+pub walked_none : {A : Type 0} (setting : Setting) (calls : List ContractCall) (opening : Cells) (fuel : ℕ) (es : List Entry) (rs : List (MadeRun A)) (ms : List Modes) (b : Beside)
+    → IsKeptWith (opened setting calls opening fuel) opening b → b.order ≡ [] → b.receipts ≡ [] → IsDefined opening es → AreMade setting calls rs ms
+    → IsWalked (opened setting calls opening fuel) es rs ms b es rs ms
+walked_none setting calls opening fuel es rs ms b kept order receipts defined made = record {
   now = opening;
   kept = kept;
   defined = defined;
@@ -60,10 +61,10 @@ walked_none contracts calls opening fuel es rs ms b kept order receipts defined 
 }
 
 -- what an entry leaves is what its run leaves
-pub executed_by : {A : Type 0} (contracts : List Deployed) (calls : List ContractCall) (e : Entry) (r : MadeRun A) (m : Modes) (now : Cells)
-    → IsMade contracts calls r m → IsRunOf e r → RunsWith r.finished.contracts r.finished.call r.finished.trace r.finished.outcome r.finished.used
-    → (es : List Entry) → IsDefined now (e ∷ es) → Executes contracts r.finished.call now (settled_by e now) r.finished.outcome r.finished.used m
-executed_by contracts calls e r m now made is run es defined = record {
+pub executed_by : {A : Type 0} (setting : Setting) (calls : List ContractCall) (e : Entry) (r : MadeRun A) (m : Modes) (now : Cells)
+    → IsMade setting calls r m → IsRunOf e r → RunsWith r.finished.setting r.finished.call r.finished.trace r.finished.outcome r.finished.used
+    → (es : List Entry) → IsDefined now (e ∷ es) → Executes setting r.finished.call now (settled_by e now) r.finished.outcome r.finished.used m
+executed_by setting calls e r m now made is run es defined = record {
   trace = r.finished.trace;
   run = subst (λ cs. RunsWith cs r.finished.call r.finished.trace r.finished.outcome r.finished.used) made.lent run;
   replies = subst (λ t. GetsReplies t now) (sym is.trace) defined.0;
@@ -96,12 +97,12 @@ module _ {A : Type 0} (p : Publication) (es : List Entry) (rs : List (MadeRun A)
       let yes = (may limit limit_is answer says).1 follows in let no : false ≡ true = sym none ∙ yes in cc
 
   module _ (limit : ℕ) (limit_is : limit ≡ r.finished.call.fuel) (follows : MayFollow (with_parts p w.now b) r.call) (is : IsRunOf e r)
-      (run : RunsWith r.finished.contracts r.finished.call r.finished.trace r.finished.outcome r.finished.used) where
+      (run : RunsWith r.finished.setting r.finished.call r.finished.trace r.finished.outcome r.finished.used) where
     abbrev receipt : Receipt
     receipt = record { outcome = r.finished.outcome; used = r.finished.used }
 
-    pub executed : Executes p.contracts r.finished.call w.now (settled_by e w.now) r.finished.outcome r.finished.used m
-    executed = executed_by p.contracts p.calls e r m w.now w.made.0 is run es' w.defined
+    pub executed : Executes p.setting r.finished.call w.now (settled_by e w.now) r.finished.outcome r.finished.used m
+    executed = executed_by p.setting p.calls e r m w.now w.made.0 is run es' w.defined
 
     pub fits_here : limit ≤ b.remaining
     fits_here = fits here b r.call limit r.finished.call (settled_by e w.now) receipt m w.kept w.made.0.call_is limit_is follows executed
@@ -152,7 +153,7 @@ module _ {A : Type 0} (p : Publication) (es : List Entry) (rs : List (MadeRun A)
   follows_here limit limit_is answer says = (may p es rs ms b e (drop (i + 1) es) r (drop (i + 1) rs) (get_or ms i empty) (drop (i + 1) ms) next_is limit limit_is answer says).0
 
   module _ (limit : ℕ) (limit_is : limit ≡ r.finished.call.fuel) (follows : MayFollow (with_parts p (next_is).now b) r.call) (is : IsRunOf e r)
-      (run : RunsWith r.finished.contracts r.finished.call r.finished.trace r.finished.outcome r.finished.used) where
+      (run : RunsWith r.finished.setting r.finished.call r.finished.trace r.finished.outcome r.finished.used) where
     pub fits_next : limit ≤ b.remaining
     fits_next = fits_here p es rs ms b e (drop (i + 1) es) r (drop (i + 1) rs) (get_or ms i empty) (drop (i + 1) ms) next_is limit limit_is follows is run
 
@@ -168,7 +169,7 @@ module _ {A : Type 0} (p : Publication) (es : List Entry) (rs : List (MadeRun A)
         let h : Publication = record p { cells = w'.now } in
         let m : Modes = get_or ms i empty in
         let receipt : Receipt = record { outcome = r.finished.outcome; used = r.finished.used } in
-        let ex = executed_by p.contracts p.calls e r m w'.now w'.made.0 is run (drop (i + 1) es) w'.defined in
+        let ex = executed_by p.setting p.calls e r m w'.now w'.made.0 is run (drop (i + 1) es) w'.defined in
         let same = is_more h b r.call limit r.finished.call (settled_by e w'.now) receipt m w'.kept w'.made.0.call_is limit_is follows ex room after o rs' ms' marks rest used o' rs'' ms'' marks' rest' used' counts in
         subst (λ x. IsWalked p es rs ms x (drop (i + 1) es) (drop (i + 1) rs) (drop (i + 1) ms)) (sym same)
         (walked_more p es rs ms b e (drop (i + 1) es) r (drop (i + 1) rs) m (drop (i + 1) ms) w' limit limit_is follows is run)

@@ -2,24 +2,24 @@
 use Rattle.std.specs.Prelude.{◌≡◌, ℕ, List, [], ◌∷◌, ◌++◌, Some, slice_get}
 use Rattle.spec_ledger.specs.Book.{Entry}
 use Rattle.spec_ledger.specs.Modes.{Modes, touched}
-use Rattle.spec_execution.specs.Configuration.{Deployed}
+use Rattle.spec_execution.specs.Configuration.{Setting}
 use Rattle.spec_execution.specs.Run.{ContractCall}
 use Rattle.spec_execution.specs.Serial.{Ran}
 use Rattle.publish.specs.declared.adopting.MadeRun.{MadeRun}
 use Rattle.publish.specs.Publication.{HasRoom}
 
 -- a run of the call of its number over these contracts, and the locks that it asked for
-pub record IsMade {A : Type 0} (contracts : List Deployed) (calls : List ContractCall) (r : MadeRun A) (locks : Modes) : Type 0 where
-  pub lent : r.finished.contracts ≡ contracts
+pub record IsMade {A : Type 0} (setting : Setting) (calls : List ContractCall) (r : MadeRun A) (locks : Modes) : Type 0 where
+  pub lent : r.finished.setting ≡ setting
   pub call_is : slice_get calls r.call ≡ Some r.finished.call
   pub locks_are : locks ≡ touched r.finished.trace
 
 -- each run is one, with the locks at its place
-abbrev pub AreMade : {A : Type 0} → List Deployed → List ContractCall → List (MadeRun A) → List Modes → Type 0
-AreMade contracts calls [] [] = Unit {0}
-AreMade contracts calls [] (m ∷ ms) = ⊥
-AreMade contracts calls (r ∷ rs) [] = ⊥
-AreMade contracts calls (r ∷ rs) (m ∷ ms) = IsMade contracts calls r m × AreMade contracts calls rs ms
+abbrev pub AreMade : {A : Type 0} → Setting → List ContractCall → List (MadeRun A) → List Modes → Type 0
+AreMade setting calls [] [] = Unit {0}
+AreMade setting calls [] (m ∷ ms) = ⊥
+AreMade setting calls (r ∷ rs) [] = ⊥
+AreMade setting calls (r ∷ rs) (m ∷ ms) = IsMade setting calls r m × AreMade setting calls rs ms
 
 -- what runs came to, with the locks at their places
 abbrev pub ran_by : {A : Type 0} → List (MadeRun A) → List Modes → List Ran

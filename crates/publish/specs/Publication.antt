@@ -10,15 +10,15 @@ use Rattle.spec_ledger.specs.Modes.{Modes}
 use Rattle.spec_ledger.specs.Order.{limits_of}
 use Rattle.spec_ledger.specs.Codes.{coded_cells, coded_modes}
 use Rattle.storage.specs.Counts.{Counts}
-use Rattle.spec_execution.specs.Configuration.{Deployed}
+use Rattle.spec_execution.specs.Configuration.{Setting}
 use Rattle.spec_execution.specs.Run.{ContractCall}
 use Rattle.spec_execution.specs.Exec.{Executes}
 use Rattle.spec_execution.specs.Serial.{Ran, Serial}
-use Rattle.interp.specs.Codes.{coded_deployed, coded_call}
+use Rattle.interp.specs.Codes.{coded_setting, coded_call}
 
 -- Calls over contracts, from the opening cells on, with this fuel for all of them; and so far: the order, what the call at each position came to, and the cells.
 pub record Publication : Type 0 where
-  pub contracts : List Deployed
+  pub setting : Setting
   pub calls : List ContractCall
   pub opening : Cells
   pub fuel : ℕ
@@ -31,10 +31,10 @@ coded_ran = code_by (Receipt × Modes) (coded× receipt.the_row.coded coded_mode
 
 abbrev pub coded_publication : Coded Publication
 coded_publication =
-    code_by (List Deployed × (List ContractCall × (Cells × (ℕ × (List ℕ × (List Ran × Cells))))))
-    (coded× (coded_list coded_deployed) (coded× (coded_list coded_call) (coded× coded_cells (coded× coded_ℕ (coded× (coded_list coded_ℕ) (coded× (coded_list coded_ran) coded_cells))))))
-    (λ p. (p.contracts, (p.calls, (p.opening, (p.fuel, (p.order, (p.ran, p.cells)))))))
-    (λ p. record { contracts = p.0; calls = p.1.0; opening = p.1.1.0; fuel = p.1.1.1.0; order = p.1.1.1.1.0; ran = p.1.1.1.1.1.0; cells = p.1.1.1.1.1.1 }) (λ _. refl)
+    code_by (Setting × (List ContractCall × (Cells × (ℕ × (List ℕ × (List Ran × Cells))))))
+    (coded× coded_setting (coded× (coded_list coded_call) (coded× coded_cells (coded× coded_ℕ (coded× (coded_list coded_ℕ) (coded× (coded_list coded_ran) coded_cells))))))
+    (λ p. (p.setting, (p.calls, (p.opening, (p.fuel, (p.order, (p.ran, p.cells)))))))
+    (λ p. record { setting = p.0; calls = p.1.0; opening = p.1.1.0; fuel = p.1.1.1.0; order = p.1.1.1.1.0; ran = p.1.1.1.1.1.0; cells = p.1.1.1.1.1.1 }) (λ _. refl)
 
 -- the limits of calls, by number
 abbrev pub limits : List ContractCall → List ℕ
@@ -46,7 +46,7 @@ fuel_used ran = sum (map (λ (r : Ran). r.receipt.used) ran)
 
 -- what is published is a serial execution of distinct calls, whose limits are together within the fuel
 pub record IsSerialOrder (p : Publication) : Type 0 where
-  pub serial : Serial p.contracts p.calls p.order p.opening p.ran p.cells
+  pub serial : Serial p.setting p.calls p.order p.opening p.ran p.cells
   pub distinct : (position call : ℕ) → slice_get p.order position ≡ Some call → ¬ (Contains (take position p.order) call)
   pub known : (position call : ℕ) → slice_get p.order position ≡ Some call → call < length p.calls
   pub within : limits_of (limits p.calls) p.order ≤ p.fuel
@@ -66,12 +66,12 @@ pub record HasTaken (p : Publication) (number : ℕ) (q : Publication) : Type 0 
   pub call : ContractCall
   pub ran : Ran
   pub at : slice_get p.calls number ≡ Some call
-  pub executed : Executes p.contracts call p.cells q.cells ran.receipt.outcome ran.receipt.used ran.touched
+  pub executed : Executes p.setting call p.cells q.cells ran.receipt.outcome ran.receipt.used ran.touched
   pub is : q ≡ record p { order = p.order ++ number ∷ []; ran = p.ran ++ ran ∷ []; cells = q.cells }
 
 -- the same calls over the same contracts and opening cells, with the same fuel
 pub record IsSameJob (p q : Publication) : Type 0 where
-  pub contracts : q.contracts ≡ p.contracts
+  pub setting : q.setting ≡ p.setting
   pub calls : q.calls ≡ p.calls
   pub opening : q.opening ≡ p.opening
   pub fuel : q.fuel ≡ p.fuel

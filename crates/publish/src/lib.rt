@@ -11,7 +11,7 @@ ghost use Rattle.std.specs.FinMap as finite;
 ghost use Rattle.spec_ledger.specs.Book.{GetsReplies, IsDefined, settled};
 ghost use Rattle.spec_ledger.specs.Order.{IsAdmissible};
 ghost use Rattle.spec_execution.specs.Serial.{Serial};
-ghost use Rattle.interp.specs.Lent.{contracts_view};
+ghost use Rattle.interp.specs.Lent.{setting_view};
 ghost use Rattle.serial.specs.Positions.{positions};
 ghost use Rattle.publish.specs.Publication.{IsSerialOrder, MayFollow, HasTaken, IsSameJob, HasGoneOn, Sweep, AreLeft, limits, fuel_used};
 ghost use Rattle.publish.specs.Adoption.{AreMade, MayFollowBy, ran_by};
@@ -44,7 +44,7 @@ pub struct Publishing<'a, A: Allocator + Copy> {
 }
 
 impl<'a, A: Allocator + Copy> Model for Publishing<'a, A> {
-    ghost use Rattle.interp.specs.Lent.{contracts_view};
+    ghost use Rattle.interp.specs.Lent.{setting_view};
     ghost use Rattle.serial.specs.Positions.{positions};
     ghost use Rattle.publish.specs.Publication.{Publication, coded_publication, IsKept};
 
@@ -52,9 +52,9 @@ impl<'a, A: Allocator + Copy> Model for Publishing<'a, A> {
 
     ghost coded = { coded_publication };
 
-    ghost view = { λ p. record { contracts = contracts_view p.contracts.now; calls = p.calls.now; opening = p.opening.now.cells; fuel = p.fuel; order = p.so_far.order.items; ran = positions p.so_far.receipts.items p.so_far.touched.items; cells = p.cells.cells } };
+    ghost view = { λ p. record { setting = setting_view p.contracts.now; calls = p.calls.now; opening = p.opening.now.cells; fuel = p.fuel; order = p.so_far.order.items; ran = positions p.so_far.receipts.items p.so_far.touched.items; cells = p.cells.cells } };
 
-    ghost invariant = { λ p. IsKept (record { contracts = contracts_view p.contracts.now; calls = p.calls.now; opening = p.opening.now.cells; fuel = p.fuel; order = p.so_far.order.items; ran = positions p.so_far.receipts.items p.so_far.touched.items; cells = p.cells.cells }) p.so_far.receipts.items p.so_far.touched.items p.so_far.marks.items p.so_far.remaining p.so_far.used p.cells.unsettled };
+    ghost invariant = { λ p. IsKept (record { setting = setting_view p.contracts.now; calls = p.calls.now; opening = p.opening.now.cells; fuel = p.fuel; order = p.so_far.order.items; ran = positions p.so_far.receipts.items p.so_far.touched.items; cells = p.cells.cells }) p.so_far.receipts.items p.so_far.touched.items p.so_far.marks.items p.so_far.remaining p.so_far.used p.cells.unsettled };
 }
 
 /// What was published.
@@ -88,7 +88,7 @@ impl<'a, A: Allocator + Copy> Publishing<'a, A> {
         fuel: u64,
     ) -> Result<Publishing<'a, A>, NoMemory>
         requires { length calls.now < 2 ^ 32 }
-        ensures { IfOk result (λ p. p ≡ record { contracts = contracts_view contracts.now; calls = calls.now; opening = cells.now.cells; fuel = fuel; order = []; ran = []; cells = cells.now.cells }) }
+        ensures { IfOk result (λ p. p ≡ record { setting = setting_view contracts.now; calls = calls.now; opening = cells.now.cells; fuel = fuel; order = []; ran = []; cells = cells.now.cells }) }
     {
         let so_far = SoFar::open(alloc, calls.len(), fuel)?;
         let current = cells.copy(alloc)?;
@@ -126,9 +126,9 @@ impl<'a, A: Allocator + Copy> Publishing<'a, A> {
         requires replies { IsDefined cells.now.cells closed.entries.items }
         requires cells { closed.cells.cells ≡ settled cells.now.cells closed.entries.items }
         requires settled { closed.cells.unsettled ≡ finite.empty }
-        requires runs { AreMade (contracts_view contracts.now) calls.now runs.now touched.items }
+        requires runs { AreMade (setting_view contracts.now) calls.now runs.now touched.items }
         ensures answer { IfOk result (λ o. IsSome o ↔ MayFollowBy (limits calls.now) fuel [] closed.entries.items runs.now) }
-        ensures adopted { IfOk result (λ o. IfSome o (λ p. p ≡ record { contracts = contracts_view contracts.now; calls = calls.now; opening = cells.now.cells; fuel = fuel; order = map (λ e. e.call) closed.entries.items; ran = ran_by runs.now touched.items; cells = closed.cells.cells })) }
+        ensures adopted { IfOk result (λ o. IfSome o (λ p. p ≡ record { setting = setting_view contracts.now; calls = calls.now; opening = cells.now.cells; fuel = fuel; order = map (λ e. e.call) closed.entries.items; ran = ran_by runs.now touched.items; cells = closed.cells.cells })) }
     {
         let Closed {
             opening: _,
@@ -176,7 +176,7 @@ impl<'a, A: Allocator + Copy> Publishing<'a, A> {
     ///
     /// Memory was refused. Nothing has changed.
     pub fn take_run(&mut self, call: u32, finished: &Finished<'_, A>) -> Result<bool, NoMemory>
-        requires contracts { finished.now.contracts ≡ self.old.contracts }
+        requires contracts { finished.now.setting ≡ self.old.setting }
         requires call { slice_get self.old.calls call ≡ Some finished.now.call }
         ensures answer { IfOk result (λ taken. IsTrue taken ↔ (MayFollow self.old call × GetsReplies finished.now.trace self.old.cells)) }
         ensures taken { result ≡ Ok true → HasTaken self.old call self.new }
@@ -249,7 +249,7 @@ impl<'a, A: Allocator + Copy> Publishing<'a, A> {
     ///
     /// Memory was refused.
     pub fn finish(mut self) -> Result<Published<A>, NoMemory>
-        ensures serial { IfOk result (λ published. Serial self.entry.contracts self.entry.calls published.order.items self.entry.opening (positions published.receipts.items published.touched.items) published.cells.cells) }
+        ensures serial { IfOk result (λ published. Serial self.entry.setting self.entry.calls published.order.items self.entry.opening (positions published.receipts.items published.touched.items) published.cells.cells) }
         ensures admissible { IfOk result (λ published. IsAdmissible (limits self.entry.calls) published.order.items self.entry.fuel) }
         ensures swept { IfOk result (λ published. Sweep (limits self.entry.calls) self.entry.fuel self.entry.order (length self.entry.calls) published.order.items) }
         ensures receipts { IfOk result (λ published. length published.receipts.items ≡ length published.order.items) }
@@ -275,7 +275,7 @@ impl<'a, A: Allocator + Copy> Publishing<'a, A> {
         ensures touched { IfOk result (λ published. length published.touched.items ≡ length self.entry.order) }
         ensures cells { IfOk result (λ published. published.cells.cells ≡ self.entry.cells) }
         ensures settled { IfOk result (λ published. published.cells.unsettled ≡ finite.empty) }
-        ensures serial { IfOk result (λ published. Serial self.entry.contracts self.entry.calls published.order.items self.entry.opening (positions published.receipts.items published.touched.items) published.cells.cells) }
+        ensures serial { IfOk result (λ published. Serial self.entry.setting self.entry.calls published.order.items self.entry.opening (positions published.receipts.items published.touched.items) published.cells.cells) }
         ensures fuel { IfOk result (λ published. published.fuel ≡ fuel_used self.entry.ran) }
         ensures left { IfOk result (λ published. AreLeft published.order.items (length self.entry.calls) published.left.items) }
     {

@@ -3,13 +3,12 @@ use Rattle.std.proofs.Common.{◌≡◌, ℕ, List, [], ◌∷◌, take, drop, r
 use mathlib.Core.Path.{fun_ext}
 use Rattle.wtypes.specs.declared.Value.{Value}
 use Rattle.wtypes.specs.declared.TrapCode.{TrapCode}
-use Rattle.spec_ledger.specs.declared.Op.{Op}
 use Rattle.spec_ledger.specs.declared.Reply.{Reply}
 use Rattle.spec_syntax.specs.Syntax.{nothing}
 use Rattle.sequences.specs.Meaning.{Item, Scope, Block, Loop, Frame, Open, listed, put, continuation, behind, outer, item, height, around, deeper, frames, outermost, at}
 use Rattle.sequences.specs.Plain.{onto}
 use Rattle.spec_execution.specs.Configuration.{Contract, Seq, End, State, values}
-use Rattle.spec_execution.specs.Reduction.{Next, Goes, Traps, Asks, Stuck, reduce, in_label, in_frame}
+use Rattle.spec_execution.specs.Reduction.{Wish, Next, Goes, Traps, Asks, Stuck, reduce, in_label, in_frame}
 
 pub values_onto : (vs acc : List Value) (rest : Seq) → values (onto vs acc) rest ≡ values acc (put vs rest)
 values_onto [] acc rest = refl
@@ -81,13 +80,13 @@ lift_traps s (e ∷ es) below locals charge t =
     ap (lift s es (take (height es) below) (outer e.scope locals)) (through_traps s e.scope e.ordinal e.arity e.from locals (drop (height es) below) charge t)
     ∙ lift_traps s es (take (height es) below) (outer e.scope locals) charge t
 
-through_asks : (s : State) (k : Scope) (o a : ℕ) (is : List Item) (locals vs : List Value) (op : Op) (go : Reply → Seq) → through s k o a is locals vs (Asks op go) ≡ Asks op (λ r. put vs (item k o a is locals (go r)))
-through_asks s Block o a is locals vs op go = ap (Asks op) (fun_ext (λ r. values_onto vs [] (item Block o a is locals (go r))))
-through_asks s Loop o a is locals vs op go = ap (Asks op) (fun_ext (λ r. values_onto vs [] (item Loop o a is locals (go r))))
-through_asks s (Frame f saved) o a is locals vs op go = ap (Asks op) (fun_ext (λ r. values_onto vs [] (item (Frame f saved) o a is locals (go r))))
+through_asks : (s : State) (k : Scope) (o a : ℕ) (is : List Item) (locals vs : List Value) (w : Wish) (go : Reply → Seq) → through s k o a is locals vs (Asks w go) ≡ Asks w (λ r. put vs (item k o a is locals (go r)))
+through_asks s Block o a is locals vs w go = ap (Asks w) (fun_ext (λ r. values_onto vs [] (item Block o a is locals (go r))))
+through_asks s Loop o a is locals vs w go = ap (Asks w) (fun_ext (λ r. values_onto vs [] (item Loop o a is locals (go r))))
+through_asks s (Frame f saved) o a is locals vs w go = ap (Asks w) (fun_ext (λ r. values_onto vs [] (item (Frame f saved) o a is locals (go r))))
 
-pub lift_asks : (s : State) (es : List Open) (below locals : List Value) (op : Op) (go : Reply → Seq) → lift s es below locals (Asks op go) ≡ Asks op (λ r. around es below locals (go r))
-lift_asks s [] below locals op go = refl
-lift_asks s (e ∷ es) below locals op go =
-    ap (lift s es (take (height es) below) (outer e.scope locals)) (through_asks s e.scope e.ordinal e.arity e.from locals (drop (height es) below) op go)
-    ∙ lift_asks s es (take (height es) below) (outer e.scope locals) op (λ r. put (drop (height es) below) (item e.scope e.ordinal e.arity e.from locals (go r)))
+pub lift_asks : (s : State) (es : List Open) (below locals : List Value) (w : Wish) (go : Reply → Seq) → lift s es below locals (Asks w go) ≡ Asks w (λ r. around es below locals (go r))
+lift_asks s [] below locals w go = refl
+lift_asks s (e ∷ es) below locals w go =
+    ap (lift s es (take (height es) below) (outer e.scope locals)) (through_asks s e.scope e.ordinal e.arity e.from locals (drop (height es) below) w go)
+    ∙ lift_asks s es (take (height es) below) (outer e.scope locals) w (λ r. put (drop (height es) below) (item e.scope e.ordinal e.arity e.from locals (go r)))

@@ -17,7 +17,7 @@ use Rattle.spec_numeric.specs.Storage.{load_type, load_width, extended, store_wi
 use Rattle.spec_numeric.specs.Memory.{load, store}
 use Rattle.spec_syntax.specs.Profile.{frame_limit}
 use Rattle.spec_execution.specs.Configuration.{Contract, Function, Hosted, Defined, function_at, function_type, Seq, End, Val, Code, Free, Label, Frame, Invoke, code, values, instr_size, State, Config, Running, Trap}
-use Rattle.spec_execution.specs.Reduction.{Next, Goes, Traps, Asks, Branches, Returns, Ended, Stuck, with_number, with_value, with_values, found, answered, loaded, stored, grown, most_pages, pages, same_function_type, op_of, zero_of, indirect, replied, invoke, execute_plain, execute, in_label, in_frame, reduce}
+use Rattle.spec_execution.specs.Reduction.{Next, Goes, Traps, Asks, Branches, Returns, Ended, Stuck, with_number, with_value, with_values, found, answered, loaded, stored, grown, most_pages, pages, same_function_type, wish_of, zero_of, indirect, replied, invoke, execute_plain, execute, in_label, in_frame, reduce}
 use Rattle.spec_execution.specs.Run.{next, Reduces, goes, traps, IsCharged, IsStuck}
 use Rattle.spec_execution.specs.Turns.{Frees, none, one_more, IsAtRest, to_come, ended}
 use Rattle.sequences.specs.Meaning.{Item, View, config, state, sequence, IsFine, IsReady}
@@ -164,7 +164,7 @@ module _ (t : Seq) where
     one_reply (reply.I64 x) a = refl
 
     one_invoke : (c : Contract) (frames : ℕ) (s : State) (f : ℕ) (g : Function) (args vs : List Value) (a : Seq) → Joins (invoke c frames s f g args vs (joined a t)) (invoke c frames s f g args vs a)
-    one_invoke c frames s f (Hosted h) args vs a = record { is = ap (Asks (op_of c.number h args)) (fun_ext (λ r. ap (values vs) (one_reply r a) ∙ under vs (replied r a))) }
+    one_invoke c frames s f (Hosted h) args vs a = record { is = ap (Asks (wish_of c.number h args)) (fun_ext (λ r. ap (values vs) (one_reply r a) ∙ under vs (replied r a))) }
     one_invoke c frames s f (Defined ty g) args vs a =
         either (nat_lt frames frame_limit) _ _ (Traps 0 trap.CallDepth) (Traps 0 trap.CallDepth)
         (to 0 s vs _ (Frame f (length ty.results) (args ++ map zero_of g.locals) (Label (length ty.results) 0 nothing (code 0 g.body End) End) a) refl) (falls 0 _)

@@ -1,13 +1,12 @@
 -- One operation more.
-use Rattle.std.proofs.Common.{◌≡◌, ℕ, zero, suc, ◌+◌, ◌<◌, List, [], ◌∷◌, ◌++◌, length, take, get_or, refl, sym, ◌∙◌, ap, subst, arith}
-use Rattle.std.proofs.lemmas.List.{take_more}
+use Rattle.std.proofs.Common.{◌≡◌, List, [], ◌∷◌, ◌++◌, refl, sym, ◌∙◌, ap, subst}
 use Rattle.spec_ledger.specs.declared.Inverse.{Inverse}
 use Rattle.spec_ledger.specs.declared.Op.{Op}
 use Rattle.spec_ledger.specs.declared.Reply.{Reply}
 use Rattle.spec_ledger.specs.declared.Step.{Step}
 use Rattle.spec_ledger.specs.declared.Step.TheVariants.{Did}
-use Rattle.spec_ledger.specs.Cells.{Cells, cells_after, reply_to, inverse_to}
-use Rattle.spec_ledger.specs.Book.{after, standing, GetsReplies, GetsRepliesFrom, unmarked, inverses_of}
+use Rattle.spec_ledger.specs.Cells.{cells_after, reply_to, inverse_to}
+use Rattle.spec_ledger.specs.Book.{after, standing, GetsReplies, inverses_of}
 use Rattle.spec_ledger.proofs.Traces.{after-push, GetsReplies-push, standing-push, after-standing, inverses_of-append}
 use Rattle.storage.specs.Counts.{Store, opened}
 use Rattle.storage.specs.Counts.{opened_all}
@@ -16,7 +15,7 @@ use Rattle.interp.specs.declared.turns.Status.{Status}
 use Rattle.interp.specs.declared.turns.Status.TheVariants as status
 use Rattle.interp.specs.Progress.{Progress, HasReplied, HasAnswered, AnsweredAt, GoesOn, IsFree}
 use Rattle.turn_loop.specs.Going.{HasComeTo}
-use Rattle.serial.specs.Playing.{AreDone, AreSomeDone, IsOnItsWay}
+use Rattle.serial.specs.Playing.{AreDone, IsOnItsWay}
 
 pub done_none : (start : Store) → AreDone start [] start []
 done_none start = record { replies = tt; cells = refl; inverses_are = refl; unsettled = refl }

@@ -12,8 +12,9 @@ use Rattle.spec_ledger.proofs.Traces.{after-standing, back_all-inverses}
 use Rattle.storage.specs.Counts.{Store}
 use Rattle.storage.specs.Counts.{opened_all, closed_all, AreUnsettled}
 use Rattle.storage.proofs.Counted.{AreCounts-empty, AreUnsettled-opened_all, closed_all-opened_all}
-use Rattle.spec_execution.specs.Configuration.{Deployed}
-use Rattle.spec_execution.specs.Run.{ContractCall, RunsWith}
+use Rattle.spec_execution.specs.Configuration.{Setting}
+use Rattle.spec_execution.specs.Run.{ContractCall}
+use Rattle.spec_execution.specs.Levels.{RunsWith}
 use Rattle.spec_execution.specs.Exec.{Executes}
 use Rattle.interp.specs.Played.{Played, IsPlayed}
 use Rattle.serial.specs.Playing.{AreDone, IsPlayedOver}
@@ -43,7 +44,7 @@ module _ (start now : Store) (t : List Step) (is : List Inverse) (d : AreDone st
   left_is are true = d.cells
   left_is are false = undone are
 
-module _ (lent : List Deployed) (call : ContractCall) (start now : Store) (f : Played) (is : List Inverse) (p : IsPlayedOver lent call start f now is) (run : IsPlayed f) (settled : start.unsettled ≡ empty) (are : AreCells start.cells) where
+module _ (lent : Setting) (call : ContractCall) (start now : Store) (f : Played) (is : List Inverse) (p : IsPlayedOver lent call start f now is) (run : IsPlayed f) (settled : start.unsettled ≡ empty) (are : AreCells start.cells) where
   pub executed : (o : Outcome) → o ≡ f.outcome → (used : ℕ) → used ≡ f.used → (stand : Bool) → stand ≡ has_returned o → (later : Cells) → later ≡ cond stand now.cells (back_all is now.cells)
       → (t : List Step) → t ≡ f.trace → (locks : Modes) → locks ≡ touched t → Executes lent call start.cells later o used locks
   executed o o_is used used_is stand stand_is later later_is t t_is locks locks_are = record {
@@ -55,8 +56,8 @@ module _ (lent : List Deployed) (call : ContractCall) (start now : Store) (f : P
     locks_are = locks_are ∙ ap touched t_is;
   }
 
-pub executed_for : (lent : List Deployed) (call : ContractCall) (start now : Store) (f : Played) (is : List Inverse) → IsPlayedOver lent call start f now is → (later : Cells) (o : Outcome) (used : ℕ) (locks : Modes)
-    → Executes f.contracts f.call start.cells later o used locks → Executes lent call start.cells later o used locks
+pub executed_for : (lent : Setting) (call : ContractCall) (start now : Store) (f : Played) (is : List Inverse) → IsPlayedOver lent call start f now is → (later : Cells) (o : Outcome) (used : ℕ) (locks : Modes)
+    → Executes f.setting f.call start.cells later o used locks → Executes lent call start.cells later o used locks
 executed_for lent call start now f is p later o used locks e = subst (λ c. Executes lent c start.cells later o used locks) p.call_is (subst (λ ds. Executes ds f.call start.cells later o used locks) p.lent e)
 
 pub on_err : {T E P : Type 0} (r : Result T E) → P → OnErr r P

@@ -5,7 +5,7 @@ use Rattle.std.specs.Prelude.{slice_get}
 use Rattle.spec_ledger.specs.declared.Receipt.{Receipt}
 use Rattle.spec_ledger.specs.Cells.{Cells}
 use Rattle.spec_ledger.specs.Modes.{Modes}
-use Rattle.spec_execution.specs.Configuration.{Deployed}
+use Rattle.spec_execution.specs.Configuration.{Setting}
 use Rattle.spec_execution.specs.Run.{ContractCall}
 use Rattle.spec_execution.specs.Exec.{Executes}
 use Rattle.spec_execution.specs.Serial.{Ran, Serial}
@@ -20,18 +20,18 @@ positions-push (x ∷ rs) (y ∷ ms) r m e = ap (λ ps. record { receipt = x; to
 positions-push [] (y ∷ ms) r m e = absurd (omega (arith, e))
 positions-push (x ∷ rs) [] r m e = absurd (omega (arith, e))
 
-module _ (contracts : List Deployed) (calls : List ContractCall) where
-  pub Serial-push : (order : List ℕ) (cells mid last : Cells) (rs : List Ran) (n : ℕ) (r : Ran) (call : ContractCall) → Serial contracts calls order cells rs mid → slice_get calls n ≡ Some call
-      → Executes contracts call mid last r.receipt.outcome r.receipt.used r.touched → Serial contracts calls (order ++ n ∷ []) cells (rs ++ r ∷ []) last
-  Serial-push [] cells mid last [] n r call s is e = (call, last, is, subst (λ x. Executes contracts call x last r.receipt.outcome r.receipt.used r.touched) s e, refl)
+module _ (setting : Setting) (calls : List ContractCall) where
+  pub Serial-push : (order : List ℕ) (cells mid last : Cells) (rs : List Ran) (n : ℕ) (r : Ran) (call : ContractCall) → Serial setting calls order cells rs mid → slice_get calls n ≡ Some call
+      → Executes setting call mid last r.receipt.outcome r.receipt.used r.touched → Serial setting calls (order ++ n ∷ []) cells (rs ++ r ∷ []) last
+  Serial-push [] cells mid last [] n r call s is e = (call, last, is, subst (λ x. Executes setting call x last r.receipt.outcome r.receipt.used r.touched) s e, refl)
   Serial-push [] cells mid last (x ∷ rs) n r call s is e = absurd s
   Serial-push (y ∷ order) cells mid last [] n r call s is e = absurd s
   Serial-push (y ∷ order) cells mid last (x ∷ rs) n r call s is e = (s.0, s.1, s.2, s.3, Serial-push order s.1 mid last rs n r call s.4 is e)
 
   pub serial_more : (order : List ℕ) (i d : ℕ) (cells mid last : Cells) (rs next : List Receipt) (ms more : List Modes) (r : Receipt) (m : Modes) (call : ContractCall)
-      → i < length order → Serial contracts calls (take i order) cells (positions rs ms) mid → length rs ≡ length ms → next ≡ rs ++ r ∷ [] → more ≡ ms ++ m ∷ []
-      → slice_get calls (get_or order i d) ≡ Some call → Executes contracts call mid last r.outcome r.used m → Serial contracts calls (take (i + 1) order) cells (positions next more) last
+      → i < length order → Serial setting calls (take i order) cells (positions rs ms) mid → length rs ≡ length ms → next ≡ rs ++ r ∷ [] → more ≡ ms ++ m ∷ []
+      → slice_get calls (get_or order i d) ≡ Some call → Executes setting call mid last r.outcome r.used m → Serial setting calls (take (i + 1) order) cells (positions next more) last
   serial_more order i d cells mid last rs next ms more r m call below s even next_is more_is is e =
-      subst (λ o. Serial contracts calls o cells (positions next more) last) (sym (take_more order i d below))
-      (subst (λ ps. Serial contracts calls (take i order ++ get_or order i d ∷ []) cells ps last) (sym ((λ k. positions (next_is k) (more_is k)) ∙ positions-push rs ms r m even))
+      subst (λ o. Serial setting calls o cells (positions next more) last) (sym (take_more order i d below))
+      (subst (λ ps. Serial setting calls (take i order ++ get_or order i d ∷ []) cells ps last) (sym ((λ k. positions (next_is k) (more_is k)) ∙ positions-push rs ms r m even))
       (Serial-push (take i order) cells mid last (positions rs ms) (get_or order i d) (record { receipt = r; touched = m }) call s is e))

@@ -12,20 +12,7 @@ use Rattle.spec_ledger.specs.declared.Step.{Step}
 use Rattle.spec_ledger.specs.declared.Step.TheVariants.{Did, Opened, Kept, Dropped}
 use Rattle.spec_ledger.specs.Cells.{Cells, AreCells, cells_after, reply_to, inverse_to}
 use Rattle.spec_ledger.specs.Book.{Marked, unmarked, kept_at, dropped_at, stepped, folded, noted, after, ops_after, back_all, standing, standing_at, GetsReplies, GetsRepliesFrom, inverses_of}
-use Rattle.spec_ledger.proofs.Traces.{
-  IsMark,
-  IsFront,
-  AreFronts,
-  fronts_of,
-  standing_at-push,
-  after-standing,
-  back_all-inverses,
-  inverses_of-append,
-  inverses_of-length,
-  GetsReplies-mark,
-  AreCells-ops,
-  ops_after-append,
-}
+use Rattle.spec_ledger.proofs.Traces.{IsMark, AreFronts, fronts_of, standing_at-push, after-standing, back_all-inverses, inverses_of-append, inverses_of-length, GetsReplies-mark, AreCells-ops, ops_after-append}
 use Rattle.storage.specs.Counts.{Counts, Store, AreCounts, opened, opened_all, closed_all, AreUnsettled}
 use Rattle.storage.proofs.Counted.{AreCounts-empty, AreCounts-opened_all, AreUnsettled-opened_all, closed_all-opened_all}
 use Rattle.serial.specs.Playing.{AreDone, AreSomeDone}

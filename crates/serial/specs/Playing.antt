@@ -4,7 +4,7 @@ use Rattle.spec_ledger.specs.declared.Inverse.{Inverse}
 use Rattle.spec_ledger.specs.Book.{after, standing, GetsReplies, inverses_of}
 use Rattle.storage.specs.Counts.{Store}
 use Rattle.storage.specs.Counts.{opened_all}
-use Rattle.spec_execution.specs.Configuration.{Deployed}
+use Rattle.spec_execution.specs.Configuration.{Setting}
 use Rattle.spec_execution.specs.Run.{ContractCall}
 use Rattle.interp.specs.Played.{Played}
 use Rattle.interp.specs.Progress.{Progress}
@@ -26,7 +26,7 @@ abbrev pub IsOnItsWay : Store → Progress → Store → List Inverse → Type 0
 IsOnItsWay start p now inverses = AreDone start p.trace now inverses
 
 -- the run of a call over lent contracts, whose operations were done on these cells
-pub record IsPlayedOver (contracts : List Deployed) (call : ContractCall) (start : Store) (f : Played) (now : Store) (inverses : List Inverse) : Type 0 where
-  pub lent : f.contracts ≡ contracts
+pub record IsPlayedOver (setting : Setting) (call : ContractCall) (start : Store) (f : Played) (now : Store) (inverses : List Inverse) : Type 0 where
+  pub lent : f.setting ≡ setting
   pub call_is : f.call ≡ call
   pub done : AreDone start f.trace now inverses

@@ -14,7 +14,7 @@ ghost use Rattle.spec_ledger.specs.Book.{back_all, GetsReplies};
 ghost use Rattle.storage.specs.Counts.{AreUnsettled, Store, closed_all};
 ghost use Rattle.spec_execution.specs.Exec.{Executes};
 ghost use Rattle.spec_execution.specs.Serial.{Serial};
-ghost use Rattle.interp.specs.Lent.{contracts_view};
+ghost use Rattle.interp.specs.Lent.{setting_view};
 ghost use Rattle.serial.specs.Playing.{AreDone};
 ghost use Rattle.serial.specs.Positions.{positions};
 
@@ -58,7 +58,7 @@ fn conclude<A: Allocator + Copy>(
     inverses: Vec<Inverse, A>,
 ) -> Result<Executed<A>, NoMemory>
     requires { AreUnsettled inverses.items cells.old.unsettled }
-    ensures executed { IfOk result (λ e. (start : Store) → AreDone start finished.now.trace cells.old inverses.items → start.unsettled ≡ finite.empty → AreCells start.cells → Executes finished.now.contracts finished.now.call start.cells cells.new.cells e.receipt.outcome e.receipt.used e.touched) }
+    ensures executed { IfOk result (λ e. (start : Store) → AreDone start finished.now.trace cells.old inverses.items → start.unsettled ≡ finite.empty → AreCells start.cells → Executes finished.now.setting finished.now.call start.cells cells.new.cells e.receipt.outcome e.receipt.used e.touched) }
     ensures err { OnErr result (cells.new.cells ≡ back_all inverses.items cells.old.cells) }
     ensures unsettled { cells.new.unsettled ≡ closed_all inverses.items cells.old.unsettled }
 {
@@ -87,7 +87,7 @@ pub fn execute<A: Allocator + Copy>(
     cells: &mut Cells<A>,
 ) -> Result<Executed<A>, NoMemory>
     requires { cells.old.unsettled ≡ finite.empty }
-    ensures executed { IfOk result (λ e. Executes (contracts_view contracts.now) call.now cells.old.cells cells.new.cells e.receipt.outcome e.receipt.used e.touched) }
+    ensures executed { IfOk result (λ e. Executes (setting_view contracts.now) call.now cells.old.cells cells.new.cells e.receipt.outcome e.receipt.used e.touched) }
     ensures settled { cells.new.unsettled ≡ finite.empty }
     ensures err { OnErr result (cells.new ≡ cells.old) }
 {
@@ -108,7 +108,7 @@ pub fn run_alone<'a, A: Allocator + Copy>(
     cells: &mut Cells<A>,
 ) -> Result<Finished<'a, A>, NoMemory>
     requires { cells.old.unsettled ≡ finite.empty }
-    ensures contracts { IfOk result (λ finished. finished.contracts ≡ contracts_view contracts.now) }
+    ensures contracts { IfOk result (λ finished. finished.setting ≡ setting_view contracts.now) }
     ensures call { IfOk result (λ finished. finished.call ≡ call.now) }
     ensures replies { IfOk result (λ finished. GetsReplies finished.trace cells.old.cells) }
     ensures cells { cells.new ≡ cells.old }
@@ -131,7 +131,7 @@ pub fn replay<A: Allocator + Copy>(
     cells: &mut Cells<A>,
 ) -> Result<Option<Executed<A>>, NoMemory>
     requires { cells.old.unsettled ≡ finite.empty }
-    ensures executed { IfOk result (λ o. IfSome o (λ e. Executes finished.now.contracts finished.now.call cells.old.cells cells.new.cells e.receipt.outcome e.receipt.used e.touched)) }
+    ensures executed { IfOk result (λ o. IfSome o (λ e. Executes finished.now.setting finished.now.call cells.old.cells cells.new.cells e.receipt.outcome e.receipt.used e.touched)) }
     ensures replies { IfOk result (λ o. IsSome o ↔ GetsReplies finished.now.trace cells.old.cells) }
     ensures other { IfOk result (λ o. IfNone o (cells.new ≡ cells.old)) }
     ensures settled { cells.new.unsettled ≡ finite.empty }
@@ -167,7 +167,7 @@ pub fn serial_core<A: Allocator + Copy>(
     order: &[u32],
 ) -> Result<Core<A>, NoMemory>
     requires { All (λ number. number < length calls.now) order.now }
-    ensures serial { IfOk result (λ core. Serial (contracts_view contracts.now) calls.now order.now cells.now.cells (positions core.receipts.items core.touched.items) core.cells.cells) }
+    ensures serial { IfOk result (λ core. Serial (setting_view contracts.now) calls.now order.now cells.now.cells (positions core.receipts.items core.touched.items) core.cells.cells) }
     ensures receipts { IfOk result (λ core. length core.receipts.items ≡ length order.now) }
     ensures touched { IfOk result (λ core. length core.touched.items ≡ length order.now) }
     ensures settled { IfOk result (λ core. core.cells.unsettled ≡ finite.empty) }

@@ -4,7 +4,7 @@ ghost use Rattle.std.specs.FinMap as finite;
 ghost use Rattle.spec_execution.specs.Run.{IsReply, opening};
 ghost use Rattle.spec_ledger.specs.Cells.{cells_after, inverse_to, reply_to};
 ghost use Rattle.storage.specs.Counts.{Store, opened};
-ghost use Rattle.interp.specs.Lent.{contracts_view};
+ghost use Rattle.interp.specs.Lent.{setting_view};
 ghost use Rattle.interp.specs.Starting.{IsOpened, IsRejection};
 ghost use Rattle.interp.specs.Progress.{IsFree, IsSameCall};
 ghost use Rattle.turn_loop.specs.Going.{MayGoOn, IsEnded};
@@ -90,7 +90,7 @@ fn run<'a, A: Allocator + Copy>(
     requires free { IsFree machine.status }
     requires first { machine.trace ≡ [] }
     requires settled { cells.old.unsettled ≡ finite.empty }
-    ensures ok { IfOk result (λ r. IsPlayedOver machine.entry.contracts machine.entry.call cells.old r.0 cells.new r.1.items) }
+    ensures ok { IfOk result (λ r. IsPlayedOver machine.entry.setting machine.entry.call cells.old r.0 cells.new r.1.items) }
     ensures err { OnErr result (cells.new ≡ cells.old) }
 {
     cells.hold();
@@ -111,8 +111,8 @@ fn rejected<'a, A: Allocator + Copy>(
     contracts: &'a [Contract<A>],
     call: &'a Call,
 ) -> Finished<'a, A>
-    requires { ¬ IsOpened (opening (contracts_view contracts.now) call.now) }
-    ensures { IsRejection (contracts_view contracts.now) call.now result }
+    requires { ¬ IsOpened (opening (setting_view contracts.now) call.now) }
+    ensures { IsRejection (setting_view contracts.now) call.now result }
 {
     match Finished::rejected(alloc, contracts, call) {
         Some(finished) => finished,
@@ -129,7 +129,7 @@ pub(crate) fn play<'a, A: Allocator + Copy>(
     cells: &mut Cells<A>,
 ) -> Result<(Finished<'a, A>, Vec<Inverse, A>), NoMemory>
     requires { cells.old.unsettled ≡ finite.empty }
-    ensures ok { IfOk result (λ r. IsPlayedOver (contracts_view contracts.now) call.now cells.old r.0 cells.new r.1.items) }
+    ensures ok { IfOk result (λ r. IsPlayedOver (setting_view contracts.now) call.now cells.old r.0 cells.new r.1.items) }
     ensures err { OnErr result (cells.new ≡ cells.old) }
 {
     match Machine::start(alloc, contracts, call) {

@@ -9,23 +9,24 @@ use Rattle.spec_ledger.specs.declared.Step.{Step}
 use Rattle.spec_ledger.specs.Cells.{Cells}
 use Rattle.spec_ledger.specs.Modes.{Modes}
 use Rattle.spec_ledger.specs.Order.{limits_of}
-use Rattle.spec_execution.specs.Configuration.{Deployed, Contract, Config}
-use Rattle.spec_execution.specs.Run.{ContractCall, Reached, at_first, reduced, replied, RunsWith, refused, ran}
+use Rattle.spec_execution.specs.Configuration.{Setting}
+use Rattle.spec_execution.specs.Run.{ContractCall}
+use Rattle.spec_execution.specs.Levels.{Levels, Reached, at_first, moved, replied, RunsWith, refused, ran}
 use Rattle.spec_execution.specs.Serial.{Ran, Serial}
 use Rattle.spec_block.specs.Worlds.{limits}
 use Rattle.spec_block.specs.Blocks.{fuel_of}
 use Rattle.serial.specs.Positions.{positions as ran_of}
 use Rattle.serial_block.specs.Ordered.{used_by}
 
-module _ (c : Contract) (first : Config) (limit : ℕ) where
-  reached_within : (trace : List Step) (used : ℕ) (last : Config) → Reached c first limit trace used last → used ≤ limit
+module _ (setting : Setting) (start : Levels) (limit : ℕ) where
+  reached_within : (trace : List Step) (used : ℕ) (last : Levels) → Reached setting start limit trace used last → used ≤ limit
   reached_within trace used last at_first = omega arith
-  reached_within trace used last (reduced t u a charge b r red h) = h
-  reached_within trace used last (replied t u s seq op go r reached asks fits) = reached_within t u _ reached
+  reached_within trace used last (moved t u a charge marks b r e h) = h
+  reached_within trace used last (replied t u a op go r reached asks fits) = reached_within t u a reached
 
-runs_within : (contracts : List Deployed) (call : ContractCall) (trace : List Step) (o : Outcome) (used : ℕ) → RunsWith contracts call trace o used → used ≤ call.fuel
-runs_within contracts call trace o used (refused code e) = omega arith
-runs_within contracts call trace o used (ran c func t p f e run) = reached_within c _ call.fuel t f run.last run.reached
+runs_within : (setting : Setting) (call : ContractCall) (trace : List Step) (o : Outcome) (used : ℕ) → RunsWith setting call trace o used → used ≤ call.fuel
+runs_within setting call trace o used (refused code e) = omega arith
+runs_within setting call trace o used (ran c func t p f e run) = reached_within setting _ call.fuel run.before f run.last run.reached
 
 limit_at : (calls : List ContractCall) (n : ℕ) (call : ContractCall) → slice_get calls n ≡ Some call → slice_index (limits calls) n ≡ call.fuel
 limit_at calls n call at =
@@ -38,14 +39,14 @@ abbrev pub allowed : List ContractCall → List ℕ → ℕ
 allowed calls order = sum_by (λ n. slice_index (limits calls) n) order
 
 -- the calls of an order use no more than their limits together
-serial_within : (contracts : List Deployed) (calls : List ContractCall) (order : List ℕ) (cells : Cells) (rs : List Ran) (last : Cells) → Serial contracts calls order cells rs last → used_in rs ≤ allowed calls order
-serial_within contracts calls [] cells [] last s = omega arith
-serial_within contracts calls [] cells (r ∷ rs) last s = absurd s
-serial_within contracts calls (n ∷ order) cells [] last s = absurd s
-serial_within contracts calls (n ∷ order) cells (r ∷ rs) last s =
-    let one : r.receipt.used ≤ s.0.fuel = runs_within contracts s.0 s.3.trace r.receipt.outcome r.receipt.used s.3.run in
+serial_within : (setting : Setting) (calls : List ContractCall) (order : List ℕ) (cells : Cells) (rs : List Ran) (last : Cells) → Serial setting calls order cells rs last → used_in rs ≤ allowed calls order
+serial_within setting calls [] cells [] last s = omega arith
+serial_within setting calls [] cells (r ∷ rs) last s = absurd s
+serial_within setting calls (n ∷ order) cells [] last s = absurd s
+serial_within setting calls (n ∷ order) cells (r ∷ rs) last s =
+    let one : r.receipt.used ≤ s.0.fuel = runs_within setting s.0 s.3.trace r.receipt.outcome r.receipt.used s.3.run in
     let limit : slice_index (limits calls) n ≡ s.0.fuel = limit_at calls n s.0 s.2 in
-    let rest : used_in rs ≤ allowed calls order = serial_within contracts calls order s.1 rs last s.4 in
+    let rest : used_in rs ≤ allowed calls order = serial_within setting calls order s.1 rs last s.4 in
     let a : used_in (r ∷ rs) ≡ r.receipt.used + used_in rs = sum_by-cons (λ (x : Ran). x.receipt.used) r rs in
     let b : allowed calls (n ∷ order) ≡ slice_index (limits calls) n + allowed calls order = sum_by-cons (λ k. slice_index (limits calls) k) n order in
     omega (arith, one, limit, rest, a, b)
@@ -61,10 +62,10 @@ used_again (r ∷ rs) [] e = absurd (omega (arith, e))
 pub fuel_is : (rs : List Receipt) (ms : List Modes) → length rs ≡ length ms → used_by rs ≡ fuel_of (ran_of rs ms)
 fuel_is rs ms e = sym (sum-map (λ (r : Ran). r.receipt.used) (ran_of rs ms) ∙ used_again rs ms e)
 
-pub used_within : (contracts : List Deployed) (calls : List ContractCall) (order : List ℕ) (cells : Cells) (rs : List Receipt) (ms : List Modes) (last : Cells)
-    → length rs ≡ length ms → Serial contracts calls order cells (ran_of rs ms) last → used_by rs ≤ limits_of (limits calls) order
-used_within contracts calls order cells rs ms last e s =
+pub used_within : (setting : Setting) (calls : List ContractCall) (order : List ℕ) (cells : Cells) (rs : List Receipt) (ms : List Modes) (last : Cells)
+    → length rs ≡ length ms → Serial setting calls order cells (ran_of rs ms) last → used_by rs ≤ limits_of (limits calls) order
+used_within setting calls order cells rs ms last e s =
     let a : used_in (ran_of rs ms) ≡ used_by rs = used_again rs ms e in
     let b : limits_of (limits calls) order ≡ allowed calls order = sum-map (λ n. slice_index (limits calls) n) order in
-    let c : used_in (ran_of rs ms) ≤ allowed calls order = serial_within contracts calls order cells (ran_of rs ms) last s in
+    let c : used_in (ran_of rs ms) ≤ allowed calls order = serial_within setting calls order cells (ran_of rs ms) last s in
     omega (arith, a, b, c)

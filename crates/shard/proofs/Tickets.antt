@@ -3,7 +3,7 @@ use Rattle.std.proofs.Common.{◌≡◌, ◌≢◌, ℕ, List, [], ◌∷◌, �
 use Rattle.std.specs.List.{AllByRecursion}
 use Rattle.spec_ledger.specs.declared.Step.{Step}
 use Rattle.spec_ledger.specs.Book.{Attempt, Content, AreSideBySide, AreAllSideBySide}
-use Rattle.spec_ledger.specs.Events.{IsFound, IsOther, IsStale, HasNoAttempt}
+use Rattle.spec_ledger.specs.Events.{IsFound, IsNotEntered, IsOther, IsStale, HasNoAttempt}
 use Rattle.spec_ledger.proofs.Kept.{All-at}
 use Rattle.spec_ledger.proofs.Traces.{All-weaken}
 use Rattle.boost.specs.Numbered.{HasTrace}
@@ -61,6 +61,10 @@ module _ (m b : Content) (same : m ≡ b) (k n call number : ℕ) (of_call : k �
 pub stale_not_other : (m b : Content) → m ≡ b → (call number : ℕ) (part : List Step) → IsStale m call number → ¬ (IsOther b call number part)
 stale_not_other m b same call number part gone other =
     found_not_stale b call number other.before other.attempt other.later other.found (subst (λ (x : Content). IsStale x call number) same gone)
+
+pub stale_not_entered : (m b : Content) → m ≡ b → (call number : ℕ) → IsStale m call number → ¬ (IsNotEntered b call number)
+stale_not_entered m b same call number gone none =
+    found_not_stale b call number none.before none.attempt none.later none.found (subst (λ (x : Content). IsStale x call number) same gone)
 
 pub none_stale : (b : Content) (call number : ℕ) → HasNoAttempt call b.attempts → IsStale b call number
 none_stale b call number none = All-weaken (λ (a : Attempt). a.call ≢ call) (λ a. ¬ ((a.call ≡ call) × (a.number ≡ number))) (λ a h e. h e.0) b.attempts none

@@ -5,10 +5,11 @@ use Rattle.std.specs.Coded.{Coded, code_by, coded×, coded_list, coded_ℕ}
 use Rattle.std.specs.List.{AllByRecursion}
 use Rattle.std.specs.List.Sorted.{IsStrictlyIncreasing}
 use Rattle.spec_ledger.specs.declared.Op.{Op}
+use Rattle.spec_ledger.specs.declared.Step.{Step}
 use Rattle.spec_ledger.specs.Book.{Content, call_is_new}
 use Rattle.spec_ledger.specs.Codes.{coded_content}
 use Rattle.spec_ledger.specs.Events.{HasNoAttempt, IsConflict, IsStale}
-use Rattle.boost.specs.Numbered.{BegunAs}
+use Rattle.boost.specs.Numbered.{BegunWith}
 
 -- the book of a shard, and for each of its entries the position in the journal
 pub record Shard : Type 0 where
@@ -38,10 +39,10 @@ pub record IsBehind (b : Content) (call number : ℕ) : Type 0 where
   pub other : IsStale b call number
   pub later : slice_index b.begun call ≤ number
 
--- the book for an operation of an attempt: as it is, or with the attempt begun, where this is its first here
-abbrev pub IsReady : Content → Content → ℕ → ℕ → Type 0
-IsReady b ready call number = (ready ≡ b) ⊎ BegunAs b ready call number
+-- the book for an operation of an attempt: as it is, or with the attempt begun, where this is its first here, after the marks of levels that it made elsewhere
+abbrev pub IsReady : Content → Content → ℕ → ℕ → List Step → Type 0
+IsReady b ready call number marks = (ready ≡ b) ⊎ BegunWith b ready call number marks
 
 -- the operation has to wait for another attempt: one that holds the lock in a mode that does not go with the one asked for, or an earlier one of the call, which holds its locks
-abbrev pub HasToWait : Content → ℕ → ℕ → Op → Type 0
-HasToWait b call number op = IsBehind b call number ⊎ ((ready : Content) × IsReady b ready call number × IsConflict ready call number op)
+abbrev pub HasToWait : Content → ℕ → ℕ → List Step → Op → Type 0
+HasToWait b call number marks op = IsBehind b call number ⊎ ((ready : Content) × IsReady b ready call number marks × IsConflict ready call number op)

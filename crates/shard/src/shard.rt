@@ -2,14 +2,17 @@
 ghost use Rattle.std.specs.Prelude.{◌≡◌, ◌≢◌, ◌<◌, ◌≤◌, ◌⊎◌, ◌↔◌, ◌++◌, ◌∷◌, [], IfOk, IfSome, IfNone, IsTrue, OnOk, OnErr, Err, List, length, replicate, slice_get};
 ghost use Rattle.spec_ledger.specs.declared.Step.{Step};
 ghost use Rattle.spec_ledger.specs.Book.{Content};
-ghost use Rattle.spec_ledger.specs.Events.{CommitDone, HasNoAttempt, IsOther, IsStale, OpDone, UndoDone};
+ghost use Rattle.spec_ledger.specs.Events.{CommitDone, EnterDone, HasNoAttempt, IsNotEntered, IsOther, IsStale, LeaveDone, OpDone, UndoDone};
 ghost use Rattle.spec_ledger.specs.Facts.{CellsAreSettledButForHolders, EntriesAreSerialRun, LiveAttemptsGoTogether, LiveTracesGetReplies};
+ghost use Rattle.spec_ledger.specs.Modes.{ops_of};
 ghost use Rattle.std.specs.List.Sorted.{IsStrictlyIncreasing};
 ghost use Rattle.spec_shards.specs.Shards.{part, shard_of};
 ghost use Rattle.shard.specs.Shard.{HasToWait, IsNext, IsOver, IsReady, IsShard};
 
 use crate::first::first_op;
-use boost::book::{BeginAsRefusal, Book, CommitRefusal, OpRefusal, Ticket};
+use boost::book::{
+    BeginAsRefusal, Book, CommitRefusal, EnterRefusal, LeaveRefusal, OpRefusal, Ticket,
+};
 use shard_parts::{Part, is_part};
 use spec_ledger::{Op, Outcome, Reply, Step};
 use std::alloc::{Allocator, Global};
@@ -103,15 +106,47 @@ impl<A: Allocator + Copy> Shard<A> {
     /// Stale just where the attempt is over here, or the shard has no such call. Unless memory was refused, Conflict just where the operation has to wait:
     /// another attempt holds the lock in a mode that does not go with the one asked for, or an earlier attempt of the call lives here.
     pub fn op(&mut self, call: u32, number: u64, op: Op) -> Result<Reply, OpRefusal>
-        ensures ok { IfOk result (λ reply. (ready : Content) × IsReady self.old.book ready call number × OpDone ready self.new.book call number op reply) }
+        ensures ok { IfOk result (λ reply. (ready : Content) × IsReady self.old.book ready call number [] × OpDone ready self.new.book call number op reply) }
         ensures positions { self.new.positions ≡ self.old.positions }
         ensures stale { (result ≡ Err OpRefusal.Stale) ↔ (IsOver self.old.book call number ⊎ (length self.old.book.begun ≤ call)) }
-        ensures conflict { result ≢ Err OpRefusal.NoMemory → (result ≡ Err OpRefusal.Conflict) ↔ HasToWait self.old.book call number op }
+        ensures conflict { result ≢ Err OpRefusal.NoMemory → (result ≡ Err OpRefusal.Conflict) ↔ HasToWait self.old.book call number [] op }
+        ensures err { OnErr result (self.new ≡ self.old) }
+    {
+        self.op_with(call, number, &[], op)
+    }
+
+    /// Does an operation for an attempt of a call that made these marks of levels elsewhere. With its first here the attempt is begun, with these marks and the
+    /// room for those that close its open levels; an attempt that lives here has made its own. A refusal changes nothing, so a first operation that was refused
+    /// may be tried again.
+    ///
+    /// # Errors
+    ///
+    /// Stale just where the attempt is over here, or the shard has no such call. Unless memory was refused, Conflict just where the operation has to wait:
+    /// another attempt holds the lock in a mode that does not go with the one asked for, or an earlier attempt of the call lives here.
+    pub fn op_with(
+        &mut self,
+        call: u32,
+        number: u64,
+        marks: &[Step],
+        op: Op,
+    ) -> Result<Reply, OpRefusal>
+        requires { ops_of marks.now ≡ [] }
+        ensures ok { IfOk result (λ reply. (ready : Content) × IsReady self.old.book ready call number marks.now × OpDone ready self.new.book call number op reply) }
+        ensures positions { self.new.positions ≡ self.old.positions }
+        ensures stale { (result ≡ Err OpRefusal.Stale) ↔ (IsOver self.old.book call number ⊎ (length self.old.book.begun ≤ call)) }
+        ensures conflict { result ≢ Err OpRefusal.NoMemory → (result ≡ Err OpRefusal.Conflict) ↔ HasToWait self.old.book call number marks.now op }
         ensures err { OnErr result (self.new ≡ self.old) }
     {
         let count = self.book.begun_of(call).unwrap_or(0);
         match self.book.begin_as(call, number) {
-            Ok(ticket) => first_op(&mut self.book, &mut self.positions, ticket, count, op),
+            Ok(ticket) => first_op(
+                &mut self.book,
+                &mut self.positions,
+                ticket,
+                count,
+                marks,
+                op,
+            ),
             Err(BeginAsRefusal::Live) => match ticket_of(&self.book, call, number) {
                 Some(ticket) => self.book.op(&ticket, op),
                 None => Err(if number < count {
@@ -125,6 +160,57 @@ impl<A: Allocator + Copy> Shard<A> {
             Err(BeginAsRefusal::Passed) => Err(OpRefusal::Stale),
             Err(BeginAsRefusal::NoMemory) => Err(OpRefusal::NoMemory),
         }
+    }
+
+    /// Makes the room for one level more of an attempt that lives here, so that the next `enter` of it takes no memory. What is seen stays.
+    ///
+    /// # Errors
+    ///
+    /// Stale just where the attempt does not live here; else memory was refused.
+    pub fn make_room(&mut self, call: u32, number: u64) -> Result<(), EnterRefusal>
+        ensures stale { (result ≡ Err EnterRefusal.Stale) ↔ IsStale self.old.book call number }
+        ensures same { self.new ≡ self.old }
+    {
+        let Some(ticket) = ticket_of(&self.book, call, number) else {
+            return Err(EnterRefusal::Stale);
+        };
+        self.book.make_room(&ticket)
+    }
+
+    /// Enters a level of an attempt that lives here, with the room for the mark that closes it. A refusal changes nothing.
+    ///
+    /// # Errors
+    ///
+    /// Stale just where the attempt does not live here; else memory was refused.
+    pub fn enter(&mut self, call: u32, number: u64) -> Result<(), EnterRefusal>
+        ensures ok { OnOk result (EnterDone self.old.book self.new.book call number) }
+        ensures positions { self.new.positions ≡ self.old.positions }
+        ensures stale { (result ≡ Err EnterRefusal.Stale) ↔ IsStale self.old.book call number }
+        ensures err { OnErr result (self.new ≡ self.old) }
+    {
+        let Some(ticket) = ticket_of(&self.book, call, number) else {
+            return Err(EnterRefusal::Stale);
+        };
+        self.book.enter(&ticket)
+    }
+
+    /// Leaves the innermost level of an attempt that lives here, for which it takes no memory: its changes here stand, or are taken back, last first. Its locks
+    /// are held on. A refusal changes nothing.
+    ///
+    /// # Errors
+    ///
+    /// Stale just where the attempt does not live here; NotEntered just where it has entered no level here that it has not left.
+    pub fn leave(&mut self, call: u32, number: u64, keep: bool) -> Result<(), LeaveRefusal>
+        ensures ok { OnOk result (LeaveDone self.old.book self.new.book call number keep) }
+        ensures positions { self.new.positions ≡ self.old.positions }
+        ensures stale { (result ≡ Err LeaveRefusal.Stale) ↔ IsStale self.old.book call number }
+        ensures not_entered { (result ≡ Err LeaveRefusal.NotEntered) ↔ IsNotEntered self.old.book call number }
+        ensures err { OnErr result (self.new ≡ self.old) }
+    {
+        let Some(ticket) = ticket_of(&self.book, call, number) else {
+            return Err(LeaveRefusal::Stale);
+        };
+        self.book.leave(&ticket, keep)
     }
 
     /// Undoes a live attempt, for which it takes no memory. An attempt that does not live here changes nothing.

@@ -1,3 +1,4 @@
 pub mod Crossing
+mod Levels
 mod Strays
 mod Takings

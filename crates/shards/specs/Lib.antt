@@ -1,2 +1,3 @@
+pub mod Marks
 pub mod Shards
 pub mod Taking

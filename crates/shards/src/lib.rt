@@ -4,10 +4,12 @@
 #![tactic(auto)]
 
 mod gate;
+mod marks;
 mod opening;
 mod sharded;
 mod ticket;
 
 pub use gate::{Gate, NoGate};
+pub use marks::Marks;
 pub use sharded::Shards;
 pub use ticket::Ticket;

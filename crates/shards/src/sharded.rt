@@ -1,21 +1,25 @@
 // The book in shards.
-ghost use Rattle.std.specs.Prelude.{◌≡◌, ◌≢◌, ◌<◌, ◌≤◌, ◌⊎◌, ◌↔◌, ◌^◌, ℕ, [], Err, IfOk, IfErr, IsTrue, OnOk, OnErr, false, length, replicate, slice_index_or, slice_set, true};
+ghost use Rattle.std.specs.Prelude.{◌≡◌, ◌≢◌, ◌<◌, ◌≤◌, ◌⊎◌, ◌↔◌, ◌^◌, ◌++◌, ◌∷◌, ℕ, [], Err, IfOk, IfErr, IsTrue, OnOk, OnErr, false, length, replicate, slice_index_or, slice_set, true};
 ghost use Rattle.std.specs.FinMap as finite;
 ghost use Rattle.std.specs.List.{AllByRecursion};
 ghost use Rattle.spec_ledger.specs.Book.{AreDistinct, Content, IsDefined, call_is_new, settled};
 ghost use Rattle.spec_ledger.specs.Cells.{lock_of};
-ghost use Rattle.spec_ledger.specs.Events.{IsOther, IsStale, OpDone, UndoDone};
-ghost use Rattle.spec_ledger.specs.Modes.{touched};
+ghost use Rattle.spec_ledger.specs.Events.{EnterDone, IsNotEntered, IsOther, IsStale, LeaveDone, OpDone, UndoDone};
+ghost use Rattle.spec_ledger.specs.Modes.{ops_of, touched};
+ghost use Rattle.spec_ledger.specs.declared.Step.TheVariants as TheStep;
 ghost use Rattle.spec_shards.specs.Shards.{part, shard_of};
 ghost use Rattle.shard_parts.specs.Steps.{asks_at};
-ghost use Rattle.journal.specs.Journals.{Begins, Commits, IsJournal, IsLive, Journal as TheJournal};
+ghost use Rattle.journal.specs.Journals.{Begins, Commits, IsJournal, IsLive, Journal as TheJournal, after_undo};
 ghost use Rattle.shard.specs.Shard.{HasToWait, IsOver, IsReady, Shard as TheShard};
 ghost use Rattle.shards.specs.Taking.{HasOtherSteps, HoldsOfAShard, HoldsOfTheJournal, IsLawful};
+ghost use Rattle.shards.specs.Marks.{IsOutside, closing};
 
 use crate::gate::Gate;
 use crate::opening::{Padded, open_all, parts_of};
 use crate::ticket::Ticket;
-use boost::book::{BeginRefusal, Closed, CommitRefusal, OpRefusal, Run};
+use boost::book::{
+    BeginRefusal, Closed, CommitRefusal, EnterRefusal, LeaveRefusal, OpRefusal, Run,
+};
 use journal::Journal;
 use shard::Shard;
 use shard_parts::{CloseRefusal, close, home};
@@ -35,9 +39,11 @@ pub struct Shards<'g, G: Gate, A: Allocator = Global> {
     alloc: A,
     gate: &'g G,
     shards: Vec<Padded<A>, A>,
-    // (what each operation reads stands before it, the journal's lock behind it)
     opening: Cells<A>,
+    // (the journal's lock stands on other cache lines than what each operation reads)
+    _before: [u64; 8],
     journal: Mutex<Journal<A>>,
+    _behind: [u64; 8],
 }
 
 impl<'g, G: Gate, A: Allocator> Model for Shards<'g, G, A> {
@@ -67,6 +73,17 @@ fn look_at_shard<A: Allocator + Copy>(shard: &Shard<A>)
     shard.hold();
 }
 
+/// Undoes an attempt in the journal that was found under its lock.
+fn undo_in_journal<A: Allocator + Copy>(journal: &mut Journal<A>, call: u32, number: u64)
+    ensures lawful { IsJournal journal.old }
+    ensures done { (IsLive journal.old call number × (journal.new ≡ after_undo journal.old call)) ⊎ (¬ (IsLive journal.old call number) × (journal.new ≡ journal.old)) }
+{
+    journal.hold();
+    if journal.is_live(call, number) {
+        journal.undo(call, number);
+    }
+}
+
 /// A copy of a trace.
 fn copied<A: Allocator + Copy>(alloc: A, trace: &[Step]) -> Result<Vec<Step, A>, NoMemory>
     ensures { IfOk result (λ steps. steps.items ≡ trace.now) }
@@ -79,7 +96,7 @@ fn copied<A: Allocator + Copy>(alloc: A, trace: &[Step]) -> Result<Vec<Step, A>,
 }
 
 /// Whether a step is an operation in a shard that an attempt has not touched.
-fn strays(ticket: &Ticket, step: Step, shards: u32) -> bool
+fn strays<A: Allocator + Copy>(ticket: &Ticket<A>, step: Step, shards: u32) -> bool
     requires { 0 < shards }
     ensures { IsTrue result → (shard : ℕ) × (slice_index_or ticket.now.touched shard false ≡ false) × (asks_at (shard_of shards) shard step ≡ true) }
 {
@@ -90,7 +107,7 @@ fn strays(ticket: &Ticket, step: Step, shards: u32) -> bool
 }
 
 /// Whether a trace has an operation in a shard that an attempt has not touched.
-fn has_strayed(ticket: &Ticket, trace: &[Step], shards: u32) -> bool
+fn has_strayed<A: Allocator + Copy>(ticket: &Ticket<A>, trace: &[Step], shards: u32) -> bool
     requires { 0 < shards }
     ensures { IsTrue result → (shard : ℕ) × (slice_index_or ticket.now.touched shard false ≡ false) × ¬ ([] ≡ part (shard_of shards) shard trace.now) }
 {
@@ -126,7 +143,9 @@ impl<'g, G: Gate, A: Allocator + Copy> Shards<'g, G, A> {
             gate,
             shards: all,
             opening,
+            _before: [0; 8],
             journal: Mutex::new(journal),
+            _behind: [0; 8],
         })
     }
 
@@ -143,9 +162,10 @@ impl<'g, G: Gate, A: Allocator + Copy> Shards<'g, G, A> {
     /// # Errors
     ///
     /// NoMemory where the counter of the call's attempts is full.
-    pub fn begin(&self, rt: &impl Wait, call: u32) -> Result<Ticket, BeginRefusal>
+    pub fn begin(&self, rt: &impl Wait, call: u32) -> Result<Ticket<A>, BeginRefusal>
         ensures call { IfOk result (λ ticket. ticket.call ≡ call) }
         ensures touched { IfOk result (λ ticket. ticket.touched ≡ replicate 16 false) }
+        ensures marks { IfOk result (λ ticket. ticket.marks ≡ []) }
         ensures ok { IfOk result (λ ticket. HoldsOfTheJournal (λ old. (new : TheJournal) × Begins old new call ticket.number)) }
         ensures no_such_call { result ≡ Err BeginRefusal.NoSuchCall → HoldsOfTheJournal (λ old. length old.begun ≤ call) }
         ensures live { result ≡ Err BeginRefusal.Live → HoldsOfTheJournal (λ old. (number : ℕ) × IsLive old call number) }
@@ -154,53 +174,204 @@ impl<'g, G: Gate, A: Allocator + Copy> Shards<'g, G, A> {
         let mut journal = self.journal.lock(rt);
         look_at_journal(&journal);
         match journal.begin(call) {
-            Ok(number) => Ok(Ticket::new(call, number)),
+            Ok(number) => Ok(Ticket::new(self.alloc, call, number)),
             Err(refusal) => Err(refusal),
         }
     }
 
-    /// Does an operation in a shard, under its lock, and tells the gate that the lock is held.
+    /// Does an operation of an attempt that has made these marks of levels in a shard, under its lock, and tells the gate that the lock is held.
     fn op_in(
         &self,
         rt: &impl Wait,
         shard: u32,
         call: u32,
         number: u64,
+        marks: &[Step],
         op: Op,
     ) -> Result<Reply, OpRefusal>
-        requires { shard < self.now.shards }
-        ensures ok { IfOk result (λ reply. HoldsOfAShard (λ old. (new : TheShard) × (ready : Content) × IsReady old.book ready call number × OpDone ready new.book call number op reply)) }
-        ensures conflict { result ≡ Err OpRefusal.Conflict → HoldsOfAShard (λ old. HasToWait old.book call number op) }
+        requires shard { shard < self.now.shards }
+        requires marks { ops_of marks.now ≡ [] }
+        ensures ok { IfOk result (λ reply. HoldsOfAShard (λ old. (new : TheShard) × (ready : Content) × IsReady old.book ready call number marks.now × OpDone ready new.book call number op reply)) }
+        ensures conflict { result ≡ Err OpRefusal.Conflict → HoldsOfAShard (λ old. HasToWait old.book call number marks.now op) }
         ensures stale { result ≡ Err OpRefusal.Stale → HoldsOfAShard (λ old. IsOver old.book call number ⊎ (length old.book.begun ≤ call)) }
     {
         let mut found = self.shards[shard as usize].shard.lock(rt);
         look_at_shard(&found);
         self.gate.inside(shard);
-        found.op(call, number, op)
+        found.op_with(call, number, marks, op)
     }
 
-    /// Does an operation for an attempt, under the lock of its lock's shard, which the ticket notes. A refusal changes neither shard nor ticket.
+    /// Does an operation for an attempt, under the lock of its lock's shard, which the ticket notes. With its first there the attempt is begun in the shard, with
+    /// the marks of levels that it has made. A refusal changes neither shard nor ticket.
     ///
     /// # Errors
     ///
     /// Stale where the shard has seen the attempt end or a later one of its call; Conflict where it has to wait for another attempt; else memory was refused.
-    pub fn op(&self, rt: &impl Wait, ticket: &mut Ticket, op: Op) -> Result<Reply, OpRefusal>
-        ensures ok { IfOk result (λ reply. HoldsOfAShard (λ old. (new : TheShard) × (ready : Content) × IsReady old.book ready ticket.old.call ticket.old.number × OpDone ready new.book ticket.old.call ticket.old.number op reply)) }
-        ensures conflict { result ≡ Err OpRefusal.Conflict → HoldsOfAShard (λ old. HasToWait old.book ticket.old.call ticket.old.number op) }
+    pub fn op(&self, rt: &impl Wait, ticket: &mut Ticket<A>, op: Op) -> Result<Reply, OpRefusal>
+        ensures ok { IfOk result (λ reply. HoldsOfAShard (λ old. (new : TheShard) × (ready : Content) × IsReady old.book ready ticket.old.call ticket.old.number ticket.old.marks × OpDone ready new.book ticket.old.call ticket.old.number op reply)) }
+        ensures conflict { result ≡ Err OpRefusal.Conflict → HoldsOfAShard (λ old. HasToWait old.book ticket.old.call ticket.old.number ticket.old.marks op) }
         ensures stale { result ≡ Err OpRefusal.Stale → HoldsOfAShard (λ old. IsOver old.book ticket.old.call ticket.old.number ⊎ (length old.book.begun ≤ ticket.old.call)) }
         ensures call { ticket.new.call ≡ ticket.old.call }
         ensures number { ticket.new.number ≡ ticket.old.number }
         ensures touched { OnOk result (ticket.new.touched ≡ slice_set ticket.old.touched (shard_of self.now.shards (lock_of op)) true) }
+        ensures marks { ticket.new.marks ≡ ticket.old.marks }
         ensures err { OnErr result (ticket.new ≡ ticket.old) }
     {
         let shard = home(lock(op), self.count());
-        match self.op_in(rt, shard, ticket.call, ticket.number, op) {
+        match self.op_in(
+            rt,
+            shard,
+            ticket.call,
+            ticket.number,
+            ticket.marks.steps(),
+            op,
+        ) {
             Ok(reply) => {
                 ticket.touch(shard);
                 Ok(reply)
             }
             Err(refusal) => Err(refusal),
         }
+    }
+
+    /// Makes the room for one level more of an attempt in a shard, under its lock. What is seen stays.
+    fn make_room_in(
+        &self,
+        rt: &impl Wait,
+        shard: usize,
+        call: u32,
+        number: u64,
+    ) -> Result<(), EnterRefusal>
+        requires { shard < self.now.shards }
+        ensures { result ≡ Err EnterRefusal.Stale → HoldsOfAShard (λ old. IsStale old.book call number) }
+    {
+        let mut found = self.shards[shard].shard.lock(rt);
+        look_at_shard(&found);
+        found.make_room(call, number)
+    }
+
+    /// Makes the room for one level more of an attempt in each shard that it has touched, in rising number. A shard where it does not live is passed over.
+    fn make_room(&self, rt: &impl Wait, ticket: &Ticket<A>) -> Result<(), NoMemory> {
+        for shard in 0..self.shards.len() {
+            if !ticket.has_touched(shard) {
+                continue;
+            }
+            match self.make_room_in(rt, shard, ticket.call, ticket.number) {
+                Ok(()) | Err(EnterRefusal::Stale) => (),
+                Err(EnterRefusal::NoMemory) => return Err(NoMemory),
+            }
+        }
+        Ok(())
+    }
+
+    /// Enters a level of an attempt in a shard, under its lock.
+    fn enter_in(
+        &self,
+        rt: &impl Wait,
+        shard: usize,
+        call: u32,
+        number: u64,
+    ) -> Result<(), EnterRefusal>
+        requires { shard < self.now.shards }
+        ensures ok { OnOk result (HoldsOfAShard (λ old. (new : Content) × EnterDone old.book new call number)) }
+        ensures stale { result ≡ Err EnterRefusal.Stale → HoldsOfAShard (λ old. IsStale old.book call number) }
+    {
+        let mut found = self.shards[shard].shard.lock(rt);
+        look_at_shard(&found);
+        found.enter(call, number)
+    }
+
+    /// Enters a level of a live attempt: under the journal's lock the room for its marks is made, in each shard that the attempt has touched, in rising number,
+    /// and in the ticket; then the mark is made in the ticket and in each of those shards, where a refusal is passed over. A refusal changes neither ticket nor
+    /// shard.
+    ///
+    /// # Errors
+    ///
+    /// Stale where the attempt does not live; else memory was refused.
+    pub fn enter(&self, rt: &impl Wait, ticket: &mut Ticket<A>) -> Result<(), EnterRefusal>
+        ensures ok { OnOk result (HoldsOfTheJournal (λ old. IsLive old ticket.old.call ticket.old.number)) }
+        ensures stale { result ≡ Err EnterRefusal.Stale → HoldsOfTheJournal (λ old. ¬ (IsLive old ticket.old.call ticket.old.number)) }
+        ensures mark { OnOk result (ticket.new.marks ≡ ticket.old.marks ++ TheStep.Opened ∷ []) }
+        ensures call { ticket.new.call ≡ ticket.old.call }
+        ensures number { ticket.new.number ≡ ticket.old.number }
+        ensures touched { ticket.new.touched ≡ ticket.old.touched }
+        ensures err { OnErr result (ticket.new ≡ ticket.old) }
+    {
+        let journal = self.journal.lock(rt);
+        look_at_journal(&journal);
+        if !journal.is_live(ticket.call, ticket.number) {
+            return Err(EnterRefusal::Stale);
+        }
+        if self.make_room(rt, ticket).is_err() {
+            return Err(EnterRefusal::NoMemory);
+        }
+        if ticket.marks.enter().is_err() {
+            return Err(EnterRefusal::NoMemory);
+        }
+        for shard in 0..self.shards.len() {
+            if ticket.has_touched(shard) {
+                let _passed_over = self.enter_in(rt, shard, ticket.call, ticket.number);
+            }
+        }
+        Ok(())
+    }
+
+    /// Leaves the innermost level of an attempt in a shard, under its lock.
+    fn leave_in(
+        &self,
+        rt: &impl Wait,
+        shard: usize,
+        call: u32,
+        number: u64,
+        keep: bool,
+    ) -> Result<(), LeaveRefusal>
+        requires { shard < self.now.shards }
+        ensures ok { OnOk result (HoldsOfAShard (λ old. (new : Content) × LeaveDone old.book new call number keep)) }
+        ensures stale { result ≡ Err LeaveRefusal.Stale → HoldsOfAShard (λ old. IsStale old.book call number) }
+        ensures not_entered { result ≡ Err LeaveRefusal.NotEntered → HoldsOfAShard (λ old. IsNotEntered old.book call number) }
+    {
+        let mut found = self.shards[shard].shard.lock(rt);
+        look_at_shard(&found);
+        found.leave(call, number, keep)
+    }
+
+    /// Leaves the innermost level of a live attempt, for which it takes no memory: under the journal's lock it is left in each shard that the attempt has
+    /// touched, in rising number, where a refusal is passed over, and in the ticket. The changes made in it stand, or are taken back, last first; its locks are
+    /// held on. A refusal changes neither ticket nor shard.
+    ///
+    /// # Errors
+    ///
+    /// NotEntered just where the ticket has no open mark; else Stale, where the attempt does not live.
+    pub fn leave(
+        &self,
+        rt: &impl Wait,
+        ticket: &mut Ticket<A>,
+        keep: bool,
+    ) -> Result<(), LeaveRefusal>
+        ensures ok { OnOk result (HoldsOfTheJournal (λ old. IsLive old ticket.old.call ticket.old.number)) }
+        ensures stale { result ≡ Err LeaveRefusal.Stale → HoldsOfTheJournal (λ old. ¬ (IsLive old ticket.old.call ticket.old.number)) }
+        ensures not_entered { (result ≡ Err LeaveRefusal.NotEntered) ↔ IsOutside ticket.old.marks }
+        ensures mark { OnOk result (ticket.new.marks ≡ ticket.old.marks ++ closing keep ∷ []) }
+        ensures call { ticket.new.call ≡ ticket.old.call }
+        ensures number { ticket.new.number ≡ ticket.old.number }
+        ensures touched { ticket.new.touched ≡ ticket.old.touched }
+        ensures err { OnErr result (ticket.new ≡ ticket.old) }
+    {
+        if ticket.marks.is_outside() {
+            return Err(LeaveRefusal::NotEntered);
+        }
+        let journal = self.journal.lock(rt);
+        look_at_journal(&journal);
+        if !journal.is_live(ticket.call, ticket.number) {
+            return Err(LeaveRefusal::Stale);
+        }
+        for shard in 0..self.shards.len() {
+            if ticket.has_touched(shard) {
+                let _passed_over = self.leave_in(rt, shard, ticket.call, ticket.number, keep);
+            }
+        }
+        ticket.marks.leave(keep);
+        Ok(())
     }
 
     /// Undoes an attempt in a shard, under its lock.
@@ -215,9 +386,11 @@ impl<'g, G: Gate, A: Allocator + Copy> Shards<'g, G, A> {
 
     /// Undoes a live attempt, for which it takes no memory: under the journal's lock its call is idle, and then it is undone in each shard that it has touched,
     /// in rising number. A stale ticket changes nothing.
-    pub fn undo(&self, rt: &impl Wait, ticket: Ticket) {
+    pub fn undo(&self, rt: &impl Wait, ticket: Ticket<A>)
+        ensures { HoldsOfTheJournal (λ old. (new : TheJournal) × ((IsLive old ticket.call ticket.number × (new ≡ after_undo old ticket.call)) ⊎ (¬ (IsLive old ticket.call ticket.number) × (new ≡ old)))) }
+    {
         let mut journal = self.journal.lock(rt);
-        journal.undo(ticket.call, ticket.number);
+        undo_in_journal(&mut journal, ticket.call, ticket.number);
         for shard in 0..self.shards.len() {
             if ticket.has_touched(shard) {
                 self.undo_in(rt, shard, ticket.call, ticket.number);
@@ -230,7 +403,7 @@ impl<'g, G: Gate, A: Allocator + Copy> Shards<'g, G, A> {
         &self,
         rt: &impl Wait,
         shard: usize,
-        ticket: &Ticket,
+        ticket: &Ticket<A>,
         trace: &[Step],
     ) -> Result<(), CommitRefusal>
         requires { shard < self.now.shards }
@@ -251,7 +424,7 @@ impl<'g, G: Gate, A: Allocator + Copy> Shards<'g, G, A> {
 
     /// Looks at each shard that an attempt has touched, in rising number: that it lives there with the shard's part of the run's trace; and that the trace
     /// has no operation in another shard.
-    fn look(&self, rt: &impl Wait, ticket: &Ticket, trace: &[Step]) -> Result<(), CommitRefusal>
+    fn look(&self, rt: &impl Wait, ticket: &Ticket<A>, trace: &[Step]) -> Result<(), CommitRefusal>
         ensures stale { result ≡ Err CommitRefusal.Stale → HoldsOfAShard (λ old. IsStale old.book ticket.now.call ticket.now.number) }
         ensures differs { result ≡ Err CommitRefusal.Differs → HasOtherSteps self.now.shards ticket.now.call ticket.now.number ticket.now.touched trace.now }
         ensures memory { result ≢ Err CommitRefusal.NoMemory }
@@ -272,7 +445,7 @@ impl<'g, G: Gate, A: Allocator + Copy> Shards<'g, G, A> {
     }
 
     /// Ends an attempt in each shard that it has touched, in rising number. A refusal is passed over.
-    fn end(&self, rt: &impl Wait, ticket: &Ticket, outcome: Outcome, position: u32) {
+    fn end(&self, rt: &impl Wait, ticket: &Ticket<A>, outcome: Outcome, position: u32) {
         for shard in 0..self.shards.len() {
             if ticket.has_touched(shard) {
                 let mut found = self.shards[shard].shard.lock(rt);
@@ -287,9 +460,9 @@ impl<'g, G: Gate, A: Allocator + Copy> Shards<'g, G, A> {
     pub fn commit(
         &self,
         rt: &impl Wait,
-        ticket: Ticket,
+        ticket: Ticket<A>,
         run: &Run<'_>,
-    ) -> Result<u32, (Ticket, CommitRefusal)>
+    ) -> Result<u32, (Ticket<A>, CommitRefusal)>
         ensures ok { IfOk result (λ position. HoldsOfTheJournal (λ old. (new : TheJournal) × Commits old new ticket.call ticket.number run.now.trace.now run.now.outcome position)) }
         ensures stale { IfErr result (λ e. e.1 ≡ CommitRefusal.Stale → HoldsOfTheJournal (λ old. ¬ (IsLive old ticket.call ticket.number)) ⊎ HoldsOfAShard (λ old. IsStale old.book ticket.call ticket.number)) }
         ensures differs { IfErr result (λ e. e.1 ≡ CommitRefusal.Differs → HasOtherSteps self.now.shards ticket.call ticket.number ticket.touched run.now.trace.now) }
@@ -334,7 +507,9 @@ impl<'g, G: Gate, A: Allocator + Copy> Shards<'g, G, A> {
             gate: _,
             shards,
             opening,
+            _before: _,
             journal,
+            _behind: _,
         } = self;
         let entries = journal.into_inner().into_entries();
         let parts = parts_of(alloc, shards)?;

@@ -1,14 +1,20 @@
 -- Where an instruction is to come, it is the one whose place is read off the configuration.
-use Rattle.std.proofs.Common.{◌≡◌, ℕ, zero, suc, ◌+◌, Bool, true, false, cond, List, [], ◌∷◌, ◌++◌, refl, sym, ap₂, ◌∙◌, subst, arith, Option, Some, None, length, slice_get, nat_le, nat_lt, take, drop, reverse, map}
+use Rattle.std.proofs.Common.{◌≡◌, ℕ, ℤ, pos, zero, suc, ◌+◌, Bool, true, false, cond, List, [], ◌∷◌, ◌++◌, refl, sym, ap₂, ◌∙◌, subst, arith, Option, Some, None, length, slice_get, nat_le, nat_lt, take, drop, reverse, map}
 use Rattle.wtypes.specs.declared.Value.{Value}
+use Rattle.wtypes.specs.declared.Value.TheVariants as value
+use Rattle.wtypes.specs.declared.TrapCode.{TrapCode}
 use Rattle.wtypes.specs.declared.TrapCode.TheVariants as trap
 use Rattle.spec_syntax.specs.Syntax.{Instr, Plain, BrTable, Block, Loop, If, Instrs, nothing}
 use Rattle.spec_syntax.specs.Shape.{instr_preorder, instr_at}
 use Rattle.spec_syntax.specs.Profile.{frame_limit}
+use Rattle.spec_ledger.specs.declared.Reply.{Reply}
+use Rattle.spec_ledger.specs.declared.Reply.TheVariants as reply
 use Rattle.spec_ledger.specs.declared.Step.{Step}
-use Rattle.spec_execution.specs.Configuration.{Contract, Function, Hosted, Defined, function_at, function_type, Seq, End, Val, Code, Free, Label, Frame, Invoke, code, values, arguments, State, Config, Running, Trap}
-use Rattle.spec_execution.specs.Reduction.{Next, Goes, Traps, Asks, Branches, Returns, Ended, Stuck, with_values, found, zero_of, invoke, execute, in_label, in_frame, reduce}
-use Rattle.spec_execution.specs.Run.{next, Reached, at_first, reduced, replied, goes, traps, IsCharged, after_start, first}
+use Rattle.spec_ledger.specs.declared.Step.TheVariants.{Kept, Dropped}
+use Rattle.spec_execution.specs.Configuration.{Setting, Contract, Function, Hosted, Defined, function_at, function_type, Seq, End, Val, Code, Free, Label, Frame, Invoke, code, values, arguments, State, Config, Running, Trap}
+use Rattle.spec_execution.specs.Reduction.{Of, Ask, Answer, Next, Goes, Traps, Asks, Branches, Returns, Ended, Stuck, with_values, found, zero_of, invoke, execute, in_label, in_frame, reduce}
+use Rattle.spec_execution.specs.Run.{next, IsCharged, Opening, Refused, Opens, after_start}
+use Rattle.spec_execution.specs.Levels.{Level, Levels, Move, On, Host, Over, Nowhere, asked, trap_status, signed_of, no_answer, first_level, back_by, back_to, returned, fallen, entering, by_next, by_config, move, Reached, at_first, moved, replied}
 use Rattle.spec_execution.specs.Places.{StandsAt, body_of, IsPlaced, IsPlacedNext, PlacesAreKept}
 use Rattle.spec_execution.specs.Turns.{place_in}
 use Rattle.soundness.specs.Coming.{ReducesBy, here, behind_value, inside_label, inside_frame, PlacesAreOfWhatComes}
@@ -148,21 +154,83 @@ module _ (c : Contract) where
   started None a p = p
   started (Some f) a p = p
 
-  abbrev Good : Config → Type 0
-  Good (Running s q) = IsPlaced c nothing q
-  Good (Trap s t) = Unit {0}
+  fresh_placed : (func : ℕ) (args : List Value) → IsPlaced c nothing (after_start c.deployed.tree.start (arguments args (Invoke func End)))
+  fresh_placed func args = started c.deployed.tree.start (arguments args (Invoke func End)) (argued args (Invoke func End) tt)
 
-  module _ (kept : PlacesAreKept) where
-    reached_placed : (start : Config) (limit : ℕ) (trace : List Step) (used : ℕ) (a : Config) → Good start → Reached c start limit trace used a → Good a
-    reached_placed start limit trace used a h at_first = h
-    reached_placed start limit trace used a h (reduced t u b n x r (goes s q charge s' q' e) le) =
-        subst (IsPlacedNext c nothing) e (kept c nothing 0 s [] q (reached_placed start limit t u (Running s q) h r))
-    reached_placed start limit trace used a h (reduced t u b n x r (traps s q charge code e) le) = tt
-    reached_placed start limit trace used a h (replied t u s q op go r before e is) =
-        (subst (IsPlacedNext c nothing) e (kept c nothing 0 s [] q (reached_placed start limit t u (Running s q) h before))) r
+abbrev Good : Contract → Config → Type 0
+Good c (Running s q) = IsPlaced c nothing q
+Good c (Trap s t) = Unit {0}
+
+abbrev AllGood : List Level → Type 0
+AllGood [] = Unit {0}
+AllGood (l ∷ outer) = Good l.contract l.config × AllGood outer
+
+-- at each level
+abbrev AreGood : Levels → Type 0
+AreGood a = Good a.inner.contract a.inner.config × AllGood a.outer
+
+abbrev MoveGood : Move → Type 0
+MoveGood (On charge marks a) = AreGood a
+MoveGood (Host op go) = (r : Reply) → AreGood (go r)
+MoveGood (Over o) = Unit {0}
+MoveGood Nowhere = Unit {0}
+
+module _ (setting : Setting) (kept : PlacesAreKept) where
+  back_by_good : (l : Level) (outer : List Level) (s : State) (status : ℕ) (answer : ℤ) (mark : Step) (x : Next) → IsPlacedNext l.contract nothing x → AllGood outer → MoveGood (back_by l outer s status answer mark x)
+  back_by_good l outer s status answer mark (Asks (Ask n e v) go) g rest = (g (reply.I32 (pos status)), rest)
+  back_by_good l outer s status answer mark (Asks (Of op) go) g rest = tt
+  back_by_good l outer s status answer mark (Asks Answer go) g rest = tt
+  back_by_good l outer s status answer mark (Goes charge s' q) g rest = tt
+  back_by_good l outer s status answer mark (Traps charge t) g rest = tt
+  back_by_good l outer s status answer mark (Branches charge k vs) g rest = tt
+  back_by_good l outer s status answer mark (Returns charge vs) g rest = tt
+  back_by_good l outer s status answer mark (Ended vs) g rest = tt
+  back_by_good l outer s status answer mark Stuck g rest = tt
+
+  back_good : (l : Level) (outer : List Level) (status : ℕ) (answer : ℤ) (mark : Step) (x : Config) → Good l.contract x → AllGood outer → MoveGood (back_to l outer status answer mark x)
+  back_good l outer status answer mark (Running s q) h rest = back_by_good l outer s status answer mark (next l.contract s q) (kept l.contract nothing 0 s [] q h) rest
+  back_good l outer status answer mark (Trap s t) h rest = tt
+
+  returned_good : (vs : List Value) (outer : List Level) → AllGood outer → MoveGood (returned vs outer)
+  returned_good vs [] h = tt
+  returned_good [] (l ∷ outer) h = tt
+  returned_good (v ∷ []) (l ∷ outer) h = back_good l outer 0 (signed_of v) Kept l.config h.0 h.1
+  returned_good (v ∷ w ∷ vs) (l ∷ outer) h = tt
+
+  fallen_good : (t : TrapCode) (outer : List Level) → AllGood outer → MoveGood (fallen t outer)
+  fallen_good t [] h = tt
+  fallen_good t (l ∷ outer) h = back_good l outer (trap_status t) no_answer Dropped l.config h.0 h.1
+
+  entering_good : (l : Level) (outer : List Level) (s : State) (go : Reply → Seq) (x : ℤ) (o : Opening) → Good l.contract l.config → ((r : Reply) → IsPlaced l.contract nothing (go r)) → AllGood outer → MoveGood (entering l outer s go x o)
+  entering_good l outer s go x (Opens c f) h g rest = (fresh_placed c f (value.I64 x ∷ []), (h, rest))
+  entering_good l outer s go x (Refused status) h g rest = (g (reply.I32 (pos status)), rest)
+
+  by_next_good : (l : Level) (outer : List Level) (s : State) (x : Next) → Good l.contract l.config → IsPlacedNext l.contract nothing x → AllGood outer → MoveGood (by_next setting l outer s x)
+  by_next_good l outer s (Goes charge s' q) h g rest = (g, rest)
+  by_next_good l outer s (Traps charge t) h g rest = (tt, rest)
+  by_next_good l outer s (Asks (Of op) go) h g rest = λ r. (g r, rest)
+  by_next_good l outer s (Asks (Ask n e x) go) h g rest = entering_good l outer s go x (asked setting (length outer) n e) h g rest
+  by_next_good l outer s (Asks Answer go) h g rest = (g (reply.I64 l.answer), rest)
+  by_next_good l outer s (Branches charge k vs) h g rest = tt
+  by_next_good l outer s (Returns charge vs) h g rest = tt
+  by_next_good l outer s (Ended vs) h g rest = returned_good vs outer rest
+  by_next_good l outer s Stuck h g rest = tt
+
+  by_config_good : (l : Level) (outer : List Level) (x : Config) → Good l.contract l.config → Good l.contract x → AllGood outer → MoveGood (by_config setting l outer x)
+  by_config_good l outer (Running s q) h g rest = by_next_good l outer s (next l.contract s q) h (kept l.contract nothing 0 s [] q g) rest
+  by_config_good l outer (Trap s t) h g rest = fallen_good t outer rest
+
+  move_good : (a : Levels) → AreGood a → MoveGood (move setting a)
+  move_good a h = by_config_good a.inner a.outer a.inner.config h.0 h.0 h.1
+
+  reached_good : (start : Levels) (limit : ℕ) (trace : List Step) (used : ℕ) (a : Levels) → AreGood start → Reached setting start limit trace used a → AreGood a
+  reached_good start limit trace used a h at_first = h
+  reached_good start limit trace used a h (moved t u b n marks x r e le) = subst MoveGood e (move_good b (reached_good start limit t u b h r))
+  reached_good start limit trace used a h (replied t u b op go r before e is) = subst MoveGood e (move_good b (reached_good start limit t u b h before)) r
 
 pub places_right : PlacesAreKept → PlacesAreOfWhatComes
-places_right kept c func args limit trace used s q r h =
-    let placed : IsPlaced c nothing q = reached_placed c kept (first c func args) limit trace used (Running s q) (started c c.deployed.tree.start (arguments args (Invoke func End)) (argued c args (Invoke func End) tt)) r in
-    let x = comes c None 0 s [] q placed (from_charged (next c s q) h) in
+places_right kept setting c func args limit trace used a s q r is h =
+    let good : AreGood a = reached_good setting kept (first_level c func args) limit trace used a (fresh_placed c func args, tt) r in
+    let placed : IsPlaced a.inner.contract nothing q = subst (Good a.inner.contract) is good.0 in
+    let x = comes a.inner.contract None 0 s [] q placed (from_charged (next a.inner.contract s q) h) in
     record { func = x.func; ordinal = x.ordinal; instr = x.instr; place = x.place; stands = x.stands; reduces = x.reduces }

@@ -8,13 +8,15 @@ use Rattle.spec_ledger.specs.Cells.{Cells}
 use Rattle.spec_ledger.specs.Modes.{touched}
 use Rattle.spec_typing.specs.Linking.{IsLinked}
 use Rattle.soundness.specs.Laws.{DeployedCallsAreSafe}
-use Rattle.spec_execution.specs.Configuration.{Deployed, Contract, Function, Hosted, Defined, function_at}
-use Rattle.spec_execution.specs.Run.{ContractCall, Opening, Refused, Opens, opening, exported, wrong_argument, by_wrong, by_function, by_export, by_contract, first, refused, ran}
+use Rattle.spec_execution.specs.Configuration.{Setting, Deployed, Contract, Function, Hosted, Defined, function_at}
+use Rattle.spec_execution.specs.Run.{ContractCall, Opening, Refused, Opens, opening, exported, wrong_argument, by_wrong, by_function, by_export, by_contract, first}
+use Rattle.spec_execution.specs.Levels.{refused, ran}
 use Rattle.spec_execution.specs.Exec.{Executes}
 use Rattle.spec_execution.specs.Serial.{Ran, Serial}
 use Rattle.spec_execution.specs.Unique.{ExecutesOneWay}
 use Rattle.soundness.specs.Once.{AreLinked, AreNumbersOf, ExecutesOnce, RunsSerially}
 use Rattle.soundness.proofs.Running.{run_found}
+use Rattle.soundness.proofs.Starting.{asks_operations}
 
 -- ---- a call that opens is of a contract of the list
 
@@ -50,26 +52,27 @@ opened contracts call (Some d) c f h here e =
 
 -- ---- one execution
 
-module _ (safe : DeployedCallsAreSafe) (one_way : ExecutesOneWay) (contracts : List Deployed) (linked : AreLinked contracts) where
+module _ (safe : DeployedCallsAreSafe) (one_way : ExecutesOneWay) (setting : Setting) (linked : AreLinked setting.contracts) where
   module _ (call : ContractCall) (cells : Cells) where
-    once : (later : Cells) (o : _) (f : _) (m : _) → Executes contracts call cells later o f m → ExecutesOnce contracts call cells
+    once : (later : Cells) (o : _) (f : _) (m : _) → Executes setting call cells later o f m → ExecutesOnce setting call cells
     once later o f m e = record {
       later = later;
       outcome = o;
       fuel = f;
       locks = m;
       executes = e;
-      only = λ later' o' f' m' e'. one_way contracts call cells later' later o' o f' f m' m e' e;
+      only = λ later' o' f' m' e'. one_way setting call cells later' later o' o f' f m' m e' e;
     }
 
-    by_opening : (x : Opening) → opening contracts call ≡ x → ExecutesOnce contracts call cells
+    by_opening : (x : Opening) → opening setting call ≡ x → ExecutesOnce setting call cells
     by_opening (Refused code) e = once cells (Rejected code) 0 (touched []) (record { trace = []; run = refused code e; replies = tt; later_is = refl; locks_are = refl })
     by_opening (Opens c func) e =
-        let found = run_found c (first c func call.args) call.fuel cells (safe contracts call c func (opened contracts call (slice_get contracts call.contract) c func linked refl e) e) in
+        let of_contract = opened setting.contracts call (slice_get setting.contracts call.contract) c func linked refl e in
+        let found = run_found setting c (first c func call.args) call.fuel cells (safe setting call c func of_contract e) (asks_operations setting call c func of_contract e) in
         once _ found.outcome found.fuel (touched found.trace) (record { trace = found.trace; run = ran c func found.trace found.outcome found.fuel e found.run; replies = found.replies; later_is = refl; locks_are = refl })
 
-    pub executes_once : ExecutesOnce contracts call cells
-    executes_once = by_opening (opening contracts call) refl
+    pub executes_once : ExecutesOnce setting call cells
+    executes_once = by_opening (opening setting call) refl
 
   -- ---- one serial execution
 
@@ -79,7 +82,7 @@ module _ (safe : DeployedCallsAreSafe) (one_way : ExecutesOneWay) (contracts : L
   there (x ∷ calls) (suc n) lt = there calls n (omega (arith, lt))
 
   module _ (calls : List ContractCall) where
-    more : (n : ℕ) (order : List ℕ) (cells : Cells) (call : ContractCall) → slice_get calls n ≡ Some call → (e : ExecutesOnce contracts call cells) → RunsSerially contracts calls order e.later → RunsSerially contracts calls (n ∷ order) cells
+    more : (n : ℕ) (order : List ℕ) (cells : Cells) (call : ContractCall) → slice_get calls n ≡ Some call → (e : ExecutesOnce setting call cells) → RunsSerially setting calls order e.later → RunsSerially setting calls (n ∷ order) cells
     more n order cells call at e rest = record {
       ran = record { receipt = record { outcome = e.outcome; used = e.fuel }; touched = e.locks } ∷ rest.ran;
       last = rest.last;
@@ -87,19 +90,19 @@ module _ (safe : DeployedCallsAreSafe) (one_way : ExecutesOneWay) (contracts : L
       only = alone;
     }
       where
-        alone : (rs : List Ran) (last : Cells) → Serial contracts calls (n ∷ order) cells rs last → (rs ≡ record { receipt = record { outcome = e.outcome; used = e.fuel }; touched = e.locks } ∷ rest.ran) × (last ≡ rest.last)
+        alone : (rs : List Ran) (last : Cells) → Serial setting calls (n ∷ order) cells rs last → (rs ≡ record { receipt = record { outcome = e.outcome; used = e.fuel }; touched = e.locks } ∷ rest.ran) × (last ≡ rest.last)
         alone [] last h = absurd h
         alone (r ∷ rs) last h =
             let same : h.0 ≡ call = (let both : Some (h.0) ≡ Some call = sym h.2 ∙ at in cc) in
-            let here = e.only h.1 r.receipt.outcome r.receipt.used r.touched (subst (λ (k : ContractCall). Executes contracts k cells h.1 r.receipt.outcome r.receipt.used r.touched) same h.3) in
-            let others = rest.only rs last (subst (λ (x : Cells). Serial contracts calls order x rs last) here.0 h.4) in
+            let here = e.only h.1 r.receipt.outcome r.receipt.used r.touched (subst (λ (k : ContractCall). Executes setting k cells h.1 r.receipt.outcome r.receipt.used r.touched) same h.3) in
+            let others = rest.only rs last (subst (λ (x : Cells). Serial setting calls order x rs last) here.0 h.4) in
             (λ i. record { receipt = record { outcome = here.1 i; used = here.2 i }; touched = here.3 i } ∷ others.0 i, others.1)
 
-    nothing_runs : (cells : Cells) (rs : List Ran) (last : Cells) → Serial contracts calls [] cells rs last → (rs ≡ []) × (last ≡ cells)
+    nothing_runs : (cells : Cells) (rs : List Ran) (last : Cells) → Serial setting calls [] cells rs last → (rs ≡ []) × (last ≡ cells)
     nothing_runs cells [] last h = (refl, h)
     nothing_runs cells (r ∷ rs) last h = absurd h
 
-    pub runs_serially : (order : List ℕ) (cells : Cells) → AreNumbersOf calls order → RunsSerially contracts calls order cells
+    pub runs_serially : (order : List ℕ) (cells : Cells) → AreNumbersOf calls order → RunsSerially setting calls order cells
     runs_serially [] cells h = record { ran = []; last = cells; serial = refl; only = nothing_runs cells }
     runs_serially (n ∷ order) cells h =
         let (call, at) = there calls n (All-head (λ n. n < length calls) n order h) in

@@ -82,7 +82,7 @@ module _ (c : Contract) (s : Scope) (to : List ValType) where
       SeqTyped c.deployed s rest (of result ++ types vs) to → NextTyped c.deployed (inside_label target s) (of result) x → Kept c s to (in_label state n at k vs rest x)
   one_label state n at k vs rest target result (Goes charge state' inside) st a f t h g = goes c s to charge state' vs (Label n at k inside rest) (types vs) g.0 refl (target, result, a, f, t, g.1, h)
   one_label state n at k vs rest target result (Traps charge code) st a f t h g = kept c s to tt
-  one_label state n at k vs rest target result (Asks o go) st a f t h g = kept c s to (λ r is. under c.deployed s vs (Label n at k (go r) rest) [] to (target, result, a, f, t, g r is, from_is c.deployed s rest _ _ to (ap (λ ts. of result ++ ts) (append-nil (types vs))) h))
+  one_label state n at k vs rest target result (Asks o go) st a f t h g = kept c s to (g.0, λ r is. under c.deployed s vs (Label n at k (go r) rest) [] to (target, result, a, f, t, g.1 r is, from_is c.deployed s rest _ _ to (ap (λ ts. of result ++ ts) (append-nil (types vs))) h))
   one_label state n at k vs rest target result (Branches charge zero ws) st a f t h (other, below, is, e) =
       let same : target ≡ other = (let i : Some target ≡ Some other = is in cc) in
       by_values (of target) below n ws _ (a ∙ length_of target) (e ∙ ap (λ r. of r ++ below) (sym same)) (λ top left e0 e1. puts charge state vs top (code at k rest) (types vs) (of target) st refl e0
@@ -98,7 +98,7 @@ module _ (c : Contract) (s : Scope) (to : List ValType) where
       goes c s to charge _ vs (Frame func n state'.locals inside rest) (types vs) (record { locals_are = st.locals_are; globals_are = l.globals_are; elements = l.elements }) refl
       (result, a, subst (λ ts. SeqTyped c.deployed (inside_frame ts result) inside [] (of result)) (sym l.locals_are) g, h)
   one_frame state func n locals vs rest result (Traps charge code) st a h g = kept c s to tt
-  one_frame state func n locals vs rest result (Asks o go) st a h g = kept c s to (λ r is. under c.deployed s vs (Frame func n locals (go r) rest) [] to (result, a, g r is, from_is c.deployed s rest _ _ to (ap (λ ts. of result ++ ts) (append-nil (types vs))) h))
+  one_frame state func n locals vs rest result (Asks o go) st a h g = kept c s to (g.0, λ r is. under c.deployed s vs (Frame func n locals (go r) rest) [] to (result, a, g.1 r is, from_is c.deployed s rest _ _ to (ap (λ ts. of result ++ ts) (append-nil (types vs))) h))
   one_frame state func n locals vs rest result (Branches charge l ws) st a h (other, below, is, e) = absurd (cc)
   one_frame state func n locals vs rest result (Returns charge ws) st a h (below, f, e) =
       by_values (of result) below n ws _ (a ∙ length_of result) e (λ top left e0 e1. puts charge state vs top rest (types vs) (of result) st refl e0 h)
@@ -134,7 +134,7 @@ module _ (c : Contract) (linked : IsLinked c.deployed.tree c.deployed.hosts) whe
   one_invoke : (s : Scope) (to : List ValType) (frames : ℕ) (state : State) (f : ℕ) (g : Function) (top vs : List Value) (rest : Seq) (below : List ValType) → StateTyped c.deployed s.locals state → function_at c.deployed f ≡ Some g →
       types top ≡ reverse (function_type g).params → types vs ≡ below → SeqTyped c.deployed s rest (reverse (function_type g).results ++ below) to → Kept c s to (invoke c frames state f g (reverse top) vs rest)
   one_invoke s to frames state f (Hosted h) top vs rest below st e p q g =
-      kept c s to (λ r is. under c.deployed s vs (replied r rest) [] to (by_arguments c s to h (reverse top) r rest (types vs ++ []) is (from_is c.deployed s rest _ _ to (ap (λ ts. reverse (host_type h).results ++ ts) (append-nil (types vs) ∙ q)) g)))
+      kept c s to (tt, λ r is. under c.deployed s vs (replied r rest) [] to (by_arguments c s to h (reverse top) r rest (types vs ++ []) is (from_is c.deployed s rest _ _ to (ap (λ ts. reverse (host_type h).results ++ ts) (append-nil (types vs) ∙ q)) g)))
   one_invoke s to frames state f (Defined t g) top vs rest below st e p q h =
       let is = body_of c.deployed linked f t g e in
       let locals : types (reverse top ++ map zero_of g.locals) ≡ t.params ++ g.locals = types_append (reverse top) (map zero_of g.locals) ∙ ap₂ (λ xs ys. xs ++ ys) (types_reverse top ∙ ap reverse p ∙ reverse-reverse t.params) (types_zeros g.locals) in

@@ -4,9 +4,10 @@ use Rattle.wtypes.specs.declared.Value.{Value}
 use Rattle.spec_syntax.specs.Syntax.{Instr, Instrs}
 use Rattle.spec_syntax.specs.Shape.{instr_at}
 use Rattle.spec_ledger.specs.declared.Step.{Step}
-use Rattle.spec_execution.specs.Configuration.{Contract, Seq, Val, Code, Label, Frame, State, Running}
+use Rattle.spec_execution.specs.Configuration.{Setting, Contract, Seq, Val, Code, Label, Frame, State, Running}
 use Rattle.spec_execution.specs.Reduction.{Next, execute, in_label, in_frame}
-use Rattle.spec_execution.specs.Run.{next, Reached, IsCharged, first}
+use Rattle.spec_execution.specs.Run.{next, IsCharged}
+use Rattle.spec_execution.specs.Levels.{Levels, first_level, Reached}
 use Rattle.spec_execution.specs.Places.{body_of}
 use Rattle.spec_execution.specs.Turns.{place_of}
 
@@ -29,7 +30,7 @@ pub record PlaceIsRight (c : Contract) (s : State) (seq : Seq) : Type 0 where
   pub stands : instr_at (body_of c func) ordinal ≡ Some instr
   pub reduces : ReducesBy c None s [] seq func ordinal instr (next c s seq)
 
--- In each configuration that a call reaches and in which an instruction is to come, its place is right.
+-- In each configuration that a call reaches and in which an instruction is to come at the innermost level, its place is right.
 abbrev pub PlacesAreOfWhatComes : Type 0
-PlacesAreOfWhatComes = (c : Contract) (func : ℕ) (args : List Value) (limit : ℕ) (trace : List Step) (used : ℕ) (s : State) (seq : Seq) →
-    Reached c (first c func args) limit trace used (Running s seq) → IsCharged (next c s seq) → PlaceIsRight c s seq
+PlacesAreOfWhatComes = (setting : Setting) (c : Contract) (func : ℕ) (args : List Value) (limit : ℕ) (trace : List Step) (used : ℕ) (a : Levels) (s : State) (seq : Seq) →
+    Reached setting (first_level c func args) limit trace used a → a.inner.config ≡ Running s seq → IsCharged (next a.inner.contract s seq) → PlaceIsRight a.inner.contract s seq

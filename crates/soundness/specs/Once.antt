@@ -4,7 +4,7 @@ use Rattle.spec_ledger.specs.declared.Outcome.{Outcome}
 use Rattle.spec_ledger.specs.Cells.{Cells}
 use Rattle.spec_ledger.specs.Modes.{Modes}
 use Rattle.spec_typing.specs.Linking.{IsLinked}
-use Rattle.spec_execution.specs.Configuration.{Deployed}
+use Rattle.spec_execution.specs.Configuration.{Setting, Deployed}
 use Rattle.spec_execution.specs.Run.{ContractCall}
 use Rattle.spec_execution.specs.Exec.{Executes}
 use Rattle.spec_execution.specs.Serial.{Ran, Serial}
@@ -18,17 +18,17 @@ abbrev pub AreNumbersOf : List ContractCall → List ℕ → Type 0
 AreNumbersOf calls order = All (λ n. n < length calls) order
 
 -- the call has an execution over these cells, and no other
-pub record ExecutesOnce (contracts : List Deployed) (call : ContractCall) (cells : Cells) : Type 0 where
+pub record ExecutesOnce (setting : Setting) (call : ContractCall) (cells : Cells) : Type 0 where
   pub later : Cells
   pub outcome : Outcome
   pub fuel : ℕ
   pub locks : Modes
-  pub executes : Executes contracts call cells later outcome fuel locks
-  pub only : (later' : Cells) (outcome' : Outcome) (fuel' : ℕ) (locks' : Modes) → Executes contracts call cells later' outcome' fuel' locks' → (later' ≡ later) × (outcome' ≡ outcome) × (fuel' ≡ fuel) × (locks' ≡ locks)
+  pub executes : Executes setting call cells later outcome fuel locks
+  pub only : (later' : Cells) (outcome' : Outcome) (fuel' : ℕ) (locks' : Modes) → Executes setting call cells later' outcome' fuel' locks' → (later' ≡ later) × (outcome' ≡ outcome) × (fuel' ≡ fuel) × (locks' ≡ locks)
 
 -- the order has a serial execution from these cells, and no other
-pub record RunsSerially (contracts : List Deployed) (calls : List ContractCall) (order : List ℕ) (cells : Cells) : Type 0 where
+pub record RunsSerially (setting : Setting) (calls : List ContractCall) (order : List ℕ) (cells : Cells) : Type 0 where
   pub ran : List Ran
   pub last : Cells
-  pub serial : Serial contracts calls order cells ran last
-  pub only : (ran' : List Ran) (last' : Cells) → Serial contracts calls order cells ran' last' → (ran' ≡ ran) × (last' ≡ last)
+  pub serial : Serial setting calls order cells ran last
+  pub only : (ran' : List Ran) (last' : Cells) → Serial setting calls order cells ran' last' → (ran' ≡ ran) × (last' ≡ last)

@@ -9,7 +9,7 @@ use Rattle.spec_typing.specs.Typing.{Context, InstrTyped, Typed, of}
 use Rattle.spec_typing.specs.Modules.{spaces_of, type_at, globals}
 use Rattle.spec_execution.specs.Configuration.{Deployed, Function, function_at, function_type, Seq, End, Val, Code, Free, Label, Frame, Invoke, State}
 use Rattle.spec_execution.specs.Reduction.{Next, Goes, Traps, Asks, Branches, Returns, Ended, Stuck, arity}
-use Rattle.spec_execution.specs.Run.{IsReply}
+use Rattle.spec_execution.specs.Run.{IsAnswer, IsOperation}
 
 abbrev pub types : List Value → List ValType
 types vs = map type_of vs
@@ -70,11 +70,11 @@ SeqTyped d s (Frame f n locals inside rest) from to =
 SeqTyped d s (Invoke f rest) from to =
     (g : Function) × (below : List ValType) × (function_at d f ≡ Some g) × (from ≡ reverse (function_type g).params ++ below) × SeqTyped d s rest (reverse (function_type g).results ++ below) to
 
--- What a typed sequence does next: it goes on typed, traps, ends with values of these types, or leaves a label or function that is there.
+-- What a typed sequence does next: it goes on typed, asks for an operation, traps, ends with values of these types, or leaves a label or function that is there.
 abbrev pub NextTyped : Deployed → Scope → List ValType → Next → Type 0
 NextTyped d s to (Goes charge state seq) = StateTyped d s.locals state × SeqTyped d s seq [] to
 NextTyped d s to (Traps charge code) = Unit {0}
-NextTyped d s to (Asks op go) = (r : Reply) → IsReply op r → SeqTyped d s (go r) [] to
+NextTyped d s to (Asks w go) = IsOperation w × ((r : Reply) → IsAnswer w r → SeqTyped d s (go r) [] to)
 NextTyped d s to (Branches charge l vs) =
     (target : Option ValType) × (below : List ValType) × (slice_get s.labels l ≡ Some target) × (types vs ≡ of target ++ below)
 NextTyped d s to (Returns charge vs) = (below : List ValType) × (s.in_function ≡ true) × (types vs ≡ of s.result ++ below)

@@ -4,11 +4,11 @@
 
 ghost use Rattle.std.specs.Prelude.{ℕ, List};
 ghost use Rattle.spec_ledger.specs.Cells.{Cells};
-ghost use Rattle.spec_execution.specs.Configuration.{Deployed};
+ghost use Rattle.spec_execution.specs.Configuration.{Setting};
 ghost use Rattle.spec_execution.specs.Run.{ContractCall};
 ghost use Rattle.soundness.specs.Coming.{PlacesAreOfWhatComes};
 ghost use Rattle.soundness.specs.Once.{AreLinked, AreNumbersOf, ExecutesOnce, RunsSerially};
-ghost use Rattle.soundness.specs.Laws.{DeployedCallsAreSafe, DeployedCallsAreTyped, ResultsAreTyped, StepsAreTyped};
+ghost use Rattle.soundness.specs.Laws.{DeployedCallsAreSafe, DeployedCallsAreTyped, DeployedCallsStandAlone, ResultsAreTyped, StepsAreTyped};
 
 /// A typed configuration of a linked module is never stuck, and what it reduces to is typed.
 pub fn steps_are_typed()
@@ -20,16 +20,18 @@ pub fn deployed_calls_are_safe()
     ensures { DeployedCallsAreSafe }
 {}
 
-/// Each configuration that a call of a linked module reaches is typed, and the values that it ends with are of the entry's result types.
+/// Each configuration that a call of a linked module reaches is one level, which is typed, and the values that it ends with are of the entry's
+/// result types.
 pub fn deployed_calls_are_typed()
+    ensures alone { DeployedCallsStandAlone }
     ensures reached { DeployedCallsAreTyped }
     ensures results { ResultsAreTyped }
 {}
 
 /// Over any cells a call of linked contracts has exactly one execution, and calls in any order have exactly one serial execution.
 pub fn calls_execute_once()
-    ensures calls { (contracts : List Deployed) (call : ContractCall) (cells : Cells) → AreLinked contracts → ExecutesOnce contracts call cells }
-    ensures orders { (contracts : List Deployed) (calls : List ContractCall) (order : List ℕ) (cells : Cells) → AreLinked contracts → AreNumbersOf calls order → RunsSerially contracts calls order cells }
+    ensures calls { (setting : Setting) (call : ContractCall) (cells : Cells) → AreLinked setting.contracts → ExecutesOnce setting call cells }
+    ensures orders { (setting : Setting) (calls : List ContractCall) (order : List ℕ) (cells : Cells) → AreLinked setting.contracts → AreNumbersOf calls order → RunsSerially setting calls order cells }
 {
     deployed_calls_are_safe();
     spec_execution::runs_are_unique();

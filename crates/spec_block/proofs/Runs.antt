@@ -6,11 +6,11 @@ use Rattle.spec_ledger.specs.Book.{after, has_returned}
 use Rattle.spec_block.specs.Worlds.{Call, World}
 use Rattle.spec_block.proofs.Given.{RunsAreUnique}
 use Rattle.spec_execution.specs.Serial.{Ran}
-use Rattle.spec_block.specs.Serial.{Executed, Serial}
+use Rattle.spec_block.specs.Serial.{setting_of, Executed, Serial}
 
 pub executed_once : RunsAreUnique → (world : World) (call : Call) (cells : Cells) (r s : Ran) (l m : Cells) → Executed world call cells r l → Executed world call cells s m → (r ≡ s) × (l ≡ m)
 executed_once unique world call cells r s l m a b =
-    let u = unique world.contracts call cells a.trace b.trace r.receipt.outcome s.receipt.outcome r.receipt.used s.receipt.used a.replies b.replies a.run b.run in
+    let u = unique (setting_of world) call cells a.trace b.trace r.receipt.outcome s.receipt.outcome r.receipt.used s.receipt.used a.replies b.replies a.run b.run in
     let locks : r.touched ≡ s.touched = a.locks_are ∙ (ap touched u.0 ∙ sym b.locks_are) in (
       (λ i. record { receipt = record { outcome = u.1 i; used = u.2 i }; touched = locks i }),
       a.later_is ∙ ((λ i. if has_returned (u.1 i) then after (u.0 i) cells else cells) ∙ sym b.later_is),

@@ -1,21 +1,17 @@
 -- Worked examples of memory, the table and the start function, which compute.
-use Rattle.std.proofs.Common.{◌≡◌, ℕ, zero, suc, List, [], ◌∷◌, Option, Some, None, refl, pos, negsuc, Bool, true, false}
+use Rattle.std.proofs.Common.{◌≡◌, ℕ, List, [], ◌∷◌, Option, Some, None, refl, pos, negsuc, true}
 use Rattle.wtypes.specs.declared.ValType.TheVariants as valtype
-use Rattle.wtypes.specs.declared.Value.{Value}
 use Rattle.wtypes.specs.declared.Value.TheVariants.{I32, I64}
-use Rattle.wtypes.specs.declared.LoadOp.TheVariants.{I32Load, I32Load8S, I64Load32S}
+use Rattle.wtypes.specs.declared.LoadOp.TheVariants.{I32Load}
 use Rattle.wtypes.specs.declared.StoreOp.TheVariants.{I64Store}
 use Rattle.wtypes.specs.declared.TrapCode.TheVariants as trap
-use Rattle.wtypes.specs.declared.PlainInstr.TheVariants.{Unreachable, LocalGet, Const, Call, CallIndirect, Load, Store, MemoryGrow, MemorySize, GlobalGet, GlobalSet, Select, Drop}
-use Rattle.spec_syntax.specs.Syntax.{Instr, Plain, BrTable, Block, Loop, If, Instrs, nothing, seq, instrs_of, Module, FuncType, Func, Global, Limits, Element, Import, ImportFunc, Export, ExportFunc}
+use Rattle.wtypes.specs.declared.PlainInstr.TheVariants.{Unreachable, Const, CallIndirect, Load, Store, MemoryGrow, GlobalGet, GlobalSet, Select}
+use Rattle.spec_syntax.specs.Syntax.{Instr, Plain, BrTable, Block, nothing, instrs_of, Module, Func, ExportFunc}
 use Rattle.spec_ledger.specs.declared.Outcome.{Outcome}
-use Rattle.spec_ledger.specs.declared.Outcome.TheVariants.{Returned, Trapped, OutOfFuel, Rejected}
-use Rattle.wtypes.specs.declared.HostCall.TheVariants as host
-use Rattle.spec_execution.specs.Configuration.{Deployed, Contract}
+use Rattle.spec_ledger.specs.declared.Outcome.TheVariants.{Returned, Trapped}
 use Rattle.spec_execution.specs.Reduction.{reduce, execute, execute_plain, loaded, stored, grown}
-use Rattle.spec_execution.specs.Run.{ContractCall}
-use Rattle.spec_execution.specs.Walk.{Report, report, walk}
-use Rattle.spec_execution.proofs.Rows.{no_module, run, five, call_from}
+use Rattle.spec_execution.specs.Walk.{report, walk}
+use Rattle.spec_execution.proofs.Rows.{no_module, run, over_these, five, call_from}
 
 abbrev const : ℕ → Instr
 const n = Plain (Const (I32 (pos n)))
@@ -32,7 +28,7 @@ with_functions fs = record no_module {
 }
 
 abbrev ends_so : Module → Outcome → ℕ → Type 0
-ends_so m outcome fuel = report 100 (record { tree = m; hosts = [] } ∷ []) five (call_from 100 []) ≡ record { at_end = true; outcome = outcome; fuel = fuel; trace = [] }
+ends_so m outcome fuel = report 100 (over_these (record { tree = m; hosts = [] } ∷ [])) five (call_from 100 []) ≡ record { at_end = true; outcome = outcome; fuel = fuel; trace = [] }
 
 abbrev in_pages : ℕ → Option ℕ → List Instr → Module
 in_pages min max body = record (with_functions (nullary body ∷ [])) { memories = record { min = min; max = max } ∷ [] }

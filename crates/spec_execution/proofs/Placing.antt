@@ -1,6 +1,6 @@
 -- Every reduction keeps the places.
-use Rattle.std.proofs.Common.{◌≡◌, ℕ, zero, suc, ◌+◌, Bool, true, false, cond, List, [], ◌∷◌, ◌++◌, refl, sym, ap, ap₂, ◌∙◌, subst, arith, Option, Some, None, length, nat_le, nat_lt, ◌==◌, map, reverse, append_assoc}
-use Rattle.std.specs.Prelude.{Result, Ok, Err, slice_get, if◌then◌else◌, take, drop, replicate, unwrap_or}
+use Rattle.std.proofs.Common.{◌≡◌, ℕ, zero, suc, ◌+◌, Bool, true, false, cond, List, [], ◌∷◌, ◌++◌, refl, sym, ap, ◌∙◌, subst, arith, Option, Some, None, length, nat_le, nat_lt, ◌==◌, map, reverse, append_assoc}
+use Rattle.std.specs.Prelude.{Result, Ok, Err, slice_get, take, drop, unwrap_or}
 use Rattle.std.proofs.lemmas.List.{length-append}
 use Rattle.wtypes.specs.declared.ValType.{ValType}
 use Rattle.wtypes.specs.declared.ValType.TheVariants.{I32}

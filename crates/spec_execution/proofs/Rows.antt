@@ -1,18 +1,13 @@
 -- Worked examples of runs, places and refused calls, which compute.
-use Rattle.std.proofs.Common.{◌≡◌, ℕ, zero, suc, ◌+◌, ◌^◌, List, [], ◌∷◌, Option, Some, None, refl, pos, negsuc, Bool, true, false}
-use Rattle.std.specs.Prelude.{Ok, Err}
-use Rattle.wtypes.specs.declared.ValType.{ValType}
+use Rattle.std.proofs.Common.{◌≡◌, ℕ, List, [], ◌∷◌, Some, None, refl, pos, true}
 use Rattle.wtypes.specs.declared.ValType.TheVariants as valtype
 use Rattle.wtypes.specs.declared.Value.{Value}
 use Rattle.wtypes.specs.declared.Value.TheVariants.{I32, I64}
-use Rattle.wtypes.specs.declared.BinOp.TheVariants.{Add, Sub, Mul, DivS, DivU, RemS, RemU, Shl, ShrS, ShrU, Rotl, Rotr}
-use Rattle.wtypes.specs.declared.RelOp.TheVariants.{LtS, LtU, GeS}
+use Rattle.wtypes.specs.declared.BinOp.TheVariants.{Add, Sub}
 use Rattle.wtypes.specs.declared.TestOp.TheVariants.{Eqz}
-use Rattle.wtypes.specs.declared.LoadOp.TheVariants.{I32Load, I32Load8S, I64Load32S}
-use Rattle.wtypes.specs.declared.StoreOp.TheVariants.{I64Store}
 use Rattle.wtypes.specs.declared.TrapCode.TheVariants as trap
-use Rattle.wtypes.specs.declared.PlainInstr.TheVariants.{LocalGet, LocalTee, Const, Binary, Test, BrIf, Call, Load, Store, MemoryGrow, MemorySize}
-use Rattle.spec_syntax.specs.Syntax.{Instr, Plain, BrTable, Block, Loop, If, Instrs, nothing, seq, instrs_of, Module, FuncType, Func, Import, ImportFunc, Export, ExportFunc}
+use Rattle.wtypes.specs.declared.PlainInstr.TheVariants.{LocalGet, LocalTee, Const, Binary, Test, BrIf, Call}
+use Rattle.spec_syntax.specs.Syntax.{Instr, Plain, Loop, If, instrs_of, Module, FuncType, ExportFunc}
 use Rattle.spec_ledger.specs.declared.Op.{Op}
 use Rattle.spec_ledger.specs.declared.Reply.{Reply}
 use Rattle.spec_ledger.specs.declared.Step.{Step}
@@ -21,11 +16,16 @@ use Rattle.spec_ledger.specs.declared.Op.TheVariants as op
 use Rattle.spec_ledger.specs.declared.Reply.TheVariants as reply
 use Rattle.spec_ledger.specs.declared.Outcome.TheVariants.{Returned, Trapped, OutOfFuel, Rejected}
 use Rattle.wtypes.specs.declared.HostCall.TheVariants as host
-use Rattle.spec_execution.specs.Configuration.{Deployed, Contract, Seq, End, Val, Invoke, State, Config}
-use Rattle.spec_execution.specs.Reduction.{reduce, execute, execute_plain, loaded, stored, grown}
-use Rattle.spec_execution.specs.Run.{ContractCall, first}
+use Rattle.spec_execution.specs.Configuration.{Setting, Deployed, Contract, Config}
+use Rattle.spec_execution.specs.Reduction.{reduce, execute, execute_plain}
+use Rattle.spec_execution.specs.Run.{ContractCall}
+use Rattle.spec_execution.specs.Levels.{first_level}
 use Rattle.spec_execution.specs.Turns.{place_of, stack_of, locals_of}
-use Rattle.spec_execution.specs.Walk.{Report, report, walk, start_at, Point}
+use Rattle.spec_execution.specs.Walk.{report, walk, start_at}
+
+-- these contracts
+abbrev pub over_these : List Deployed → Setting
+over_these ds = record { contracts = ds }
 
 -- replies 5 to `total`, as the cells do that hold 5 there
 abbrev pub five : List Step → Op → Reply
@@ -57,11 +57,11 @@ abbrev pub call_from : ℕ → List Value → ContractCall
 call_from fuel args = record { contract = 0; entry = run; args = args; fuel = fuel }
 
 -- the countdown, with enough fuel and with one unit less
-counts_with_16 : report 100 (counts_down ∷ []) five (call_from 16 (I64 (pos 2) ∷ [])) ≡ record { at_end = true; outcome = Returned None; fuel = 16; trace = [] }
+counts_with_16 : report 100 (over_these (counts_down ∷ [])) five (call_from 16 (I64 (pos 2) ∷ [])) ≡ record { at_end = true; outcome = Returned None; fuel = 16; trace = [] }
 unfolding walk reduce execute execute_plain
 counts_with_16 = refl
 
-counts_with_15 : report 100 (counts_down ∷ []) five (call_from 15 (I64 (pos 2) ∷ [])) ≡ record { at_end = true; outcome = OutOfFuel; fuel = 15; trace = [] }
+counts_with_15 : report 100 (over_these (counts_down ∷ [])) five (call_from 15 (I64 (pos 2) ∷ [])) ≡ record { at_end = true; outcome = OutOfFuel; fuel = 15; trace = [] }
 unfolding walk reduce execute execute_plain
 counts_with_15 = refl
 
@@ -69,11 +69,11 @@ counts_with_15 = refl
 abbrev calls_itself : Deployed
 calls_itself = one_function (record { params = []; results = [] }) (Plain (Call 0) ∷ [])
 
-depth_row : report 600 (calls_itself ∷ []) five (call_from 256 []) ≡ record { at_end = true; outcome = Trapped trap.CallDepth; fuel = 256; trace = [] }
+depth_row : report 600 (over_these (calls_itself ∷ [])) five (call_from 256 []) ≡ record { at_end = true; outcome = Trapped trap.CallDepth; fuel = 256; trace = [] }
 unfolding walk reduce execute execute_plain
 depth_row = refl
 
-depth_row_255 : report 600 (calls_itself ∷ []) five (call_from 255 []) ≡ record { at_end = true; outcome = OutOfFuel; fuel = 255; trace = [] }
+depth_row_255 : report 600 (over_these (calls_itself ∷ [])) five (call_from 255 []) ≡ record { at_end = true; outcome = OutOfFuel; fuel = 255; trace = [] }
 unfolding walk reduce execute execute_plain
 depth_row_255 = refl
 
@@ -93,7 +93,7 @@ first_module = record {
   hosts = host.Add ∷ host.Total ∷ [];
 }
 
-adds : report 100 (first_module ∷ []) five (call_from 100 (I64 (pos 7) ∷ [])) ≡ record {
+adds : report 100 (over_these (first_module ∷ [])) five (call_from 100 (I64 (pos 7) ∷ [])) ≡ record {
   at_end = true;
   outcome = Returned (Some (I64 (pos 5)));
   fuel = 7;
@@ -103,14 +103,14 @@ unfolding walk reduce execute execute_plain
 adds = refl
 
 -- limits 6 and 7 of the same
-adds_with_6 : report 100 (first_module ∷ []) five (call_from 6 (I64 (pos 7) ∷ [])) ≡ record { at_end = true; outcome = OutOfFuel; fuel = 6; trace = Did (op.Add (record { contract = 0; key = 7 }) 5) reply.Nothing ∷ [] }
+adds_with_6 : report 100 (over_these (first_module ∷ [])) five (call_from 6 (I64 (pos 7) ∷ [])) ≡ record { at_end = true; outcome = OutOfFuel; fuel = 6; trace = Did (op.Add (record { contract = 0; key = 7 }) 5) reply.Nothing ∷ [] }
 unfolding walk reduce execute execute_plain
 adds_with_6 = refl
 
 -- ---- refused calls
 
 abbrev refused_with : List Deployed → ContractCall → ℕ → Type 0
-refused_with contracts call code = report 0 contracts five call ≡ record { at_end = true; outcome = Rejected code; fuel = 0; trace = [] }
+refused_with contracts call code = report 0 (over_these contracts) five call ≡ record { at_end = true; outcome = Rejected code; fuel = 0; trace = [] }
 
 no_contract : refused_with (first_module ∷ []) (record { contract = 1; entry = run; args = []; fuel = 100 }) 6
 no_contract = refl
@@ -133,7 +133,7 @@ abbrev contract_0 : Contract
 contract_0 = record { number = 0; deployed = counts_down }
 
 abbrev after_moves : ℕ → Config
-after_moves n = (walk contract_0 16 five n (start_at (first contract_0 0 (I64 (pos 2) ∷ [])))).config
+after_moves n = (walk (over_these (counts_down ∷ [])) 16 five n (start_at (first_level contract_0 0 (I64 (pos 2) ∷ [])))).config.inner.config
 
 state_0 : place_of (after_moves 1) ≡ Some (0, 0)
 unfolding walk reduce execute execute_plain
@@ -159,10 +159,10 @@ locals_8 = refl
 abbrev branching : Contract
 branching = record { number = 0; deployed = one_function (record { params = []; results = [] }) (Plain (Const (I32 (pos 0))) ∷ If None (instrs_of (Plain (Const (I32 (pos 5))) ∷ [])) (instrs_of (Plain (Const (I32 (pos 6))) ∷ [])) ∷ Plain (Const (I32 (pos 7))) ∷ []) }
 
-in_else : place_of (walk branching 16 five 3 (start_at (first branching 0 []))).config ≡ Some (0, 3)
+in_else : place_of (walk (over_these (branching.deployed ∷ [])) 16 five 3 (start_at (first_level branching 0 []))).config.inner.config ≡ Some (0, 3)
 unfolding walk reduce execute execute_plain
 in_else = refl
 
-after_if : place_of (walk branching 16 five 5 (start_at (first branching 0 []))).config ≡ Some (0, 4)
+after_if : place_of (walk (over_these (branching.deployed ∷ [])) 16 five 5 (start_at (first_level branching 0 []))).config.inner.config ≡ Some (0, 4)
 unfolding walk reduce execute execute_plain
 after_if = refl

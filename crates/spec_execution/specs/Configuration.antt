@@ -1,11 +1,10 @@
 -- Contracts and configurations (Core 4.2, Runtime Structure): globals, memory, the table, and one instruction sequence.
-use Rattle.std.specs.Prelude.{ℕ, zero, suc, ◌+◌, ◌-◌, ◌*◌, ◌^◌, Bool, List, [], ◌∷◌, length, map, replicate, Option, Some, None, nat_lt, if◌then◌else◌, slice_get, option_map, option_and_then}
-use Rattle.wtypes.specs.declared.ValType.{ValType}
-use Rattle.wtypes.specs.declared.ValType.TheVariants.{I32, I64}
+use Rattle.std.specs.Prelude.{ℕ, ◌+◌, ◌-◌, ◌*◌, List, [], ◌∷◌, length, map, replicate, Option, Some, None, nat_lt, if◌then◌else◌, slice_get, option_map, option_and_then}
+use Rattle.wtypes.specs.declared.ValType.TheVariants.{I32}
 use Rattle.wtypes.specs.declared.Value.{Value}
 use Rattle.wtypes.specs.declared.PlainInstr.TheVariants.{Const}
 use Rattle.wtypes.specs.declared.TrapCode.{TrapCode}
-use Rattle.spec_syntax.specs.Syntax.{Instr, Plain, Instrs, nothing, seq, FuncType, Func, Limits, Global, Element, DataSegment, Module}
+use Rattle.spec_syntax.specs.Syntax.{Instr, Plain, Instrs, nothing, seq, FuncType, Func, Limits, Element, DataSegment, Module}
 use Rattle.spec_syntax.specs.Shape.{instr_preorder}
 use Rattle.wtypes.specs.declared.HostCall.{HostCall}
 use Rattle.spec_syntax.specs.Profile.{page_size, host_type}
@@ -18,6 +17,10 @@ use Rattle.spec_numeric.specs.Memory.{written}
 pub record Deployed : Type 0 where
   pub tree : Module
   pub hosts : List HostCall
+
+-- what calls run over: the contracts
+pub record Setting : Type 0 where
+  pub contracts : List Deployed
 
 -- a deployed module with its number
 pub record Contract : Type 0 where

@@ -1,7 +1,9 @@
 pub mod Configuration
 pub mod Reduction
 pub mod Run
+pub mod Levels
 pub mod Turns
+pub mod Turning
 pub mod Walk
 pub mod Unique
 pub mod Codes

@@ -1,16 +1,16 @@
 -- The reduction of configurations (Core 4.4, Instructions). The headings are the standard's sections. "Own" marks what this product adds: the
 -- charge, which is 1 for an instruction of the code and 0 else; the operations that an import asks of the host; and two limits, 1,024 pages
 -- (`page_limit`) and 256 frames (`frame_limit`).
-use Rattle.std.specs.Prelude.{ℕ, zero, suc, ◌+◌, ◌-◌, ◌*◌, ◌/◌, ◌%◌, ◌^◌, min, Bool, true, false, not, ◌&&◌, ◌==◌, nat_lt, nat_le, if◌then◌else◌, List, [], ◌∷◌, ◌++◌, length, map, take, drop, reverse, replicate, Option, Some, None, Result, Ok, Err, slice_get, slice_set, unwrap_or}
+use Rattle.std.specs.Prelude.{ℕ, ℤ, zero, suc, ◌+◌, ◌-◌, ◌*◌, ◌/◌, ◌^◌, min, Bool, true, false, ◌&&◌, ◌==◌, nat_lt, nat_le, if◌then◌else◌, List, [], ◌∷◌, ◌++◌, length, map, take, drop, reverse, replicate, Option, Some, None, Result, Ok, Err, slice_get, slice_set, unwrap_or}
 use Rattle.wtypes.specs.declared.ValType.{ValType}
-use Rattle.wtypes.specs.declared.ValType.TheVariants.{I32, I64}
+use Rattle.wtypes.specs.declared.ValType.TheVariants.{I32}
 use Rattle.wtypes.specs.declared.Value.{Value}
 use Rattle.wtypes.specs.declared.Value.TheVariants as value
 use Rattle.wtypes.specs.declared.TrapCode.{TrapCode}
 use Rattle.wtypes.specs.declared.TrapCode.TheVariants as trap
 use Rattle.wtypes.specs.declared.PlainInstr.{PlainInstr}
 use Rattle.wtypes.specs.declared.PlainInstr.TheVariants.{Unreachable, Nop, Br, BrIf, Return, Call, CallIndirect, Drop, Select, LocalGet, LocalSet, LocalTee, GlobalGet, GlobalSet, Load, Store, MemorySize, MemoryGrow, Const, Unary, Binary, Test, Compare, Convert}
-use Rattle.spec_syntax.specs.Syntax.{Instr, Plain, BrTable, Block, Loop, If, Instrs, nothing, seq, FuncType, Func, Limits, Module}
+use Rattle.spec_syntax.specs.Syntax.{Instr, Plain, BrTable, Block, Loop, If, Instrs, nothing, seq, FuncType, Limits}
 use Rattle.spec_syntax.specs.Shape.{size}
 use Rattle.spec_ledger.specs.declared.Place.{Place}
 use Rattle.spec_ledger.specs.declared.Op.{Op}
@@ -23,7 +23,14 @@ use Rattle.spec_syntax.specs.Profile.{page_limit, page_size, frame_limit}
 use Rattle.spec_numeric.specs.Operators.{same_type, type_of, bits_of, value_of, word, truth, unary, unary_type, binary, binary_type, test, test_type, compare, compare_type, convert, convert_from, convert_to}
 use Rattle.spec_numeric.specs.Storage.{load_type, load_width, extended, store_type, store_width}
 use Rattle.spec_numeric.specs.Memory.{load, store}
-use Rattle.spec_execution.specs.Configuration.{Contract, Function, Hosted, Defined, function_at, function_type, Seq, End, Val, Code, Free, Label, Frame, Invoke, code, values, State, size_of}
+use Rattle.spec_execution.specs.Configuration.{Contract, Function, Hosted, Defined, function_at, function_type, Seq, End, Val, Code, Free, Label, Frame, Invoke, code, values, State}
+
+-- What a call of an import asks of the host: an operation on storage; a run of an export of a contract, with this argument; or the answer to the
+-- last of these. No host call of today asks for the second or the third.
+pub data Wish : Type 0 where
+  Of : Op → Wish
+  Ask : (contract export : ℕ) (argument : ℤ) → Wish
+  Answer : Wish
 
 -- What a sequence does next, seen from inside the labels and frames around it.
 pub data Next : Type 0 where
@@ -31,8 +38,8 @@ pub data Next : Type 0 where
   Goes : (charge : ℕ) → State → Seq → Next
   -- it reduces to a trap
   Traps : (charge : ℕ) → TrapCode → Next
-  -- it asks the host for an operation, and by a reply it goes on with this one
-  Asks : Op → (Reply → Seq) → Next
+  -- it asks the host, and by a reply it goes on with this one
+  Asks : Wish → (Reply → Seq) → Next
   -- it branches to the label so many labels out, with these values before the branch, topmost first
   Branches : (charge : ℕ) (label : ℕ) → List Value → Next
   -- it returns, with these values before the return, topmost first
@@ -122,7 +129,7 @@ indirect c charge s t (Some (Some f)) vs rest =
 
 -- ---- own: the host's functions
 
--- what an import asks of the host, by its first argument and its second one
+-- the operation that an import asks for, by its first argument and its second one
 abbrev pub asks : HostCall → Place → ℕ → Op
 asks host.Get p x = op.Get p
 asks host.Has p x = op.Has p
@@ -136,6 +143,10 @@ abbrev pub op_of : ℕ → HostCall → List Value → Op
 op_of contract h [] = asks h (record { contract = contract; key = 0 }) 0
 op_of contract h (k ∷ []) = asks h (record { contract = contract; key = bits_of k }) 0
 op_of contract h (k ∷ v ∷ vs) = asks h (record { contract = contract; key = bits_of k }) (bits_of v)
+
+-- what an import asks of the host
+abbrev pub wish_of : ℕ → HostCall → List Value → Wish
+wish_of contract h args = Of (op_of contract h args)
 
 -- the value that the host's reply puts on the stack, if any
 abbrev pub replied : Reply → Seq → Seq
@@ -152,7 +163,7 @@ zero_of t = value_of t 0
 -- Invocation: function number f is invoked with these arguments, the first one first, with so many frames around.
 -- Own: a host's function asks for an operation; in the innermost of `frame_limit` frames an invocation traps.
 abbrev pub invoke : Contract → ℕ → State → ℕ → Function → List Value → List Value → Seq → Next
-invoke c frames s f (Hosted h) args vs rest = Asks (op_of c.number h args) (λ r. values vs (replied r rest))
+invoke c frames s f (Hosted h) args vs rest = Asks (wish_of c.number h args) (λ r. values vs (replied r rest))
 invoke c frames s f (Defined t g) args vs rest =
     let n = length t.results in
     if nat_lt frames frame_limit

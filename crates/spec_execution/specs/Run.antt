@@ -1,22 +1,18 @@
--- Calls and their runs, with fuel: what a host sees of an execution.
-use Rattle.std.specs.Prelude.{◌≡◌, ℕ, zero, suc, ◌+◌, ◌^◌, ◌<◌, ◌≤◌, ℤ, Bool, true, false, ◌==◌, nat_lt, if◌then◌else◌, List, [], ◌∷◌, ◌++◌, length, map, Option, Some, None, slice_get, FitsSigned, bytes_eq, option_map}
+-- Reductions, the host's replies, and calls with their first configurations.
+use Rattle.std.specs.Prelude.{◌≡◌, ℕ, ◌+◌, ℤ, ◌==◌, if◌then◌else◌, List, [], ◌∷◌, length, Option, Some, None, slice_get, FitsSigned, bytes_eq, option_map}
 use Rattle.std.specs.Int.{w32, w64}
 use Rattle.wtypes.specs.declared.ValType.{ValType}
 use Rattle.wtypes.specs.declared.Value.{Value}
 use Rattle.wtypes.specs.declared.TrapCode.{TrapCode}
-use Rattle.spec_syntax.specs.Syntax.{Name, FuncType, Func, Module, Export, ExportDesc, ExportFunc, ExportTable, ExportMemory, ExportGlobal}
+use Rattle.spec_syntax.specs.Syntax.{Name, Export, ExportDesc, ExportFunc}
 use Rattle.spec_ledger.specs.declared.Place.{Place}
 use Rattle.spec_ledger.specs.declared.Op.{Op}
 use Rattle.spec_ledger.specs.declared.Op.TheVariants.{Get, Has, Put, Del, Add, Total}
 use Rattle.spec_ledger.specs.declared.Reply.{Reply}
 use Rattle.spec_ledger.specs.declared.Reply.TheVariants as reply
-use Rattle.spec_ledger.specs.declared.Step.{Step}
-use Rattle.spec_ledger.specs.declared.Step.TheVariants.{Did}
-use Rattle.spec_ledger.specs.declared.Outcome.{Outcome}
-use Rattle.spec_ledger.specs.declared.Outcome.TheVariants.{Returned, Trapped, OutOfFuel, Rejected}
 use Rattle.spec_numeric.specs.Operators.{same_type, type_of}
-use Rattle.spec_execution.specs.Configuration.{Deployed, Contract, Function, Hosted, Defined, function_at, Seq, End, Invoke, arguments, State, Config, Running, Trap, fresh}
-use Rattle.spec_execution.specs.Reduction.{Next, Goes, Traps, Asks, Branches, Returns, Ended, Stuck, reduce}
+use Rattle.spec_execution.specs.Configuration.{Setting, Deployed, Contract, Function, Defined, function_at, Seq, End, Invoke, arguments, State, Config, Running, Trap, fresh}
+use Rattle.spec_execution.specs.Reduction.{Wish, Of, Ask, Answer, Next, Goes, Traps, Branches, Returns, Stuck, reduce}
 
 -- ---- reductions
 
@@ -51,35 +47,23 @@ pub data IsReply : Op → Reply → Type 0 where
   to_add : (p : Place) (v : ℕ) → IsReply (Add p v) reply.Nothing
   to_total : (p : Place) (x : ℤ) → FitsSigned w64 x → IsReply (Total p) (reply.I64 x)
 
--- ---- runs
+-- the replies that a wish may get
+abbrev pub IsAnswer : Wish → Reply → Type 0
+IsAnswer (Of op) r = IsReply op r
+IsAnswer (Ask n e x) (reply.I32 status) = Unit {0}
+IsAnswer (Ask n e x) _ = ⊥
+IsAnswer Answer (reply.I64 x) = Unit {0}
+IsAnswer Answer _ = ⊥
 
--- From a first configuration, within a limit of fuel: after this trace, with so much fuel used, the configuration is this one.
-pub data Reached (c : Contract) (first : Config) (limit : ℕ) : List Step → ℕ → Config → Type 0 where
-  at_first : Reached c first limit [] 0 first
-  reduced : (trace : List Step) (used : ℕ) (a : Config) (charge : ℕ) (b : Config) → Reached c first limit trace used a → Reduces c a charge b → used + charge ≤ limit → Reached c first limit trace (used + charge) b
-  replied : (trace : List Step) (used : ℕ) (s : State) (seq : Seq) (op : Op) (go : Reply → Seq) (r : Reply) → Reached c first limit trace used (Running s seq) → next c s seq ≡ Asks op go → IsReply op r → Reached c first limit (trace ++ Did op r ∷ []) used (Running s (go r))
+-- the wish is an operation on storage, as that of each host call of today
+abbrev pub IsOperation : Wish → Type 0
+IsOperation (Of op) = Unit {0}
+IsOperation _ = ⊥
 
 -- the value of a result
 abbrev pub result_of : List Value → Option Value
 result_of [] = None
 result_of (v ∷ vs) = Some v
-
--- A run that has come to this configuration, with so much fuel used, is at its end, with this outcome.
-pub data Ends (c : Contract) (limit : ℕ) : ℕ → Config → Outcome → Type 0 where
-  returns : (used : ℕ) (s : State) (seq : Seq) (vs : List Value) → next c s seq ≡ Ended vs → Ends c limit used (Running s seq) (Returned (result_of vs))
-  trapped : (used : ℕ) (s : State) (t : TrapCode) → Ends c limit used (Trap s t) (Trapped t)
-  -- the limit is used up and an instruction is to come
-  exhausted : (s : State) (seq : Seq) → IsCharged (next c s seq) → Ends c limit limit (Running s seq) OutOfFuel
-
--- a run from a first configuration
-pub record IsRun (c : Contract) (first : Config) (limit : ℕ) (trace : List Step) (outcome : Outcome) (fuel : ℕ) : Type 0 where
-  pub last : Config
-  pub reached : Reached c first limit trace fuel last
-  pub ends : Ends c limit fuel last outcome
-
--- No configuration that is reached is stuck.
-abbrev pub IsSafe : Contract → Config → ℕ → Type 0
-IsSafe c first limit = (trace : List Step) (used : ℕ) (s : State) (seq : Seq) → Reached c first limit trace used (Running s seq) → IsStuck (next c s seq) → ⊥
 
 -- ---- calls
 
@@ -122,8 +106,8 @@ abbrev pub by_contract : ContractCall → Option Deployed → Opening
 by_contract call None = Refused 6
 by_contract call (Some d) = by_export (record { number = call.contract; deployed = d }) call.args (exported call.entry d.tree.exports)
 
-abbrev pub opening : List Deployed → ContractCall → Opening
-opening contracts call = by_contract call (slice_get contracts call.contract)
+abbrev pub opening : Setting → ContractCall → Opening
+opening setting call = by_contract call (slice_get setting.contracts call.contract)
 
 -- the start function first, if there is one
 abbrev pub after_start : Option ℕ → Seq → Seq
@@ -133,8 +117,3 @@ after_start (Some f) rest = Invoke f rest
 -- the first configuration: a fresh instance, in which the start function is invoked and then the entry
 abbrev pub first : Contract → ℕ → List Value → Config
 first c func args = Running (fresh c.deployed.tree) (after_start c.deployed.tree.start (arguments args (Invoke func End)))
-
--- The call has this run over these contracts.
-pub data RunsWith (contracts : List Deployed) (call : ContractCall) : List Step → Outcome → ℕ → Type 0 where
-  refused : (code : ℕ) → opening contracts call ≡ Refused code → RunsWith contracts call [] (Rejected code) 0
-  ran : (c : Contract) (func : ℕ) (trace : List Step) (outcome : Outcome) (fuel : ℕ) → opening contracts call ≡ Opens c func → IsRun c (first c func call.args) call.fuel trace outcome fuel → RunsWith contracts call trace outcome fuel

@@ -3,7 +3,7 @@ use Rattle.std.specs.Prelude.{◌≡◌, ℕ, List, [], ◌∷◌, Some, slice_g
 use Rattle.spec_ledger.specs.declared.Receipt.{Receipt}
 use Rattle.spec_ledger.specs.Cells.{Cells}
 use Rattle.spec_ledger.specs.Modes.{Modes}
-use Rattle.spec_execution.specs.Configuration.{Deployed}
+use Rattle.spec_execution.specs.Configuration.{Setting}
 use Rattle.spec_execution.specs.Run.{ContractCall}
 use Rattle.spec_execution.specs.Exec.{Executes}
 
@@ -13,10 +13,10 @@ pub record Ran : Type 0 where
   pub touched : Modes
 
 -- The calls of these numbers, one after another, each over the cells that the one before left.
-abbrev pub Serial : List Deployed → List ContractCall → List ℕ → Cells → List Ran → Cells → Type 0
-Serial contracts calls [] cells [] last = last ≡ cells
-Serial contracts calls [] cells (r ∷ rs) last = ⊥
-Serial contracts calls (n ∷ order) cells [] last = ⊥
-Serial contracts calls (n ∷ order) cells (r ∷ rs) last =
+abbrev pub Serial : Setting → List ContractCall → List ℕ → Cells → List Ran → Cells → Type 0
+Serial setting calls [] cells [] last = last ≡ cells
+Serial setting calls [] cells (r ∷ rs) last = ⊥
+Serial setting calls (n ∷ order) cells [] last = ⊥
+Serial setting calls (n ∷ order) cells (r ∷ rs) last =
     (call : ContractCall) × (next : Cells) × (slice_get calls n ≡ Some call)
-    × Executes contracts call cells next r.receipt.outcome r.receipt.used r.touched × Serial contracts calls order next rs last
+    × Executes setting call cells next r.receipt.outcome r.receipt.used r.touched × Serial setting calls order next rs last

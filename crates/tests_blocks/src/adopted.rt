@@ -1,6 +1,6 @@
 // Books that are closed, published by runs of their calls.
 ghost use Rattle.std.specs.Prelude.{◌≡◌, ◌<◌, ◌^◌, IfSome, Some, length, slice_get};
-ghost use Rattle.interp.specs.Lent.{contracts_view};
+ghost use Rattle.interp.specs.Lent.{setting_view};
 ghost use Rattle.publish.specs.Adoption.{AreMade, IsMade};
 
 use crate::runs::{EIGHT, Held, REFUSED, RETURNED_5, RETURNED_10, SEVEN, STOPPED, hold_locks};
@@ -180,7 +180,7 @@ fn made<'a>(
     calls: &'a [Call],
     made: &Made,
 ) -> Option<MadeRun<'a>>
-    ensures { IfSome result (λ run. (run.finished.contracts ≡ contracts_view contracts.now) × (slice_get calls.now run.call ≡ Some run.finished.call)) }
+    ensures { IfSome result (λ run. (run.finished.setting ≡ setting_view contracts.now) × (slice_get calls.now run.call ≡ Some run.finished.call)) }
 {
     let (call, held) = made;
     let known = calls.get(*call as usize)?;
@@ -199,7 +199,7 @@ fn handed<'a>(
     calls: &'a [Call],
     one: &Made,
 ) -> Option<(MadeRun<'a>, Touched)>
-    ensures { IfSome result (λ r. IsMade (contracts_view contracts.now) calls.now r.0 r.1) }
+    ensures { IfSome result (λ r. IsMade (setting_view contracts.now) calls.now r.0 r.1) }
 {
     let run = made(alloc, contracts, calls, one)?;
     let touched = touched_by(alloc, run.finished.trace()).ok()?;
@@ -213,7 +213,7 @@ fn all_handed<'a>(
     calls: &'a [Call],
     all: &[Made],
 ) -> Option<(Vec<MadeRun<'a>>, Vec<Touched>)>
-    ensures { IfSome result (λ r. AreMade (contracts_view contracts.now) calls.now r.0.items r.1.items) }
+    ensures { IfSome result (λ r. AreMade (setting_view contracts.now) calls.now r.0.items r.1.items) }
 {
     match all {
         [] => Some((Vec::new(alloc), Vec::new(alloc))),
@@ -283,7 +283,7 @@ fn adopt<'a>(
     touched: Vec<Touched>,
 ) -> Option<Option<Published>>
     requires calls { length calls.now < 2 ^ 32 }
-    requires runs { AreMade (contracts_view contracts.now) calls.now runs.now touched.items }
+    requires runs { AreMade (setting_view contracts.now) calls.now runs.now touched.items }
 {
     book.hold();
     let closed = book.close();

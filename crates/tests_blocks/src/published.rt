@@ -1,6 +1,6 @@
 // Orders of calls of one contract, and of calls of none, published.
 ghost use Rattle.std.specs.Prelude.{◌≡◌, ◌<◌, ◌^◌, length};
-ghost use Rattle.interp.specs.Lent.{contracts_view};
+ghost use Rattle.interp.specs.Lent.{setting_view};
 ghost use Rattle.publish.specs.Publication.{IsSameJob};
 
 use crate::runs::{EIGHT, Held, REFUSED, RETURNED_5, RETURNED_10, SEVEN, STOPPED, hold_locks};
@@ -214,7 +214,7 @@ fn takes_run(
     cells: &Cells,
     taken: Taken,
 ) -> bool
-    requires contracts { publishing.old.contracts ≡ contracts_view contracts.now }
+    requires contracts { publishing.old.setting ≡ setting_view contracts.now }
     requires calls { publishing.old.calls ≡ calls.now }
     ensures { IsSameJob publishing.old publishing.new }
 {
@@ -250,7 +250,7 @@ fn is_played(
     cells: &Cells,
     row: &Row,
 ) -> bool
-    requires contracts { publishing.old.contracts ≡ contracts_view contracts.now }
+    requires contracts { publishing.old.setting ≡ setting_view contracts.now }
     requires calls { publishing.old.calls ≡ calls.now }
 {
     if !takes_run(alloc, publishing, contracts, calls, cells, row.runs.0)

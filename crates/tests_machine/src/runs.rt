@@ -1,5 +1,6 @@
 // Runs of exports. The values and the traps are those that `wasm-interp --run-all-exports` of wabt 1.0.32 prints. It knows no
 // fuel and no host calls, and its stack is deeper than 256 frames.
+ghost use Rattle.std.specs.Prelude.{IfOk};
 ghost use Rattle.interp.specs.Progress.{IsFree};
 ghost use Rattle.spec_execution.specs.Run.{IsReply};
 
@@ -48,6 +49,35 @@ fn make_turn<'a, A: Allocator + Copy>(machine: &mut Machine<'a, A>) -> Turn
         Turn::Done(_) => {}
     }
     turn
+}
+
+// Makes the turns up to the next operation or the end in one call, with the reply of the host where it was asked.
+fn turn_on<'a, A: Allocator + Copy>(machine: &mut Machine<'a, A>) -> Turn
+    requires { IsFree machine.old.status }
+    ensures { IsFree machine.new.status }
+{
+    let turn = machine.turn_on();
+    match turn {
+        Turn::Stepped => {}
+        Turn::Host(op) => machine.answer(reply_to(op)),
+        Turn::NoMemory => {}
+        Turn::Done(_) => {}
+    }
+    turn
+}
+
+// Makes the same turns one by one.
+fn turn_on_by_one<'a, A: Allocator + Copy>(machine: &mut Machine<'a, A>) -> Turn
+    requires { IsFree machine.old.status }
+    ensures { IsFree machine.new.status }
+{
+    'turns: for _ in 0..1_000_000 {
+        let turn = make_turn(machine);
+        if turn != Turn::Stepped {
+            return turn;
+        }
+    }
+    Turn::Stepped
 }
 
 // Makes turns up to the end.
@@ -352,6 +382,73 @@ fn turns(rt: HostRuntime) -> Result<(), Fail> {
     .enumerate()
     {
         assert_eq!(rt; make_turn(&mut machine), *turn, "turn {number}");
+    }
+    Ok(())
+}
+
+fn started<'a>(
+    alloc: Global,
+    contracts: &'a [Deployed<Global>],
+    call: &'a Call,
+) -> Result<Machine<'a, Global>, Fail>
+    ensures { IfOk result (λ m. IsFree m.status) }
+{
+    Ok(
+        Machine::start(alloc, contracts, call)
+            .ok()
+            .ok_or("a machine")?,
+    )
+}
+
+// Turns in one call come to the same as single turns: the same operations, and then the end, which is told again.
+fn assert_alike<'a, A: Allocator + Copy>(
+    rt: &impl Abort,
+    at_once: &mut Machine<'a, A>,
+    by_one: &mut Machine<'a, A>,
+    name: &str,
+)
+    requires at_once { IsFree at_once.old.status }
+    requires by_one { IsFree by_one.old.status }
+{
+    'stops: for stop in 0..8 {
+        let turn = turn_on_by_one(by_one);
+        assert_eq!(rt; turn_on(at_once), turn, "of {name}, stop {stop}");
+        assert_eq!(rt; at_once.used(), by_one.used(), "of {name}, stop {stop}");
+        assert_eq!(rt; at_once.stack(), by_one.stack(), "of {name}, stop {stop}");
+    }
+}
+
+#[test]
+fn turns_in_one_call(rt: HostRuntime) -> Result<(), Fail> {
+    let alloc = rt.alloc();
+    let contracts = [
+        deployed(alloc, &FIRST_MODULE)?,
+        deployed(alloc, &HOST)?,
+        deployed(alloc, &ASKING_FIRST)?,
+        deployed(alloc, &FALLING)?,
+        deployed(alloc, &ROWS)?,
+    ];
+    for (number, name, args, fuel) in [
+        (0, "run", [Value::I64(7)].as_slice(), 4),
+        (0, "run", [Value::I64(7)].as_slice(), 5),
+        (0, "run", [Value::I64(7)].as_slice(), 7),
+        (1, "all", [].as_slice(), 100),
+        (2, "peek", [Value::I64(7)].as_slice(), 5),
+        (3, "empty", [].as_slice(), 100),
+        (4, "endless", [].as_slice(), 1_000),
+    ] {
+        let call = call(alloc, number, name, args, fuel)?;
+        let mut at_once = started(alloc, &contracts, &call)?;
+        let mut by_one = started(alloc, &contracts, &call)?;
+        assert_alike(&rt, &mut at_once, &mut by_one, name);
+        let at_once = at_once.finish().ok().ok_or("its end")?;
+        let by_one = by_one.finish().ok().ok_or("the second end")?;
+        assert_eq!(rt;
+            at_once.outcome(),
+            by_one.outcome(),
+            "of {name} with {fuel}"
+        );
+        assert_eq!(rt; at_once.trace(), by_one.trace(), "of {name} with {fuel}");
     }
     Ok(())
 }

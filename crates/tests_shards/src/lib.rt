@@ -6,6 +6,8 @@ mod books;
 #[cfg(test)]
 mod held;
 #[cfg(test)]
+mod levels;
+#[cfg(test)]
 mod one_shard;
 #[cfg(test)]
 mod parts;

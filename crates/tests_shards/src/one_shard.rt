@@ -1,5 +1,5 @@
 // One shard of a book.
-use boost::book::{CommitRefusal, OpRefusal};
+use boost::book::{CommitRefusal, EnterRefusal, LeaveRefusal, OpRefusal};
 use shard::{EndRefusal, Shard};
 use spec_ledger::{Op, Outcome, Place, Reply, Step};
 use std::alloc::Global;
@@ -11,6 +11,8 @@ use wtypes::TrapCode;
 #[derive(Clone, Copy)]
 enum Act {
     Op(u32, u64, Op),
+    Enter(u32, u64),
+    Leave(u32, u64, bool),
     Look(u32, u64, &'static [Step]),
     End(u32, u64, Outcome, u32),
     Undo(u32, u64),
@@ -20,6 +22,8 @@ enum Act {
 #[derive(Clone, Copy, PartialEq)]
 enum Answer {
     Op(Result<Reply, OpRefusal>),
+    Enter(Result<(), EnterRefusal>),
+    Leave(Result<(), LeaveRefusal>),
     Look(Result<(), CommitRefusal>),
     End(Result<(), EndRefusal>),
     Undone,
@@ -28,6 +32,8 @@ enum Answer {
 fn asked(shard: &mut Shard, act: Act) -> Answer {
     match act {
         Act::Op(call, number, op) => Answer::Op(shard.op(call, number, op)),
+        Act::Enter(call, number) => Answer::Enter(shard.enter(call, number)),
+        Act::Leave(call, number, keep) => Answer::Leave(shard.leave(call, number, keep)),
         Act::Look(call, number, trace) => Answer::Look(shard.look(call, number, trace, 0, 1)),
         Act::End(call, number, outcome, position) => {
             Answer::End(shard.end(call, number, outcome, position))
@@ -112,6 +118,53 @@ const REFUSED_FIRST: [(Act, Answer); 9] = [
     (Act::Op(1, 10, TOTAL), IS_0),
 ];
 
+/// What an attempt did that added 3, entered a level that added 3 and was dropped, entered one that added 3 and was kept, and read the total.
+const ONE_DROPPED: [Step; 8] = [
+    Step::Did(ADD_3, Reply::Nothing),
+    Step::Opened,
+    Step::Did(ADD_3, Reply::Nothing),
+    Step::Dropped,
+    Step::Opened,
+    Step::Did(ADD_3, Reply::Nothing),
+    Step::Kept,
+    Step::Did(TOTAL, Reply::I64(6)),
+];
+
+const ENTERED: Answer = Answer::Enter(Ok(()));
+
+const LEFT: Answer = Answer::Leave(Ok(()));
+
+const LEVELS: [(Act, Answer); 18] = [
+    (Act::Enter(0, 0), Answer::Enter(Err(EnterRefusal::Stale))),
+    (
+        Act::Leave(0, 0, true),
+        Answer::Leave(Err(LeaveRefusal::Stale)),
+    ),
+    (Act::Op(0, 0, ADD_3), DONE),
+    (
+        Act::Leave(0, 0, false),
+        Answer::Leave(Err(LeaveRefusal::NotEntered)),
+    ),
+    (Act::Enter(0, 0), ENTERED),
+    (Act::Op(0, 0, ADD_3), DONE),
+    (Act::Op(1, 0, Op::Add(SEVEN, 5)), DONE),
+    (Act::Leave(0, 0, false), LEFT),
+    // the locks of the level are held on
+    (Act::Op(1, 0, TOTAL), WAITS),
+    (Act::Enter(0, 0), ENTERED),
+    (Act::Op(0, 0, ADD_3), DONE),
+    (Act::Leave(0, 0, true), LEFT),
+    (
+        Act::Leave(0, 0, true),
+        Answer::Leave(Err(LeaveRefusal::NotEntered)),
+    ),
+    (Act::Undo(1, 0), Answer::Undone),
+    (Act::Op(0, 0, TOTAL), Answer::Op(Ok(Reply::I64(6)))),
+    (Act::Look(0, 0, &ONE_DROPPED), Answer::Look(Ok(()))),
+    (Act::End(0, 0, RETURNED, 0), Answer::End(Ok(()))),
+    (Act::Op(1, 1, TOTAL), Answer::Op(Ok(Reply::I64(6)))),
+];
+
 #[test]
 fn a_shard_answers_as_said(rt: HostRuntime) -> Result<(), Fail> {
     assert!(rt; first_other(rt.alloc(), &TWO_BUMPS)?.is_none(), "two bumps");
@@ -119,5 +172,6 @@ fn a_shard_answers_as_said(rt: HostRuntime) -> Result<(), Fail> {
         first_other(rt.alloc(), &REFUSED_FIRST)?.is_none(),
         "a first operation that is refused"
     );
+    assert!(rt; first_other(rt.alloc(), &LEVELS)?.is_none(), "levels");
     Ok(())
 }

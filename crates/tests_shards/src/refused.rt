@@ -1,10 +1,10 @@
 // Each block of memory is refused once. What was refused is as it was, so the same done again comes to what it does without a refusal.
 use crate::books::{COUNTS, RETURNED, TRAPPED, adding, cell, cells_of, getting, putting};
-use boost::book::{CommitRefusal, OpRefusal, Run};
+use boost::book::{CommitRefusal, EnterRefusal, OpRefusal, Run};
 use ration::Ration;
 use shard_parts::CloseRefusal;
 use shards::{NoGate, Shards, Ticket};
-use spec_ledger::{Kind, Outcome, Step};
+use spec_ledger::{Kind, Op, Outcome, Reply, Step};
 use std::alloc::{Allocator, Global};
 use std::sync::Wait;
 use std::test::Fail;
@@ -12,28 +12,57 @@ use std::test::Fail;
 /// More growths than there are.
 const MANY: u64 = 400;
 
-/// Begins a call and does these operations, each again where memory was refused.
+/// Does an operation, again where memory was refused.
+fn is_done<R: Wait, A: Allocator + Copy>(
+    rt: &R,
+    book: &Shards<'_, NoGate, A>,
+    ticket: &mut Ticket<A>,
+    op: Op,
+    wanted: Reply,
+) -> bool {
+    let first = book.op(rt, ticket, op);
+    let reply = if first == Err(OpRefusal::NoMemory) {
+        book.op(rt, ticket, op)
+    } else {
+        first
+    };
+    reply == Ok(wanted)
+}
+
+/// Enters a level, again where memory was refused.
+fn is_entered<R: Wait, A: Allocator + Copy>(
+    rt: &R,
+    book: &Shards<'_, NoGate, A>,
+    ticket: &mut Ticket<A>,
+) -> bool {
+    let first = book.enter(rt, ticket);
+    let entered = if first == Err(EnterRefusal::NoMemory) {
+        book.enter(rt, ticket)
+    } else {
+        first
+    };
+    entered == Ok(())
+}
+
+/// Begins a call and does these steps, each again where memory was refused. To leave a level takes none.
 fn played<R: Wait, A: Allocator + Copy>(
     rt: &R,
     book: &Shards<'_, NoGate, A>,
     call: u32,
     trace: &[Step],
-) -> Result<Ticket, Fail> {
+) -> Result<Ticket<A>, Fail> {
     let Ok(mut ticket) = book.begin(rt, call) else {
         return Err(Fail::from("not begun"));
     };
     for step in trace {
-        let Step::Did(op, wanted) = *step else {
-            return Err(Fail::from("a mark"));
+        let came = match *step {
+            Step::Did(op, wanted) => is_done(rt, book, &mut ticket, op, wanted),
+            Step::Opened => is_entered(rt, book, &mut ticket),
+            Step::Kept => book.leave(rt, &mut ticket, true) == Ok(()),
+            Step::Dropped => book.leave(rt, &mut ticket, false) == Ok(()),
         };
-        let first = book.op(rt, &mut ticket, op);
-        let reply = if first == Err(OpRefusal::NoMemory) {
-            book.op(rt, &mut ticket, op)
-        } else {
-            first
-        };
-        if reply != Ok(wanted) {
-            return Err(Fail::from("another reply"));
+        if !came {
+            return Err(Fail::from("another answer"));
         }
     }
     Ok(ticket)
@@ -43,7 +72,7 @@ fn played<R: Wait, A: Allocator + Copy>(
 fn committed<R: Wait, A: Allocator + Copy>(
     rt: &R,
     book: &Shards<'_, NoGate, A>,
-    ticket: Ticket,
+    ticket: Ticket<A>,
     trace: &[Step],
     outcome: Outcome,
     position: u32,
@@ -77,7 +106,16 @@ fn with_one_refused<R: Wait>(rt: &R, heap: Global, shards: u32, blocks: u64) -> 
         Ok(book) => book,
         Err(_) => return Ok(true),
     };
-    let first = [adding(7, 5), getting(1, 10), putting(2, 9)];
+    let first = [
+        adding(7, 5),
+        Step::Opened,
+        getting(1, 10),
+        putting(2, 9),
+        Step::Opened,
+        putting(4, 6),
+        Step::Dropped,
+        Step::Kept,
+    ];
     let second = [adding(7, 8), putting(3, 4)];
     let one = played(rt, &book, 0, &first)?;
     let two = played(rt, &book, 1, &second)?;
@@ -89,6 +127,7 @@ fn with_one_refused<R: Wait>(rt: &R, heap: Global, shards: u32, blocks: u64) -> 
                 && closed.cells.get(cell(Kind::Counter, 7)) == Some(8)
                 && closed.cells.get(cell(Kind::Map, 2)) == Some(9)
                 && closed.cells.get(cell(Kind::Map, 3)).is_none()
+                && closed.cells.get(cell(Kind::Map, 4)).is_none()
         }
         Err(refusal) => refusal == CloseRefusal::NoMemory,
     };

@@ -11,7 +11,7 @@ use Rattle.turn_loop.specs.Going.{HasGone, HasComeTo, HasEnded, HasLacked, IsEnd
 
 same_joined : (p m q : Progress) → IsSameCall p m → IsSameCall m q → IsSameCall p q
 same_joined p m q g h = record {
-  contracts = h.contracts ∙ g.contracts;
+  setting = h.setting ∙ g.setting;
   call = h.call ∙ g.call;
   contract = h.contract ∙ g.contract;
   func = h.func ∙ g.func;
@@ -19,7 +19,7 @@ same_joined p m q g h = record {
 
 pub gone_of : (p q : Progress) → AreSteps p q → HasGone p q
 gone_of p q (none x) = record {
-  same = record { contracts = refl; call = refl; contract = refl; func = refl };
+  same = record { setting = refl; call = refl; contract = refl; func = refl };
   trace = refl;
   used = omega arith;
 }
@@ -47,7 +47,7 @@ pub has_ended : (p : Progress) (o : Outcome) (q : Progress) → HasTurned p (tur
 has_ended p o q h =
     let g = gone_of p h.before h.steps in
     record {
-      gone = subst (λ (m : Progress). HasGone p m) (sym h.last.same) (record { same = record { contracts = g.same.contracts; call = g.same.call; contract = g.same.contract; func = g.same.func }; trace = g.trace; used = g.used });
+      gone = subst (λ (m : Progress). HasGone p m) (sym h.last.same) (record { same = record { setting = g.same.setting; call = g.same.call; contract = g.same.contract; func = g.same.func }; trace = g.trace; used = g.used });
       ended = subst IsEnded (sym (ap (λ (m : Progress). m.status) h.last.same)) tt;
     }
 

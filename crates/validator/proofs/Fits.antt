@@ -4,11 +4,12 @@ use Rattle.std.proofs.lemmas.Bool.{cases_lt}
 use Rattle.std.proofs.lemmas.List.{length-map}
 use Rattle.spec_ledger.specs.declared.Entry.{Entry}
 use Rattle.spec_ledger.specs.Cells.{Cells}
-use Rattle.spec_execution.specs.Configuration.{Deployed}
+use Rattle.spec_execution.specs.Configuration.{Setting}
 use Rattle.spec_execution.specs.Serial.{Ran, Serial}
 use Rattle.spec_block.specs.Worlds.{Call, World, Block, Position, order_of, profiles_of}
 use Rattle.spec_block.specs.Bytes.{IsBlock}
 use Rattle.spec_block.specs.Schedule.{HaveTurns}
+use Rattle.spec_block.specs.Serial.{setting_of}
 use Rattle.spec_block.specs.Verdicts.{Verdict, place, RunOf, HoldsOf, IsVerdictOf}
 use Rattle.block_judge.specs.Judging.{FirstIsVerdict, IsFirstFrom, Passes}
 
@@ -31,10 +32,10 @@ pub right_turns : (b : Block) (profiles : List (List Entry)) → profiles ≡ pr
 right_turns b profiles is turns = subst HaveTurns (sym is) turns
 
 -- what ran elsewhere is a run of the block
-pub run_of : (world : World) (calls : List Call) (b : Block) (contracts : List Deployed) (order : List ℕ) (cells : Cells) (ran : List Ran) (last : Cells)
-    → contracts ≡ world.contracts → order ≡ order_of b → cells ≡ world.cells → Serial contracts calls order cells ran last → RunOf world calls b ran last
-run_of world calls b contracts order cells ran last same_contracts same_order same_cells run =
-    subst (λ (t : List Deployed × (List ℕ × Cells)). Serial t.0 calls t.1.0 t.1.1 ran last) (λ k. (same_contracts k, (same_order k, same_cells k))) run
+pub run_of : (world : World) (calls : List Call) (b : Block) (setting : Setting) (order : List ℕ) (cells : Cells) (ran : List Ran) (last : Cells)
+    → setting ≡ setting_of world → order ≡ order_of b → cells ≡ world.cells → Serial setting calls order cells ran last → RunOf world calls b ran last
+run_of world calls b setting order cells ran last same_setting same_order same_cells run =
+    subst (λ (t : Setting × (List ℕ × Cells)). Serial t.0 calls t.1.0 t.1.1 ran last) (λ k. (same_setting k, (same_order k, same_cells k))) run
 
 -- the first of the last reasons is the first of all
 pub verdict_of : FirstIsVerdict → (world : World) (calls : List Call) (fuel : ℕ) (bytes : List ℕ) (b : Block) (v : Verdict) → Passes world calls fuel bytes b → IsFirstFrom (HoldsOf world calls fuel b) 8 v → IsVerdictOf world calls fuel bytes v

@@ -2,7 +2,7 @@
 
 ghost use Rattle.std.specs.Prelude.{◌≡◌, ◌<◌, ◌≤◌, ◌^◌, Ok, true, false, All, IfOk, IfSome, OnOk, length};
 ghost use Rattle.spec_execution.specs.Run.{IsReply, opening};
-ghost use Rattle.interp.specs.Lent.{contracts_view};
+ghost use Rattle.interp.specs.Lent.{setting_view};
 ghost use Rattle.interp.specs.Starting.{IsOpened, IsRejection};
 ghost use Rattle.interp.specs.Progress.{IsFree, IsSameCall};
 ghost use Rattle.turn_loop.specs.Going.{MayGoOn, IsEnded};
@@ -125,7 +125,7 @@ fn run<'a, A: Allocator + Copy, R: Wait, P: Pace>(
 ) -> Result<Finished<'a, A>, Stop>
     requires free { IsFree machine.status }
     requires limit { machine.call.fuel < 2 ^ 64 }
-    ensures contracts { IfOk result (λ finished. finished.contracts ≡ machine.entry.contracts) }
+    ensures setting { IfOk result (λ finished. finished.setting ≡ machine.entry.setting) }
     ensures call { IfOk result (λ finished. finished.call ≡ machine.entry.call) }
 {
     let mut asked = 0;
@@ -142,8 +142,8 @@ fn rejected<'a, A: Allocator + Copy>(
     contracts: &'a [Contract<A>],
     call: &'a Call,
 ) -> Finished<'a, A>
-    requires { ¬ IsOpened (opening (contracts_view contracts.now) call.now) }
-    ensures { IsRejection (contracts_view contracts.now) call.now result }
+    requires { ¬ IsOpened (opening (setting_view contracts.now) call.now) }
+    ensures { IsRejection (setting_view contracts.now) call.now result }
 {
     match Finished::rejected(alloc, contracts, call) {
         Some(finished) => finished,
@@ -159,7 +159,7 @@ fn play<'a, A: Allocator + Copy, R: Wait, P: Pace>(
     number: u32,
 ) -> Result<Finished<'a, A>, Stop>
     requires { number < length job.now.calls.now }
-    ensures { IfOk result (IsRunOf (contracts_view job.now.contracts.now) job.now.calls.now number) }
+    ensures { IfOk result (IsRunOf (setting_view job.now.contracts.now) job.now.calls.now number) }
 {
     let call = &job.calls[number as usize];
     let _limit = call.fuel();
@@ -187,7 +187,7 @@ pub(crate) fn attempt<'a, A: Allocator + Copy, R: Wait, P: Pace>(
     position: u32,
 ) -> Result<Came<'a, A>, NoMemory>
     requires { All (λ number. number < length job.now.calls.now) job.now.order.now }
-    ensures { IfOk result (λ came. IfSome came.run (IsMade (contracts_view job.now.contracts.now) job.now.calls.now)) }
+    ensures { IfOk result (λ came. IfSome came.run (IsMade (setting_view job.now.contracts.now) job.now.calls.now)) }
 {
     let at = position as usize;
     if at >= job.order.len() || at >= job.profiles.len() {

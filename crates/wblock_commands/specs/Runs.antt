@@ -36,5 +36,5 @@ told_of receipts = lines_from 0 receipts ++ fuel_line receipts
 pub record Shows (contract : Contract) (calls : List ContractCall) (text : List ℕ) : Type 0 where
   pub ran : List Ran
   pub last : Cells
-  pub serial : Serial (contract ∷ []) calls (numbers_from 0 calls) empty ran last
+  pub serial : Serial (record { contracts = contract ∷ [] }) calls (numbers_from 0 calls) empty ran last
   pub text_is : text ≡ told_of (receipts_of ran)

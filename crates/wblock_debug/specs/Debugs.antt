@@ -1,6 +1,7 @@
 -- What `debug` answers.
 use Rattle.std.specs.Prelude.{◌≡◌, ℕ, ◌⊎◌, Bool, List, [], Some, None, slice_get, string_bytes, if◌then◌else◌}
 use Rattle.spec_block.specs.Worlds.{World, Call}
+use Rattle.spec_block.specs.Serial.{setting_of}
 use Rattle.wblock_debug.specs.Prints.{IsDebugged}
 use Rattle.wblock_io.specs.Holding.{Holding}
 use Rattle.wblock_line.specs.declared.answer.Answer.{Answer}
@@ -20,7 +21,7 @@ pub record IsText (refused : Bool) (text : List ℕ) (a : Answer) : Type 0 where
 pub record TellsCall (world : World) (call : Call) (task : Debugging) (a : Answer) : Type 0 where
   pub refused : Bool
   pub text : List ℕ
-  pub debugged : IsDebugged world.contracts world.cells call task.commands.items refused text
+  pub debugged : IsDebugged (setting_of world) world.cells call task.commands.items refused text
   pub told : IsText refused text a
 
 -- the call of the task's number, of those that the file of the calls holds

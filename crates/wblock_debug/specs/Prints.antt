@@ -1,7 +1,7 @@
 -- What commands print of a call that runs alone over cells.
 use Rattle.std.specs.Prelude.{◌≡◌, ℕ, ◌+◌, ◌<◌, ◌≤◌, ◌⊎◌, Bool, true, false, List, [], ◌∷◌, ◌++◌, None, IsSome, codes, take, drop, length, string_bytes}
 use Rattle.spec_ledger.specs.Cells.{Cells}
-use Rattle.spec_execution.specs.Configuration.{Deployed}
+use Rattle.spec_execution.specs.Configuration.{Setting}
 use Rattle.spec_execution.specs.Run.{ContractCall, opening, Refused}
 use Rattle.spec_execution.specs.Turns.{state_of}
 use Rattle.debugger.specs.Breaks.{with_break, without_break, instr_there}
@@ -27,14 +27,14 @@ Does (Clear f o) s t line = IsSome (instr_there s.contract.deployed.tree (f, o))
 Does Stack s t line = (t ≡ s) × (line ≡ values_line (codes "stack") (stack_at t))
 Does Locals s t line = (t ≡ s) × (line ≡ values_line (codes "locals") (locals_at t))
 Does Globals s t line = (t ≡ s) × (line ≡ values_line (codes "globals") (globals_at t))
-Does (Bytes from n) s t line = (t ≡ s) × (from + n ≤ length (state_of t.config).memory) × (line ≡ bytes_line (take n (drop from (state_of t.config).memory)))
+Does (Bytes from n) s t line = (t ≡ s) × (from + n ≤ length (state_of t.config.inner.config).memory) × (line ≡ bytes_line (take n (drop from (state_of t.config.inner.config).memory)))
 
 -- a command that is refused, and why
 abbrev pub Refuses : Command → Sight → Refusal → Type 0
 Refuses (Back n) s refusal.BeforeStart = s.turns < n
 Refuses (Break f o) s refusal.NoSuchPlace = instr_there s.contract.deployed.tree (f, o) ≡ None
 Refuses (Clear f o) s refusal.NoSuchPlace = instr_there s.contract.deployed.tree (f, o) ≡ None
-Refuses (Bytes from n) s refusal.OutOfRange = length (state_of s.config).memory < from + n
+Refuses (Bytes from n) s refusal.OutOfRange = length (state_of s.config.inner.config).memory < from + n
 Refuses c s r = ⊥
 
 -- From a first state on, these commands were given one after another: they have come to this state and printed this text. A command that is refused
@@ -54,19 +54,19 @@ abbrev pub AddsCommand : {A : Type 0} → Command → Sight → Sight → Printe
 AddsCommand c s t old new = (first : Sight) (given : List Command) → IsPrinted first given s old.refused (string_bytes old.text) → IsPrinted first (given ++ c ∷ []) t new.refused (string_bytes new.text)
 
 -- the call does not start, for the cause of a number
-pub record IsNotStarted (contracts : List Deployed) (call : ContractCall) (refused : Bool) (text : List ℕ) : Type 0 where
+pub record IsNotStarted (setting : Setting) (call : ContractCall) (refused : Bool) (text : List ℕ) : Type 0 where
   pub code : ℕ
-  pub cause : opening contracts call ≡ Refused code
+  pub cause : opening setting call ≡ Refused code
   pub is_refused : refused ≡ true
   pub text_is : text ≡ start_line code
 
 -- the commands are given to the call alone over the cells, from its first state on
-pub record IsShown (contracts : List Deployed) (cells : Cells) (call : ContractCall) (commands : List Command) (refused : Bool) (text : List ℕ) : Type 0 where
+pub record IsShown (setting : Setting) (cells : Cells) (call : ContractCall) (commands : List Command) (refused : Bool) (text : List ℕ) : Type 0 where
   pub first : Sight
-  pub opened : IsOpened contracts call cells first
+  pub opened : IsOpened setting call cells first
   pub is_first : IsSight first
   pub last : Sight
   pub printed : IsPrinted first commands last refused text
 
-abbrev pub IsDebugged : List Deployed → Cells → ContractCall → List Command → Bool → List ℕ → Type 0
-IsDebugged contracts cells call commands any_refused text = IsNotStarted contracts call any_refused text ⊎ IsShown contracts cells call commands any_refused text
+abbrev pub IsDebugged : Setting → Cells → ContractCall → List Command → Bool → List ℕ → Type 0
+IsDebugged setting cells call commands any_refused text = IsNotStarted setting call any_refused text ⊎ IsShown setting cells call commands any_refused text

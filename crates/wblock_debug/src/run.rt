@@ -1,9 +1,9 @@
 //! All commands on a call.
 
-ghost use Rattle.std.specs.Prelude.{◌≡◌, List, IfOk, OnOk, MatchOption, string_bytes};
-ghost use Rattle.spec_execution.specs.Configuration.{Deployed as ADeployed};
+ghost use Rattle.std.specs.Prelude.{◌≡◌, IfOk, OnOk, MatchOption, string_bytes};
+ghost use Rattle.spec_execution.specs.Configuration.{Setting};
 ghost use Rattle.spec_execution.specs.Run.{ContractCall, Opening, Refused, opening};
-ghost use Rattle.interp.specs.Lent.{contracts_view};
+ghost use Rattle.interp.specs.Lent.{setting_view};
 ghost use Rattle.interp.specs.Starting.{IsOpened, IsRefusedFor};
 ghost use Rattle.wblock_debug.specs.Lines.{refusal_line};
 ghost use Rattle.wblock_debug.specs.Prints.{IsPrinted, AddsCommand, IsNotStarted, IsDebugged};
@@ -121,7 +121,7 @@ fn refuse_start<A: Allocator + Copy>(
     alloc: A,
     refusal: StartRefusal,
 ) -> Result<Printed<A>, NoMemory>
-    ensures { (contracts : List ADeployed) (call : ContractCall) → IsRefusedFor refusal (opening contracts call) → IfOk result (λ p. IsNotStarted contracts call p.refused (string_bytes p.text)) }
+    ensures { (setting : Setting) (call : ContractCall) → IsRefusedFor refusal (opening setting call) → IfOk result (λ p. IsNotStarted setting call p.refused (string_bytes p.text)) }
 {
     let Some(code) = start_code(refusal) else {
         return Err(NoMemory);
@@ -149,7 +149,7 @@ pub fn debug_call<A: Allocator + Copy>(
     call: &Call,
     commands: &[Command],
 ) -> Result<Printed<A>, NoMemory>
-    ensures { IfOk result (λ p. IsDebugged (contracts_view contracts.now) cells.now.cells call.now commands.now p.refused (string_bytes p.text)) }
+    ensures { IfOk result (λ p. IsDebugged (setting_view contracts.now) cells.now.cells call.now commands.now p.refused (string_bytes p.text)) }
 {
     match Session::open(alloc, contracts, cells, call) {
         Ok(mut session) => {

@@ -17,7 +17,7 @@ use Rattle.spec_ledger.specs.declared.Reply.TheVariants as reply
 use Rattle.spec_ledger.specs.declared.Step.{Step}
 use Rattle.spec_ledger.specs.declared.Step.TheVariants.{Did}
 use Rattle.spec_ledger.specs.Modes.{touched}
-use Rattle.spec_execution.specs.Configuration.{Deployed, Seq, End, Val, Code, Label, Frame, State, Config, Running}
+use Rattle.spec_execution.specs.Configuration.{Setting, Deployed, Contract, Seq, End, Val, Code, Label, Frame, State, Config, Running}
 use Rattle.spec_execution.specs.Run.{ContractCall}
 use Rattle.spec_execution.specs.Serial.{Ran}
 
@@ -68,6 +68,13 @@ keeps =
     Plain (LocalGet 0) ∷ Plain (Const (I64 (pos 5))) ∷ Plain (Call 0) ∷ Plain (LocalGet 0) ∷ Plain (Call 1) ∷ Plain Drop ∷ Plain (LocalGet 0)
     ∷ Plain (Call 2) ∷ Plain (LocalGet 0) ∷ Plain (Call 3) ∷ Plain Drop ∷ []
     )
+
+-- over this contract alone, with number 0
+abbrev pub only : Deployed → Setting
+only d = record { contracts = d ∷ [] }
+
+abbrev pub at_0 : Deployed → Contract
+at_0 d = record { number = 0; deployed = d }
 
 -- a call of "run" of contract 0
 abbrev pub call_with : (fuel : ℕ) → List Value → ContractCall

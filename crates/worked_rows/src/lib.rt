@@ -10,74 +10,74 @@ ghost use Rattle.spec_ledger.specs.declared.Outcome.TheVariants.{OutOfFuel, Reje
 ghost use Rattle.spec_ledger.specs.Book.{GetsReplies, after};
 ghost use Rattle.spec_ledger.specs.Cells.{Cells};
 ghost use Rattle.spec_ledger.specs.Modes.{Modes, touched};
-ghost use Rattle.spec_execution.specs.Configuration.{Config, Trap};
+ghost use Rattle.spec_execution.specs.Configuration.{Trap};
 ghost use Rattle.spec_execution.specs.Exec.{Executes};
-ghost use Rattle.spec_execution.specs.Run.{RunsWith};
+ghost use Rattle.spec_execution.specs.Levels.{Levels, RunsWith, alone};
 ghost use Rattle.spec_execution.specs.Serial.{Ran, Serial};
-ghost use Rattle.spec_execution.specs.Turns.{IsState};
+ghost use Rattle.spec_execution.specs.Turning.{IsState};
 ghost use Rattle.spec_text.specs.declared.TokenKind.TheVariants.{Close};
 ghost use Rattle.spec_text.specs.Lexical.{Lexes};
 ghost use Rattle.spec_text.specs.Names.{Names};
-ghost use Rattle.worked_rows.specs.Worked.{adds_and_reads, adds_seven, after_the_sum, bare, before_the_sum, before_the_total, call_with, counted, counts, gives_up, keeps, on_five, on_key_nine, puts_and_deletes, returned};
+ghost use Rattle.worked_rows.specs.Worked.{adds_and_reads, adds_seven, after_the_sum, at_0, bare, before_the_sum, before_the_total, call_with, counted, counts, gives_up, keeps, on_five, on_key_nine, only, puts_and_deletes, returned};
 
 /// 5 and 7 more is 12, with fuel 3: with a limit of 2 it is out of fuel. Another value, one unit less, or another end is no run.
 pub fn a_call_that_adds()
-    ensures runs { RunsWith (adds_seven ∷ []) (on_five 3) [] (returned 12) 3 }
-    ensures out_of_fuel { RunsWith (adds_seven ∷ []) (on_five 2) [] OutOfFuel 2 }
-    ensures executes { (cells : Cells) → Executes (adds_seven ∷ []) (on_five 3) cells cells (returned 12) 3 empty }
-    ensures no_other_value { ¬ (RunsWith (adds_seven ∷ []) (on_five 3) [] (returned 13) 3) }
-    ensures no_less_fuel { ¬ (RunsWith (adds_seven ∷ []) (on_five 3) [] (returned 12) 2) }
-    ensures no_other_end { ¬ (RunsWith (adds_seven ∷ []) (on_five 2) [] (returned 12) 3) }
-    ensures no_other_cells { (cells later : Cells) (outcome : Outcome) (fuel : ℕ) (locks : Modes) → Executes (adds_seven ∷ []) (on_five 3) cells later outcome fuel locks → (later ≡ cells) × (outcome ≡ returned 12) × (fuel ≡ 3) }
+    ensures runs { RunsWith (only adds_seven) (on_five 3) [] (returned 12) 3 }
+    ensures out_of_fuel { RunsWith (only adds_seven) (on_five 2) [] OutOfFuel 2 }
+    ensures executes { (cells : Cells) → Executes (only adds_seven) (on_five 3) cells cells (returned 12) 3 empty }
+    ensures no_other_value { ¬ (RunsWith (only adds_seven) (on_five 3) [] (returned 13) 3) }
+    ensures no_less_fuel { ¬ (RunsWith (only adds_seven) (on_five 3) [] (returned 12) 2) }
+    ensures no_other_end { ¬ (RunsWith (only adds_seven) (on_five 2) [] (returned 12) 3) }
+    ensures no_other_cells { (cells later : Cells) (outcome : Outcome) (fuel : ℕ) (locks : Modes) → Executes (only adds_seven) (on_five 3) cells later outcome fuel locks → (later ≡ cells) × (outcome ≡ returned 12) × (fuel ≡ 3) }
 {
     spec_execution::runs_are_unique();
 }
 
 /// A trap is charged, and it does not return.
 pub fn a_call_that_traps()
-    ensures runs { RunsWith (gives_up ∷ []) (call_with 100 []) [] (Trapped Unreachable) 1 }
-    ensures executes { (cells : Cells) → Executes (gives_up ∷ []) (call_with 100 []) cells cells (Trapped Unreachable) 1 empty }
-    ensures no_free_trap { ¬ (RunsWith (gives_up ∷ []) (call_with 100 []) [] (Trapped Unreachable) 0) }
-    ensures no_return { ¬ (RunsWith (gives_up ∷ []) (call_with 100 []) [] (returned 0) 1) }
+    ensures runs { RunsWith (only gives_up) (call_with 100 []) [] (Trapped Unreachable) 1 }
+    ensures executes { (cells : Cells) → Executes (only gives_up) (call_with 100 []) cells cells (Trapped Unreachable) 1 empty }
+    ensures no_free_trap { ¬ (RunsWith (only gives_up) (call_with 100 []) [] (Trapped Unreachable) 0) }
+    ensures no_return { ¬ (RunsWith (only gives_up) (call_with 100 []) [] (returned 0) 1) }
 {
     spec_execution::runs_are_unique();
 }
 
 /// A call without its argument is refused by number 3, and by no other.
 pub fn a_call_that_is_refused()
-    ensures runs { RunsWith (adds_seven ∷ []) (call_with 100 []) [] (Rejected 3) 0 }
-    ensures executes { (cells : Cells) → Executes (adds_seven ∷ []) (call_with 100 []) cells cells (Rejected 3) 0 empty }
-    ensures no_other_number { ¬ (RunsWith (adds_seven ∷ []) (call_with 100 []) [] (Rejected 4) 0) }
+    ensures runs { RunsWith (only adds_seven) (call_with 100 []) [] (Rejected 3) 0 }
+    ensures executes { (cells : Cells) → Executes (only adds_seven) (call_with 100 []) cells cells (Rejected 3) 0 empty }
+    ensures no_other_number { ¬ (RunsWith (only adds_seven) (call_with 100 []) [] (Rejected 4) 0) }
 {
     spec_execution::runs_are_unique();
 }
 
 /// A cell is put, found, got and deleted, over any cells. It gets what was put, and no other number.
 pub fn a_call_that_keeps()
-    ensures runs { RunsWith (keeps ∷ []) (on_key_nine 11) (puts_and_deletes 5) (returned 5) 11 }
-    ensures executes { (cells : Cells) → Executes (keeps ∷ []) (on_key_nine 11) cells (after (puts_and_deletes 5) cells) (returned 5) 11 (touched (puts_and_deletes 5)) }
+    ensures runs { RunsWith (only keeps) (on_key_nine 11) (puts_and_deletes 5) (returned 5) 11 }
+    ensures executes { (cells : Cells) → Executes (only keeps) (on_key_nine 11) cells (after (puts_and_deletes 5) cells) (returned 5) 11 (touched (puts_and_deletes 5)) }
     ensures no_other_reply { (cells : Cells) → ¬ (GetsReplies (puts_and_deletes 6) cells) }
-    ensures no_less_fuel { ¬ (RunsWith (keeps ∷ []) (on_key_nine 11) (puts_and_deletes 5) (returned 5) 10) }
+    ensures no_less_fuel { ¬ (RunsWith (only keeps) (on_key_nine 11) (puts_and_deletes 5) (returned 5) 10) }
 {
     spec_execution::runs_are_unique();
 }
 
 /// Two calls, one after another: the second reads what the first left.
 pub fn calls_one_after_another()
-    ensures runs { Serial (counts ∷ []) (on_key_nine 5 ∷ on_key_nine 5 ∷ []) (0 ∷ 1 ∷ []) empty (counted 5 ∷ counted 10 ∷ []) (after (adds_and_reads 10) (after (adds_and_reads 5) empty)) }
-    ensures no_other_total { (last : Cells) → ¬ (Serial (counts ∷ []) (on_key_nine 5 ∷ on_key_nine 5 ∷ []) (0 ∷ 1 ∷ []) empty (counted 5 ∷ counted 5 ∷ []) last) }
-    ensures no_fewer_calls { (last : Cells) → ¬ (Serial (counts ∷ []) (on_key_nine 5 ∷ on_key_nine 5 ∷ []) (0 ∷ 1 ∷ []) empty (counted 5 ∷ []) last) }
+    ensures runs { Serial (only counts) (on_key_nine 5 ∷ on_key_nine 5 ∷ []) (0 ∷ 1 ∷ []) empty (counted 5 ∷ counted 10 ∷ []) (after (adds_and_reads 10) (after (adds_and_reads 5) empty)) }
+    ensures no_other_total { (last : Cells) → ¬ (Serial (only counts) (on_key_nine 5 ∷ on_key_nine 5 ∷ []) (0 ∷ 1 ∷ []) empty (counted 5 ∷ counted 5 ∷ []) last) }
+    ensures no_fewer_calls { (last : Cells) → ¬ (Serial (only counts) (on_key_nine 5 ∷ on_key_nine 5 ∷ []) (0 ∷ 1 ∷ []) empty (counted 5 ∷ []) last) }
 {
     spec_execution::runs_are_unique();
 }
 
 /// What stands after so many turns: an instruction to come, a reply that was given, the end, a trap. After the limit there is no turn.
 pub fn states_of_calls()
-    ensures after_two { (cells : Cells) → IsState (adds_seven ∷ []) (on_five 3) cells 2 before_the_sum }
-    ensures after_three { (cells : Cells) → IsState (adds_seven ∷ []) (on_five 3) cells 3 after_the_sum }
-    ensures after_a_reply { (cells : Cells) → IsState (counts ∷ []) (on_key_nine 5) cells 3 before_the_total }
-    ensures after_a_trap { (cells : Cells) → IsState (gives_up ∷ []) (call_with 100 []) cells 1 (Trap bare Unreachable) }
-    ensures no_fourth { (cells : Cells) (config : Config) → ¬ (IsState (adds_seven ∷ []) (on_five 3) cells 4 config) }
+    ensures after_two { (cells : Cells) → IsState (only adds_seven) (on_five 3) cells 2 (alone (at_0 adds_seven) before_the_sum) }
+    ensures after_three { (cells : Cells) → IsState (only adds_seven) (on_five 3) cells 3 (alone (at_0 adds_seven) after_the_sum) }
+    ensures after_a_reply { (cells : Cells) → IsState (only counts) (on_key_nine 5) cells 3 (alone (at_0 counts) before_the_total) }
+    ensures after_a_trap { (cells : Cells) → IsState (only gives_up) (call_with 100 []) cells 1 (alone (at_0 gives_up) (Trap bare Unreachable)) }
+    ensures no_fourth { (cells : Cells) (config : Levels) → ¬ (IsState (only adds_seven) (on_five 3) cells 4 config) }
 {}
 
 /// A closing bracket alone is one token, and names no module.

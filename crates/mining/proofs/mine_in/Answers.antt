@@ -5,6 +5,7 @@ use Rattle.spec_execution.specs.Serial.{Serial}
 use Rattle.spec_block.specs.Worlds.{Contract, limits, order_of}
 use Rattle.spec_block.specs.Blocks.{Admissible}
 use Rattle.spec_block.specs.Headline.{IsLeft}
+use Rattle.spec_block.specs.Serial.{setting_of}
 use Rattle.serial.specs.Positions.{positions as ran_of}
 use Rattle.world.specs.Views.{world_view}
 use Rattle.serial_block.proofs.Causes.{are_possible}
@@ -39,15 +40,15 @@ returns-clause-headline g c =
     let last = core.cells.cells in
     let same = sym c.deref.ensures.value in
     let lent = c.contracts.ensures.contracts in
-    let over = subst (λ (cs : List Contract). Serial cs calls core.order.items c.cells.result.now.cells ran last) lent c.in_ok-order.ensures.serial in
-    let from = subst (λ (cells : Cells). Serial world.contracts calls core.order.items cells ran last) c.cells.ensures over in
+    let over = subst (λ (cs : List Contract). Serial (record { contracts = cs }) calls core.order.items c.cells.result.now.cells ran last) lent c.in_ok-order.ensures.serial in
+    let from = subst (λ (cells : Cells). Serial (setting_of world) calls core.order.items cells ran last) c.cells.ensures over in
     record {
       order = order;
       admissible = subst (λ (o : List ℕ). Admissible calls o c.args.block_fuel) same c.in_ok-order.ensures.admissible;
       of_order = record {
         ran = ran;
         last = last;
-        serial = subst (λ (o : List ℕ). Serial world.contracts calls o world.cells ran last) same from;
+        serial = subst (λ (o : List ℕ). Serial (setting_of world) calls o world.cells ran last) same from;
         is = c.in_ok-block.ensures.block;
       };
       storage = c.in_ok-block.ensures.world;

@@ -2,6 +2,7 @@ use Rattle.std.proofs.Common.{◌∙◌, List, sym, subst, arith}
 use Rattle.spec_ledger.specs.Cells.{Cells}
 use Rattle.spec_execution.specs.Serial.{Serial}
 use Rattle.spec_block.specs.Worlds.{Contract}
+use Rattle.spec_block.specs.Serial.{setting_of}
 use Rattle.serial.specs.Positions.{positions as ran_of}
 use Rattle.world.specs.Views.{world_view}
 use Rattle.serial_block.proofs.Causes.{are_possible}
@@ -31,7 +32,7 @@ returns g c =
         of_order = record {
           ran = ran;
           last = last;
-          serial = subst (λ (cells : Cells). Serial (world_view c.args.world.now).contracts calls order cells ran last) c.cells.ensures (subst (λ (cs : List Contract). Serial cs calls order c.cells.result.now.cells ran last) lent c.in_ok-core.ensures.serial);
+          serial = subst (λ (cells : Cells). Serial (setting_of (world_view c.args.world.now)) calls order cells ran last) c.cells.ensures (subst (λ (cs : List Contract). Serial (record { contracts = cs }) calls order c.cells.result.now.cells ran last) lent c.in_ok-core.ensures.serial);
           is = c.in_ok-seal.ensures.block;
         };
         storage = c.in_ok-seal.ensures.world;

@@ -3,6 +3,6 @@ use Rattle.soundness.proofs.calls_execute_once.Goals as goal
 
 pub returns : goal.returns
 returns c = record {
-  calls = λ contracts call cells linked. executes_once c.deployed_calls_are_safe.ensures c.runs_are_unique.ensures.executes contracts linked call cells;
-  orders = λ contracts calls order cells linked numbers. runs_serially c.deployed_calls_are_safe.ensures c.runs_are_unique.ensures.executes contracts linked calls order cells numbers;
+  calls = λ setting call cells linked. executes_once c.deployed_calls_are_safe.ensures c.runs_are_unique.ensures.executes setting linked call cells;
+  orders = λ setting calls order cells linked numbers. runs_serially c.deployed_calls_are_safe.ensures c.runs_are_unique.ensures.executes setting linked calls order cells numbers;
 }

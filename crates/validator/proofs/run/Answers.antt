@@ -1,6 +1,7 @@
-use Rattle.std.proofs.Common.{◌∙◌}
+use Rattle.std.proofs.Common.{◌≡◌, ◌∙◌}
 use Rattle.serial.specs.Positions.{positions as ran_of}
-use Rattle.interp.specs.Lent.{contracts_view}
+use Rattle.spec_block.specs.Serial.{setting_of}
+use Rattle.interp.specs.Lent.{setting_view}
 use Rattle.world.specs.Views.{world_view}
 use Rattle.validator.proofs.Fits.{run_of}
 use Rattle.validator.proofs.run.Goals as goal
@@ -10,7 +11,7 @@ returns-clause-verdict g c = λ fuel.
     let world = world_view c.args.world.now in
     let calls = c.args.calls.now in
     let core = c.in_ok-folded.folded.core in
-    let same_contracts = c.contracts.ensures.contracts in
+    let same_setting : setting_view c.contracts.result.now ≡ setting_of world = λ k. record { contracts = c.contracts.ensures.contracts k } in
     c.in_ok-verdict.ensures calls fuel
-    (run_of world calls c.args.fit.now.block (contracts_view c.contracts.result.now) c.deref.result.now c.cells-2.result.now.cells (ran_of core.receipts.items core.touched.items) core.cells.cells
-    same_contracts (c.deref.ensures.value ∙ c.requires.order) c.cells-2.ensures c.in_ok-folded.ensures.serial)
+    (run_of world calls c.args.fit.now.block (setting_view c.contracts.result.now) c.deref.result.now c.cells-2.result.now.cells (ran_of core.receipts.items core.touched.items) core.cells.cells
+    same_setting (c.deref.ensures.value ∙ c.requires.order) c.cells-2.ensures c.in_ok-folded.ensures.serial)

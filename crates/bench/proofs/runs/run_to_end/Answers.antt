@@ -11,7 +11,7 @@ turns-preserved g c =
     let before = c.turns.invariant.same in
     record {
       same = record {
-        contracts = stepped.same.contracts ∙ before.contracts;
+        setting = stepped.same.setting ∙ before.setting;
         call = stepped.same.call ∙ before.call;
         contract = stepped.same.contract ∙ before.contract;
         func = stepped.same.func ∙ before.func;

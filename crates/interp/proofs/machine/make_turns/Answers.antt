@@ -120,7 +120,7 @@ returns-then-f-run-clause-turned g c =
     (subst (λ (a : After). Led r.lent r.parts a c.execute.new.parts) c.in-Ok-Calls.field-0-is c.in-Ok-Calls.ensures.led b (safe_at (seen r) c.turns.invariant.kept.machine c.turns.invariant.running (λ e. c.if-run-fuel.false (e ∙ sym c.fuel.ensures))) c.turns.invariant.kept.suits) c.ask.ensures.turn)
     (λ h. may_take (seen c.turns.run) c.turns.invariant.kept.machine c.turns.invariant.running (λ e. c.if-run-fuel.false (e ∙ sym c.fuel.ensures))
     (c.in-Ok-Calls.ensures.takes (subst (λ (a : After). Wants {E = Unit {0}} (Ok a)) (sym c.in-Ok-Calls.field-0-is) tt)))
-    (λ h. let s = c.ask.ensures.same h in record { contracts = s.contracts; call = s.call; contract = s.contract; func = s.func })
+    (λ h. let s = c.ask.ensures.same h in record { setting = s.setting; call = s.call; contract = s.contract; func = s.func })
 
 pub returns-in-Ok-Calls-clause-turned : goal.returns-in-Ok-Calls-clause-turned
 returns-in-Ok-Calls-clause-turned g c =
@@ -131,11 +131,11 @@ returns-in-Ok-Calls-clause-turned g c =
     (subst (λ (a : After). Led r.lent r.parts a c.execute.new.parts) c.in-Ok-Calls.field-0-is c.in-Ok-Calls.ensures.led b (safe_at (seen r) c.turns.invariant.kept.machine c.turns.invariant.running (λ e. c.if-run-fuel.false (e ∙ sym c.fuel.ensures))) c.turns.invariant.kept.suits) c.start_function.ensures.turn)
     (λ h. may_take (seen c.turns.run) c.turns.invariant.kept.machine c.turns.invariant.running (λ e. c.if-run-fuel.false (e ∙ sym c.fuel.ensures))
     (c.in-Ok-Calls.ensures.takes (subst (λ (a : After). Wants {E = Unit {0}} (Ok a)) (sym c.in-Ok-Calls.field-0-is) tt)))
-    (λ h. let s = c.start_function.ensures.same h in record { contracts = s.contracts; call = s.call; contract = s.contract; func = s.func })
+    (λ h. let s = c.start_function.ensures.same h in record { setting = s.setting; call = s.call; contract = s.contract; func = s.func })
 
 pub returns-in-Err-clause-turned : goal.returns-in-Err-clause-turned
 returns-in-Err-clause-turned g c =
     let given = subst (λ (a : Turn). NextIs (progress (seen c.turns.run)) a (progress (seen c.give_up.new.run))) (sym c.give_up.ensures.turn) c.give_up.ensures.no_memory in
     turned (progress (seen c.args.run.now)) (progress (seen c.turns.run)) c.give_up.result (progress (seen c.give_up.new.run)) c.turns.invariant.steps c.turns.invariant.running given
     (λ h. may_take (seen c.turns.run) c.turns.invariant.kept.machine c.turns.invariant.running (λ e. c.if-run-fuel.false (e ∙ sym c.fuel.ensures)) (c.in-Err.ensures.takes tt))
-    (λ h. let s = c.give_up.ensures.same in record { contracts = s.contracts; call = s.call; contract = s.contract; func = s.func })
+    (λ h. let s = c.give_up.ensures.same in record { setting = s.setting; call = s.call; contract = s.contract; func = s.func })

@@ -4,7 +4,7 @@ use Rattle.frames.specs.Views.{view}
 use Rattle.frames.specs.Waiting.{tail_of}
 use Rattle.interp.specs.Run.{seen}
 use Rattle.frames.specs.ViewLaws.{items_nil, last_of}
-use Rattle.interp.proofs.Beginning.{start_calling, start_own, machine_entered, has_entered}
+use Rattle.interp.proofs.Beginning.{start_calling, start_own, machine_entered, has_entered, has_started}
 use Rattle.interp.proofs.machine.start_run.Goals as goal
 
 pub start_function-requires-clause-call : goal.start_function-requires-clause-call
@@ -24,6 +24,12 @@ start_function-requires-clause-defined g c =
     let r = c.args.run.now in
     let f = c.requires.first in
     start_own (seen r) f.view f.tail f.trace f.used c.in-Some.start (start_calling (seen r) f.view f.tail f.trace f.used f.begun.opens f.begun.safe c.in-Some.start c.in-Some.is)
+
+pub returns-in-Some-clause-begun : goal.returns-in-Some-clause-begun
+returns-in-Some-clause-begun g c =
+    let r = c.args.run.now in
+    let f = c.requires.first in
+    has_started (seen r) f.view f.tail f.trace f.used c.in-Some.start c.in-Some.is c.start_function.result (seen c.start_function.new.run) c.start_function.ensures.turn
 
 pub returns-in-None-clause-kept : goal.returns-in-None-clause-kept
 returns-in-None-clause-kept g c =

@@ -9,7 +9,7 @@ use Rattle.interp.proofs.readers.bytes_of_run.Goals as goal
 pub returns-in-Ok : goal.returns-in-Ok
 returns-in-Ok g c =
     let r = c.args.run.now in
-    let same : (state_of (progress (seen r)).config).memory ≡ r.parts.instance.memory.bytes = ap (λ (s : State). s.memory) (state_at (seen r).view (seen r).tail r.asked r.status) in (
+    let same : (state_of (progress (seen r)).config.inner.config).memory ≡ r.parts.instance.memory.bytes = ap (λ (s : State). s.memory) (state_at (seen r).view (seen r).tail r.asked r.status) in (
       subst (λ bytes. c.args.from + c.args.count ≤ length bytes) (sym same) (omega (arith, c.len-length.ensures, c.if-from-length.false, c.if-count-length.false)),
       subst (λ bytes. c.in-Ok.bytes.items ≡ take c.args.count (drop c.args.from bytes)) (sym same) c.in-Ok.ensures,
     )
@@ -17,5 +17,5 @@ returns-in-Ok g c =
 pub returns-in-Err : goal.returns-in-Err
 returns-in-Err g c =
     let r = c.args.run.now in
-    let same : (state_of (progress (seen r)).config).memory ≡ r.parts.instance.memory.bytes = ap (λ (s : State). s.memory) (state_at (seen r).view (seen r).tail r.asked r.status) in
+    let same : (state_of (progress (seen r)).config.inner.config).memory ≡ r.parts.instance.memory.bytes = ap (λ (s : State). s.memory) (state_at (seen r).view (seen r).tail r.asked r.status) in
     subst (λ bytes. c.args.from + c.args.count ≤ length bytes) (sym same) (omega (arith, c.len-length.ensures, c.if-from-length.false, c.if-count-length.false))

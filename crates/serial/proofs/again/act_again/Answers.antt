@@ -1,5 +1,4 @@
-use Rattle.std.proofs.Common.{rules, ◌≡◌, ◌≤◌, true, length, arith}
-use Rattle.spec_ledger.specs.declared.Step.TheVariants.{Did, Opened, Kept, Dropped}
+use Rattle.std.proofs.Common.{rules, ◌≡◌, true, length, arith}
 use Rattle.serial.proofs.Redoing.{again_more, again_other, not_again, opened_again, kept_popped, dropped_empty, dropped_again, may_drop, within, again_same}
 use Rattle.serial.proofs.again.act_again.Goals.{in-Did+in_ok-again-in-Did+else-not-is_same, in-Opened+in_ok-push-in-Opened, in-Kept, in-Dropped+in-Some, in-Dropped+in_default}
 use Rattle.serial.proofs.again.act_again.Goals as goal

@@ -8,5 +8,5 @@ run-requires-clause-free g c = free_first c.in-Ok.machine.status c.in-Ok.ensures
 
 pub returns-in-Ok-clause-ok : goal.returns-in-Ok-clause-ok
 returns-in-Ok-clause-ok g c =
-    subst (λ ds. IfOk c.run.result (λ r. IsPlayedOver ds c.args.call.now c.args.cells.now r.0 c.run.new.cells r.1.items)) c.in-Ok.ensures.start.contracts
-    (subst (λ x. IfOk c.run.result (λ r. IsPlayedOver c.in-Ok.machine.contracts x c.args.cells.now r.0 c.run.new.cells r.1.items)) c.in-Ok.ensures.start.call_is c.run.ensures.ok)
+    subst (λ ds. IfOk c.run.result (λ r. IsPlayedOver ds c.args.call.now c.args.cells.now r.0 c.run.new.cells r.1.items)) c.in-Ok.ensures.start.setting
+    (subst (λ x. IfOk c.run.result (λ r. IsPlayedOver c.in-Ok.machine.setting x c.args.cells.now r.0 c.run.new.cells r.1.items)) c.in-Ok.ensures.start.call_is c.run.ensures.ok)

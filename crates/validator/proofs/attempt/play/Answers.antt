@@ -13,7 +13,7 @@ returns-in-Ok g c =
     let start = c.in-Ok.ensures.start in
     let calls = c.args.job.now.calls.now in
     let at = slice_get_read calls (length calls) c.args.number c.index-job-number.result refl c.requires c.index-job-number.is in
-    is_run c.run.result _ c.in-Ok.machine.contracts _ c.args.number c.in-Ok.machine.call c.run.ensures.contracts c.run.ensures.call start.contracts (at ∙ ap (λ x. Some x) (c.index-job-number.is ∙ sym start.call_is))
+    is_run c.run.result _ c.in-Ok.machine.setting _ c.args.number c.in-Ok.machine.call c.run.ensures.setting c.run.ensures.call start.setting (at ∙ ap (λ x. Some x) (c.index-job-number.is ∙ sym start.call_is))
 
 pub returns-in-Err : goal.returns-in-Err
 returns-in-Err g c =

@@ -1,12 +1,12 @@
 use Rattle.std.proofs.Common.{◌≡◌, length}
-use Rattle.interp.specs.Lent.{contracts_view}
+use Rattle.interp.specs.Lent.{setting_view}
 use Rattle.validator.specs.Handed.{AreFound, ArePartsMade}
 use Rattle.validator.proofs.workers.take_in.Given as goal
 
 abbrev pub invariant-loop-part : goal.invariant-loop-part
 invariant-loop-part g l = record {
-  runs : AreFound (contracts_view l.job.contracts.now) l.job.calls.now l.runs.items;
-  part : ArePartsMade (contracts_view l.job.contracts.now) l.job.calls.now l.parts.items;
+  runs : AreFound (setting_view l.job.contracts.now) l.job.calls.now l.runs.items;
+  part : ArePartsMade (setting_view l.job.contracts.now) l.job.calls.now l.parts.items;
   size : length l.runs.items ≡ length l.fn.runs.items;
 }
 

@@ -1,12 +1,12 @@
 use Rattle.std.proofs.Common.{◌≡◌, length}
-use Rattle.interp.specs.Lent.{contracts_view}
+use Rattle.interp.specs.Lent.{setting_view}
 use Rattle.validator.specs.Handed.{AreFound, AreMade}
 use Rattle.validator.proofs.workers.take_part.Given as goal
 
 abbrev pub invariant-loop-made : goal.invariant-loop-made
 invariant-loop-made g l = record {
-  runs : AreFound (contracts_view l.job.contracts.now) l.job.calls.now l.runs.items;
-  part : AreMade (contracts_view l.job.contracts.now) l.job.calls.now l.part.items;
+  runs : AreFound (setting_view l.job.contracts.now) l.job.calls.now l.runs.items;
+  part : AreMade (setting_view l.job.contracts.now) l.job.calls.now l.part.items;
   size : length l.runs.items ≡ length l.fn.runs.items;
 }
 

@@ -28,7 +28,7 @@ returns g c =
     let went = c.in_ok-cursor.ensures in
     subst (λ s. HasGoneBack s c.args.count (sight_of end.machine end.start.now.cells c.self.inside.breaks.items) × AreFew s.call.fuel c.in_ok-cursor.again) c.self.view_is (
       record {
-        same = record { run = record { contracts = went.same.call.contracts; call = went.same.call.call; contract = went.same.call.contract; cells = ap (λ s. s.cells) went.same.start }; breaks = refl };
+        same = record { run = record { setting = went.same.call.setting; call = went.same.call.call; contract = went.same.call.contract; cells = ap (λ s. s.cells) went.same.start }; breaks = refl };
         turns = omega (arith, went.turns, c.used-turns.ensures, c.if-count-turns.false);
       },
       again_less origin here nearest c.self.inside.kept turns c.in_ok-cursor.again c.self.invariant

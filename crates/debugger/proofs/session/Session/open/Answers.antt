@@ -7,7 +7,7 @@ returns-in-Ok-clause-opened g c =
     let same = c.in-Ok.ensures in
     let opened = c.in_ok-origin.ensures.opened in
     record {
-      contracts_are = ap (λ p. p.contracts) same.machine ∙ opened.contracts_are;
+      setting_is = ap (λ p. p.setting) same.machine ∙ opened.setting_is;
       call_is = ap (λ p. p.call) same.machine ∙ opened.call_is;
       cells_are = ap (λ s. s.cells) same.start ∙ opened.cells;
       turns = ap (λ p. p.used) same.machine ∙ opened.none;

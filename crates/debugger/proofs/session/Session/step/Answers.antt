@@ -13,7 +13,7 @@ returns g c =
     subst (λ (s : Sight). HasStepped s c.args.count c.in_ok-made.made (sight_of end.machine end.start.now.cells c.self.inside.breaks.items)) c.self.view_is
     (record {
       same = record {
-        run = record { contracts = went.cursor.same.call.contracts; call = went.cursor.same.call.call; contract = went.cursor.same.call.contract; cells = ap (λ s. s.cells) went.cursor.same.start };
+        run = record { setting = went.cursor.same.call.setting; call = went.cursor.same.call.call; contract = went.cursor.same.call.contract; cells = ap (λ s. s.cells) went.cursor.same.start };
         breaks = refl;
       };
       turns = omega (arith, first, went.made);

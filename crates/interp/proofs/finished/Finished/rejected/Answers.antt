@@ -1,11 +1,12 @@
 use Rattle.std.proofs.Common.{List, sym, ap, ◌∙◌, subst}
 use Rattle.spec_ledger.specs.declared.Step.{Step}
 use Rattle.spec_ledger.specs.declared.Outcome.TheVariants.{Rejected}
-use Rattle.spec_execution.specs.Run.{Refused, RunsWith, refused}
-use Rattle.interp.specs.Lent.{contracts_view}
+use Rattle.spec_execution.specs.Run.{Refused}
+use Rattle.spec_execution.specs.Levels.{RunsWith, refused}
+use Rattle.interp.specs.Lent.{setting_view}
 use Rattle.interp.proofs.finished.Finished.rejected.Goals as goal
 
 pub of-requires : goal.of-requires
 of-requires g c =
-    subst (λ (trace : List Step). RunsWith (contracts_view c.args.contracts.now) c.args.call.now trace (Rejected c.code.result) 0) (sym c.new.ensures.items)
+    subst (λ (trace : List Step). RunsWith (setting_view c.args.contracts.now) c.args.call.now trace (Rejected c.code.result) 0) (sym c.new.ensures.items)
     (refused c.code.result (c.in-Err.ensures.refused ∙ ap Refused (sym c.code.ensures)))

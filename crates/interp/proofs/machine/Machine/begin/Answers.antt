@@ -6,7 +6,7 @@ use Rattle.spec_execution.specs.Configuration.{Contract, End, Invoke, arguments,
 use Rattle.spec_execution.specs.Run.{opening, Opens}
 use Rattle.instance.specs.States.{IsFresh}
 use Rattle.frames.specs.declared.parts.Entry.{Entry}
-use Rattle.interp.specs.Lent.{contracts_view}
+use Rattle.interp.specs.Lent.{setting_view}
 use Rattle.sequences.specs.Meaning.{Open, frames}
 use Rattle.interp.specs.Run.{seen}
 use Rattle.interp.proofs.Beginning.{based_fresh, safe_of, contract_same, at_number}
@@ -24,7 +24,7 @@ prepare-requires-clause-entry g c =
     let hosts = c.hosts.result.now in
     let open_is = contract_same c.contract.result c.args.call.now.contract m hosts c.args.deployed.now c.args.deployed.now c.contract.ensures c.module-tree.ensures c.hosts.ensures refl in
     subst (λ (vs : List Value). IsEntry (at_number c.contract.result m hosts) c.args.func vs) (sym c.args-2.ensures.args)
-    (subst (λ (x : Contract). IsEntry x c.args.func c.args.call.now.args) (sym open_is.same) (opened_entry (contracts_view c.args.contracts.now) c.args.call.now _ c.args.func c.requires.opens))
+    (subst (λ (x : Contract). IsEntry x c.args.func c.args.call.now.args) (sym open_is.same) (opened_entry (setting_view c.args.contracts.now) c.args.call.now _ c.args.func c.requires.opens))
 
 pub start_run-requires : goal.start_run-requires
 start_run-requires g c =
@@ -33,13 +33,13 @@ start_run-requires g c =
     let hosts = c.hosts.result.now in
     let k : Contract = at_number c.contract.result m hosts in
     let open_is = contract_same c.contract.result c.args.call.now.contract m hosts c.args.deployed.now c.args.deployed.now c.contract.ensures c.module-tree.ensures c.hosts.ensures refl in
-    let opens : opening (contracts_view c.args.contracts.now) c.args.call.now ≡ Opens k c.args.func = c.requires.opens ∙ ap (λ x. Opens x c.args.func) (sym open_is.same) in
+    let opens : opening (setting_view c.args.contracts.now) c.args.call.now ≡ Opens k c.args.func = c.requires.opens ∙ ap (λ x. Opens x c.args.func) (sym open_is.same) in
     let linked = subst (λ (x : Contract). ∥ IsLinked x.deployed.tree x.deployed.hosts ∥₁) (sym open_is.same) c.args.deployed.now.linked in
     record {
       first = record {
         begun = record {
           opens = opens;
-          safe = safe_of (contracts_view c.args.contracts.now) c.args.call.now k c.args.func linked c.deployed_calls_are_safe.ensures opens;
+          safe = safe_of (setting_view c.args.contracts.now) c.args.call.now k c.args.func linked c.deployed_calls_are_safe.ensures opens;
           suits = made.max;
           waits = subst (λ (vs : List Value). IsPrepared k vs c.in_ok-entry.entry) c.args-2.ensures.args c.in_ok-entry.ensures.prepared;
           place = c.in_ok-entry.ensures.place;

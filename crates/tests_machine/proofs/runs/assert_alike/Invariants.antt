@@ -1,0 +1,8 @@
+use Rattle.interp.specs.Progress.{IsFree}
+use Rattle.tests_machine.proofs.runs.assert_alike.Given as goal
+
+abbrev pub invariant-stops : goal.invariant-stops
+invariant-stops g l = record {
+  at_once : IsFree l.at_once.status;
+  by_one : IsFree l.by_one.status;
+}
