@@ -11,6 +11,7 @@ use mining::mine_core;
 use pace::NoPace;
 use serial::serial_core;
 use serial_block::copied;
+use spec_ledger::Version;
 use std::alloc::Global;
 use std::io;
 use std::sync::Wait;
@@ -51,7 +52,7 @@ fn run<R: Threads + Wait + Sync>(
     let contracts = world.contracts();
     if workers == 0 {
         let order = all_numbers(alloc, calls.len() as u32)?;
-        let core = serial_core(alloc, contracts, world.cells(), calls, &order)?;
+        let core = serial_core(alloc, contracts, world.cells(), calls, &order, Version::Two)?;
         return Ok(Ran {
             cells: core.cells,
             count: order.len(),

@@ -5,6 +5,7 @@ use crate::request::Request;
 use call::Call;
 use debugger::Contract;
 use debugger::session::Session;
+use spec_ledger::Version;
 use std::alloc::Global;
 use std::io;
 use std::time::{Clock, Instant};
@@ -52,7 +53,7 @@ fn line_of<R: Clock>(
     call: &Call,
 ) -> io::Result<String> {
     let cells = Cells::new(alloc);
-    match Session::open(alloc, contracts, &cells, call) {
+    match Session::open(alloc, contracts, &cells, call, Version::Two) {
         Ok(mut session) => times_of(rt, alloc, &mut session, call.fuel()),
         Err(_) => Err(refused()),
     }

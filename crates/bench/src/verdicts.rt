@@ -104,8 +104,11 @@ fn accepted<R: Threads + Wait + Sync>(
     }
 }
 
-/// The bytes of a block. `None` where memory was refused.
+/// The bytes of a block. `None` where memory was refused, or where its version cannot tell its receipts.
 fn bytes_of(alloc: Global, block: &Block) -> Option<MemorySink> {
+    if !block.fits_version() {
+        return None;
+    }
     let mut sink = MemorySink::new(alloc, usize::MAX, Failures::none());
     write_block(alloc, block, &mut sink).ok()?;
     Some(sink)

@@ -5,7 +5,6 @@ ghost use Rattle.codec.specs.Putting.{IsCutShort, IsRaised};
 ghost use Rattle.sha2.specs.Sha256.{sha256};
 ghost use Rattle.spec_block.specs.Bytes.{counted, value_bytes, call_bytes, calls_bytes};
 
-use crate::read::VERSION;
 use crate::refusal::WriteRefusal;
 use crate::write::put_made;
 use call::Call;
@@ -17,6 +16,9 @@ use wtypes::{NoMemory, Value};
 
 /// The magic, `57 42 43 4C`, as a number.
 const CALLS_MAGIC: u32 = 0x4c43_4257;
+
+/// The version of the format of a list of calls.
+const VERSION: u32 = 1;
 
 fn append_values<A: Allocator>(out: &mut Vec<u8, A>, values: &[Value]) -> Result<(), AllocError>
     requires { length values.now ≤ Call.MOST_ARGS }

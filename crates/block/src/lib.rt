@@ -2,12 +2,14 @@
 #![tactic(auto)]
 
 mod calls;
+mod laws;
 mod read;
 mod refusal;
 mod value;
 mod write;
 
 pub use calls::{digest_calls, write_calls};
+pub use laws::version_2_tells_all;
 pub use read::read_block;
 pub use records::Position;
 pub use refusal::{BlockRefusal, WriteRefusal};

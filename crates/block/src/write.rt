@@ -1,14 +1,17 @@
 //! Writing a block.
 
 ghost use Rattle.std.specs.Prelude.{◌≡◌, ◌≤◌, ◌++◌, length, OnOk, IsErrOf, IsTrue};
+ghost use Rattle.std.specs.List.{AllByRecursion};
 ghost use Rattle.codec.specs.Putting.{IsCutShort, IsRaised};
-ghost use Rattle.spec_block.specs.Bytes.{block_bytes, counted, position_bytes};
+ghost use Rattle.spec_ledger.specs.declared.Version.{Version};
+ghost use Rattle.spec_block.specs.Bytes.{block_bytes, counted, position_bytes, version_code, ForVersion};
 
-use crate::read::{MAGIC, VERSION};
+use crate::read::MAGIC;
 use crate::refusal::WriteRefusal;
 use crate::value::Block;
 use codec::{Sink, put_all};
 use records::{Position, append_position, append_u32, append_u64};
+use spec_ledger::Version;
 use std::alloc::{AllocError, Allocator};
 
 /// Puts bytes that are made.
@@ -26,17 +29,28 @@ pub(crate) fn put_made<S: Sink>(sink: &mut S, bytes: &[u8]) -> Result<(), WriteR
 }
 
 fn append_positions<A: Allocator>(
+    version: Version,
     out: &mut Vec<u8, A>,
     positions: &[Position<A>],
 ) -> Result<(), AllocError>
     requires { length positions.now ≤ Block.MOST_POSITIONS }
-    ensures { OnOk result (out.new.items ≡ out.old.items ++ counted position_bytes positions.now) }
+    ensures { OnOk result (out.new.items ≡ out.old.items ++ counted (position_bytes version) positions.now) }
 {
     append_u32(out, positions.len() as u32)?;
     for position in positions {
-        append_position(out, position)?;
+        append_position(version, out, position)?;
     }
     Ok(())
+}
+
+/// The number that stands for a version.
+fn number_of(version: Version) -> u32
+    ensures { result ≡ version_code version }
+{
+    match version {
+        Version::One => 1,
+        Version::Two => 2,
+    }
 }
 
 fn append_block<A: Allocator>(out: &mut Vec<u8, A>, block: &Block<A>) -> Result<(), AllocError>
@@ -44,21 +58,22 @@ fn append_block<A: Allocator>(out: &mut Vec<u8, A>, block: &Block<A>) -> Result<
 {
     block.hold();
     append_u32(out, MAGIC)?;
-    append_u32(out, VERSION)?;
+    append_u32(out, number_of(block.version()))?;
     out.extend_from_slice(block.before())?;
     out.extend_from_slice(block.calls())?;
-    append_positions(out, block.positions())?;
+    append_positions(block.version(), out, block.positions())?;
     append_u64(out, block.fuel())?;
     out.extend_from_slice(block.after())?;
     Ok(())
 }
 
-/// Writes a block's bytes.
+/// Writes a block's bytes, those of its own version.
 pub fn write_block<A: Allocator, S: Sink>(
     alloc: A,
     block: &Block<A>,
     sink: &mut S,
 ) -> Result<(), WriteRefusal>
+    requires { AllByRecursion (λ p. ForVersion block.now.version p.receipt) block.now.positions }
     ensures put { OnOk result (IsTrue S.tells → S.told sink.new ≡ S.told sink.old ++ block_bytes block.now) }
     ensures calm { OnOk result (S.failures sink.new ≡ S.failures sink.old) }
     ensures unchanged { IsErrOf result WriteRefusal.NoMemory → sink.new ≡ sink.old }

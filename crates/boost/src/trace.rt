@@ -3,27 +3,27 @@ ghost use Rattle.std.specs.Prelude.{◌≡◌, IsTrue, ◌↔◌};
 
 use spec_ledger::{Op, Place, Reply, Step};
 
-fn same_place(a: Place, b: Place) -> bool
-    ensures { IsTrue result ↔ (a ≡ b) }
+fn same_place(a: &Place, b: &Place) -> bool
+    ensures { IsTrue result ↔ (a.now ≡ b.now) }
 {
     a == b
 }
 
-fn same_op(a: Op, b: Op) -> bool
-    ensures { IsTrue result ↔ (a ≡ b) }
+fn same_op(a: &Op, b: &Op) -> bool
+    ensures { IsTrue result ↔ (a.now ≡ b.now) }
 {
     a == b
 }
 
-fn same_reply(a: Reply, b: Reply) -> bool
-    ensures { IsTrue result ↔ (a ≡ b) }
+fn same_reply(a: &Reply, b: &Reply) -> bool
+    ensures { IsTrue result ↔ (a.now ≡ b.now) }
 {
     a == b
 }
 
 /// Whether two steps are the same.
-pub fn same_step(a: Step, b: Step) -> bool
-    ensures { IsTrue result ↔ (a ≡ b) }
+pub fn same_step(a: &Step, b: &Step) -> bool
+    ensures { IsTrue result ↔ (a.now ≡ b.now) }
 {
     match (a, b) {
         (Step::Did(op, reply), Step::Did(other, answer)) => {
@@ -43,7 +43,7 @@ pub(crate) fn same_trace(a: &[Step], b: &[Step]) -> bool
         return false;
     }
     for (i, step) in a.iter().enumerate() {
-        if !same_step(*step, b[i]) {
+        if !same_step(step, &b[i]) {
             return false;
         }
     }

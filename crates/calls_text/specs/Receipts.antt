@@ -1,5 +1,5 @@
 -- The texts of receipts, and of the line that a call has in its place.
-use Rattle.std.specs.Prelude.{ℕ, List, ◌++◌, codes, decimal, Some, None}
+use Rattle.std.specs.Prelude.{ℕ, zero, suc, List, [], ◌++◌, codes, decimal, Some, None}
 use Rattle.wtypes.specs.declared.TrapCode.{TrapCode}
 use Rattle.wtypes.specs.declared.TrapCode.TheVariants.{Unreachable, DivideByZero, IntegerOverflow, MemoryOutOfBounds, ElementOutOfTable, EmptyElement, TypeMismatch, CallDepth}
 use Rattle.spec_ledger.specs.declared.Outcome.{Outcome}
@@ -24,9 +24,14 @@ outcome_text (Trapped t) = codes "trapped " ++ decimal (trap_number t)
 outcome_text OutOfFuel = codes "out-of-fuel"
 outcome_text (Rejected n) = codes "rejected " ++ decimal n
 
+-- the levels that a call entered, where it entered any
+abbrev pub asks_text : ℕ → List ℕ
+asks_text zero = []
+asks_text (suc n) = codes " asks " ++ decimal (suc n)
+
 -- `RECEIPT`
 abbrev pub receipt_text : Receipt → List ℕ
-receipt_text r = outcome_text r.outcome ++ codes " fuel " ++ decimal r.used
+receipt_text r = outcome_text r.outcome ++ codes " fuel " ++ decimal r.used ++ asks_text r.asks
 
 -- `POS call C RECEIPT`
 abbrev pub position_text : ℕ → ℕ → Receipt → List ℕ

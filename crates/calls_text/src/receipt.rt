@@ -2,7 +2,7 @@
 
 ghost use Rattle.std.specs.Prelude.{Some};
 ghost use Rattle.calls_text.specs.Texts.{value_text};
-ghost use Rattle.calls_text.specs.Receipts.{receipt_text, position_text};
+ghost use Rattle.calls_text.specs.Receipts.{asks_text, receipt_text, position_text};
 
 use spec_ledger::{Outcome, Receipt};
 use std::fmt;
@@ -23,7 +23,23 @@ impl fmt::Display for ValueText {
     }
 }
 
-/// A receipt, printed as `returned`, `returned VALUE`, `trapped N`, `out-of-fuel` or `rejected N`, and then ` fuel N`.
+/// The levels that a call entered, printed as ` asks N`, or as nothing where it entered none.
+#[derive(Clone, Copy)]
+struct AsksText(u32);
+
+impl fmt::Display for AsksText {
+    ghost output = { λ a. Some (asks_text a.0) };
+
+    fn fmt<W: fmt::Write>(&self, f: &mut fmt::Formatter<W>) -> fmt::Result {
+        match self.0 {
+            0 => Ok(()),
+            asks => write!(f, " asks {asks}"),
+        }
+    }
+}
+
+/// A receipt, printed as `returned`, `returned VALUE`, `trapped N`, `out-of-fuel` or `rejected N`, and then ` fuel N`, and ` asks N` where
+/// levels were entered.
 #[derive(Clone, Copy, Debug, PartialEq, Eq)]
 pub struct ReceiptText(pub Receipt);
 
@@ -32,18 +48,19 @@ impl fmt::Display for ReceiptText {
 
     fn fmt<W: fmt::Write>(&self, f: &mut fmt::Formatter<W>) -> fmt::Result {
         let used = self.0.used;
+        let asks = AsksText(self.0.asks);
         match self.0.outcome {
-            Outcome::Returned(None) => write!(f, "returned fuel {used}"),
+            Outcome::Returned(None) => write!(f, "returned fuel {used}{asks}"),
             Outcome::Returned(Some(value)) => {
                 let value = ValueText(value);
-                write!(f, "returned {value} fuel {used}")
+                write!(f, "returned {value} fuel {used}{asks}")
             }
             Outcome::Trapped(code) => {
                 let code = code as u8;
-                write!(f, "trapped {code} fuel {used}")
+                write!(f, "trapped {code} fuel {used}{asks}")
             }
-            Outcome::OutOfFuel => write!(f, "out-of-fuel fuel {used}"),
-            Outcome::Rejected(code) => write!(f, "rejected {code} fuel {used}"),
+            Outcome::OutOfFuel => write!(f, "out-of-fuel fuel {used}{asks}"),
+            Outcome::Rejected(code) => write!(f, "rejected {code} fuel {used}{asks}"),
         }
     }
 }

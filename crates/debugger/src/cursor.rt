@@ -13,7 +13,7 @@ use call::Call;
 use interp::machine::Machine;
 use interp::start::StartRefusal;
 use interp::turns::Turn;
-use spec_ledger::{NoMemory, Op, Reply};
+use spec_ledger::{NoMemory, Op, Reply, Version};
 use std::alloc::Allocator;
 use storage::Cells;
 
@@ -28,7 +28,7 @@ pub struct Cursor<'a, A: Allocator + Copy> {
     pub start: &'a Cells<A>,
 }
 
-/// The call before its first turn.
+/// The call before its first turn, by the rules of this version.
 ///
 /// # Errors
 ///
@@ -38,13 +38,14 @@ pub fn open<'a, A: Allocator + Copy>(
     contracts: &'a [Contract<A>],
     start: &'a Cells<A>,
     call: &'a Call,
+    version: Version,
 ) -> Result<Cursor<'a, A>, StartRefusal>
-    ensures opened { IfOk result (λ cursor. IsOpened (setting_view contracts.now) call.now start.now.cells cursor) }
+    ensures opened { IfOk result (λ cursor. IsOpened (setting_view version contracts.now) call.now start.now.cells cursor) }
     ensures at { IfOk result (λ cursor. IsAt cursor) }
-    ensures refused { IfErr result (λ refusal. IsRefusedFor refusal (opening (setting_view contracts.now) call.now)) }
-    ensures place { IfErr result (λ refusal. HasPlace (wrong_in (setting_view contracts.now) call.now) refusal) }
+    ensures refused { IfErr result (λ refusal. IsRefusedFor refusal (opening (setting_view version contracts.now) call.now)) }
+    ensures place { IfErr result (λ refusal. HasPlace (wrong_in (setting_view version contracts.now) call.now) refusal) }
 {
-    let machine = Machine::start(alloc, contracts, call)?;
+    let machine = Machine::start_as(alloc, contracts, call, version)?;
     match start.copy(alloc) {
         Ok(cells) => Ok(Cursor {
             machine,

@@ -13,7 +13,7 @@ use crate::kept::{Kept, nearest, none_kept, turn_and_keep};
 use call::Call;
 use interp::readers::BytesRefusal;
 use interp::start::StartRefusal;
-use spec_ledger::{NoMemory, Outcome};
+use spec_ledger::{NoMemory, Outcome, Version};
 use std::alloc::Allocator;
 use std::marker::Model;
 use storage::Cells;
@@ -192,7 +192,7 @@ impl<'a, A: Allocator + Copy> Session<'a, A> {
     ghost use Rattle.debugger.specs.Sight.{IsSight, ending_at, place_at, stack_at, locals_at, globals_at};
     ghost use Rattle.debugger.specs.Commands.{IsOpened, Steps, GoesBack, Continues, Breaks, Clears, Reads};
 
-    /// A session of the call alone over these cells, before its first turn.
+    /// A session of the call alone over these cells by the rules of this version, before its first turn.
     ///
     /// # Errors
     ///
@@ -202,12 +202,13 @@ impl<'a, A: Allocator + Copy> Session<'a, A> {
         contracts: &'a [Contract<A>],
         cells: &'a Cells<A>,
         call: &'a Call,
+        version: Version,
     ) -> Result<Session<'a, A>, StartRefusal>
-        ensures opened { IfOk result (λ session. IsOpened (setting_view contracts.now) call.now cells.now.cells session) }
-        ensures refused { IfErr result (λ refusal. IsRefusedFor refusal (opening (setting_view contracts.now) call.now)) }
-        ensures place { IfErr result (λ refusal. HasPlace (wrong_in (setting_view contracts.now) call.now) refusal) }
+        ensures opened { IfOk result (λ session. IsOpened (setting_view version contracts.now) call.now cells.now.cells session) }
+        ensures refused { IfErr result (λ refusal. IsRefusedFor refusal (opening (setting_view version contracts.now) call.now)) }
+        ensures place { IfErr result (λ refusal. HasPlace (wrong_in (setting_view version contracts.now) call.now) refusal) }
     {
-        let origin = open(alloc, contracts, cells, call)?;
+        let origin = open(alloc, contracts, cells, call, version)?;
         match copy(alloc, &origin) {
             Ok(here) => Ok(Session {
                 alloc,

@@ -2,6 +2,7 @@
 
 ghost use Rattle.std.specs.Prelude.{◌≡◌, ◌<◌, ◌^◌, [], IfOk, IfSome, IsSome, length, map, ◌↔◌, IsTrue, Ok, Some, true, false, OnErr, slice_get, OnOk};
 ghost use Rattle.std.specs.FinMap as finite;
+ghost use Rattle.spec_ledger.specs.declared.Version.TheVariants.{Two};
 ghost use Rattle.interp.specs.Lent.{setting_view};
 ghost use Rattle.publish.specs.Publication.{MayFollow, HasTaken, IsSameJob, HasGoneOn, Sweep, limits, AreLeft, fuel_used};
 ghost use Rattle.publish.specs.Adoption.{AreMade, MayFollowBy, ran_by};
@@ -29,7 +30,7 @@ pub fn open<'a, A: Allocator + Copy>(
     fuel: u64,
 ) -> Result<Publishing<'a, A>, NoMemory>
     requires { length calls.now < 2 ^ 32 }
-    ensures { IfOk result (λ p. p ≡ record { setting = setting_view contracts.now; calls = calls.now; opening = cells.now.cells; fuel = fuel; order = []; ran = []; cells = cells.now.cells }) }
+    ensures { IfOk result (λ p. p ≡ record { setting = setting_view Two contracts.now; calls = calls.now; opening = cells.now.cells; fuel = fuel; order = []; ran = []; cells = cells.now.cells }) }
 {
     Publishing::open(alloc, contracts, calls, cells, fuel)
 }
@@ -49,9 +50,9 @@ pub fn adopt<'a, A: Allocator + Copy>(
     requires replies { IsDefined cells.now.cells closed.entries.items }
     requires cells { closed.cells.cells ≡ settled cells.now.cells closed.entries.items }
     requires settled { closed.cells.unsettled ≡ finite.empty }
-    requires runs { AreMade (setting_view contracts.now) calls.now runs.now touched.items }
+    requires runs { AreMade (setting_view Two contracts.now) calls.now runs.now touched.items }
     ensures answer { IfOk result (λ o. IsSome o ↔ MayFollowBy (limits calls.now) fuel [] closed.entries.items runs.now) }
-    ensures adopted { IfOk result (λ o. IfSome o (λ p. p ≡ record { setting = setting_view contracts.now; calls = calls.now; opening = cells.now.cells; fuel = fuel; order = map (λ e. e.call) closed.entries.items; ran = ran_by runs.now touched.items; cells = closed.cells.cells })) }
+    ensures adopted { IfOk result (λ o. IfSome o (λ p. p ≡ record { setting = setting_view Two contracts.now; calls = calls.now; opening = cells.now.cells; fuel = fuel; order = map (λ e. e.call) closed.entries.items; ran = ran_by runs.now touched.items; cells = closed.cells.cells })) }
 {
     Publishing::adopt(alloc, contracts, calls, cells, fuel, closed, runs, touched)
 }

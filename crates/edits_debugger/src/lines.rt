@@ -4,11 +4,11 @@ ghost use Rattle.std.specs.Prelude.{◌≡◌, IsTrue, IfOk, IfErr, OnOk, MatchO
 ghost use Rattle.interp.specs.Lent.{setting_view};
 ghost use Rattle.wblock_debug.specs.Prints.{IsDebugged};
 ghost use Rattle.wblock_line.specs.Answers.{CountsFault, IsOfFile};
-ghost use Rattle.wblock_blocks.specs.Inputs.{IsNextInput};
-ghost use Rattle.wblock_debug.specs.Debugs.{IsNotListed, Debugs};
+ghost use Rattle.wblock_debug.specs.Debugs.{IsNotListed, Debugs, IsNextRead};
 
 use call::Call;
 use debugger::Contract;
+use spec_ledger::Version;
 use std::alloc::{Allocator, Global};
 use storage::Cells;
 use wblock_debug::{Command, Debugging, Printed};
@@ -23,10 +23,11 @@ pub fn debug_call<A: Allocator + Copy>(
     cells: &Cells<A>,
     call: &Call,
     commands: &[Command],
+    version: Version,
 ) -> Result<Printed<A>, NoMemory>
-    ensures { IfOk result (λ p. IsDebugged (setting_view contracts.now) cells.now.cells call.now commands.now p.refused (string_bytes p.text)) }
+    ensures { IfOk result (λ p. IsDebugged (setting_view version contracts.now) cells.now.cells call.now commands.now p.refused (string_bytes p.text)) }
 {
-    wblock_debug::debug_call(alloc, contracts, cells, call, commands)
+    wblock_debug::debug_call(alloc, contracts, cells, call, commands, version)
 }
 
 /// As [`wblock_debug::debug_world`].
@@ -39,7 +40,7 @@ pub fn debug_world<'a, F: Files>(
     ensures kept { IsTrue F.tells → F.holds files.new ≡ F.holds files.old }
     ensures calm { OnOk result (F.failures files.new ≡ F.failures files.old) }
     ensures counted { IfErr result (λ f. CountsFault f (F.failures files.old) (F.failures files.new)) }
-    ensures next { IfErr result (IsOfFile (λ name. IsTrue F.tells → IsNextInput (F.holds files.old) task.now.world.now task.now.calls.now name)) }
+    ensures next { IfErr result (IsOfFile (λ name. IsTrue F.tells → IsNextRead (F.holds files.old) task.now name)) }
 {
     wblock_debug::debug_world(alloc, files, task)
 }

@@ -11,6 +11,7 @@ use call::Call;
 use debugger::Contract;
 use debugger::session::{Refusal, Session};
 use interp::start::StartRefusal;
+use spec_ledger::Version;
 use std::alloc::Allocator;
 use storage::Cells;
 use wtypes::Value;
@@ -21,12 +22,13 @@ pub fn open<'a, A: Allocator + Copy>(
     contracts: &'a [Contract<A>],
     cells: &'a Cells<A>,
     call: &'a Call,
+    version: Version,
 ) -> Result<Session<'a, A>, StartRefusal>
-    ensures opened { IfOk result (λ session. IsOpened (setting_view contracts.now) call.now cells.now.cells session) }
-    ensures refused { IfErr result (λ refusal. IsRefusedFor refusal (opening (setting_view contracts.now) call.now)) }
-    ensures place { IfErr result (λ refusal. HasPlace (wrong_in (setting_view contracts.now) call.now) refusal) }
+    ensures opened { IfOk result (λ session. IsOpened (setting_view version contracts.now) call.now cells.now.cells session) }
+    ensures refused { IfErr result (λ refusal. IsRefusedFor refusal (opening (setting_view version contracts.now) call.now)) }
+    ensures place { IfErr result (λ refusal. HasPlace (wrong_in (setting_view version contracts.now) call.now) refusal) }
 {
-    Session::open(alloc, contracts, cells, call)
+    Session::open(alloc, contracts, cells, call, version)
 }
 
 /// As [`debugger::session::Session::step`].

@@ -2,15 +2,15 @@
 
 ghost use Rattle.std.specs.Prelude.{◌≡◌, ◌++◌, ℕ, List, IfOk, ◌<◌, ◌^◌, OnOk, length, take, ◌↔◌, IsSome, IfSome};
 ghost use Rattle.spec_ledger.specs.declared.Entry.{Entry};
-ghost use Rattle.spec_block.specs.Bytes.{entry_bytes, receipt_bytes, IsOutcome, IsPosition, position_bytes};
+ghost use Rattle.spec_block.specs.Bytes.{entry_bytes, receipt_bytes, IsOutcome, position_bytes};
 ghost use Rattle.records.specs.Reading.{Gives, IsRead};
 ghost use Rattle.records.specs.Profiles.{entry_at, IsEntryAfter, profile_at, profile_bytes, IsBlockProfile};
 ghost use Rattle.spec_block.specs.Worlds.{Position as ThePosition};
-ghost use Rattle.records.specs.Positions.{position_at};
+ghost use Rattle.records.specs.Positions.{position_at, IsPositionIn};
 
 use lock_profile::Profile;
 use records::{Fault, Position};
-use spec_ledger::{Entry, Receipt};
+use spec_ledger::{Entry, Receipt, Version};
 use std::alloc::{AllocError, Allocator};
 
 /// As [`records::read_entry`].
@@ -45,13 +45,14 @@ pub fn append_profile<A: Allocator>(
 
 /// As [`records::append_receipt`].
 pub fn append_receipt<A: Allocator>(
+    version: Version,
     out: &mut Vec<u8, A>,
     receipt: Receipt,
 ) -> Result<(), AllocError>
-    ensures bytes { OnOk result (out.new.items ≡ out.old.items ++ receipt_bytes receipt) }
+    ensures bytes { OnOk result (out.new.items ≡ out.old.items ++ receipt_bytes version receipt) }
     ensures front { take (length out.old.items) out.new.items ≡ out.old.items }
 {
-    records::append_receipt(out, receipt)
+    records::append_receipt(version, out, receipt)
 }
 
 /// As [`records::Position::new`].
@@ -67,10 +68,14 @@ pub fn new_position<A: Allocator>(
 }
 
 /// As [`records::read_position`].
-pub fn read_position<A: Allocator>(alloc: A, bytes: &[u8]) -> Result<(Position<A>, &[u8]), Fault>
-    ensures spelled { IfOk result (λ x. IsPosition x.0 × (bytes.now ≡ position_bytes x.0 ++ x.1.now)) }
-    ensures only { (position : ThePosition) (rest : List ℕ) → IsPosition position → bytes.now ≡ position_bytes position ++ rest → IsRead (λ x. (x.0, x.1.now)) result position rest }
-    ensures first { Gives (λ x. (x.0, x.1.now)) result (position_at bytes.now) }
+pub fn read_position<A: Allocator>(
+    version: Version,
+    alloc: A,
+    bytes: &[u8],
+) -> Result<(Position<A>, &[u8]), Fault>
+    ensures spelled { IfOk result (λ x. IsPositionIn version x.0 × (bytes.now ≡ position_bytes version x.0 ++ x.1.now)) }
+    ensures only { (position : ThePosition) (rest : List ℕ) → IsPositionIn version position → bytes.now ≡ position_bytes version position ++ rest → IsRead (λ x. (x.0, x.1.now)) result position rest }
+    ensures first { Gives (λ x. (x.0, x.1.now)) result (position_at version bytes.now) }
 {
-    records::read_position(alloc, bytes)
+    records::read_position(version, alloc, bytes)
 }

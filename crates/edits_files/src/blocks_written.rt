@@ -1,8 +1,9 @@
 //! Blocks and lists of calls, written.
 
 ghost use Rattle.std.specs.Prelude.{◌≡◌, ◌++◌, OnOk, IsErrOf, IsTrue, ◌≤◌, length, IfOk};
+ghost use Rattle.std.specs.List.{AllByRecursion};
 ghost use Rattle.codec.specs.Putting.{IsCutShort, IsRaised};
-ghost use Rattle.spec_block.specs.Bytes.{block_bytes, calls_bytes};
+ghost use Rattle.spec_block.specs.Bytes.{block_bytes, calls_bytes, ForVersion};
 ghost use Rattle.sha2.specs.Sha256.{sha256};
 
 use block::{Block, WriteRefusal};
@@ -17,6 +18,7 @@ pub fn write_block<A: Allocator, S: Sink>(
     block: &Block<A>,
     sink: &mut S,
 ) -> Result<(), WriteRefusal>
+    requires { AllByRecursion (λ p. ForVersion block.now.version p.receipt) block.now.positions }
     ensures put { OnOk result (IsTrue S.tells → S.told sink.new ≡ S.told sink.old ++ block_bytes block.now) }
     ensures calm { OnOk result (S.failures sink.new ≡ S.failures sink.old) }
     ensures unchanged { IsErrOf result WriteRefusal.NoMemory → sink.new ≡ sink.old }

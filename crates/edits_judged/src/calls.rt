@@ -1,8 +1,9 @@
 //! Calls, and whether they open.
 
 ghost use Rattle.std.specs.Prelude.{◌≡◌, ◌≤◌, ◌↔◌, Some, IfOk, IfErr, IsSome, IfSome, length, string_bytes, string_len, vec_len};
+ghost use Rattle.spec_ledger.specs.declared.Version.{Version};
 ghost use Rattle.spec_execution.specs.Run.{by_contract, Opens, Refused};
-ghost use Rattle.opening.specs.Views.{deployed_view, code_of, HasPlace, wrong_of};
+ghost use Rattle.opening.specs.Views.{deployed_view, contract_of, code_of, HasPlace, wrong_of};
 
 use call::Call;
 use link::deployed::Deployed;
@@ -43,8 +44,8 @@ pub fn fuel(call: &Call) -> u64
 
 /// As [`opening::entry_of`].
 pub fn entry_of<A: Allocator>(contract: &Deployed<A>, call: &Call) -> Result<u32, Refusal>
-    ensures opens { IfOk result (λ func. by_contract call.now (Some (deployed_view contract.now)) ≡ Opens (record { number = call.now.contract; deployed = deployed_view contract.now }) func) }
-    ensures refused { IfErr result (λ r. by_contract call.now (Some (deployed_view contract.now)) ≡ Refused (code_of r)) }
+    ensures opens { IfOk result (λ func. (version : Version) → by_contract version call.now (Some (deployed_view contract.now)) ≡ Opens (contract_of version call.now.contract contract.now) func) }
+    ensures refused { IfErr result (λ r. (version : Version) → by_contract version call.now (Some (deployed_view contract.now)) ≡ Refused (code_of r)) }
     ensures place { IfErr result (λ r. HasPlace (wrong_of call.now (deployed_view contract.now)) r) }
 {
     opening::entry_of(contract, call)

@@ -1,7 +1,9 @@
 //! Runs of machines.
 
 ghost use Rattle.std.specs.Prelude.{◌≡◌, IfOk, IfErr, MatchResult};
+ghost use Rattle.spec_ledger.specs.declared.Version.TheVariants.{Two};
 ghost use Rattle.spec_execution.specs.Run.{opening};
+ghost use Rattle.spec_execution.specs.Levels.{asks_in};
 ghost use Rattle.interp.specs.Lent.{setting_view};
 ghost use Rattle.interp.specs.Progress.{NextIs, IsFree, IsProgress, IsAwaited, HasAnswered, IsFinishOf, IsUnfinished, IsStartOf};
 ghost use Rattle.interp.specs.Starting.{IsRefusedFor, HasPlace, wrong_in};
@@ -12,7 +14,7 @@ use interp::machine::Machine;
 use interp::start::StartRefusal;
 use interp::turns::Turn;
 use link::deployed::Deployed;
-use spec_ledger::Reply;
+use spec_ledger::{Reply, Version};
 use std::alloc::Allocator;
 
 /// As [`interp::machine::Machine::start`].
@@ -21,12 +23,27 @@ pub fn start<'a, A: Allocator + Copy>(
     contracts: &'a [Deployed<A>],
     call: &'a Call,
 ) -> Result<Machine<'a, A>, StartRefusal>
-    ensures start { IfOk result (λ m. IsStartOf (setting_view contracts.now) call.now m) }
+    ensures start { IfOk result (λ m. IsStartOf (setting_view Two contracts.now) call.now m) }
     ensures on_run { IfOk result (λ m. IsProgress m) }
-    ensures refused { IfErr result (λ refusal. IsRefusedFor refusal (opening (setting_view contracts.now) call.now)) }
-    ensures place { IfErr result (λ refusal. HasPlace (wrong_in (setting_view contracts.now) call.now) refusal) }
+    ensures refused { IfErr result (λ refusal. IsRefusedFor refusal (opening (setting_view Two contracts.now) call.now)) }
+    ensures place { IfErr result (λ refusal. HasPlace (wrong_in (setting_view Two contracts.now) call.now) refusal) }
 {
     Machine::start(alloc, contracts, call)
+}
+
+/// As [`interp::machine::Machine::start_as`].
+pub fn start_as<'a, A: Allocator + Copy>(
+    alloc: A,
+    contracts: &'a [Deployed<A>],
+    call: &'a Call,
+    version: Version,
+) -> Result<Machine<'a, A>, StartRefusal>
+    ensures start { IfOk result (λ m. IsStartOf (setting_view version contracts.now) call.now m) }
+    ensures on_run { IfOk result (λ m. IsProgress m) }
+    ensures refused { IfErr result (λ refusal. IsRefusedFor refusal (opening (setting_view version contracts.now) call.now)) }
+    ensures place { IfErr result (λ refusal. HasPlace (wrong_in (setting_view version contracts.now) call.now) refusal) }
+{
+    Machine::start_as(alloc, contracts, call, version)
 }
 
 /// As [`interp::machine::Machine::next`].
@@ -54,4 +71,18 @@ pub fn finish<'a, A: Allocator + Copy>(
     ensures { MatchResult result (IsFinishOf machine.entry) (λ m. (m ≡ machine.entry) × IsUnfinished machine.entry.status) }
 {
     machine.finish()
+}
+
+/// As [`interp::finished::Finished::version`].
+pub fn version<A: Allocator + Copy>(finished: &Finished<A>) -> Version
+    ensures { result ≡ finished.now.setting.version }
+{
+    finished.version()
+}
+
+/// As [`interp::finished::Finished::asks`].
+pub fn asks<A: Allocator + Copy>(finished: &Finished<A>) -> u32
+    ensures { result ≡ asks_in finished.now.trace }
+{
+    finished.asks()
 }

@@ -15,7 +15,7 @@ use interp::finished::Finished;
 use link::deployed::Deployed as Contract;
 use lock_profile::Touched;
 use serial::{Core, Executed};
-use spec_ledger::{NoMemory, Step};
+use spec_ledger::{NoMemory, Step, Version};
 use std::alloc::Allocator;
 use storage::Cells;
 
@@ -25,13 +25,14 @@ pub fn execute<A: Allocator + Copy>(
     contracts: &[Contract<A>],
     call: &Call,
     cells: &mut Cells<A>,
+    version: Version,
 ) -> Result<Executed<A>, NoMemory>
     requires { cells.old.unsettled ≡ finite.empty }
-    ensures executed { IfOk result (λ e. Executes (setting_view contracts.now) call.now cells.old.cells cells.new.cells e.receipt.outcome e.receipt.used e.touched) }
+    ensures executed { IfOk result (λ e. Executes (setting_view version contracts.now) call.now cells.old.cells cells.new.cells e.receipt e.touched) }
     ensures settled { cells.new.unsettled ≡ finite.empty }
     ensures err { OnErr result (cells.new ≡ cells.old) }
 {
-    serial::execute(alloc, contracts, call, cells)
+    serial::execute(alloc, contracts, call, cells, version)
 }
 
 /// As [`serial::replay`].
@@ -41,7 +42,7 @@ pub fn replay<A: Allocator + Copy>(
     cells: &mut Cells<A>,
 ) -> Result<Option<Executed<A>>, NoMemory>
     requires { cells.old.unsettled ≡ finite.empty }
-    ensures executed { IfOk result (λ o. IfSome o (λ e. Executes finished.now.setting finished.now.call cells.old.cells cells.new.cells e.receipt.outcome e.receipt.used e.touched)) }
+    ensures executed { IfOk result (λ o. IfSome o (λ e. Executes finished.now.setting finished.now.call cells.old.cells cells.new.cells e.receipt e.touched)) }
     ensures replies { IfOk result (λ o. IsSome o ↔ GetsReplies finished.now.trace cells.old.cells) }
     ensures other { IfOk result (λ o. IfNone o (cells.new ≡ cells.old)) }
     ensures settled { cells.new.unsettled ≡ finite.empty }
@@ -64,12 +65,13 @@ pub fn serial_core<A: Allocator + Copy>(
     cells: &Cells<A>,
     calls: &[Call],
     order: &[u32],
+    version: Version,
 ) -> Result<Core<A>, NoMemory>
     requires { All (λ number. number < length calls.now) order.now }
-    ensures serial { IfOk result (λ core. Serial (setting_view contracts.now) calls.now order.now cells.now.cells (positions core.receipts.items core.touched.items) core.cells.cells) }
+    ensures serial { IfOk result (λ core. Serial (setting_view version contracts.now) calls.now order.now cells.now.cells (positions core.receipts.items core.touched.items) core.cells.cells) }
     ensures receipts { IfOk result (λ core. length core.receipts.items ≡ length order.now) }
     ensures touched { IfOk result (λ core. length core.touched.items ≡ length order.now) }
     ensures settled { IfOk result (λ core. core.cells.unsettled ≡ finite.empty) }
 {
-    serial::serial_core(alloc, contracts, cells, calls, order)
+    serial::serial_core(alloc, contracts, cells, calls, order, version)
 }

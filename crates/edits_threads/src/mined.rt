@@ -2,6 +2,7 @@
 
 ghost use Rattle.std.specs.Prelude.{◌≡◌, ◌≤◌, IfOk, length};
 ghost use Rattle.std.specs.FinMap as finite;
+ghost use Rattle.spec_ledger.specs.declared.Version.TheVariants.{Two};
 ghost use Rattle.spec_ledger.specs.Order.{IsAdmissible};
 ghost use Rattle.spec_execution.specs.Serial.{Serial};
 ghost use Rattle.interp.specs.Lent.{setting_view};
@@ -39,7 +40,7 @@ pub fn mine_core<'a, R: Threads + Wait + Sync, A: Allocator + Copy + Send + Sync
     requires workers { (1 ≤ workers) × (workers ≤ 64) }
     requires tries { (1 ≤ tries) × (tries ≤ 16) }
     requires shards { (1 ≤ shards) × (shards ≤ 16) }
-    ensures serial { IfOk result (λ core. Serial (setting_view contracts.now) calls.now core.order.items cells.now.cells (positions core.receipts.items core.touched.items) core.cells.cells) }
+    ensures serial { IfOk result (λ core. Serial (setting_view Two contracts.now) calls.now core.order.items cells.now.cells (positions core.receipts.items core.touched.items) core.cells.cells) }
     ensures admissible { IfOk result (λ core. IsAdmissible (limits calls.now) core.order.items block_fuel) }
     ensures receipts { IfOk result (λ core. length core.receipts.items ≡ length core.order.items) }
     ensures touched { IfOk result (λ core. length core.touched.items ≡ length core.order.items) }
@@ -69,6 +70,7 @@ pub fn mine_in<R: Threads + Wait + Sync, A: Allocator + Copy + Send + Sync, P: P
     requires workers { (1 ≤ workers) × (workers ≤ 64) }
     requires tries { (1 ≤ tries) × (tries ≤ 16) }
     ensures headline { IfOk result (λ mined. Headline (world_view world.now) calls.now block_fuel mined.block (world_view mined.world)) }
+    ensures version { IfOk result (λ mined. mined.block.version ≡ Two) }
     ensures left { IfOk result (λ mined. IsLeft calls.now (order_of mined.block) mined.left.items) }
     ensures by_workers { IfOk result (λ mined. mined.by_workers ≤ length mined.block.positions) }
 {

@@ -57,17 +57,17 @@ stored_out s n at x vs rest lt = by_test (nat_le (at + n) (length s.memory)) ref
     by_test true b = absurd (omega (arith, leb-true _ _ b))
     by_test false b = ap (store_goes_on s n at x vs rest) b
 
-grown_ok : (c : Contract) (s : State) (delta : ℕ) (vs : List Value) (rest : Seq) → pages s.memory + delta ≤ most_pages c.deployed.tree.memories →
+grown_ok : (c : Contract) (s : State) (delta : ℕ) (vs : List Value) (rest : Seq) → pages s.memory + delta ≤ most_pages c.version c.deployed.tree.memories →
     grown c 1 s delta vs rest ≡ Goes 1 (with_memory s (s.memory ++ replicate (page_size * delta) 0)) (values vs (Val (value_of I32 (pages s.memory)) rest))
 unfolding grown
 grown_ok c s delta vs rest le =
     ap (λ b. if b then Goes 1 (with_memory s (s.memory ++ replicate (page_size * delta) 0)) (values vs (Val (value_of I32 (pages s.memory)) rest)) else Goes 1 s (values vs (Val (value_of I32 (2 ^ 32 - 1)) rest))) (le-leb _ _ le)
 
-grown_not : (c : Contract) (s : State) (delta : ℕ) (vs : List Value) (rest : Seq) → most_pages c.deployed.tree.memories < pages s.memory + delta → grown c 1 s delta vs rest ≡ Goes 1 s (values vs (Val (value_of I32 (2 ^ 32 - 1)) rest))
+grown_not : (c : Contract) (s : State) (delta : ℕ) (vs : List Value) (rest : Seq) → most_pages c.version c.deployed.tree.memories < pages s.memory + delta → grown c 1 s delta vs rest ≡ Goes 1 s (values vs (Val (value_of I32 (2 ^ 32 - 1)) rest))
 unfolding grown
-grown_not c s delta vs rest lt = by_test (nat_le (pages s.memory + delta) (most_pages c.deployed.tree.memories)) refl
+grown_not c s delta vs rest lt = by_test (nat_le (pages s.memory + delta) (most_pages c.version c.deployed.tree.memories)) refl
   where
-    by_test : (b : Bool) → nat_le (pages s.memory + delta) (most_pages c.deployed.tree.memories) ≡ b → grown c 1 s delta vs rest ≡ Goes 1 s (values vs (Val (value_of I32 (2 ^ 32 - 1)) rest))
+    by_test : (b : Bool) → nat_le (pages s.memory + delta) (most_pages c.version c.deployed.tree.memories) ≡ b → grown c 1 s delta vs rest ≡ Goes 1 s (values vs (Val (value_of I32 (2 ^ 32 - 1)) rest))
     by_test true b = absurd (omega (arith, leb-true _ _ b))
     by_test false b = ap (λ b. if b then Goes 1 (with_memory s (s.memory ++ replicate (page_size * delta) 0)) (values vs (Val (value_of I32 (pages s.memory)) rest)) else Goes 1 s (values vs (Val (value_of I32 (2 ^ 32 - 1)) rest))) b
 
@@ -218,15 +218,15 @@ module _ (c : Contract) (v : View) (safe : IsSafeAt c v) (ordered : IsOrdered v)
         let fits = popped v ordered grow_place kept a before in
         grow_asks v.stack ∙ ap (λ xs. with_number I32 (under xs) grow_goes) before ∙ ap (λ vs. with_number I32 vs grow_goes) (onto_top v.entries kept (a ∷ []) fits.1) ∙ number_is I32 a (under kept) grow_goes fits.0
 
-    pub grow_charged : (old new : Memory) → v.base.memory ≡ old.bytes → old.max ≡ most_pages c.deployed.tree.memories → (stack : List Value) → DidGrow old new v.stack stack → (w : View) →
+    pub grow_charged : (old new : Memory) → v.base.memory ≡ old.bytes → old.max ≡ most_pages c.version c.deployed.tree.memories → (stack : List Value) → DidGrow old new v.stack stack → (w : View) →
         w.base ≡ record v.base { memory = new.bytes } → w.entries ≡ v.entries → w.stack ≡ stack → w.locals ≡ v.locals → w.code ≡ is → Charged c v w
     grow_charged old new e most stack (grows d) w eb ee est el ec =
-        let le : pages v.base.memory + bits_of d.delta ≤ most_pages c.deployed.tree.memories = subst (λ m. pages v.base.memory + bits_of d.delta ≤ m) most (subst (λ m. pages m + bits_of d.delta ≤ old.max) (sym e) d.fits) in
+        let le : pages v.base.memory + bits_of d.delta ≤ most_pages c.version c.deployed.tree.memories = subst (λ m. pages v.base.memory + bits_of d.delta ≤ m) most (subst (λ m. pages m + bits_of d.delta ≤ old.max) (sym e) d.fits) in
         gone (record v.base { memory = v.base.memory ++ replicate (page_size * bits_of d.delta) 0 }) d.kept (d.delta ∷ []) (value_of I32 (pages v.base.memory) ∷ []) d.before (popped v ordered grow_place d.kept d.delta d.before).1
         (grow_is d.kept d.delta d.before ∙ grown_ok c s (bits_of d.delta) (under d.kept) (listed is End) le) w
         (eb ∙ ap (λ m. record v.base { memory = m }) (d.grown ∙ ap (λ m. m ++ replicate (page_size * bits_of d.delta) 0) (sym e))) ee (est ∙ d.result ∙ ap (λ m. d.kept ++ value_of I32 (pages m) ∷ []) (sym e)) el ec
     grow_charged old new e most stack (stays d) w eb ee est el ec =
-        let lt : most_pages c.deployed.tree.memories < pages v.base.memory + bits_of d.delta = subst (λ m. m < pages v.base.memory + bits_of d.delta) most (subst (λ m. old.max < pages m + bits_of d.delta) (sym e) d.past) in
+        let lt : most_pages c.version c.deployed.tree.memories < pages v.base.memory + bits_of d.delta = subst (λ m. m < pages v.base.memory + bits_of d.delta) most (subst (λ m. old.max < pages m + bits_of d.delta) (sym e) d.past) in
         gone v.base d.kept (d.delta ∷ []) (value_of I32 (2 ^ 32 - 1) ∷ []) d.before (popped v ordered grow_place d.kept d.delta d.before).1
         (grow_is d.kept d.delta d.before ∙ grown_not c s (bits_of d.delta) (under d.kept) (listed is End) lt) w
         (eb ∙ ap (λ m. record v.base { memory = m }) (d.same ∙ sym e)) ee (est ∙ d.result) el ec

@@ -29,7 +29,7 @@ LedView c v (after.Calls f) w = ChargedCall c v f w
 
 -- the memory may grow as far as the contract's may
 abbrev pub Suits : {A : Type 0} → Contract → Parts A → Type 0
-Suits c p = p.instance.memory.max ≡ most_pages c.deployed.tree.memories
+Suits c p = p.instance.memory.max ≡ most_pages c.version c.deployed.tree.memories
 
 -- the same for the lent contract and each state, where nothing is stuck
 abbrev pub Led : {A : Type 0} → Lent A → Parts A → After → Parts A → Type 0

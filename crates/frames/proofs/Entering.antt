@@ -5,6 +5,7 @@ use Rattle.std.proofs.lemmas.Bool.{eqb-true}
 use Rattle.wtypes.specs.declared.FuncType.{FuncType}
 use Rattle.wtypes.specs.declared.HostCall.{HostCall}
 use Rattle.wtypes.specs.declared.Value.{Value}
+use Rattle.spec_ledger.specs.declared.Version.{Version}
 use Rattle.spec_syntax.specs.Syntax as syntax
 use Rattle.module_tree.specs.declared.module.Func.{Func}
 use Rattle.module_tree.specs.declared.module.Module.{Module}
@@ -29,9 +30,9 @@ none_found None g e h = absurd (cc)
 none_found (Some x) g e h = absurd (cc)
 
 -- what is found of an entry
-module _ {A : Type 0} (m : Module A) (hosts : List HostCall) (number f : ℕ) (args : List Value) (le : length hosts ≤ f) (entry : IsEntry (record { number = number; deployed = record { tree = module_view m; hosts = hosts } }) f args) where
+module _ {A : Type 0} (m : Module A) (hosts : List HostCall) (number : ℕ) (version : Version) (f : ℕ) (args : List Value) (le : length hosts ≤ f) (entry : IsEntry (record { number = number; deployed = record { tree = module_view m; hosts = hosts }; version = version }) f args) where
   abbrev c : Contract
-  c = record { number = number; deployed = record { tree = module_view m; hosts = hosts } }
+  c = record { number = number; deployed = record { tree = module_view m; hosts = hosts }; version = version }
 
   pub entry_found : f - length hosts < length m.funcs.items
   entry_found = within m.funcs.items _ (λ e. none_found _ _ (function_is m hosts f None le e) entry.found)

@@ -9,6 +9,8 @@ use Rattle.std.proofs.lemmas.List.Elements.{All-head, All-tail}
 use Rattle.std.proofs.lemmas.Bool.{leb-true, le-leb}
 use Rattle.wtypes.specs.declared.Value.TheVariants as value
 use Rattle.wtypes.specs.declared.HostCall.{HostCall}
+use Rattle.spec_ledger.specs.declared.Version.{Version}
+use Rattle.spec_ledger.specs.declared.Version.TheVariants.{One, Two}
 use Rattle.wtypes.specs.declared.PlainInstr.TheVariants.{Const}
 use Rattle.module_tree.specs.declared.module.Module as tree
 use Rattle.module_tree.specs.declared.module.DataSegment as tree_data
@@ -21,7 +23,7 @@ use Rattle.spec_typing.specs.Modules.{memories, memory_of, MemoryTyped}
 use Rattle.spec_typing.specs.Linking.{IsLinked, Resolves, InMemory, InRange, offset_number}
 use Rattle.spec_numeric.specs.Memory.{written}
 use Rattle.spec_execution.specs.Configuration.{constant, size_of, with_datas}
-use Rattle.spec_execution.specs.Reduction.{most_pages}
+use Rattle.spec_execution.specs.Reduction.{pages_of, most_pages}
 
 -- imports are functions alone
 pub none_else : {X : Type 0} (f : ImportDesc → Option X) → ((index : ℕ) → f (ImportFunc index) ≡ None) → (types : List FuncType) (is : List Import) (cs : List HostCall) → Resolves types is cs → filter_map (λ (i : Import). f i.desc) is ≡ []
@@ -41,13 +43,21 @@ all_right : {X : Type 0} (P : X → Type 0) (xs ys : List X) → All P (xs ++ ys
 all_right P [] ys h = h
 all_right P (x ∷ xs) ys h = all_right P xs ys (All-tail P x (xs ++ ys) h)
 
-below_most : (n : ℕ) (max : Option ℕ) → n ≤ page_limit → IfSome max (λ x. n ≤ x) → n ≤ min page_limit (unwrap_or max page_limit)
-below_most n None le h = omega arith
-below_most n (Some x) le h = omega (arith, h)
+below_bound : (v : Version) (n : ℕ) → n ≤ page_limit → n ≤ pages_of v n
+below_bound One n le = omega arith
+below_bound Two n le = le
 
-fits_list : (ms : List Limits) → All (λ limits. limits.min ≤ page_limit) ms → All MemoryTyped ms → size_of ms ≤ most_pages ms
-fits_list [] h k = omega arith
-fits_list (l ∷ ls) h k = below_most l.min l.max (All-head (λ (l : Limits). l.min ≤ page_limit) l ls h) (All-head MemoryTyped l ls k).0
+below_most : (n bound : ℕ) (max : Option ℕ) → n ≤ bound → IfSome max (λ x. n ≤ x) → n ≤ min bound (unwrap_or max bound)
+below_most n bound None le h = omega (arith, le)
+below_most n bound (Some x) le h = omega (arith, le, h)
+
+few_list : (ms : List Limits) → All (λ limits. limits.min ≤ page_limit) ms → size_of ms ≤ page_limit
+few_list [] h = omega arith
+few_list (l ∷ ls) h = All-head (λ (l : Limits). l.min ≤ page_limit) l ls h
+
+fits_list : (v : Version) (ms : List Limits) → All (λ limits. limits.min ≤ page_limit) ms → All MemoryTyped ms → size_of ms ≤ most_pages v ms
+fits_list v [] h k = omega arith
+fits_list v (l ∷ ls) h k = below_most l.min (pages_of v l.min) l.max (below_bound v l.min (All-head (λ (l : Limits). l.min ≤ page_limit) l ls h)) (All-head MemoryTyped l ls k).0
 
 pub only_one : (ms : List Limits) (k : ℕ) (l : Limits) → length ms ≤ 1 → slice_get ms k ≡ Some l → size_of ms ≡ l.min
 only_one [] k l le e = absurd (cc)
@@ -59,16 +69,18 @@ pub const_number : (e : Instrs) (at : ℕ) → offset_number e ≡ Some at → b
 const_number (seq (Plain (Const (value.I32 k))) nothing) at e = (let there : cast_unsigned w32 k ≡ at = cc in there)
 const_number _ at e = absurd (cc)
 
-most_is_few : (ms : List Limits) → most_pages ms ≤ page_limit
-most_is_few [] = omega arith
-most_is_few (l ∷ ls) = omega arith
-
 module _ (m : Module) (calls : List HostCall) (l : IsLinked m calls) where
   memories_own : memories m ≡ m.memories
   memories_own = ap (λ xs. xs ++ m.memories) (none_else memory_of (λ i. refl) m.types m.imports calls l.imports)
 
-  pub memory_fits : size_of m.memories ≤ most_pages m.memories
-  memory_fits = fits_list m.memories (subst (All (λ limits. limits.min ≤ page_limit)) memories_own l.pages) (subst (All MemoryTyped) memories_own l.typed.memory_limits)
+  pages_own : All (λ (limits : Limits). limits.min ≤ page_limit) m.memories
+  pages_own = subst (All (λ limits. limits.min ≤ page_limit)) memories_own l.pages
+
+  pub memory_few : size_of m.memories ≤ page_limit
+  memory_few = few_list m.memories pages_own
+
+  pub memory_fits : (v : Version) → size_of m.memories ≤ most_pages v m.memories
+  memory_fits v = fits_list v m.memories pages_own (subst (All MemoryTyped) memories_own l.typed.memory_limits)
 
   data_in : (k : ℕ) (d : DataSegment) → k < length m.datas → InRange m (InMemory (slice_index_or m.datas k d))
   data_in k d lt = at_map (InRange m) InMemory m.datas (all_right (InRange m) _ (map InMemory m.datas) l.segments_fit) k d lt
@@ -91,8 +103,11 @@ known_le {X} x y known so = by_test (nat_le x y) refl
     by_test true b = leb-true _ _ b
     by_test false b = absurd (∥∥₁_elim known (λ a b. absurd a) (λ k. not_both x y (so k) b))
 
-pub fits_known : (m : Module) (calls : List HostCall) → ∥ IsLinked m calls ∥₁ → size_of m.memories ≤ most_pages m.memories
-fits_known m calls linked = known_le _ _ linked (memory_fits m calls)
+pub few_known : (m : Module) (calls : List HostCall) → ∥ IsLinked m calls ∥₁ → size_of m.memories ≤ page_limit
+few_known m calls linked = known_le _ _ linked (memory_few m calls)
+
+pub fits_known : (v : Version) (m : Module) (calls : List HostCall) → ∥ IsLinked m calls ∥₁ → size_of m.memories ≤ most_pages v m.memories
+fits_known v m calls linked = known_le _ _ linked (λ l. memory_fits m calls l v)
 
 pub map_index : {X Y : Type 0} (f : X → Y) (xs : List X) (k : ℕ) (d : X) → slice_index_or (map f xs) k (f d) ≡ f (slice_index_or xs k d)
 map_index f [] k d = refl
@@ -124,7 +139,7 @@ module _ {A : Type 0} (t : tree.Module A) (calls : List HostCall) (linked : ∥ 
 
   pub segment_small : bits_of (constant (data_view x).offset) < 2 ^ 32
   segment_small =
-      let few : size_of (map limits_view t.memories.items) ≤ page_limit = omega (arith, fits_known (module_view t) calls linked, most_is_few (map limits_view t.memories.items)) in
+      let few : size_of (map limits_view t.memories.items) ≤ page_limit = few_known (module_view t) calls linked in
       omega (arith, segment_fits, few)
 
   pub one_segment_more : (z : List ℕ) → with_datas (map data_view (take (i + 1) t.datas.items)) z ≡ written (bits_of (constant (data_view x).offset)) x.bytes.items (with_datas (map data_view (take i t.datas.items)) z)

@@ -1,5 +1,6 @@
 -- The state of an instance.
 use Rattle.std.specs.Prelude.{◌≡◌}
+use Rattle.spec_ledger.specs.declared.Version.{Version}
 use Rattle.spec_syntax.specs.Syntax.{Module}
 use Rattle.spec_execution.specs.Configuration.{State, fresh}
 use Rattle.spec_execution.specs.Reduction.{most_pages}
@@ -9,9 +10,9 @@ use Rattle.instance.specs.declared.Instance.{Instance}
 abbrev pub based : {A : Type 0} → State → Instance A → State
 based b i = record b { globals = i.globals.items; memory = i.memory.bytes; table = i.table.items }
 
--- it is a fresh instance of the module
-pub record IsFresh {A : Type 0} (i : Instance A) (m : Module) : Type 0 where
+-- it is a fresh instance of the module, by the rules of this version
+pub record IsFresh {A : Type 0} (version : Version) (i : Instance A) (m : Module) : Type 0 where
   pub globals : i.globals.items ≡ (fresh m).globals
   pub memory : i.memory.bytes ≡ (fresh m).memory
   pub table : i.table.items ≡ (fresh m).table
-  pub max : i.memory.max ≡ most_pages m.memories
+  pub max : i.memory.max ≡ most_pages version m.memories

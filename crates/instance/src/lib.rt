@@ -9,9 +9,9 @@ ghost use Rattle.module_tree.specs.View.{instrs_view};
 ghost use Rattle.module_tree.specs.ModuleView.{global_view, limits_view};
 ghost use Rattle.module_tree.specs.Modules.{module_view};
 ghost use Rattle.spec_syntax.specs.Syntax as syntax;
-ghost use Rattle.spec_syntax.specs.Profile.{page_size};
+ghost use Rattle.spec_syntax.specs.Profile.{page_size, page_limit};
 ghost use Rattle.spec_execution.specs.Configuration.{constant, size_of, fresh};
-ghost use Rattle.spec_execution.specs.Reduction.{most_pages};
+ghost use Rattle.spec_execution.specs.Reduction.{pages_of, most_pages};
 ghost use Rattle.link.specs.Parts.{tree_of};
 ghost use Rattle.instance.specs.States.{IsFresh};
 
@@ -21,6 +21,7 @@ use memory::{Linear, PAGE_LIMIT, StoreRefusal};
 use module_tree::instr::Instr;
 use module_tree::lone::lone_plain;
 use module_tree::module::Global as Declared;
+use spec_ledger::Version;
 use std::alloc::{AllocError, Allocator, Global};
 use wtypes::{Limits, NoMemory, PlainInstr, Value};
 
@@ -37,22 +38,23 @@ pub struct Instance<A: Allocator + Copy = Global> {
 }
 
 /// A fresh instance (Core Specification, 4.5.4 Instantiation): its globals have their first values, and its data
-/// segments and element segments are in place. Its memory may grow to the lesser of the limit and the declared maximum.
+/// segments and element segments are in place. Its memory may grow to the lesser of the version's limit and the declared maximum.
 ///
 /// # Errors
 ///
 /// `NoMemory` where memory was refused.
 pub fn open_instance<A: Allocator + Copy>(
     alloc: A,
+    version: Version,
     deployed: &Deployed<A>,
 ) -> Result<Instance<A>, NoMemory>
-    ensures { IfOk result (λ i. IsFresh i (module_view (tree_of deployed.now))) }
+    ensures { IfOk result (λ i. IsFresh version i (module_view (tree_of deployed.now))) }
 {
     let globals = match open_globals(alloc, &deployed.module().globals) {
         Ok(globals) => globals,
         Err(_) => return Err(NoMemory),
     };
-    let memory = open_memory(alloc, deployed)?;
+    let memory = open_memory(alloc, version, deployed)?;
     let table = open_table(alloc, deployed)?;
     Ok(Instance {
         globals,
@@ -62,13 +64,17 @@ pub fn open_instance<A: Allocator + Copy>(
 }
 
 // The memory, with the data segments in place.
-fn open_memory<A: Allocator + Copy>(alloc: A, deployed: &Deployed<A>) -> Result<Linear<A>, NoMemory>
+fn open_memory<A: Allocator + Copy>(
+    alloc: A,
+    version: Version,
+    deployed: &Deployed<A>,
+) -> Result<Linear<A>, NoMemory>
     ensures bytes { IfOk result (λ m. m.bytes ≡ (fresh (module_view (tree_of deployed.now))).memory) }
-    ensures max { IfOk result (λ m. m.max ≡ most_pages (map limits_view (tree_of deployed.now).memories.items)) }
+    ensures max { IfOk result (λ m. m.max ≡ most_pages version (map limits_view (tree_of deployed.now).memories.items)) }
 {
     deployed.is_linked();
     let tree = deployed.module();
-    let mut memory = first_memory(alloc, &tree.memories)?;
+    let mut memory = first_memory(alloc, version, &tree.memories)?;
     for segment in &tree.datas {
         let at = bits(constant_of(&segment.offset)) as u32;
         match memory.write_all(at, &segment.bytes) {
@@ -90,18 +96,38 @@ fn bits(value: Value) -> u64
     }
 }
 
+// No memory grows to more in version 1, but where its minimum is more.
+const OLD_PAGE_LIMIT: u32 = 256;
+
+// The most pages that a memory of this minimum grows to, where it declares no maximum.
+fn page_bound(version: Version, min: u32) -> u32
+    requires { min ≤ page_limit }
+    ensures value { result ≡ pages_of version min }
+    ensures few { result ≤ page_limit }
+{
+    match version {
+        Version::One => OLD_PAGE_LIMIT.max(min),
+        Version::Two => PAGE_LIMIT,
+    }
+}
+
 // The memory before the data segments are in place.
-fn first_memory<A: Allocator + Copy>(alloc: A, memories: &[Limits]) -> Result<Linear<A>, NoMemory>
-    requires { size_of (map limits_view memories.now) ≤ most_pages (map limits_view memories.now) }
+fn first_memory<A: Allocator + Copy>(
+    alloc: A,
+    version: Version,
+    memories: &[Limits],
+) -> Result<Linear<A>, NoMemory>
+    requires few { size_of (map limits_view memories.now) ≤ page_limit }
+    requires fits { size_of (map limits_view memories.now) ≤ most_pages version (map limits_view memories.now) }
     ensures bytes { IfOk result (λ m. m.bytes ≡ replicate (page_size * size_of (map limits_view memories.now)) 0) }
-    ensures max { IfOk result (λ m. m.max ≡ most_pages (map limits_view memories.now)) }
+    ensures max { IfOk result (λ m. m.max ≡ most_pages version (map limits_view memories.now)) }
 {
     if memories.is_empty() {
         return Linear::new(alloc, 0, PAGE_LIMIT);
     }
     let limits = memories[0];
-    let most = limits.max.unwrap_or(PAGE_LIMIT);
-    Linear::new(alloc, limits.min, most.min(PAGE_LIMIT))
+    let bound = page_bound(version, limits.min);
+    Linear::new(alloc, limits.min, bound.min(limits.max.unwrap_or(bound)))
 }
 
 // The first values of the globals.

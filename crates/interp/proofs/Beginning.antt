@@ -6,6 +6,7 @@ use Rattle.std.proofs.lemmas.Bool.{ltb-true, ltb-false}
 use Rattle.wtypes.specs.declared.Value.{Value}
 use Rattle.wtypes.specs.declared.HostCall.{HostCall}
 use Rattle.wtypes.specs.declared.HostCall.TheVariants as host
+use Rattle.spec_ledger.specs.declared.Version.{Version}
 use Rattle.spec_syntax.specs.Syntax.{Module}
 use Rattle.spec_typing.specs.Linking.{IsLinked}
 use Rattle.spec_execution.specs.Configuration.{Setting, Contract, Seq, End, Invoke, Config, Running, arguments, fresh}
@@ -148,24 +149,24 @@ module _ (s : Seen) (view : s.view ≡ alone (fresh s.contract.deployed.tree) []
     has_started f e turn.NoMemory t h = h
     has_started f e (turn.Done o) t h = h
 
-abbrev pub at_number : {A : Type 0} → ℕ → in_memory.Module A → List HostCall → Contract
-at_number n m hosts = record { number = n; deployed = record { tree = module_view m; hosts = hosts } }
+abbrev pub at_number : {A : Type 0} → Version → ℕ → in_memory.Module A → List HostCall → Contract
+at_number version n m hosts = record { number = n; deployed = record { tree = module_view m; hosts = hosts }; version = version }
 
-pub record IsOpen {A : Type 0} (n : ℕ) (m : in_memory.Module A) (hosts : List HostCall) (n0 : ℕ) (d0 : linked.Deployed A) : Type 0 where
-  pub same : at_number n m hosts ≡ at_number n0 (tree_of d0) (hosts_of d0)
+pub record IsOpen {A : Type 0} (version : Version) (n : ℕ) (m : in_memory.Module A) (hosts : List HostCall) (n0 : ℕ) (d0 : linked.Deployed A) : Type 0 where
+  pub same : at_number version n m hosts ≡ at_number version n0 (tree_of d0) (hosts_of d0)
 
 -- the contract that is lent is the one that the call opens with
-pub contract_same : {A : Type 0} (n n0 : ℕ) (m : in_memory.Module A) (hosts : List HostCall) (d d0 : linked.Deployed A) → n ≡ n0 → m ≡ tree_of d → hosts ≡ hosts_of d → d ≡ d0 →
-    IsOpen n m hosts n0 d0
-contract_same n n0 m hosts d d0 e f h k = record {
+pub contract_same : {A : Type 0} (version : Version) (n n0 : ℕ) (m : in_memory.Module A) (hosts : List HostCall) (d d0 : linked.Deployed A) → n ≡ n0 → m ≡ tree_of d → hosts ≡ hosts_of d → d ≡ d0 →
+    IsOpen version n m hosts n0 d0
+contract_same version n n0 m hosts d d0 e f h k = record {
   same =
-      ap (λ x. record { number = x; deployed = record { tree = module_view m; hosts = hosts } }) e
-      ∙ ap (λ x. record { number = n0; deployed = record { tree = module_view x; hosts = hosts } }) (f ∙ ap tree_of k)
-      ∙ ap (λ x. record { number = n0; deployed = record { tree = module_view (tree_of d0); hosts = x } }) (h ∙ ap hosts_of k);
+      ap (λ x. at_number version x m hosts) e
+      ∙ ap (λ x. at_number version n0 x hosts) (f ∙ ap tree_of k)
+      ∙ ap (λ x. at_number version n0 (tree_of d0) x) (h ∙ ap hosts_of k);
 }
 
 -- the state of a fresh instance
-pub based_fresh : {A : Type 0} (m : Module) (i : Instance A) → IsFresh i m → based (fresh m) i ≡ fresh m
-based_fresh m i made =
+pub based_fresh : {A : Type 0} (version : Version) (m : Module) (i : Instance A) → IsFresh version i m → based (fresh m) i ≡ fresh m
+based_fresh version m i made =
     ap₂ (λ (gs : List Value) (bs : List ℕ). record (fresh m) { globals = gs; memory = bs; table = i.table.items }) made.globals made.memory
     ∙ ap (λ (es : List (Option ℕ)). record (fresh m) { table = es }) made.table

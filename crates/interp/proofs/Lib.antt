@@ -9,3 +9,4 @@ pub mod Outlook
 pub mod Copying
 pub mod Wanting
 pub mod Stepping
+pub mod Counting

@@ -3,6 +3,7 @@ use Rattle.std.proofs.Common.{◌≡◌, ℕ, Bool, true, false, List, Option, S
 use Rattle.std.specs.Prelude.{if◌then◌else◌, nat_lt}
 use Rattle.wtypes.specs.declared.Value.{Value}
 use Rattle.wtypes.specs.declared.HostCall.{HostCall}
+use Rattle.spec_ledger.specs.declared.Version.{Version}
 use Rattle.spec_syntax.specs.Syntax.{ExportDesc, ExportFunc, ExportTable, ExportMemory, ExportGlobal, FuncType, Func}
 use Rattle.spec_execution.specs.Configuration.{Setting, Deployed, Contract, Function, Hosted, Defined, function_at}
 use Rattle.spec_execution.specs.Run.{ContractCall, opening, Opens, Refused, by_wrong, by_function, by_export, by_contract, wrong_argument, exported}
@@ -35,9 +36,9 @@ not_hosted c k f func args true None o e = absurd (cc)
 not_hosted c k f func args true (Some h) o e = absurd (cc)
 
 -- the function is the module's own
-pub entry_defined : (d : Deployed) (call : ContractCall) (k : Contract) (func : ℕ) → by_contract call (Some d) ≡ Opens k func → nat_lt func (length d.hosts) ≡ false
-entry_defined d call k func e =
-    let c : Contract = record { number = call.contract; deployed = d } in
+pub entry_defined : (version : Version) (d : Deployed) (call : ContractCall) (k : Contract) (func : ℕ) → by_contract version call (Some d) ≡ Opens k func → nat_lt func (length d.hosts) ≡ false
+entry_defined version d call k func e =
+    let c : Contract = record { number = call.contract; deployed = d; version = version } in
     not_hosted c k func func call.args (nat_lt func (length d.hosts)) _ _ (export_found c k call.args func (exported call.entry d.tree.exports) e)
 
 -- ---- the entry takes the arguments
@@ -66,9 +67,9 @@ function_found c k f func args (Some (Defined t g)) e = by_test (length args == 
 pub opened_entry : (setting : Setting) (call : ContractCall) (k : Contract) (func : ℕ) → opening setting call ≡ Opens k func → IsEntry k func call.args
 opened_entry setting call k func e = by_place (slice_get setting.contracts call.contract) e
   where
-    by_place : (o : Option Deployed) → by_contract call o ≡ Opens k func → IsEntry k func call.args
+    by_place : (o : Option Deployed) → by_contract setting.version call o ≡ Opens k func → IsEntry k func call.args
     by_place None e = absurd (cc)
     by_place (Some d) e =
-        let c : Contract = record { number = call.contract; deployed = d } in
+        let c : Contract = record { number = call.contract; deployed = d; version = setting.version } in
         let f = function_found c k func func call.args (function_at d func) (export_found c k call.args func (exported call.entry d.tree.exports) e) in
         subst (λ (x : Contract). IsEntry x func call.args) f.same (record { type = f.type; function = f.function; found = f.there; fit = f.fit })

@@ -5,9 +5,11 @@ use mathlib.Core.Logic.{inl, inr}
 use Rattle.wtypes.specs.contracts.ValType as valtype
 use Rattle.wtypes.specs.contracts.Value as value
 use Rattle.wtypes.specs.contracts.HostCall as host
+use Rattle.spec_ledger.specs.contracts.Version as version
 use Rattle.wtypes.specs.declared.ValType.{ValType}
 use Rattle.wtypes.specs.declared.Value.{Value}
 use Rattle.wtypes.specs.declared.HostCall.{HostCall}
+use Rattle.spec_ledger.specs.declared.Version.{Version}
 use Rattle.spec_syntax.specs.Syntax.{Instrs, FuncType, Limits, GlobalType, ImportDesc, ImportFunc, ImportTable, ImportMemory, ImportGlobal, ExportDesc, ExportFunc, ExportTable, ExportMemory, ExportGlobal, Import, Func, Global, Export, Element, DataSegment, Module}
 use Rattle.spec_syntax.specs.Codes.{coded_instrs}
 use Rattle.spec_execution.specs.Configuration.{Setting, Deployed, Contract, Config}
@@ -114,10 +116,14 @@ abbrev pub coded_deployed : Coded Deployed
 coded_deployed = code_by (Module × List HostCall) (coded× coded_module (coded_list host.the_row.coded)) (λ d. (d.tree, d.hosts)) (λ p. record { tree = p.0; hosts = p.1 }) (λ _. refl)
 
 abbrev pub coded_contract : Coded Contract
-coded_contract = code_by (ℕ × Deployed) (coded× coded_ℕ coded_deployed) (λ c. (c.number, c.deployed)) (λ p. record { number = p.0; deployed = p.1 }) (λ _. refl)
+coded_contract =
+    code_by (ℕ × (Deployed × Version)) (coded× coded_ℕ (coded× coded_deployed version.the_row.coded))
+    (λ c. (c.number, (c.deployed, c.version))) (λ p. record { number = p.0; deployed = p.1.0; version = p.1.1 }) (λ _. refl)
 
 abbrev pub coded_setting : Coded Setting
-coded_setting = code_by (List Deployed) (coded_list coded_deployed) (λ s. s.contracts) (λ ds. record { contracts = ds }) (λ _. refl)
+coded_setting =
+    code_by (List Deployed × Version) (coded× (coded_list coded_deployed) version.the_row.coded)
+    (λ s. (s.contracts, s.version)) (λ p. record { contracts = p.0; version = p.1 }) (λ _. refl)
 
 abbrev pub coded_level : Coded Level
 coded_level =

@@ -11,12 +11,12 @@ use Rattle.frames.specs.Waiting.{alone, tail_of, Waits, HasEach}
 use Rattle.interp.specs.declared.turns.Status.TheVariants as status
 use Rattle.spec_execution.specs.Configuration.{End, Invoke, arguments, fresh}
 use Rattle.spec_execution.specs.Run.{opening, Opens}
-use Rattle.spec_execution.specs.Levels.{IsSafe}
+use Rattle.spec_execution.specs.Levels.{IsSafe, asks_in}
 use Rattle.interp.specs.Machine.{Seen, first_of, IsMachine, IsCalling, HasRoom}
 
 abbrev pub seen : {A : Type 0} → Run A → Seen
 seen r = record {
-  setting = setting_view r.contracts.now;
+  setting = setting_view r.lent.version r.contracts.now;
   call = r.call.now;
   contract = contract_of r.lent;
   func = r.func;
@@ -34,6 +34,7 @@ pub record IsKept {A : Type 0} (r : Run A) : Type 0 where
   pub suits : Suits (contract_of r.lent) r.parts
   pub waits : Waits (contract_of r.lent) r.call.now.args r.waiting
   pub place : HasEach r.waiting
+  pub entered : r.entered ≡ asks_in r.trace.items
   pub room : HasRoom r.status r.trace
 
 -- its call opens, and is safe
@@ -43,6 +44,7 @@ pub record IsBegun {A : Type 0} (r : Run A) : Type 0 where
   pub suits : Suits (contract_of r.lent) r.parts
   pub waits : Waits (contract_of r.lent) r.call.now.args r.waiting
   pub place : HasEach r.waiting
+  pub entered : r.entered ≡ asks_in r.trace.items
 
 -- Nothing is open yet, in a fresh instance, and the entry waits.
 pub record IsFirst {A : Type 0} (r : Run A) : Type 0 where
@@ -61,3 +63,4 @@ pub record IsToCall {A : Type 0} (r : Run A) (f : ℕ) : Type 0 where
   pub suits : Suits (contract_of r.lent) r.parts
   pub waits : Waits (contract_of r.lent) r.call.now.args r.waiting
   pub place : HasEach r.waiting
+  pub entered : r.entered ≡ asks_in r.trace.items

@@ -1,6 +1,7 @@
 // A call that was run to its end.
 ghost use Rattle.std.specs.Prelude.{◌≡◌, Some, option_map, IfSome, IfNone};
 ghost use Rattle.spec_execution.specs.Run.{opening};
+ghost use Rattle.spec_execution.specs.Levels.{asks_in};
 ghost use Rattle.interp.specs.Played.{IsPlayed};
 ghost use Rattle.interp.specs.Starting.{IsOpened, IsRejection};
 ghost use Rattle.interp.specs.Lent.{setting_view};
@@ -8,12 +9,13 @@ ghost use Rattle.interp.specs.Lent.{setting_view};
 use crate::start::open_call;
 use call::Call;
 use link::deployed::Deployed;
-use spec_ledger::{Outcome, Step};
+use spec_ledger::{Outcome, Step, Version};
 use std::alloc::Allocator;
 use std::marker::Model;
 
-/// A lent call over lent contracts, with the operations that it asked for, their replies, its outcome and the fuel
-/// that it used. That these are a run of the call over the contracts is kept by the type.
+/// A lent call over lent contracts, by the rules of a version, with the operations that it asked for, their replies, its
+/// outcome, the fuel that it used and how many levels it entered. That these are a run of the call over the contracts is
+/// kept by the type.
 #[derive(Drop)]
 pub struct Finished<'a, A: Allocator> {
     contracts: &'a [Deployed<A>],
@@ -21,9 +23,13 @@ pub struct Finished<'a, A: Allocator> {
     trace: Vec<Step, A>,
     outcome: Outcome,
     used: u64,
+    asks: u32,
+    version: Version,
 }
 
 impl<'a, A: Allocator> Model for Finished<'a, A> {
+    ghost use Rattle.std.specs.Prelude.{◌≡◌};
+    ghost use Rattle.spec_execution.specs.Levels.{asks_in};
     ghost use Rattle.interp.specs.Played.{Played, coded_played, IsPlayed};
     ghost use Rattle.interp.specs.Lent.{setting_view};
 
@@ -31,9 +37,9 @@ impl<'a, A: Allocator> Model for Finished<'a, A> {
 
     ghost coded = { coded_played };
 
-    ghost view = { λ f. record { setting = setting_view f.contracts.now; call = f.call.now; trace = f.trace.items; outcome = f.outcome; used = f.used } };
+    ghost view = { λ f. record { setting = setting_view f.version f.contracts.now; call = f.call.now; trace = f.trace.items; outcome = f.outcome; used = f.used } };
 
-    ghost invariant = { λ f. IsPlayed (record { setting = setting_view f.contracts.now; call = f.call.now; trace = f.trace.items; outcome = f.outcome; used = f.used }) };
+    ghost invariant = { λ f. IsPlayed (record { setting = setting_view f.version f.contracts.now; call = f.call.now; trace = f.trace.items; outcome = f.outcome; used = f.used }) × (f.asks ≡ asks_in f.trace.items) };
 }
 
 impl<'a, A: Allocator + Copy> Finished<'a, A> {
@@ -44,9 +50,12 @@ impl<'a, A: Allocator + Copy> Finished<'a, A> {
         trace: Vec<Step, A>,
         outcome: Outcome,
         used: u64,
+        asks: u32,
+        version: Version,
     ) -> Finished<'a, A>
-        requires { IsPlayed (record { setting = setting_view contracts.now; call = call.now; trace = trace.items; outcome = outcome; used = used }) }
-        ensures { result ≡ record { setting = setting_view contracts.now; call = call.now; trace = trace.items; outcome = outcome; used = used } }
+        requires played { IsPlayed (record { setting = setting_view version contracts.now; call = call.now; trace = trace.items; outcome = outcome; used = used }) }
+        requires asks { asks ≡ asks_in trace.items }
+        ensures { result ≡ record { setting = setting_view version contracts.now; call = call.now; trace = trace.items; outcome = outcome; used = used } }
     {
         Finished {
             contracts,
@@ -54,6 +63,8 @@ impl<'a, A: Allocator + Copy> Finished<'a, A> {
             trace,
             outcome,
             used,
+            asks,
+            version,
         }
     }
 
@@ -63,24 +74,32 @@ impl<'a, A: Allocator + Copy> Finished<'a, A> {
         alloc: A,
         contracts: &'a [Deployed<A>],
         call: &'a Call,
+        version: Version,
     ) -> Option<Finished<'a, A>>
-        ensures some { IfSome result (λ f. IsRejection (setting_view contracts.now) call.now f) }
-        ensures none { IfNone result (IsOpened (opening (setting_view contracts.now) call.now)) }
+        ensures some { IfSome result (λ f. IsRejection (setting_view version contracts.now) call.now f) }
+        ensures none { IfNone result (IsOpened (opening (setting_view version contracts.now) call.now)) }
     {
         match open_call(contracts, call) {
             Ok(_) => None,
             Err(refusal) => {
                 let outcome = Outcome::Rejected(refusal.code());
-                Some(Finished::of(contracts, call, Vec::new(alloc), outcome, 0))
+                Some(Finished::of(contracts, call, Vec::new(alloc), outcome, 0, 0, version))
             }
         }
     }
 
     /// The contracts.
     pub fn contracts(&self) -> &'a [Deployed<A>]
-        ensures { setting_view result.now ≡ self.now.setting }
+        ensures { setting_view self.now.setting.version result.now ≡ self.now.setting }
     {
         self.contracts
+    }
+
+    /// The version whose rules it was run by.
+    pub fn version(&self) -> Version
+        ensures { result ≡ self.now.setting.version }
+    {
+        self.version
     }
 
     /// The call.
@@ -109,6 +128,13 @@ impl<'a, A: Allocator + Copy> Finished<'a, A> {
         ensures { result ≡ self.now.used }
     {
         self.used
+    }
+
+    /// How many levels it entered.
+    pub fn asks(&self) -> u32
+        ensures { result ≡ asks_in self.now.trace }
+    {
+        self.asks
     }
 
     /// These are a run of the call over the contracts.

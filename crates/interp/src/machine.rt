@@ -21,7 +21,7 @@ use operands::lent::Lent;
 use operands::plain::After;
 use operands::values::bits;
 use soundness::deployed_calls_are_safe;
-use spec_ledger::{NoMemory, Op, Outcome, Place, Reply, Step};
+use spec_ledger::{NoMemory, Op, Outcome, Place, Reply, Step, Version};
 use std::alloc::Allocator;
 use wtypes::{HostCall, TrapCode, Value};
 
@@ -39,6 +39,7 @@ pub(crate) struct Run<'a, A: Allocator + Copy> {
     pub(crate) waiting: Option<Waiting<'a, A>>,
     pub(crate) status: Status,
     pub(crate) asked: u32,
+    pub(crate) entered: u32,
 }
 
 // Makes a turn, where the run has not ended.
@@ -381,7 +382,7 @@ fn finished<'a, A: Allocator + Copy>(run: Run<'a, A>, outcome: Outcome) -> Finis
     let Run {
         alloc: _,
         contracts,
-        lent: _,
+        lent,
         call,
         func: _,
         trace,
@@ -390,8 +391,9 @@ fn finished<'a, A: Allocator + Copy>(run: Run<'a, A>, outcome: Outcome) -> Finis
         waiting: _,
         status: _,
         asked: _,
+        entered,
     } = run;
-    Finished::of(contracts, call, trace, outcome, used)
+    Finished::of(contracts, call, trace, outcome, used, entered, lent.version)
 }
 
 ghost use Rattle.std.specs.Prelude.{MatchResult};
@@ -474,7 +476,9 @@ impl<'a, A: Allocator + Copy> Machine<'a, A> {
 
 ghost use Rattle.link.specs.Parts.{hosts_of};
 ghost use Rattle.spec_execution.specs.Run.{opening, Opens};
-ghost use Rattle.interp.specs.Lent.{contract_view, setting_view};
+ghost use Rattle.spec_ledger.specs.declared.Version.TheVariants.{Two};
+ghost use Rattle.opening.specs.Views.{contract_of};
+ghost use Rattle.interp.specs.Lent.{setting_view};
 ghost use Rattle.interp.specs.Progress.{IsStartOf};
 ghost use Rattle.std.specs.Prelude.{IfOk};
 
@@ -482,29 +486,50 @@ impl<'a, A: Allocator + Copy> Machine<'a, A> {
     ghost use Rattle.std.specs.Prelude.{◌≡◌, ◌≤◌, length, IfOk, IfErr};
     ghost use Rattle.link.specs.Parts.{hosts_of};
     ghost use Rattle.spec_execution.specs.Run.{opening, Opens};
-    ghost use Rattle.interp.specs.Lent.{contract_view, setting_view};
+    ghost use Rattle.spec_ledger.specs.declared.Version.TheVariants.{Two};
+    ghost use Rattle.opening.specs.Views.{contract_of};
+    ghost use Rattle.interp.specs.Lent.{setting_view};
     ghost use Rattle.interp.specs.Progress.{IsStartOf, IsProgress};
     ghost use Rattle.interp.specs.Starting.{IsRefusedFor, HasPlace, wrong_in};
 
-    /// The machine of a call before its first turn.
+    /// The machine of a call before its first turn, by the rules of version 2: `start_as` with it.
     ///
     /// # Errors
     ///
-    /// Why the call does not start. Of several causes it is the first of: the contract, the export, the function, the
-    /// number of arguments, their types, memory.
+    /// As `start_as`.
     pub fn start(
         alloc: A,
         contracts: &'a [Deployed<A>],
         call: &'a Call,
     ) -> Result<Machine<'a, A>, StartRefusal>
-        ensures start { IfOk result (λ m. IsStartOf (setting_view contracts.now) call.now m) }
+        ensures start { IfOk result (λ m. IsStartOf (setting_view Two contracts.now) call.now m) }
         ensures on_run { IfOk result (λ m. IsProgress m) }
-        ensures refused { IfErr result (λ refusal. IsRefusedFor refusal (opening (setting_view contracts.now) call.now)) }
-        ensures place { IfErr result (λ refusal. HasPlace (wrong_in (setting_view contracts.now) call.now) refusal) }
+        ensures refused { IfErr result (λ refusal. IsRefusedFor refusal (opening (setting_view Two contracts.now) call.now)) }
+        ensures place { IfErr result (λ refusal. HasPlace (wrong_in (setting_view Two contracts.now) call.now) refusal) }
+    {
+        Machine::start_as(alloc, contracts, call, Version::Two)
+    }
+
+    /// The machine of a call before its first turn, by the rules of a version.
+    ///
+    /// # Errors
+    ///
+    /// Why the call does not start. Of several causes it is the first of: the contract, the export, the function, the
+    /// number of arguments, their types, memory.
+    pub fn start_as(
+        alloc: A,
+        contracts: &'a [Deployed<A>],
+        call: &'a Call,
+        version: Version,
+    ) -> Result<Machine<'a, A>, StartRefusal>
+        ensures start { IfOk result (λ m. IsStartOf (setting_view version contracts.now) call.now m) }
+        ensures on_run { IfOk result (λ m. IsProgress m) }
+        ensures refused { IfErr result (λ refusal. IsRefusedFor refusal (opening (setting_view version contracts.now) call.now)) }
+        ensures place { IfErr result (λ refusal. HasPlace (wrong_in (setting_view version contracts.now) call.now) refusal) }
     {
         match open_call(contracts, call) {
             Ok(Opened { deployed, func }) => {
-                match Machine::begin(alloc, contracts, call, deployed, func) {
+                match Machine::begin(alloc, contracts, call, deployed, func, version) {
                     Ok(machine) => Ok(machine),
                     Err(NoMemory) => Err(StartRefusal::NoMemory),
                 }
@@ -520,20 +545,22 @@ impl<'a, A: Allocator + Copy> Machine<'a, A> {
         call: &'a Call,
         deployed: &'a Deployed<A>,
         func: u32,
+        version: Version,
     ) -> Result<Machine<'a, A>, NoMemory>
-        requires opens { opening (setting_view contracts.now) call.now ≡ Opens (record { number = call.now.contract; deployed = contract_view deployed.now }) func }
+        requires opens { opening (setting_view version contracts.now) call.now ≡ Opens (contract_of version call.now.contract deployed.now) func }
         requires defined { length (hosts_of deployed.now) ≤ func }
-        ensures start { IfOk result (λ m. IsStartOf (setting_view contracts.now) call.now m) }
+        ensures start { IfOk result (λ m. IsStartOf (setting_view version contracts.now) call.now m) }
         ensures on_run { IfOk result (λ m. IsProgress m) }
     {
         deployed_calls_are_safe();
         deployed.is_linked();
         let tree = deployed.module();
-        let instance = open_instance(alloc, deployed)?;
+        let instance = open_instance(alloc, version, deployed)?;
         let lent = Lent {
             number: call.contract(),
             module: tree,
             hosts: deployed.hosts(),
+            version,
         };
         let entry = prepare(alloc, &lent, func, call.args())?;
         let mut run = Run {
@@ -555,6 +582,7 @@ impl<'a, A: Allocator + Copy> Machine<'a, A> {
             waiting: Some(entry),
             status: Status::Running,
             asked: 0,
+            entered: 0,
         };
         match start_run(&mut run) {
             Turn::Stepped => Ok(Machine { run }),

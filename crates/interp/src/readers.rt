@@ -167,6 +167,7 @@ fn copy_run<'a, A: Allocator + Copy>(run: &Run<'a, A>) -> Result<Run<'a, A>, NoM
             number: run.lent.number,
             module: run.lent.module,
             hosts: run.lent.hosts,
+            version: run.lent.version,
         },
         call: run.call,
         func: run.func,
@@ -176,6 +177,7 @@ fn copy_run<'a, A: Allocator + Copy>(run: &Run<'a, A>) -> Result<Run<'a, A>, NoM
         waiting: copy_waiting(run.alloc, &run.waiting)?,
         status: run.status,
         asked: run.asked,
+        entered: run.entered,
     })
 }
 

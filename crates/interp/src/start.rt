@@ -3,8 +3,9 @@ ghost use Rattle.std.specs.Prelude.{◌≡◌, ℕ, ◌≤◌, Option, length, I
 ghost use Rattle.spec_execution.specs.Run.{opening, Opens, Refused};
 ghost use Rattle.link.specs.Parts.{hosts_of};
 ghost use Rattle.opening.specs.Views as opening_views;
-ghost use Rattle.opening.specs.Views.{code_of};
-ghost use Rattle.interp.specs.Lent.{contract_view, setting_view};
+ghost use Rattle.opening.specs.Views.{code_of, contract_of};
+ghost use Rattle.spec_ledger.specs.declared.Version.{Version};
+ghost use Rattle.interp.specs.Lent.{setting_view};
 ghost use Rattle.interp.specs.Starting.{IsRefusedFor, HasPlace, wrong_in};
 
 use call::Call;
@@ -57,16 +58,16 @@ pub(crate) struct Opened<'a, A: Allocator + Copy> {
     pub(crate) func: u32,
 }
 
-// What a call opens with. Of several causes of a refusal it answers the first of: the contract, the export, the
+// What a call opens with, in each version. Of several causes of a refusal it answers the first of: the contract, the export, the
 // function, the number of arguments, their types.
 pub(crate) fn open_call<'a, A: Allocator + Copy>(
     contracts: &'a [Deployed<A>],
     call: &Call,
 ) -> Result<Opened<'a, A>, Refusal>
-    ensures opens { IfOk result (λ opened. opening (setting_view contracts.now) call.now ≡ Opens (record { number = call.now.contract; deployed = contract_view opened.deployed.now }) opened.func) }
+    ensures opens { IfOk result (λ opened. (version : Version) → opening (setting_view version contracts.now) call.now ≡ Opens (contract_of version call.now.contract opened.deployed.now) opened.func) }
     ensures defined { IfOk result (λ opened. length (hosts_of opened.deployed.now) ≤ opened.func) }
-    ensures refused { IfErr result (λ refusal. opening (setting_view contracts.now) call.now ≡ Refused (code_of refusal)) }
-    ensures place { IfErr result (λ refusal. opening_views.HasPlace (wrong_in (setting_view contracts.now) call.now) refusal) }
+    ensures refused { IfErr result (λ refusal. (version : Version) → opening (setting_view version contracts.now) call.now ≡ Refused (code_of refusal)) }
+    ensures place { IfErr result (λ refusal. (version : Version) → opening_views.HasPlace (wrong_in (setting_view version contracts.now) call.now) refusal) }
 {
     let Some(deployed) = contracts.get(call.contract() as usize) else {
         return Err(Refusal::NoContract);

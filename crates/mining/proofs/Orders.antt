@@ -8,6 +8,7 @@ use Rattle.std.proofs.lemmas.Bool.Decides.{eqb_tells}
 use Rattle.std.proofs.lemmas.Map.Steps.{length-le_from_distinct_below}
 use Rattle.std.proofs.lemmas.Map.Views.{Contains-from_any}
 use Rattle.std.proofs.lemmas.Option.{slice_get-get_or, slice_get_within, get_or_from_slice_get}
+use Rattle.spec_ledger.specs.declared.Version.{Version}
 use Rattle.spec_ledger.specs.declared.Receipt.{Receipt}
 use Rattle.spec_ledger.specs.Cells.{Cells}
 use Rattle.spec_ledger.specs.Modes.{Modes}
@@ -24,9 +25,9 @@ order_from all place (n ∷ order) [] ms a b = absurd (omega (arith, a))
 order_from all place (n ∷ order) (r ∷ rs) [] a b = absurd (omega (arith, b))
 order_from all place (n ∷ order) (r ∷ rs) (m ∷ ms) a b = ap (λ ns. n ∷ ns) (order_from all (place + 1) order rs ms (omega (arith, a)) (omega (arith, b)))
 
-pub order_again : (world : World) (calls : List Call) (order : List ℕ) (rs : List Receipt) (ms : List Modes) (last : Cells)
-    → length rs ≡ length order → length ms ≡ length order → order_of (block_of world calls order (ran_of rs ms) last) ≡ order
-order_again world calls order rs ms last = order_from (all_touched (ran_of rs ms)) 0 order rs ms
+pub order_again : (version : Version) (world : World) (calls : List Call) (order : List ℕ) (rs : List Receipt) (ms : List Modes) (last : Cells)
+    → length rs ≡ length order → length ms ≡ length order → order_of (block_of version world calls order (ran_of rs ms) last) ≡ order
+order_again version world calls order rs ms last = order_from (all_touched (ran_of rs ms)) 0 order rs ms
 
 pub left_is : (calls : List Call) (order left : List ℕ) → AreLeft order (length calls) left → IsLeft calls order left
 left_is calls order left l = record {

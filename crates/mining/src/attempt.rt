@@ -2,6 +2,7 @@
 ghost use Rattle.std.specs.Prelude.{◌≡◌, ◌<◌, ◌≤◌, ◌^◌, Ok, true, false, IfOk, OnOk, IfSome, length};
 ghost use Rattle.spec_execution.specs.Run.{IsReply};
 ghost use Rattle.spec_execution.specs.Run.{opening};
+ghost use Rattle.spec_ledger.specs.declared.Version.TheVariants.{Two};
 ghost use Rattle.interp.specs.Lent.{setting_view};
 ghost use Rattle.interp.specs.Starting.{IsOpened, IsRejection};
 ghost use Rattle.interp.specs.Progress.{IsFree, IsSameCall};
@@ -20,7 +21,7 @@ use lock_profile::Touched;
 use pace::{Pace, Step};
 use serial::touched_by;
 use shards::{NoGate, Shards, Ticket};
-use spec_ledger::{NoMemory, Op, Reply};
+use spec_ledger::{NoMemory, Op, Reply, Version};
 use std::alloc::Allocator;
 use std::sync::Wait;
 use turn_loop::next_op;
@@ -167,10 +168,10 @@ fn rejected<'a, A: Allocator + Copy>(
     contracts: &'a [Contract<A>],
     call: &'a Call,
 ) -> Finished<'a, A>
-    requires { ¬ IsOpened (opening (setting_view contracts.now) call.now) }
-    ensures { IsRejection (setting_view contracts.now) call.now result }
+    requires { ¬ IsOpened (opening (setting_view Two contracts.now) call.now) }
+    ensures { IsRejection (setting_view Two contracts.now) call.now result }
 {
-    match Finished::rejected(alloc, contracts, call) {
+    match Finished::rejected(alloc, contracts, call, Version::Two) {
         Some(finished) => finished,
         None => unreachable!(),
     }
@@ -184,7 +185,7 @@ fn play<'a, A: Allocator + Copy, R: Wait, P: Pace>(
     number: u32,
 ) -> Result<Finished<'a, A>, Stop>
     requires { number < length job.now.calls.now }
-    ensures { IfOk result (IsRunOf (setting_view job.now.contracts.now) job.now.calls.now number) }
+    ensures { IfOk result (IsRunOf (setting_view Two job.now.contracts.now) job.now.calls.now number) }
 {
     let call = &job.calls[number as usize];
     let _limit = call.fuel();
@@ -203,8 +204,8 @@ fn commit<'a, A: Allocator + Copy, R: Wait, P: Pace>(
     call: u32,
     finished: Finished<'a, A>,
 ) -> Result<Came<'a, A>, Stop>
-    requires { IsRunOf (setting_view job.now.contracts.now) job.now.calls.now call finished }
-    ensures { IfOk result (λ came. IfSome came.run (IsCommitted (setting_view job.now.contracts.now) job.now.calls.now)) }
+    requires { IsRunOf (setting_view Two job.now.contracts.now) job.now.calls.now call finished }
+    ensures { IfOk result (λ came. IfSome came.run (IsCommitted (setting_view Two job.now.contracts.now) job.now.calls.now)) }
 {
     if told(job.pace, Step::Commit { call }) {
         job.book.undo(rt, ticket);
@@ -248,7 +249,7 @@ fn attempt<'a, A: Allocator + Copy, R: Wait, P: Pace>(
     nth: u32,
 ) -> Result<Came<'a, A>, Stop>
     requires { call < length job.now.calls.now }
-    ensures { IfOk result (λ came. IfSome came.run (IsCommitted (setting_view job.now.contracts.now) job.now.calls.now)) }
+    ensures { IfOk result (λ came. IfSome came.run (IsCommitted (setting_view Two job.now.contracts.now) job.now.calls.now)) }
 {
     if told(job.pace, Step::Attempt { call, nth }) {
         return Err(Stop::Stopped);
@@ -275,7 +276,7 @@ pub(crate) fn try_call<'a, A: Allocator + Copy, R: Wait, P: Pace>(
     call: u32,
 ) -> Result<Came<'a, A>, NoMemory>
     requires { call < length job.now.calls.now }
-    ensures { IfOk result (λ came. IfSome came.run (IsCommitted (setting_view job.now.contracts.now) job.now.calls.now)) }
+    ensures { IfOk result (λ came. IfSome came.run (IsCommitted (setting_view Two job.now.contracts.now) job.now.calls.now)) }
 {
     for nth in 0..job.tries {
         job.brake.begin();

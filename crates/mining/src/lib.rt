@@ -9,7 +9,8 @@ mod mined_core;
 mod outcome;
 mod worker;
 
-ghost use Rattle.std.specs.Prelude.{◌≤◌, IfOk, length};
+ghost use Rattle.std.specs.Prelude.{◌≡◌, ◌≤◌, IfOk, length};
+ghost use Rattle.spec_ledger.specs.declared.Version.TheVariants.{Two};
 ghost use Rattle.spec_block.specs.Worlds.{order_of};
 ghost use Rattle.spec_block.specs.Headline.{Headline, IsLeft};
 ghost use Rattle.world.specs.Views.{world_view};
@@ -20,6 +21,7 @@ use call::Call;
 use pace::Pace;
 use serial::Core;
 use serial_block::seal;
+use spec_ledger::Version;
 use std::alloc::{Allocator, Global};
 use std::sync::Wait;
 use std::thread::Threads;
@@ -42,7 +44,7 @@ pub struct Mined<A: Allocator = Global> {
     pub by_workers: u32,
 }
 
-/// Mines a block of calls in a world, with this many workers at once, of which the calling thread is one. The limits of the
+/// Mines a block of version 2, of calls in a world, with this many workers at once, of which the calling thread is one. The limits of the
 /// calls that are published add up to at most the block's fuel, and no call is left out that had room. A worker tries a call
 /// at most so often; the calls that it tried in vain run alone when the workers have ended. The pace is told each step of the
 /// workers, and may stop a worker at any of them: its call, and the calls that nobody drew, then run alone as well. The world is as it was.
@@ -66,6 +68,7 @@ pub fn mine<R: Threads + Wait + Sync, P: Pace>(
     requires workers { (1 ≤ workers) × (workers ≤ 64) }
     requires tries { (1 ≤ tries) × (tries ≤ 16) }
     ensures headline { IfOk result (λ mined. Headline (world_view world.now) calls.now block_fuel mined.block (world_view mined.world)) }
+    ensures version { IfOk result (λ mined. mined.block.version ≡ Two) }
     ensures left { IfOk result (λ mined. IsLeft calls.now (order_of mined.block) mined.left.items) }
     ensures by_workers { IfOk result (λ mined. mined.by_workers ≤ length mined.block.positions) }
 {
@@ -91,6 +94,7 @@ pub fn mine_in<R: Threads + Wait + Sync, A: Allocator + Copy + Send + Sync, P: P
     requires workers { (1 ≤ workers) × (workers ≤ 64) }
     requires tries { (1 ≤ tries) × (tries ≤ 16) }
     ensures headline { IfOk result (λ mined. Headline (world_view world.now) calls.now block_fuel mined.block (world_view mined.world)) }
+    ensures version { IfOk result (λ mined. mined.block.version ≡ Two) }
     ensures left { IfOk result (λ mined. IsLeft calls.now (order_of mined.block) mined.left.items) }
     ensures by_workers { IfOk result (λ mined. mined.by_workers ≤ length mined.block.positions) }
 {
@@ -119,7 +123,7 @@ pub fn mine_in<R: Threads + Wait + Sync, A: Allocator + Copy + Send + Sync, P: P
         touched,
         cells,
     };
-    let (block, world) = seal(alloc, world, calls, &order, core)?;
+    let (block, world) = seal(alloc, world, calls, &order, core, Version::Two)?;
     Ok(Mined {
         block,
         world,

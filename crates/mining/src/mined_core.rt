@@ -3,6 +3,7 @@ ghost use Rattle.std.specs.Prelude.{◌≡◌, ◌≤◌, All, IfOk, IfSome, len
 ghost use Rattle.std.specs.FinMap as finite;
 ghost use Rattle.spec_ledger.specs.Order.{IsAdmissible};
 ghost use Rattle.spec_execution.specs.Serial.{Serial};
+ghost use Rattle.spec_ledger.specs.declared.Version.TheVariants.{Two};
 ghost use Rattle.interp.specs.Lent.{setting_view};
 ghost use Rattle.serial.specs.Positions.{positions};
 ghost use Rattle.intake.specs.Intakes.{IsSeatOf};
@@ -79,7 +80,7 @@ pub fn mine_core<'a, R: Threads + Wait + Sync, A: Allocator + Copy + Send + Sync
     requires workers { (1 ≤ workers) × (workers ≤ 64) }
     requires tries { (1 ≤ tries) × (tries ≤ 16) }
     requires shards { (1 ≤ shards) × (shards ≤ 16) }
-    ensures serial { IfOk result (λ core. Serial (setting_view contracts.now) calls.now core.order.items cells.now.cells (positions core.receipts.items core.touched.items) core.cells.cells) }
+    ensures serial { IfOk result (λ core. Serial (setting_view Two contracts.now) calls.now core.order.items cells.now.cells (positions core.receipts.items core.touched.items) core.cells.cells) }
     ensures admissible { IfOk result (λ core. IsAdmissible (limits calls.now) core.order.items block_fuel) }
     ensures receipts { IfOk result (λ core. length core.receipts.items ≡ length core.order.items) }
     ensures touched { IfOk result (λ core. length core.touched.items ≡ length core.order.items) }
@@ -140,14 +141,14 @@ fn run_workers<'a, R: Threads + Wait + Sync, A: Allocator + Copy + Send + Sync, 
 ) -> Result<Vec<Result<Worked<'a, A>, NoMemory>, A>, NoMemory>
     requires calls { job.now.intake.now.limits.calls ≡ length job.now.calls.now }
     requires seats { All (IsSeatOf job.now.intake.now) seats.items }
-    ensures { IfOk result (λ parts. All (λ part. IfOk part (AreRuns (setting_view job.now.contracts.now) job.now.calls.now)) parts.items) }
+    ensures { IfOk result (λ parts. All (λ part. IfOk part (AreRuns (setting_view Two job.now.contracts.now) job.now.calls.now)) parts.items) }
 {
     let parts = thread::map_vec(
         rt,
         seats,
         &|seat: Seat| -> Result<Worked<A>, NoMemory>
             requires { (job.now.intake.now.limits.calls ≡ length job.now.calls.now) × IsSeatOf job.now.intake.now seat }
-            ensures { IfOk result (AreRuns (setting_view job.entry.now.contracts.now) job.entry.now.calls.now) }
+            ensures { IfOk result (AreRuns (setting_view Two job.entry.now.contracts.now) job.entry.now.calls.now) }
         { work(rt, job, seat) },
     )?;
     Ok(parts)

@@ -3,6 +3,7 @@ ghost use Rattle.std.specs.Prelude.{◌≡◌, ◌+◌, ◌<◌, ◌≤◌, ◌^
 ghost use Rattle.std.specs.FinMap as finite;
 ghost use Rattle.spec_ledger.specs.Order.{IsAdmissible};
 ghost use Rattle.spec_execution.specs.Serial.{Serial};
+ghost use Rattle.spec_ledger.specs.declared.Version.TheVariants.{Two};
 ghost use Rattle.interp.specs.Lent.{setting_view};
 ghost use Rattle.serial.specs.Positions.{positions};
 ghost use Rattle.publish.specs.Publication.{AreLeft, IsSameJob, HasGoneOn, limits, fuel_used};
@@ -28,9 +29,9 @@ fn add<'a, A: Allocator + Copy>(
     all: &mut Worked<'a, A>,
     part: Worked<'a, A>,
 ) -> Result<(), NoMemory>
-    requires all { AreRuns (setting_view _contracts.now) _calls.now all.old }
-    requires part { AreRuns (setting_view _contracts.now) _calls.now part }
-    ensures { OnOk result (AreRuns (setting_view _contracts.now) _calls.now all.new) }
+    requires all { AreRuns (setting_view Two _contracts.now) _calls.now all.old }
+    requires part { AreRuns (setting_view Two _contracts.now) _calls.now part }
+    ensures { OnOk result (AreRuns (setting_view Two _contracts.now) _calls.now all.new) }
 {
     let Worked {
         mut committed,
@@ -50,9 +51,9 @@ fn take_part<'a, A: Allocator + Copy>(
     lacked: bool,
     part: Result<Worked<'a, A>, NoMemory>,
 ) -> bool
-    requires all { lacked ≡ false → AreRuns (setting_view contracts.now) calls.now all.old }
-    requires part { IfOk part (AreRuns (setting_view contracts.now) calls.now) }
-    ensures { result ≡ false → AreRuns (setting_view contracts.now) calls.now all.new }
+    requires all { lacked ≡ false → AreRuns (setting_view Two contracts.now) calls.now all.old }
+    requires part { IfOk part (AreRuns (setting_view Two contracts.now) calls.now) }
+    ensures { result ≡ false → AreRuns (setting_view Two contracts.now) calls.now all.new }
 {
     match part {
         Ok(worked) if !lacked => match add(contracts, calls, all, worked) {
@@ -72,8 +73,8 @@ fn gather<'a, A: Allocator + Copy>(
     mut parts: Vec<Result<Worked<'a, A>, NoMemory>, A>,
     rest: Result<Vec<u32, A>, NoMemory>,
 ) -> Result<Worked<'a, A>, NoMemory>
-    requires { All (λ part. IfOk part (AreRuns (setting_view contracts.now) calls.now)) parts.items }
-    ensures { IfOk result (AreRuns (setting_view contracts.now) calls.now) }
+    requires { All (λ part. IfOk part (AreRuns (setting_view Two contracts.now) calls.now)) parts.items }
+    ensures { IfOk result (AreRuns (setting_view Two contracts.now) calls.now) }
 {
     let (set_aside, mut lacked) = match rest {
         Ok(rest) => (rest, false),
@@ -101,7 +102,7 @@ fn places<'a, A: Allocator + Copy>(
     _calls: &'a [Call],
     count: usize,
 ) -> Result<Vec<Option<Committed<'a, A>>, A>, NoMemory>
-    ensures { IfOk result (λ places. All (λ place. IfSome place (IsCommitted (setting_view _contracts.now) _calls.now)) places.items) }
+    ensures { IfOk result (λ places. All (λ place. IfSome place (IsCommitted (setting_view Two _contracts.now) _calls.now)) places.items) }
 {
     let mut places = Vec::with_capacity(alloc, count)?;
     for _ in 0..count {
@@ -118,8 +119,8 @@ fn placed<'a, A: Allocator + Copy>(
     calls: &'a [Call],
     mut committed: Vec<Committed<'a, A>, A>,
 ) -> Result<Vec<Option<Committed<'a, A>>, A>, NoMemory>
-    requires { AreAllRuns (setting_view contracts.now) calls.now committed.items }
-    ensures { IfOk result (λ places. All (λ place. IfSome place (IsCommitted (setting_view contracts.now) calls.now)) places.items) }
+    requires { AreAllRuns (setting_view Two contracts.now) calls.now committed.items }
+    ensures { IfOk result (λ places. All (λ place. IfSome place (IsCommitted (setting_view Two contracts.now) calls.now)) places.items) }
 {
     let mut places = places(alloc, contracts, calls, committed.len())?;
     let count = places.len();
@@ -139,8 +140,8 @@ fn apart<'a, A: Allocator + Copy>(
     calls: &'a [Call],
     committed: Vec<Committed<'a, A>, A>,
 ) -> Result<(Vec<MadeRun<'a, A>, A>, Vec<Touched<A>, A>), NoMemory>
-    requires { AreAllRuns (setting_view contracts.now) calls.now committed.items }
-    ensures { IfOk result (λ r. AreMade (setting_view contracts.now) calls.now r.0.items r.1.items) }
+    requires { AreAllRuns (setting_view Two contracts.now) calls.now committed.items }
+    ensures { IfOk result (λ r. AreMade (setting_view Two contracts.now) calls.now r.0.items r.1.items) }
 {
     let mut runs = Vec::with_capacity(alloc, committed.len())?;
     let mut touched = Vec::with_capacity(alloc, committed.len())?;
@@ -234,8 +235,8 @@ fn tie<'a, A: Allocator + Copy>(
 ) -> Result<(Publishing<'a, A>, u32), NoMemory>
     requires calls { length calls.now < 2 ^ 32 }
     requires closed { IsSerialBook cells.now.cells closed }
-    requires runs { AreMade (setting_view contracts.now) calls.now runs.now touched.items }
-    ensures job { IfOk result (λ r. IsJobOf (setting_view contracts.now) calls.now cells.now.cells block_fuel r.0) }
+    requires runs { AreMade (setting_view Two contracts.now) calls.now runs.now touched.items }
+    ensures job { IfOk result (λ r. IsJobOf (setting_view Two contracts.now) calls.now cells.now.cells block_fuel r.0) }
     ensures taken { IfOk result (λ r. r.1 ≤ length r.0.order) }
 {
     let count = at_most(closed.entries.len());
@@ -263,8 +264,8 @@ fn publish_runs<'a, A: Allocator + Copy>(
 ) -> Result<(Publishing<'a, A>, u32), NoMemory>
     requires calls { length calls.now < 2 ^ 32 }
     requires closed { IfSome closed (IsSerialBook cells.now.cells) }
-    requires runs { AreRuns (setting_view contracts.now) calls.now worked }
-    ensures job { IfOk result (λ r. IsJobOf (setting_view contracts.now) calls.now cells.now.cells block_fuel r.0) }
+    requires runs { AreRuns (setting_view Two contracts.now) calls.now worked }
+    ensures job { IfOk result (λ r. IsJobOf (setting_view Two contracts.now) calls.now cells.now.cells block_fuel r.0) }
     ensures taken { IfOk result (λ r. r.1 ≤ length r.0.order) }
 {
     let Some(closed) = closed else {
@@ -299,8 +300,8 @@ pub(crate) fn publish<'a, A: Allocator + Copy>(
 ) -> Result<MinedCore<A>, NoMemory>
     requires calls { length calls.now < 2 ^ 32 }
     requires closed { IfOk closed (λ closed. IfSome closed (IsSerialBook cells.now.cells)) }
-    requires runs { All (λ part. IfOk part (AreRuns (setting_view contracts.now) calls.now)) parts.items }
-    ensures serial { IfOk result (λ core. Serial (setting_view contracts.now) calls.now core.order.items cells.now.cells (positions core.receipts.items core.touched.items) core.cells.cells) }
+    requires runs { All (λ part. IfOk part (AreRuns (setting_view Two contracts.now) calls.now)) parts.items }
+    ensures serial { IfOk result (λ core. Serial (setting_view Two contracts.now) calls.now core.order.items cells.now.cells (positions core.receipts.items core.touched.items) core.cells.cells) }
     ensures admissible { IfOk result (λ core. IsAdmissible (limits calls.now) core.order.items block_fuel) }
     ensures receipts { IfOk result (λ core. length core.receipts.items ≡ length core.order.items) }
     ensures touched { IfOk result (λ core. length core.touched.items ≡ length core.order.items) }

@@ -1,5 +1,6 @@
 // A worker: it draws calls until none is left or the pace stops it. The caller draws the rest.
 ghost use Rattle.std.specs.Prelude.{◌≡◌, ◌<◌, IfOk, OnOk, length};
+ghost use Rattle.spec_ledger.specs.declared.Version.TheVariants.{Two};
 ghost use Rattle.interp.specs.Lent.{setting_view};
 ghost use Rattle.intake.specs.Intakes.{IsSeatOf};
 ghost use Rattle.mining.specs.Handed.{AreRuns};
@@ -35,8 +36,8 @@ fn work_on<'a, A: Allocator + Copy, R: Wait, P: Pace>(
     worked: &mut Worked<'a, A>,
 ) -> Result<bool, NoMemory>
     requires call { call < length job.now.calls.now }
-    requires runs { AreRuns (setting_view job.now.contracts.now) job.now.calls.now worked.old }
-    ensures { OnOk result (AreRuns (setting_view job.now.contracts.now) job.now.calls.now worked.new) }
+    requires runs { AreRuns (setting_view Two job.now.contracts.now) job.now.calls.now worked.old }
+    ensures { OnOk result (AreRuns (setting_view Two job.now.contracts.now) job.now.calls.now worked.new) }
 {
     let Came { run, stops } = try_call(rt, job, call)?;
     match run {
@@ -64,7 +65,7 @@ pub(crate) fn work<'a, A: Allocator + Copy, R: Wait, P: Pace>(
 ) -> Result<Worked<'a, A>, NoMemory>
     requires calls { job.now.intake.now.limits.calls ≡ length job.now.calls.now }
     requires seat { IsSeatOf job.now.intake.now seat }
-    ensures { IfOk result (AreRuns (setting_view job.now.contracts.now) job.now.calls.now) }
+    ensures { IfOk result (AreRuns (setting_view Two job.now.contracts.now) job.now.calls.now) }
 {
     make_room(job.alloc, job.calls.len())?;
     let mut worked = Worked {

@@ -1,6 +1,7 @@
 -- What a deployed module stands for, and the numbers of refusals.
 use Rattle.std.specs.Prelude.{◌≡◌, ℕ, List, Option, Some, None}
 use Rattle.wtypes.specs.declared.Value.{Value}
+use Rattle.spec_ledger.specs.declared.Version.{Version}
 use Rattle.link.specs.declared.deployed.Deployed.{Deployed}
 use Rattle.link.specs.Parts.{tree_of, hosts_of}
 use Rattle.module_tree.specs.Modules.{module_view}
@@ -13,6 +14,10 @@ use Rattle.opening.specs.declared.Refusal.TheVariants.{NoExport, NotFunction, Ar
 
 abbrev pub deployed_view : {A : Type 0} → Deployed A → spec.Deployed
 deployed_view d = record { tree = module_view (tree_of d); hosts = hosts_of d }
+
+-- a deployed module as the contract of this number, by the rules of this version
+abbrev pub contract_of : {A : Type 0} → Version → ℕ → Deployed A → Contract
+contract_of version number d = record { number = number; deployed = deployed_view d; version = version }
 
 abbrev pub code_of : Refusal → ℕ
 code_of NoExport = 1
@@ -27,7 +32,7 @@ by_code c func None = Opens c func
 by_code c func (Some code) = Refused code
 
 abbrev pub Enters : {A : Type 0} → Deployed A → ℕ → List Value → Option ℕ → Type 0
-Enters d func args code = (number : ℕ) → let c : Contract = record { number = number; deployed = deployed_view d } in
+Enters d func args code = (version : Version) (number : ℕ) → let c : Contract = contract_of version number d in
     by_function c func args (function_at c.deployed func) ≡ by_code c func code
 
 -- the least argument that is not of its parameter's type, in a call of this function

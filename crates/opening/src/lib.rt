@@ -5,7 +5,8 @@ ghost use Rattle.std.specs.Prelude.{◌≡◌, ◌+◌, ◌<◌, ◌≤◌, map,
 ghost use Rattle.spec_execution.specs.Run.{by_contract, Opens, Refused, exported, wrong_argument};
 ghost use Rattle.module_tree.specs.ModuleView.{export_view, export_desc_view};
 ghost use Rattle.spec_numeric.specs.Operators.{same_type, type_of};
-ghost use Rattle.opening.specs.Views.{deployed_view, code_of, Enters, HasPlace, wrong_for, wrong_of};
+ghost use Rattle.spec_ledger.specs.declared.Version.{Version};
+ghost use Rattle.opening.specs.Views.{deployed_view, contract_of, code_of, Enters, HasPlace, wrong_for, wrong_of};
 ghost use Rattle.spec_execution.specs.Configuration.{function_at};
 
 use call::Call;
@@ -57,8 +58,8 @@ impl Refusal {
 ///
 /// Why the call does not start. `NoContract` is never among them.
 pub fn entry_of<A: Allocator>(contract: &Deployed<A>, call: &Call) -> Result<u32, Refusal>
-    ensures opens { IfOk result (λ func. by_contract call.now (Some (deployed_view contract.now)) ≡ Opens (record { number = call.now.contract; deployed = deployed_view contract.now }) func) }
-    ensures refused { IfErr result (λ r. by_contract call.now (Some (deployed_view contract.now)) ≡ Refused (code_of r)) }
+    ensures opens { IfOk result (λ func. (version : Version) → by_contract version call.now (Some (deployed_view contract.now)) ≡ Opens (contract_of version call.now.contract contract.now) func) }
+    ensures refused { IfErr result (λ r. (version : Version) → by_contract version call.now (Some (deployed_view contract.now)) ≡ Refused (code_of r)) }
     ensures place { IfErr result (λ r. HasPlace (wrong_of call.now (deployed_view contract.now)) r) }
 {
     match exported_as(&contract.module().exports, call.entry()) {

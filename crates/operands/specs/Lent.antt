@@ -4,7 +4,7 @@ use Rattle.spec_execution.specs.Configuration.{Contract, State, fresh}
 use Rattle.operands.specs.declared.lent.Lent.{Lent}
 
 abbrev pub contract_of : {A : Type 0} → Lent A → Contract
-contract_of l = record { number = l.number; deployed = record { tree = module_view l.module.now; hosts = l.hosts.now } }
+contract_of l = record { number = l.number; deployed = record { tree = module_view l.module.now; hosts = l.hosts.now }; version = l.version }
 
 -- the state of a fresh instance
 abbrev pub base_of : {A : Type 0} → Lent A → State

@@ -17,7 +17,8 @@ use Rattle.spec_execution.specs.Serial.{Ran, Serial}
 use Rattle.serial.specs.Positions.{positions}
 use Rattle.serial.proofs.Orders.{Serial-push, positions-push}
 use Rattle.publish.specs.Publication.{Publication, limits, fuel_used, IsSerialOrder, MayFollow, HasTaken, HasGoneOn, is_marked, IsKept}
-use Rattle.publish.proofs.Limits.{limit_at, limits_of-push, fuel_used-push, executes_within}
+use Rattle.serial.proofs.Limits.{limit_at, executes_within}
+use Rattle.publish.proofs.Limits.{limits_of-push, fuel_used-push}
 use Rattle.publish.proofs.Marks.{marks_none, marks_more, unmarked_new, new_unmarked}
 
 -- a position of an order with one call more: an old one, or the last
@@ -32,7 +33,7 @@ last_or_before order n position call at =
     ]
 
 module _ (p : Publication) (n : ℕ) (call : ContractCall) (at : slice_get p.calls n ≡ Some call) (follows : MayFollow p n) (next : Cells) (r : Ran)
-    (executed : Executes p.setting call p.cells next r.receipt.outcome r.receipt.used r.touched) (o : IsSerialOrder p) where
+    (executed : Executes p.setting call p.cells next r.receipt r.touched) (o : IsSerialOrder p) where
   abbrev followed : Publication
   followed = record p { order = p.order ++ n ∷ []; ran = p.ran ++ r ∷ []; cells = next }
 
@@ -101,13 +102,13 @@ module _ (setting : Setting) (calls : List ContractCall) (opening : Cells) (fuel
 -- one call more
 module _ (p : Publication) (b : Beside) (n limit : ℕ) (call : ContractCall) (next : Cells) (r : Receipt) (m : Modes) (kept : IsKeptWith p p.cells b)
     (at : slice_get p.calls n ≡ Some call) (limit_is : limit ≡ call.fuel) (follows : MayFollow (with_parts p p.cells b) n)
-    (executed : Executes p.setting call p.cells next r.outcome r.used m) where
+    (executed : Executes p.setting call p.cells next r m) where
   pub fits : limit ≤ b.remaining
   fits = let f = follows.room.fits in let l = limit_at p.calls n call at in let rest = kept.rest in omega arith
 
   pub fits_used : p.fuel < 2 ^ 64 → b.used + r.used < 2 ^ 64
   fits_used top =
-      let within = executes_within p.setting call p.cells next r.outcome r.used m executed in
+      let within = executes_within p.setting call p.cells next r m executed in
       let f = fits in let rest = kept.rest in let used = kept.used_within in omega arith
 
   abbrev pub more : Beside
@@ -120,7 +121,7 @@ module _ (p : Publication) (b : Beside) (n limit : ℕ) (call : ContractCall) (n
       let limit_of = limit_at p.calls n call at in
       let used_more = fuel_used-push (positions b.receipts b.touched) (record { receipt = r; touched = m }) in
       let rest = kept.rest in
-      let within = executes_within p.setting call p.cells next r.outcome r.used m executed in
+      let within = executes_within p.setting call p.cells next r m executed in
       record {
         order = subst (λ ran. IsSerialOrder (record p { order = b.order ++ n ∷ []; ran = ran; cells = next })) (sym pushed)
             (order_more (with_parts p p.cells b) n call at follows next (record { receipt = r; touched = m }) executed kept.order);

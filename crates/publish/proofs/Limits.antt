@@ -1,23 +1,10 @@
--- Limits, and the fuel that calls use.
-use Rattle.std.proofs.Common.{◌≡◌, ℕ, ◌+◌, ◌≤◌, List, [], ◌∷◌, ◌++◌, Some, option_map, slice_get, sym, ◌∙◌, ap, arith}
+-- Limits, and the fuel that calls use, of one call more.
+use Rattle.std.proofs.Common.{◌≡◌, ℕ, ◌+◌, List, [], ◌∷◌, ◌++◌, sym, ◌∙◌, ap}
 use Rattle.std.specs.Prelude.{slice_index}
-use Rattle.std.proofs.lemmas.Option.{slice_get-map, get_or_from_slice_get}
 use Rattle.std.proofs.lemmas.List.Sums.{sum-map, sum_by_push}
-use Rattle.spec_ledger.specs.declared.Outcome.{Outcome}
-use Rattle.spec_ledger.specs.declared.Step.{Step}
-use Rattle.spec_ledger.specs.Cells.{Cells}
-use Rattle.spec_ledger.specs.Modes.{Modes}
 use Rattle.spec_ledger.specs.Order.{limits_of}
-use Rattle.spec_execution.specs.Configuration.{Setting}
-use Rattle.spec_execution.specs.Run.{ContractCall}
-use Rattle.spec_execution.specs.Levels.{Levels, Reached, at_first, moved, replied, RunsWith, refused, ran}
-use Rattle.spec_execution.specs.Exec.{Executes}
 use Rattle.spec_execution.specs.Serial.{Ran}
-use Rattle.publish.specs.Publication.{limits, fuel_used}
-
-pub limit_at : (calls : List ContractCall) (n : ℕ) (call : ContractCall) → slice_get calls n ≡ Some call → slice_index (limits calls) n ≡ call.fuel
-limit_at calls n call at =
-    get_or_from_slice_get (limits calls) n call.fuel 0 (slice_get-map (λ (c : ContractCall). c.fuel) calls n ∙ ap (option_map (λ (c : ContractCall). c.fuel)) at)
+use Rattle.publish.specs.Publication.{fuel_used}
 
 pub limits_of-push : (limits order : List ℕ) (n : ℕ) → limits_of limits (order ++ n ∷ []) ≡ limits_of limits order + slice_index limits n
 limits_of-push limits order n =
@@ -28,17 +15,3 @@ pub fuel_used-push : (rs : List Ran) (r : Ran) → fuel_used (rs ++ r ∷ []) �
 fuel_used-push rs r =
     sum-map (λ (x : Ran). x.receipt.used) (rs ++ r ∷ []) ∙ sum_by_push (λ (x : Ran). x.receipt.used) rs r
     ∙ ap (λ s. s + r.receipt.used) (sym (sum-map (λ (x : Ran). x.receipt.used) rs))
-
-module _ (setting : Setting) (start : Levels) (limit : ℕ) where
-  reached_within : (trace : List Step) (used : ℕ) (last : Levels) → Reached setting start limit trace used last → used ≤ limit
-  reached_within trace used last at_first = omega arith
-  reached_within trace used last (moved t u a charge marks b r e h) = h
-  reached_within trace used last (replied t u a op go r reached asks fits) = reached_within t u a reached
-
-runs_within : (setting : Setting) (call : ContractCall) (trace : List Step) (o : Outcome) (used : ℕ) → RunsWith setting call trace o used → used ≤ call.fuel
-runs_within setting call trace o used (refused code e) = omega arith
-runs_within setting call trace o used (ran c func t p f e run) = reached_within setting _ call.fuel run.before f run.last run.reached
-
--- no call uses more than its limit
-pub executes_within : (setting : Setting) (call : ContractCall) (cells later : Cells) (o : Outcome) (used : ℕ) (locks : Modes) → Executes setting call cells later o used locks → used ≤ call.fuel
-executes_within setting call cells later o used locks e = runs_within setting call e.trace o used e.run

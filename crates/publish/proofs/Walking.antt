@@ -10,7 +10,7 @@ use Rattle.spec_ledger.specs.Cells.{Cells}
 use Rattle.spec_ledger.specs.Modes.{Modes}
 use Rattle.spec_execution.specs.Configuration.{Setting}
 use Rattle.spec_execution.specs.Run.{ContractCall}
-use Rattle.spec_execution.specs.Levels.{RunsWith}
+use Rattle.spec_execution.specs.Levels.{RunsWith, asks_in}
 use Rattle.spec_execution.specs.Exec.{Executes}
 use Rattle.serial.specs.Positions.{positions}
 use Rattle.serial.proofs.Orders.{positions-push}
@@ -63,10 +63,11 @@ walked_none setting calls opening fuel es rs ms b kept order receipts defined ma
 -- what an entry leaves is what its run leaves
 pub executed_by : {A : Type 0} (setting : Setting) (calls : List ContractCall) (e : Entry) (r : MadeRun A) (m : Modes) (now : Cells)
     → IsMade setting calls r m → IsRunOf e r → RunsWith r.finished.setting r.finished.call r.finished.trace r.finished.outcome r.finished.used
-    → (es : List Entry) → IsDefined now (e ∷ es) → Executes setting r.finished.call now (settled_by e now) r.finished.outcome r.finished.used m
+    → (es : List Entry) → IsDefined now (e ∷ es) → Executes setting r.finished.call now (settled_by e now) (record { outcome = r.finished.outcome; used = r.finished.used; asks = asks_in r.finished.trace }) m
 executed_by setting calls e r m now made is run es defined = record {
   trace = r.finished.trace;
   run = subst (λ cs. RunsWith cs r.finished.call r.finished.trace r.finished.outcome r.finished.used) made.lent run;
+  asks = refl;
   replies = subst (λ t. GetsReplies t now) (sym is.trace) defined.0;
   later_is = λ k. cond (has_returned (sym is.outcome k)) (after (sym is.trace k) now) now;
   locks_are = made.locks_are;
@@ -99,9 +100,9 @@ module _ {A : Type 0} (p : Publication) (es : List Entry) (rs : List (MadeRun A)
   module _ (limit : ℕ) (limit_is : limit ≡ r.finished.call.fuel) (follows : MayFollow (with_parts p w.now b) r.call) (is : IsRunOf e r)
       (run : RunsWith r.finished.setting r.finished.call r.finished.trace r.finished.outcome r.finished.used) where
     abbrev receipt : Receipt
-    receipt = record { outcome = r.finished.outcome; used = r.finished.used }
+    receipt = record { outcome = r.finished.outcome; used = r.finished.used; asks = asks_in r.finished.trace }
 
-    pub executed : Executes p.setting r.finished.call w.now (settled_by e w.now) r.finished.outcome r.finished.used m
+    pub executed : Executes p.setting r.finished.call w.now (settled_by e w.now) receipt m
     executed = executed_by p.setting p.calls e r m w.now w.made.0 is run es' w.defined
 
     pub fits_here : limit ≤ b.remaining
@@ -161,14 +162,14 @@ module _ {A : Type 0} (p : Publication) (es : List Entry) (rs : List (MadeRun A)
     used_next = used_here p es rs ms b e (drop (i + 1) es) r (drop (i + 1) rs) (get_or ms i empty) (drop (i + 1) ms) next_is limit limit_is follows is run
 
     pub walked_on : (room after : Beside) → room.order ≡ b.order → room.receipts ≡ b.receipts → room.touched ≡ b.touched → room.marks ≡ b.marks → room.remaining ≡ b.remaining → room.used ≡ b.used
-        → after.order ≡ room.order ++ r.call ∷ [] → after.receipts ≡ room.receipts ++ record { outcome = r.finished.outcome; used = r.finished.used } ∷ [] → after.touched ≡ room.touched ++ get_or ms i empty ∷ [] → after.marks ≡ slice_set room.marks r.call true
+        → after.order ≡ room.order ++ r.call ∷ [] → after.receipts ≡ room.receipts ++ record { outcome = r.finished.outcome; used = r.finished.used; asks = asks_in r.finished.trace } ∷ [] → after.touched ≡ room.touched ++ get_or ms i empty ∷ [] → after.marks ≡ slice_set room.marks r.call true
         → after.remaining ≡ room.remaining - limit → after.used ≡ room.used + r.finished.used → after.counts ≡ empty
         → IsWalked p es rs ms after (drop (i + 1) es) (drop (i + 1) rs) (drop (i + 1) ms)
     walked_on room after o rs' ms' marks rest used o' rs'' ms'' marks' rest' used' counts =
         let w' = next_is in
         let h : Publication = record p { cells = w'.now } in
         let m : Modes = get_or ms i empty in
-        let receipt : Receipt = record { outcome = r.finished.outcome; used = r.finished.used } in
+        let receipt : Receipt = record { outcome = r.finished.outcome; used = r.finished.used; asks = asks_in r.finished.trace } in
         let ex = executed_by p.setting p.calls e r m w'.now w'.made.0 is run (drop (i + 1) es) w'.defined in
         let same = is_more h b r.call limit r.finished.call (settled_by e w'.now) receipt m w'.kept w'.made.0.call_is limit_is follows ex room after o rs' ms' marks rest used o' rs'' ms'' marks' rest' used' counts in
         subst (λ x. IsWalked p es rs ms x (drop (i + 1) es) (drop (i + 1) rs) (drop (i + 1) ms)) (sym same)

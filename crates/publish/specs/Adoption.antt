@@ -4,6 +4,7 @@ use Rattle.spec_ledger.specs.Book.{Entry}
 use Rattle.spec_ledger.specs.Modes.{Modes, touched}
 use Rattle.spec_execution.specs.Configuration.{Setting}
 use Rattle.spec_execution.specs.Run.{ContractCall}
+use Rattle.spec_execution.specs.Levels.{asks_in}
 use Rattle.spec_execution.specs.Serial.{Ran}
 use Rattle.publish.specs.declared.adopting.MadeRun.{MadeRun}
 use Rattle.publish.specs.Publication.{HasRoom}
@@ -25,7 +26,7 @@ AreMade setting calls (r ∷ rs) (m ∷ ms) = IsMade setting calls r m × AreMad
 abbrev pub ran_by : {A : Type 0} → List (MadeRun A) → List Modes → List Ran
 ran_by [] ms = []
 ran_by (r ∷ rs) [] = []
-ran_by (r ∷ rs) (m ∷ ms) = record { receipt = record { outcome = r.finished.outcome; used = r.finished.used }; touched = m } ∷ ran_by rs ms
+ran_by (r ∷ rs) (m ∷ ms) = record { receipt = record { outcome = r.finished.outcome; used = r.finished.used; asks = asks_in r.finished.trace }; touched = m } ∷ ran_by rs ms
 
 -- a run of the entry's call, with the entry's trace and outcome
 pub record IsRunOf {A : Type 0} (e : Entry) (r : MadeRun A) : Type 0 where

@@ -66,7 +66,7 @@ pub record HasTaken (p : Publication) (number : ℕ) (q : Publication) : Type 0 
   pub call : ContractCall
   pub ran : Ran
   pub at : slice_get p.calls number ≡ Some call
-  pub executed : Executes p.setting call p.cells q.cells ran.receipt.outcome ran.receipt.used ran.touched
+  pub executed : Executes p.setting call p.cells q.cells ran.receipt ran.touched
   pub is : q ≡ record p { order = p.order ++ number ∷ []; ran = p.ran ++ ran ∷ []; cells = q.cells }
 
 -- the same calls over the same contracts and opening cells, with the same fuel

@@ -2,6 +2,7 @@
 ghost use Rattle.std.specs.Prelude.{◌≡◌, ◌<◌, ◌^◌, ◌↔◌, [], IsTrue, IfOk, IfSome, IsSome, length, map};
 ghost use Rattle.std.specs.FinMap as finite;
 ghost use Rattle.spec_ledger.specs.Book.{IsDefined, settled};
+ghost use Rattle.spec_ledger.specs.declared.Version.TheVariants.{Two};
 ghost use Rattle.interp.specs.Lent.{setting_view};
 ghost use Rattle.serial.specs.Positions.{positions};
 ghost use Rattle.publish.specs.Publication.{IsKept, limits};
@@ -55,9 +56,9 @@ pub(crate) fn walk<'a, A: Allocator + Copy>(
 ) -> Result<Option<SoFar<A>>, NoMemory>
     requires calls { length calls.now < 2 ^ 32 }
     requires replies { IsDefined _cells.now.cells entries.now }
-    requires runs { AreMade (setting_view _contracts.now) calls.now runs.now touched.items }
+    requires runs { AreMade (setting_view Two _contracts.now) calls.now runs.now touched.items }
     ensures answer { IfOk result (λ o. IsSome o ↔ MayFollowBy (limits calls.now) fuel [] entries.now runs.now) }
-    ensures kept { IfOk result (λ o. IfSome o (λ s. IsKept (record { setting = setting_view _contracts.now; calls = calls.now; opening = _cells.now.cells; fuel = fuel; order = s.order.items; ran = positions s.receipts.items s.touched.items; cells = settled _cells.now.cells entries.now }) s.receipts.items s.touched.items s.marks.items s.remaining s.used finite.empty)) }
+    ensures kept { IfOk result (λ o. IfSome o (λ s. IsKept (record { setting = setting_view Two _contracts.now; calls = calls.now; opening = _cells.now.cells; fuel = fuel; order = s.order.items; ran = positions s.receipts.items s.touched.items; cells = settled _cells.now.cells entries.now }) s.receipts.items s.touched.items s.marks.items s.remaining s.used finite.empty)) }
     ensures order { IfOk result (λ o. IfSome o (λ s. s.order.items ≡ map (λ e. e.call) entries.now)) }
     ensures ran { IfOk result (λ o. IfSome o (λ s. positions s.receipts.items s.touched.items ≡ ran_by runs.now touched.items)) }
 {
@@ -80,6 +81,7 @@ pub(crate) fn walk<'a, A: Allocator + Copy>(
         let receipt = Receipt {
             outcome: run.finished.outcome(),
             used: run.finished.used(),
+            asks: run.finished.asks(),
         };
         so_far.note(run.call, limit, receipt);
     }

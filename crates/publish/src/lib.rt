@@ -11,6 +11,7 @@ ghost use Rattle.std.specs.FinMap as finite;
 ghost use Rattle.spec_ledger.specs.Book.{GetsReplies, IsDefined, settled};
 ghost use Rattle.spec_ledger.specs.Order.{IsAdmissible};
 ghost use Rattle.spec_execution.specs.Serial.{Serial};
+ghost use Rattle.spec_ledger.specs.declared.Version.TheVariants.{Two};
 ghost use Rattle.interp.specs.Lent.{setting_view};
 ghost use Rattle.serial.specs.Positions.{positions};
 ghost use Rattle.publish.specs.Publication.{IsSerialOrder, MayFollow, HasTaken, IsSameJob, HasGoneOn, Sweep, AreLeft, limits, fuel_used};
@@ -25,12 +26,12 @@ use interp::finished::Finished;
 use link::deployed::Deployed as Contract;
 use lock_profile::Touched;
 use serial::{execute, replay};
-use spec_ledger::{NoMemory, Receipt};
+use spec_ledger::{NoMemory, Receipt, Version};
 use std::alloc::{Allocator, Global};
 use std::marker::Model;
 use storage::Cells;
 
-/// An order that is being published. The type keeps that what is published so far is a serial execution from the opening
+/// An order that is being published, for a block of version 2. The type keeps that what is published so far is a serial execution from the opening
 /// cells, of distinct calls whose limits are together within the fuel.
 #[derive(Drop)]
 pub struct Publishing<'a, A: Allocator + Copy> {
@@ -44,6 +45,7 @@ pub struct Publishing<'a, A: Allocator + Copy> {
 }
 
 impl<'a, A: Allocator + Copy> Model for Publishing<'a, A> {
+    ghost use Rattle.spec_ledger.specs.declared.Version.TheVariants.{Two};
     ghost use Rattle.interp.specs.Lent.{setting_view};
     ghost use Rattle.serial.specs.Positions.{positions};
     ghost use Rattle.publish.specs.Publication.{Publication, coded_publication, IsKept};
@@ -52,9 +54,9 @@ impl<'a, A: Allocator + Copy> Model for Publishing<'a, A> {
 
     ghost coded = { coded_publication };
 
-    ghost view = { λ p. record { setting = setting_view p.contracts.now; calls = p.calls.now; opening = p.opening.now.cells; fuel = p.fuel; order = p.so_far.order.items; ran = positions p.so_far.receipts.items p.so_far.touched.items; cells = p.cells.cells } };
+    ghost view = { λ p. record { setting = setting_view Two p.contracts.now; calls = p.calls.now; opening = p.opening.now.cells; fuel = p.fuel; order = p.so_far.order.items; ran = positions p.so_far.receipts.items p.so_far.touched.items; cells = p.cells.cells } };
 
-    ghost invariant = { λ p. IsKept (record { setting = setting_view p.contracts.now; calls = p.calls.now; opening = p.opening.now.cells; fuel = p.fuel; order = p.so_far.order.items; ran = positions p.so_far.receipts.items p.so_far.touched.items; cells = p.cells.cells }) p.so_far.receipts.items p.so_far.touched.items p.so_far.marks.items p.so_far.remaining p.so_far.used p.cells.unsettled };
+    ghost invariant = { λ p. IsKept (record { setting = setting_view Two p.contracts.now; calls = p.calls.now; opening = p.opening.now.cells; fuel = p.fuel; order = p.so_far.order.items; ran = positions p.so_far.receipts.items p.so_far.touched.items; cells = p.cells.cells }) p.so_far.receipts.items p.so_far.touched.items p.so_far.marks.items p.so_far.remaining p.so_far.used p.cells.unsettled };
 }
 
 /// What was published.
@@ -88,7 +90,7 @@ impl<'a, A: Allocator + Copy> Publishing<'a, A> {
         fuel: u64,
     ) -> Result<Publishing<'a, A>, NoMemory>
         requires { length calls.now < 2 ^ 32 }
-        ensures { IfOk result (λ p. p ≡ record { setting = setting_view contracts.now; calls = calls.now; opening = cells.now.cells; fuel = fuel; order = []; ran = []; cells = cells.now.cells }) }
+        ensures { IfOk result (λ p. p ≡ record { setting = setting_view Two contracts.now; calls = calls.now; opening = cells.now.cells; fuel = fuel; order = []; ran = []; cells = cells.now.cells }) }
     {
         let so_far = SoFar::open(alloc, calls.len(), fuel)?;
         let current = cells.copy(alloc)?;
@@ -126,9 +128,9 @@ impl<'a, A: Allocator + Copy> Publishing<'a, A> {
         requires replies { IsDefined cells.now.cells closed.entries.items }
         requires cells { closed.cells.cells ≡ settled cells.now.cells closed.entries.items }
         requires settled { closed.cells.unsettled ≡ finite.empty }
-        requires runs { AreMade (setting_view contracts.now) calls.now runs.now touched.items }
+        requires runs { AreMade (setting_view Two contracts.now) calls.now runs.now touched.items }
         ensures answer { IfOk result (λ o. IsSome o ↔ MayFollowBy (limits calls.now) fuel [] closed.entries.items runs.now) }
-        ensures adopted { IfOk result (λ o. IfSome o (λ p. p ≡ record { setting = setting_view contracts.now; calls = calls.now; opening = cells.now.cells; fuel = fuel; order = map (λ e. e.call) closed.entries.items; ran = ran_by runs.now touched.items; cells = closed.cells.cells })) }
+        ensures adopted { IfOk result (λ o. IfSome o (λ p. p ≡ record { setting = setting_view Two contracts.now; calls = calls.now; opening = cells.now.cells; fuel = fuel; order = map (λ e. e.call) closed.entries.items; ran = ran_by runs.now touched.items; cells = closed.cells.cells })) }
     {
         let Closed {
             opening: _,
@@ -213,7 +215,13 @@ impl<'a, A: Allocator + Copy> Publishing<'a, A> {
         let calls = self.calls;
         let next = &calls[call as usize];
         self.so_far.reserve()?;
-        let executed = execute(self.alloc, self.contracts, next, &mut self.cells)?;
+        let executed = execute(
+            self.alloc,
+            self.contracts,
+            next,
+            &mut self.cells,
+            Version::Two,
+        )?;
         self.so_far.push(call, next.fuel(), executed);
         Ok(true)
     }

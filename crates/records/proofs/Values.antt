@@ -4,6 +4,8 @@ use Rattle.std.specs.Int.{w32, w64, to_le_bytes, cast_signed, cast_unsigned}
 use Rattle.std.proofs.Math.Facts.{sfits_to_z, Fits-of_z, Fits-of_lt}
 use Rattle.std.proofs.lemmas.Int.{to_z-of_z, of_z-to_z}
 use Rattle.std.proofs.lemmas.Bool.{eqb-true}
+use Rattle.spec_ledger.specs.declared.Version.{Version}
+use Rattle.spec_ledger.specs.declared.Version.TheVariants.{One, Two}
 use Rattle.wtypes.specs.declared.Value.{Value}
 use Rattle.wtypes.specs.declared.Value.TheVariants.{I32, I64}
 use Rattle.wtypes.specs.declared.TrapCode.{TrapCode}
@@ -11,13 +13,13 @@ use Rattle.wtypes.specs.declared.TrapCode.TheVariants.{Unreachable, DivideByZero
 use Rattle.spec_ledger.specs.declared.Outcome.{Outcome}
 use Rattle.spec_ledger.specs.declared.Outcome.TheVariants.{Returned, Trapped, OutOfFuel, Rejected}
 use Rattle.spec_ledger.specs.declared.Receipt.{Receipt}
-use Rattle.spec_block.specs.Bytes.{value_bytes, trap_code, outcome_bytes, receipt_bytes, IsValue, IsOutcome, IsReceipt}
+use Rattle.spec_block.specs.Bytes.{value_bytes, trap_code, asks_bytes, outcome_bytes, receipt_bytes, IsValue, IsOutcome}
 use Rattle.records.specs.declared.fault.Fault.TheVariants.{Malformed}
 use Rattle.records.specs.Reading.{Read, ◌>>=◌, number_at, found}
 use Rattle.records.specs.Exact.{AreBytes, Takes, ReadsExactly}
 use Rattle.records.proofs.Steps.{rest_are_bytes, bind_ok, chosen, guard_holds, ok_is, some_is, found_is, Takes-then, Takes-byte}
 use Rattle.records.proofs.Numbers.{u32_exact, u64_exact}
-use Rattle.records.specs.Values.{value_at, values_by, values_at, trap_of, trap_at, is_rejection, rejection_at, outcome_by, outcome_at, receipt_at}
+use Rattle.records.specs.Values.{value_at, values_by, values_at, trap_of, trap_at, is_rejection, rejection_at, outcome_by, outcome_at, asks_at, receipt_at, IsReceiptIn}
 
 -- what a field's reader took, and what is known of it
 abbrev pub Took : {A : Type 0} → (A → List ℕ) → (A → Type 0) → List ℕ → A × List ℕ → Type 0
@@ -199,25 +201,46 @@ outcome_again (Rejected c) rest fits =
 
 -- ---- receipts
 
-receipt_takes : (bytes : List ℕ) (x : Receipt × List ℕ) → AreBytes bytes → receipt_at bytes ≡ Ok x → Took receipt_bytes IsReceipt bytes x
+asks_takes : (v : Version) (used : ℕ) (bytes : List ℕ) (x : ℕ × List ℕ) → used < 2 ^ 64 → AreBytes bytes → asks_at v bytes ≡ Ok x → (o : Outcome) → IsOutcome o
+    → Takes bytes (asks_bytes v (record { used = used; asks = x.0; outcome = o })) x.1 × IsReceiptIn v (record { used = used; asks = x.0; outcome = o })
+unfolding asks_at
+asks_takes One used bytes x wide bounded e o is =
+    subst (λ (y : ℕ × List ℕ). Takes bytes [] y.1 × IsReceiptIn One (record { used = used; asks = y.0; outcome = o })) (ok_is (0, bytes) x e)
+    (record { parts = refl; rest_fits = bounded }, (record { used = wide; asks = omega arith; outcome = is }, refl))
+asks_takes Two used bytes x wide bounded e o is = (u32_exact.takes bytes x bounded e, (record { used = wide; asks = u32_exact.fits bytes x bounded e; outcome = is }, tt))
+
+receipt_takes : (v : Version) (bytes : List ℕ) (x : Receipt × List ℕ) → AreBytes bytes → receipt_at v bytes ≡ Ok x → Took (receipt_bytes v) (IsReceiptIn v) bytes x
 unfolding receipt_at
-receipt_takes bytes x bounded e =
-    let u = bind_ok (number_at w64 bytes) (λ used. outcome_at used.1 >>= λ outcome. Ok (record { used = used.0; outcome = outcome.0 }, outcome.1)) x e in
-    let o = bind_ok (outcome_at u.0.1) (λ outcome. Ok (record { used = u.0.0; outcome = outcome.0 }, outcome.1)) x u.2 in
+receipt_takes v bytes x bounded e =
+    let u = bind_ok (number_at w64 bytes) (λ used. asks_at v used.1 >>= λ asks. outcome_at asks.1 >>= λ outcome. Ok (record { used = used.0; asks = asks.0; outcome = outcome.0 }, outcome.1)) x e in
+    let k = bind_ok (asks_at v u.0.1) (λ asks. outcome_at asks.1 >>= λ outcome. Ok (record { used = u.0.0; asks = asks.0; outcome = outcome.0 }, outcome.1)) x u.2 in
     let a = u64_exact.takes bytes u.0 bounded u.1 in
-    let b = outcome_takes u.0.1 o.0 a.rest_fits o.1 in
-    let made : Receipt × List ℕ = (record { used = u.0.0; outcome = o.0.0 }, o.0.1) in
-    subst (Took receipt_bytes IsReceipt bytes) (ok_is made x o.2) (Takes-then bytes (to_le_bytes w64 u.0.0) u.0.1 (outcome_bytes o.0.0) o.0.1 a b.0, record { used = u64_exact.fits bytes u.0 bounded u.1; outcome = b.1 })
+    let wide = u64_exact.fits bytes u.0 bounded u.1 in
+    let left : AreBytes k.0.1 = (asks_takes v u.0.0 u.0.1 k.0 wide a.rest_fits k.1 OutOfFuel tt).0.rest_fits in
+    let o = bind_ok (outcome_at k.0.1) (λ outcome. Ok (record { used = u.0.0; asks = k.0.0; outcome = outcome.0 }, outcome.1)) x k.2 in
+    let b = outcome_takes k.0.1 o.0 left o.1 in
+    let c = asks_takes v u.0.0 u.0.1 k.0 wide a.rest_fits k.1 o.0.0 b.1 in
+    let r : Receipt = record { used = u.0.0; asks = k.0.0; outcome = o.0.0 } in
+    let made : Receipt × List ℕ = (r, o.0.1) in
+    let ac = Takes-then bytes (to_le_bytes w64 u.0.0) u.0.1 (asks_bytes v r) k.0.1 a c.0 in
+    subst (Took (receipt_bytes v) (IsReceiptIn v) bytes) (ok_is made x o.2) (Takes-then bytes (to_le_bytes w64 u.0.0 ++ asks_bytes v r) k.0.1 (outcome_bytes o.0.0) o.0.1 ac b.0, c.1)
 
-receipt_again : (r : Receipt) (rest : List ℕ) → IsReceipt r → receipt_at (receipt_bytes r ++ rest) ≡ Ok (r, rest)
+asks_again : (v : Version) (r : Receipt) (rest : List ℕ) → IsReceiptIn v r → asks_at v (asks_bytes v r ++ rest) ≡ Ok (r.asks, rest)
+unfolding asks_at
+asks_again One r rest is = ap (λ (n : ℕ). Ok (n, rest)) (sym is.1)
+asks_again Two r rest is = u32_exact.again r.asks rest is.0.asks
+
+receipt_again : (v : Version) (r : Receipt) (rest : List ℕ) → IsReceiptIn v r → receipt_at v (receipt_bytes v r ++ rest) ≡ Ok (r, rest)
 unfolding receipt_at
-receipt_again r rest fits =
-    let regrouped : receipt_bytes r ++ rest ≡ to_le_bytes w64 r.used ++ (outcome_bytes r.outcome ++ rest) = append_assoc (to_le_bytes w64 r.used) (outcome_bytes r.outcome) rest in
-    ap receipt_at regrouped ∙ rw (u64_exact.again r.used (outcome_bytes r.outcome ++ rest) fits.used, outcome_again r.outcome rest fits.outcome) refl
+receipt_again v r rest is =
+    let regrouped : receipt_bytes v r ++ rest ≡ to_le_bytes w64 r.used ++ (asks_bytes v r ++ (outcome_bytes r.outcome ++ rest)) =
+    append_assoc (to_le_bytes w64 r.used ++ asks_bytes v r) (outcome_bytes r.outcome) rest ∙ append_assoc (to_le_bytes w64 r.used) (asks_bytes v r) (outcome_bytes r.outcome ++ rest) in
+    ap (receipt_at v) regrouped
+    ∙ rw (u64_exact.again r.used (asks_bytes v r ++ (outcome_bytes r.outcome ++ rest)) is.0.used, asks_again v r (outcome_bytes r.outcome ++ rest) is, outcome_again r.outcome rest is.0.outcome) refl
 
-pub receipt_exact : ReadsExactly receipt_at receipt_bytes IsReceipt
-receipt_exact = record {
-  takes = λ bytes x bounded e. (receipt_takes bytes x bounded e).0;
-  fits = λ bytes x bounded e. (receipt_takes bytes x bounded e).1;
-  again = receipt_again;
+pub receipt_exact : (v : Version) → ReadsExactly (receipt_at v) (receipt_bytes v) (IsReceiptIn v)
+receipt_exact v = record {
+  takes = λ bytes x bounded e. (receipt_takes v bytes x bounded e).0;
+  fits = λ bytes x bounded e. (receipt_takes v bytes x bounded e).1;
+  again = receipt_again v;
 }

@@ -1,6 +1,8 @@
 -- Reading values and receipts from front to back.
 use Rattle.std.specs.Prelude.{ℕ, zero, suc, List, length, Bool, Option, Some, None, Ok, Err, ◌==◌, ◌||◌, if◌then◌else◌}
 use Rattle.std.specs.Int.{w32, w64, cast_signed}
+use Rattle.spec_ledger.specs.declared.Version.{Version}
+use Rattle.spec_ledger.specs.declared.Version.TheVariants.{One, Two}
 use Rattle.wtypes.specs.declared.Value.{Value}
 use Rattle.wtypes.specs.declared.Value.TheVariants.{I32, I64}
 use Rattle.wtypes.specs.declared.TrapCode.{TrapCode}
@@ -8,6 +10,7 @@ use Rattle.wtypes.specs.declared.TrapCode.TheVariants.{Unreachable, DivideByZero
 use Rattle.spec_ledger.specs.declared.Outcome.{Outcome}
 use Rattle.spec_ledger.specs.declared.Outcome.TheVariants.{Returned, Trapped, OutOfFuel, Rejected}
 use Rattle.spec_ledger.specs.declared.Receipt.{Receipt}
+use Rattle.spec_block.specs.Bytes.{IsReceipt, ForVersion}
 use Rattle.records.specs.declared.fault.Fault.TheVariants.{Malformed}
 use Rattle.records.specs.Reading.{Read, ◌>>=◌, byte_at, number_at, found}
 
@@ -68,8 +71,20 @@ outcome_at bytes = do
   kind ← byte_at bytes
   outcome_by kind.0 (length bytes) kind.1
 
-unfoldable pub receipt_at : List ℕ → Read Receipt
-receipt_at bytes = do
+-- version 1 does not tell of levels
+unfoldable pub asks_at : Version → List ℕ → Read ℕ
+asks_at One bytes = Ok (0, bytes)
+asks_at Two bytes = number_at w32 bytes
+
+unfoldable pub receipt_at : Version → List ℕ → Read Receipt
+receipt_at version bytes = do
   used ← number_at w64 bytes
-  outcome ← outcome_at used.1
-  Ok (record { used = used.0; outcome = outcome.0 }, outcome.1)
+  asks ← asks_at version used.1
+  outcome ← outcome_at asks.1
+  Ok (record { used = used.0; asks = asks.0; outcome = outcome.0 }, outcome.1)
+
+-- ---- what is read
+
+-- a receipt that a block of this version can tell
+abbrev pub IsReceiptIn : Version → Receipt → Type 0
+IsReceiptIn version r = IsReceipt r × ForVersion version r

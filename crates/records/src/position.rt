@@ -1,17 +1,18 @@
 //! Positions of a block: the call's number, its receipt and its lock profile.
 
 ghost use Rattle.std.specs.Prelude.{◌≡◌, ◌++◌, ◌↔◌, ◌<◌, ◌^◌, ℕ, List, IfOk, OnOk, IsSome, IfSome, length, take};
+ghost use Rattle.spec_ledger.specs.declared.Version.{Version};
 ghost use Rattle.spec_block.specs.Worlds.{Position as ThePosition};
 ghost use Rattle.spec_block.specs.Bytes.{IsOutcome, IsPosition, position_bytes};
 ghost use Rattle.records.specs.Reading.{Gives, IsRead};
 ghost use Rattle.records.specs.Exact.{ReadsExactly};
-ghost use Rattle.records.specs.Positions.{position_at};
+ghost use Rattle.records.specs.Positions.{position_at, IsPositionIn};
 
 use crate::profile::{append_profile, note_entries, read_profile};
 use crate::receipt::{append_receipt, has_bytes, read_receipt};
 use crate::{Fault, append_u32, read_u32};
 use lock_profile::Profile;
-use spec_ledger::Receipt;
+use spec_ledger::{Receipt, Version};
 use std::alloc::{AllocError, Allocator, Global};
 use std::marker::Model;
 
@@ -84,11 +85,15 @@ impl<A: Allocator> Position<A> {
 }
 
 #[tactic(auto, unfolding(crate::specs::Positions::position_at))]
-fn position_of<A: Allocator>(alloc: A, bytes: &[u8]) -> Result<(Position<A>, &[u8]), Fault>
-    ensures { Gives (λ x. (x.0, x.1.now)) result (position_at bytes.now) }
+fn position_of<A: Allocator>(
+    version: Version,
+    alloc: A,
+    bytes: &[u8],
+) -> Result<(Position<A>, &[u8]), Fault>
+    ensures { Gives (λ x. (x.0, x.1.now)) result (position_at version bytes.now) }
 {
     let (call, rest) = read_u32(bytes)?;
-    let (receipt, rest) = read_receipt(rest)?;
+    let (receipt, rest) = read_receipt(version, rest)?;
     let (profile, rest) = read_profile(alloc, rest)?;
     match Position::new(call, receipt, profile) {
         Some(position) => Ok((position, rest)),
@@ -96,32 +101,37 @@ fn position_of<A: Allocator>(alloc: A, bytes: &[u8]) -> Result<(Position<A>, &[u
     }
 }
 
-/// Reads a position, and gives the bytes after it. It is refused exactly where no position stands in front, memory aside, and the first
-/// fault is answered.
-pub fn read_position<A: Allocator>(alloc: A, bytes: &[u8]) -> Result<(Position<A>, &[u8]), Fault>
-    ensures spelled { IfOk result (λ x. IsPosition x.0 × (bytes.now ≡ position_bytes x.0 ++ x.1.now)) }
-    ensures only { (position : ThePosition) (rest : List ℕ) → IsPosition position → bytes.now ≡ position_bytes position ++ rest → IsRead (λ x. (x.0, x.1.now)) result position rest }
-    ensures first { Gives (λ x. (x.0, x.1.now)) result (position_at bytes.now) }
+/// Reads a position of a block of this version, and gives the bytes after it. It is refused exactly where no such position stands in front,
+/// memory aside, and the first fault is answered.
+pub fn read_position<A: Allocator>(
+    version: Version,
+    alloc: A,
+    bytes: &[u8],
+) -> Result<(Position<A>, &[u8]), Fault>
+    ensures spelled { IfOk result (λ x. IsPositionIn version x.0 × (bytes.now ≡ position_bytes version x.0 ++ x.1.now)) }
+    ensures only { (position : ThePosition) (rest : List ℕ) → IsPositionIn version position → bytes.now ≡ position_bytes version position ++ rest → IsRead (λ x. (x.0, x.1.now)) result position rest }
+    ensures first { Gives (λ x. (x.0, x.1.now)) result (position_at version bytes.now) }
 {
-    position_of(alloc, bytes)
+    position_of(version, alloc, bytes)
 }
 
-/// Appends a position. Where memory is refused, what was there still stands in front.
+/// Appends a position as blocks of this version tell it. Where memory is refused, what was there still stands in front.
 pub fn append_position<A: Allocator>(
+    version: Version,
     out: &mut Vec<u8, A>,
     position: &Position<A>,
 ) -> Result<(), AllocError>
-    ensures bytes { OnOk result (out.new.items ≡ out.old.items ++ position_bytes position.now) }
+    ensures bytes { OnOk result (out.new.items ≡ out.old.items ++ position_bytes version position.now) }
     ensures front { take (length out.old.items) out.new.items ≡ out.old.items }
 {
     position.hold();
     append_u32(out, position.call())?;
-    append_receipt(out, position.receipt())?;
+    append_receipt(version, out, position.receipt())?;
     append_profile(out, position.profile())?;
     Ok(())
 }
 
-/// Positions are read exactly: what is read is spelled so, and what is spelled so is read, whatever follows.
+/// The positions of a version are read exactly: what is read is spelled so, and what is spelled so is read, whatever follows.
 pub fn positions_are_read_exactly()
-    ensures { ReadsExactly position_at position_bytes IsPosition }
+    ensures { (version : Version) → ReadsExactly (position_at version) (position_bytes version) (IsPositionIn version) }
 {}

@@ -1,14 +1,14 @@
-//! Receipts: the fuel used, a byte for the outcome's kind, and what the kind has.
+//! Receipts: the fuel used, from version 2 the levels entered, a byte for the outcome's kind, and what the kind has.
 
 ghost use Rattle.std.specs.Prelude.{◌≡◌, ◌++◌, ◌↔◌, ◌<◌, ◌^◌, ℕ, List, IfOk, OnOk, IsTrue, take, length};
 ghost use Rattle.spec_ledger.specs.declared.Receipt.{Receipt};
-ghost use Rattle.spec_block.specs.Bytes.{IsReceipt, IsOutcome, outcome_bytes, receipt_bytes, trap_code};
+ghost use Rattle.spec_block.specs.Bytes.{IsOutcome, asks_bytes, outcome_bytes, receipt_bytes, trap_code};
 ghost use Rattle.records.specs.Reading.{Gives, IsRead};
-ghost use Rattle.records.specs.Values.{values_at, trap_of, trap_at, is_rejection, rejection_at, outcome_at, receipt_at};
+ghost use Rattle.records.specs.Values.{values_at, trap_of, trap_at, is_rejection, rejection_at, outcome_at, asks_at, receipt_at, IsReceiptIn};
 
 use crate::value::{append_value, read_value};
-use crate::{Fault, append_u64, read_byte, read_u64};
-use spec_ledger::{Outcome, Receipt};
+use crate::{Fault, append_u32, append_u64, read_byte, read_u32, read_u64};
+use spec_ledger::{Outcome, Receipt, Version};
 use std::alloc::{AllocError, Allocator};
 use wtypes::{TrapCode, Value};
 
@@ -95,22 +95,41 @@ fn outcome_of(bytes: &[u8]) -> Result<(Outcome, &[u8]), Fault>
     }
 }
 
-#[tactic(auto, unfolding(crate::specs::Values::receipt_at))]
-fn receipt_of(bytes: &[u8]) -> Result<(Receipt, &[u8]), Fault>
-    ensures { Gives (λ x. (x.0, x.1.now)) result (receipt_at bytes.now) }
+#[tactic(auto, unfolding(crate::specs::Values::asks_at))]
+fn asks_of(version: Version, bytes: &[u8]) -> Result<(u32, &[u8]), Fault>
+    ensures { Gives (λ x. (x.0, x.1.now)) result (asks_at version bytes.now) }
 {
-    let (used, rest) = read_u64(bytes)?;
-    let (outcome, rest) = outcome_of(rest)?;
-    Ok((Receipt { outcome, used }, rest))
+    match version {
+        Version::One => Ok((0, bytes)),
+        Version::Two => read_u32(bytes),
+    }
 }
 
-/// Reads a receipt, and gives the bytes after it. It is refused exactly where no receipt stands in front, and the first fault is answered.
-pub fn read_receipt(bytes: &[u8]) -> Result<(Receipt, &[u8]), Fault>
-    ensures spelled { IfOk result (λ x. IsReceipt x.0 × (bytes.now ≡ receipt_bytes x.0 ++ x.1.now)) }
-    ensures only { (receipt : Receipt) (rest : List ℕ) → IsReceipt receipt → bytes.now ≡ receipt_bytes receipt ++ rest → IsRead (λ x. (x.0, x.1.now)) result receipt rest }
-    ensures first { Gives (λ x. (x.0, x.1.now)) result (receipt_at bytes.now) }
+#[tactic(auto, unfolding(crate::specs::Values::receipt_at))]
+fn receipt_of(version: Version, bytes: &[u8]) -> Result<(Receipt, &[u8]), Fault>
+    ensures { Gives (λ x. (x.0, x.1.now)) result (receipt_at version bytes.now) }
 {
-    receipt_of(bytes)
+    let (used, rest) = read_u64(bytes)?;
+    let (asks, rest) = asks_of(version, rest)?;
+    let (outcome, rest) = outcome_of(rest)?;
+    Ok((
+        Receipt {
+            outcome,
+            used,
+            asks,
+        },
+        rest,
+    ))
+}
+
+/// Reads a receipt of a block of this version, and gives the bytes after it. It is refused exactly where no such receipt stands in front,
+/// and the first fault is answered.
+pub fn read_receipt(version: Version, bytes: &[u8]) -> Result<(Receipt, &[u8]), Fault>
+    ensures spelled { IfOk result (λ x. IsReceiptIn version x.0 × (bytes.now ≡ receipt_bytes version x.0 ++ x.1.now)) }
+    ensures only { (receipt : Receipt) (rest : List ℕ) → IsReceiptIn version receipt → bytes.now ≡ receipt_bytes version receipt ++ rest → IsRead (λ x. (x.0, x.1.now)) result receipt rest }
+    ensures first { Gives (λ x. (x.0, x.1.now)) result (receipt_at version bytes.now) }
+{
+    receipt_of(version, bytes)
 }
 
 fn code_of(trap: TrapCode) -> u8
@@ -135,15 +154,31 @@ fn append_outcome<A: Allocator>(out: &mut Vec<u8, A>, outcome: Outcome) -> Resul
     }
 }
 
-/// Appends a receipt. Where memory is refused, what was there still stands in front.
-pub fn append_receipt<A: Allocator>(
+fn append_asks<A: Allocator>(
+    version: Version,
     out: &mut Vec<u8, A>,
     receipt: Receipt,
 ) -> Result<(), AllocError>
-    ensures bytes { OnOk result (out.new.items ≡ out.old.items ++ receipt_bytes receipt) }
+    ensures bytes { OnOk result (out.new.items ≡ out.old.items ++ asks_bytes version receipt) }
+    ensures front { take (length out.old.items) out.new.items ≡ out.old.items }
+{
+    match version {
+        Version::One => Ok(()),
+        Version::Two => append_u32(out, receipt.asks),
+    }
+}
+
+/// Appends a receipt as blocks of this version tell it. Where memory is refused, what was there still stands in front.
+pub fn append_receipt<A: Allocator>(
+    version: Version,
+    out: &mut Vec<u8, A>,
+    receipt: Receipt,
+) -> Result<(), AllocError>
+    ensures bytes { OnOk result (out.new.items ≡ out.old.items ++ receipt_bytes version receipt) }
     ensures front { take (length out.old.items) out.new.items ≡ out.old.items }
 {
     append_u64(out, receipt.used)?;
+    append_asks(version, out, receipt)?;
     append_outcome(out, receipt.outcome)
 }
 
@@ -151,8 +186,10 @@ pub fn append_receipt<A: Allocator>(
 pub(crate) fn has_bytes(receipt: Receipt) -> bool
     ensures outcome { IsTrue result ↔ IsOutcome receipt.outcome }
     ensures used { receipt.used < 2 ^ 64 }
+    ensures asks { receipt.asks < 2 ^ 32 }
 {
     let _used = receipt.used;
+    let _asks = receipt.asks;
     match receipt.outcome {
         Outcome::Returned(Some(Value::I32(_x))) => true,
         Outcome::Returned(Some(Value::I64(_x))) => true,

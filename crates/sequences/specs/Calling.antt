@@ -8,6 +8,7 @@ use Rattle.wtypes.specs.declared.HostCall.{HostCall}
 use Rattle.wtypes.specs.declared.FuncType.{FuncType}
 use Rattle.wtypes.specs.declared.Value.{Value}
 use Rattle.wtypes.specs.declared.TrapCode.TheVariants.{CallDepth}
+use Rattle.spec_ledger.specs.declared.Version.{Version}
 use Rattle.spec_syntax.specs.Syntax as syntax
 use Rattle.module_tree.specs.declared.module.Func.{Func}
 use Rattle.module_tree.specs.declared.module.Module.{Module}
@@ -48,9 +49,9 @@ function_is {A} m hosts f o le e =
     of_option (Some g) = ap (option_map (λ t. Defined t (func_view g))) (slice_get-map func_type_view m.types.items g.type_index) ∙ of_type g (slice_get m.types.items g.type_index)
 
 -- what a call finds where it is not stuck
-module _ {A : Type 0} (m : Module A) (hosts : List HostCall) (number : ℕ) (v : View) (f : ℕ) (fine : IsFineCall (record { number = number; deployed = record { tree = module_view m; hosts = hosts } }) v f) (le : length hosts ≤ f) where
+module _ {A : Type 0} (m : Module A) (hosts : List HostCall) (number : ℕ) (version : Version) (v : View) (f : ℕ) (fine : IsFineCall (record { number = number; deployed = record { tree = module_view m; hosts = hosts }; version = version }) v f) (le : length hosts ≤ f) where
   abbrev c : Contract
-  c = record { number = number; deployed = record { tree = module_view m; hosts = hosts } }
+  c = record { number = number; deployed = record { tree = module_view m; hosts = hosts }; version = version }
 
   inside : reduce c (frames v.entries 0) (at v.base v.locals) (onto (drop (height v.entries) v.stack) []) (Invoke f (listed v.code End)) ≡ Stuck → ⊥
   inside = fine_at c v.base v.entries v.stack v.locals (Invoke f (listed v.code End)) fine.not_stuck
@@ -140,13 +141,13 @@ module _ (c : Contract) (b : State) (es : List Open) (kept args locals : List Va
           ∙ ap (λ ls. Running (at b (outermost es ls)) (whole es kept ls made)) same_outer
 
 -- The call, where the arguments are cut off at a height.
-module _ {A : Type 0} (m : Module A) (hosts : List HostCall) (number : ℕ) (v : View) (f : ℕ) (g : Func A) (t : FuncType A) (fine : IsFineCall (record { number = number; deployed = record { tree = module_view m; hosts = hosts } }) v f) (le : length hosts ≤ f) (o : IsOrdered v)
+module _ {A : Type 0} (m : Module A) (hosts : List HostCall) (number : ℕ) (version : Version) (v : View) (f : ℕ) (g : Func A) (t : FuncType A) (fine : IsFineCall (record { number = number; deployed = record { tree = module_view m; hosts = hosts }; version = version }) v f) (le : length hosts ≤ f) (o : IsOrdered v)
     (eg : slice_get m.funcs.items (f - length hosts) ≡ Some g) (et : slice_get m.types.items g.type_index ≡ Some t) (cut : ℕ) (ec : cut + length t.params.items ≡ length v.stack) where
   abbrev d : Contract
-  d = record { number = number; deployed = record { tree = module_view m; hosts = hosts } }
+  d = record { number = number; deployed = record { tree = module_view m; hosts = hosts }; version = version }
 
   fits : height v.entries + length t.params.items ≤ length v.stack
-  fits = args_found m hosts number v f fine le g t o eg et
+  fits = args_found m hosts number version v f fine le g t o eg et
 
   stands_cut : Stands v.entries (length (take cut v.stack))
   stands_cut = Stands_at v.entries (length v.stack) _ (omega (arith, length-take cut v.stack, fits)) o.stands
@@ -159,7 +160,7 @@ module _ {A : Type 0} (m : Module A) (hosts : List HostCall) (number : ℕ) (v :
 
   pub too_deep_view : 256 ≤ frames v.entries 0 → Reduces d (calling v f) 0 (Trap (state v) CallDepth)
   too_deep_view deep = subst (λ (u : View). Reduces d (calling u f) 0 (Trap (state u) CallDepth)) whole_stack
-      (too_deep d v.base v.entries (take cut v.stack) (drop cut v.stack) v.locals v.code f (func_type_view t) (func_view g) stands_cut (call_is m hosts number v f fine le g t eg et) args_fit deep)
+      (too_deep d v.base v.entries (take cut v.stack) (drop cut v.stack) v.locals v.code f (func_type_view t) (func_view g) stands_cut (call_is m hosts number version v f fine le g t eg et) args_fit deep)
 
   pub started_view : (w : View) (e : Open) → frames v.entries 0 < 256 → w.base ≡ v.base → w.entries ≡ e ∷ v.entries → w.stack ≡ take cut v.stack → w.code ≡ numbered 0 (func_view g).body →
       w.locals ≡ drop cut v.stack ++ map zero_of g.locals.items → e.scope ≡ Frame f v.locals → e.arity ≡ length t.results.items → e.height ≡ cut → e.from ≡ v.code → HasEntered d v f w
@@ -168,7 +169,7 @@ module _ {A : Type 0} (m : Module A) (hosts : List HostCall) (number : ℕ) (v :
       (subst (λ (x : State). HasEntered d u0 f (record w { base = x })) (sym ebase)
       (subst (λ (x : List Open). HasEntered d u0 f (mk v.base x w.stack w.locals w.code)) (sym ee)
       (subst (λ (x : List Value). HasEntered d u0 f (mk v.base (e ∷ v.entries) x w.locals w.code)) (sym es)
-      (started d v.base v.entries (take cut v.stack) (drop cut v.stack) v.locals v.code f (func_type_view t) (func_view g) stands_cut (call_is m hosts number v f fine le g t eg et) args_fit
+      (started d v.base v.entries (take cut v.stack) (drop cut v.stack) v.locals v.code f (func_type_view t) (func_view g) stands_cut (call_is m hosts number version v f fine le g t eg et) args_fit
       e w.code w.locals shallow ek ea (eh ∙ (omega (arith, length-take cut v.stack))) ef ej el o.each))))
     where
       u0 : View

@@ -102,7 +102,7 @@ module _ (t : Seq) where
 
     by_growth : (c : Contract) (n : ℕ) (s : State) (delta : ℕ) (vs : List Value) (a : Seq) → Joins (grown c n s delta vs (joined a t)) (grown c n s delta vs a)
     unfolding grown
-    by_growth c n s delta vs a = either (nat_le (pages s.memory + delta) (most_pages c.deployed.tree.memories)) _ _ _ _ (to n _ vs _ (Val _ a) refl) (to n s vs _ (Val _ a) refl)
+    by_growth c n s delta vs a = either (nat_le (pages s.memory + delta) (most_pages c.version c.deployed.tree.memories)) _ _ _ _ (to n _ vs _ (Val _ a) refl) (to n s vs _ (Val _ a) refl)
 
     one_plain : (c : Contract) (s : State) (n : ℕ) (i : PlainInstr) (vs : List Value) (a : Seq) → Joins (execute_plain c s n i vs (joined a t)) (execute_plain c s n i vs a)
     unfolding execute_plain

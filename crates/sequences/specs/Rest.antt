@@ -84,7 +84,7 @@ plain_charge c s n (GlobalGet x) vs rest = of_found n (slice_get s.globals x) _ 
 plain_charge c s n (Load o align offset) vs rest = of_number n I32 vs _ (λ a ws. of_answer n (load s.memory (a + offset) (load_width o)) _ (λ x. refl))
 plain_charge c s n (Store o align offset) vs rest = of_number n _ vs _ (λ x ws. of_number n I32 ws _ (λ a us. of_answer n (store s.memory (a + offset) (store_width o) x) _ (λ memory. refl)))
 plain_charge c s n MemorySize vs rest = refl
-plain_charge c s n MemoryGrow vs rest = of_number n I32 vs _ (λ k ws. of_test n (nat_le (pages s.memory + k) (most_pages c.deployed.tree.memories)) _ _ refl refl)
+plain_charge c s n MemoryGrow vs rest = of_number n I32 vs _ (λ k ws. of_test n (nat_le (pages s.memory + k) (most_pages c.version c.deployed.tree.memories)) _ _ refl refl)
 plain_charge c s n (GlobalSet x) vs rest = of_value n vs _ (λ v ws. of_found n (slice_get s.globals x) _ (λ old. refl))
 
 charge_of : (c : Contract) (s : State) (n o : ℕ) (i : Instr) (vs : List Value) (rest : Seq) → HasCharge n (execute c s n o i vs rest)

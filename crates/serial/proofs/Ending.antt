@@ -4,6 +4,7 @@ use Rattle.std.specs.Prelude.{Result, Ok, Err, OnErr}
 use Rattle.std.specs.FinMap.{empty}
 use Rattle.spec_ledger.specs.declared.Inverse.{Inverse}
 use Rattle.spec_ledger.specs.declared.Outcome.{Outcome}
+use Rattle.spec_ledger.specs.declared.Receipt.{Receipt}
 use Rattle.spec_ledger.specs.declared.Step.{Step}
 use Rattle.spec_ledger.specs.Cells.{Cells, AreCells}
 use Rattle.spec_ledger.specs.Modes.{Modes, touched}
@@ -14,7 +15,7 @@ use Rattle.storage.specs.Counts.{opened_all, closed_all, AreUnsettled}
 use Rattle.storage.proofs.Counted.{AreCounts-empty, AreUnsettled-opened_all, closed_all-opened_all}
 use Rattle.spec_execution.specs.Configuration.{Setting}
 use Rattle.spec_execution.specs.Run.{ContractCall}
-use Rattle.spec_execution.specs.Levels.{RunsWith}
+use Rattle.spec_execution.specs.Levels.{RunsWith, asks_in}
 use Rattle.spec_execution.specs.Exec.{Executes}
 use Rattle.interp.specs.Played.{Played, IsPlayed}
 use Rattle.serial.specs.Playing.{AreDone, IsPlayedOver}
@@ -45,20 +46,21 @@ module _ (start now : Store) (t : List Step) (is : List Inverse) (d : AreDone st
   left_is are false = undone are
 
 module _ (lent : Setting) (call : ContractCall) (start now : Store) (f : Played) (is : List Inverse) (p : IsPlayedOver lent call start f now is) (run : IsPlayed f) (settled : start.unsettled ≡ empty) (are : AreCells start.cells) where
-  pub executed : (o : Outcome) → o ≡ f.outcome → (used : ℕ) → used ≡ f.used → (stand : Bool) → stand ≡ has_returned o → (later : Cells) → later ≡ cond stand now.cells (back_all is now.cells)
-      → (t : List Step) → t ≡ f.trace → (locks : Modes) → locks ≡ touched t → Executes lent call start.cells later o used locks
-  executed o o_is used used_is stand stand_is later later_is t t_is locks locks_are = record {
+  pub executed : (o : Outcome) → o ≡ f.outcome → (used : ℕ) → used ≡ f.used → (asks : ℕ) → asks ≡ asks_in f.trace → (stand : Bool) → stand ≡ has_returned o → (later : Cells) → later ≡ cond stand now.cells (back_all is now.cells)
+      → (t : List Step) → t ≡ f.trace → (locks : Modes) → locks ≡ touched t → Executes lent call start.cells later (record { outcome = o; used = used; asks = asks }) locks
+  executed o o_is used used_is asks asks_are stand stand_is later later_is t t_is locks locks_are = record {
     trace = f.trace;
     run = subst (λ x. RunsWith lent call f.trace x used) (sym o_is) (subst (λ n. RunsWith lent call f.trace f.outcome n) (sym used_is)
         (subst (λ c. RunsWith lent c f.trace f.outcome f.used) p.call_is (subst (λ ds. RunsWith ds f.call f.trace f.outcome f.used) p.lent run)));
+    asks = asks_are;
     replies = p.done.replies;
     later_is = later_is ∙ ap (λ b. cond b now.cells (back_all is now.cells)) stand_is ∙ left_is start now f.trace is p.done settled are (has_returned o);
     locks_are = locks_are ∙ ap touched t_is;
   }
 
-pub executed_for : (lent : Setting) (call : ContractCall) (start now : Store) (f : Played) (is : List Inverse) → IsPlayedOver lent call start f now is → (later : Cells) (o : Outcome) (used : ℕ) (locks : Modes)
-    → Executes f.setting f.call start.cells later o used locks → Executes lent call start.cells later o used locks
-executed_for lent call start now f is p later o used locks e = subst (λ c. Executes lent c start.cells later o used locks) p.call_is (subst (λ ds. Executes ds f.call start.cells later o used locks) p.lent e)
+pub executed_for : (lent : Setting) (call : ContractCall) (start now : Store) (f : Played) (is : List Inverse) → IsPlayedOver lent call start f now is → (later : Cells) (r : Receipt) (locks : Modes)
+    → Executes f.setting f.call start.cells later r locks → Executes lent call start.cells later r locks
+executed_for lent call start now f is p later r locks e = subst (λ c. Executes lent c start.cells later r locks) p.call_is (subst (λ ds. Executes ds f.call start.cells later r locks) p.lent e)
 
 pub on_err : {T E P : Type 0} (r : Result T E) → P → OnErr r P
 on_err (Ok x) p = tt

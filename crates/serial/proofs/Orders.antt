@@ -22,15 +22,15 @@ positions-push (x ∷ rs) [] r m e = absurd (omega (arith, e))
 
 module _ (setting : Setting) (calls : List ContractCall) where
   pub Serial-push : (order : List ℕ) (cells mid last : Cells) (rs : List Ran) (n : ℕ) (r : Ran) (call : ContractCall) → Serial setting calls order cells rs mid → slice_get calls n ≡ Some call
-      → Executes setting call mid last r.receipt.outcome r.receipt.used r.touched → Serial setting calls (order ++ n ∷ []) cells (rs ++ r ∷ []) last
-  Serial-push [] cells mid last [] n r call s is e = (call, last, is, subst (λ x. Executes setting call x last r.receipt.outcome r.receipt.used r.touched) s e, refl)
+      → Executes setting call mid last r.receipt r.touched → Serial setting calls (order ++ n ∷ []) cells (rs ++ r ∷ []) last
+  Serial-push [] cells mid last [] n r call s is e = (call, last, is, subst (λ x. Executes setting call x last r.receipt r.touched) s e, refl)
   Serial-push [] cells mid last (x ∷ rs) n r call s is e = absurd s
   Serial-push (y ∷ order) cells mid last [] n r call s is e = absurd s
   Serial-push (y ∷ order) cells mid last (x ∷ rs) n r call s is e = (s.0, s.1, s.2, s.3, Serial-push order s.1 mid last rs n r call s.4 is e)
 
   pub serial_more : (order : List ℕ) (i d : ℕ) (cells mid last : Cells) (rs next : List Receipt) (ms more : List Modes) (r : Receipt) (m : Modes) (call : ContractCall)
       → i < length order → Serial setting calls (take i order) cells (positions rs ms) mid → length rs ≡ length ms → next ≡ rs ++ r ∷ [] → more ≡ ms ++ m ∷ []
-      → slice_get calls (get_or order i d) ≡ Some call → Executes setting call mid last r.outcome r.used m → Serial setting calls (take (i + 1) order) cells (positions next more) last
+      → slice_get calls (get_or order i d) ≡ Some call → Executes setting call mid last r m → Serial setting calls (take (i + 1) order) cells (positions next more) last
   serial_more order i d cells mid last rs next ms more r m call below s even next_is more_is is e =
       subst (λ o. Serial setting calls o cells (positions next more) last) (sym (take_more order i d below))
       (subst (λ ps. Serial setting calls (take i order ++ get_or order i d ∷ []) cells ps last) (sym ((λ k. positions (next_is k) (more_is k)) ∙ positions-push rs ms r m even))

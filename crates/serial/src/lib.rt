@@ -25,7 +25,7 @@ use call::Call;
 use interp::finished::Finished;
 use link::deployed::Deployed as Contract;
 use lock_profile::Touched;
-use spec_ledger::{Inverse, NoMemory, Receipt};
+use spec_ledger::{Inverse, NoMemory, Receipt, Version};
 use std::alloc::{Allocator, Global};
 use storage::{Cells, end_all, returned};
 
@@ -43,7 +43,7 @@ pub struct Core<A: Allocator = Global> {
 /// What one call came to.
 #[derive(Drop)]
 pub struct Executed<A: Allocator = Global> {
-    /// How it ended and the fuel that it used.
+    /// How it ended, the fuel that it used and the levels that it entered.
     pub receipt: Receipt,
     /// The locks that it asked for, each with the join of its modes.
     pub touched: Touched<A>,
@@ -58,7 +58,7 @@ fn conclude<A: Allocator + Copy>(
     inverses: Vec<Inverse, A>,
 ) -> Result<Executed<A>, NoMemory>
     requires { AreUnsettled inverses.items cells.old.unsettled }
-    ensures executed { IfOk result (λ e. (start : Store) → AreDone start finished.now.trace cells.old inverses.items → start.unsettled ≡ finite.empty → AreCells start.cells → Executes finished.now.setting finished.now.call start.cells cells.new.cells e.receipt.outcome e.receipt.used e.touched) }
+    ensures executed { IfOk result (λ e. (start : Store) → AreDone start finished.now.trace cells.old inverses.items → start.unsettled ≡ finite.empty → AreCells start.cells → Executes finished.now.setting finished.now.call start.cells cells.new.cells e.receipt e.touched) }
     ensures err { OnErr result (cells.new.cells ≡ back_all inverses.items cells.old.cells) }
     ensures unsettled { cells.new.unsettled ≡ closed_all inverses.items cells.old.unsettled }
 {
@@ -66,6 +66,7 @@ fn conclude<A: Allocator + Copy>(
     let receipt = Receipt {
         outcome: finished.outcome(),
         used: finished.used(),
+        asks: finished.asks(),
     };
     let Ok(touched) = touched_by(alloc, finished.trace()) else {
         end_all(cells, inverses, false);
@@ -75,7 +76,7 @@ fn conclude<A: Allocator + Copy>(
     Ok(Executed { receipt, touched })
 }
 
-/// Runs a call over the cells. Unless it returned they are as before.
+/// Runs a call over the cells, by the rules of this version. Unless it returned they are as before.
 ///
 /// # Errors
 ///
@@ -85,18 +86,19 @@ pub fn execute<A: Allocator + Copy>(
     contracts: &[Contract<A>],
     call: &Call,
     cells: &mut Cells<A>,
+    version: Version,
 ) -> Result<Executed<A>, NoMemory>
     requires { cells.old.unsettled ≡ finite.empty }
-    ensures executed { IfOk result (λ e. Executes (setting_view contracts.now) call.now cells.old.cells cells.new.cells e.receipt.outcome e.receipt.used e.touched) }
+    ensures executed { IfOk result (λ e. Executes (setting_view version contracts.now) call.now cells.old.cells cells.new.cells e.receipt e.touched) }
     ensures settled { cells.new.unsettled ≡ finite.empty }
     ensures err { OnErr result (cells.new ≡ cells.old) }
 {
     cells.hold();
-    let (finished, inverses) = play(alloc, contracts, call, cells)?;
+    let (finished, inverses) = play(alloc, contracts, call, cells, version)?;
     conclude(alloc, &finished, cells, inverses)
 }
 
-/// The run of a call alone over the cells, which are as before.
+/// The run of a call alone over the cells, by the rules of this version. The cells are as before.
 ///
 /// # Errors
 ///
@@ -106,15 +108,16 @@ pub fn run_alone<'a, A: Allocator + Copy>(
     contracts: &'a [Contract<A>],
     call: &'a Call,
     cells: &mut Cells<A>,
+    version: Version,
 ) -> Result<Finished<'a, A>, NoMemory>
     requires { cells.old.unsettled ≡ finite.empty }
-    ensures contracts { IfOk result (λ finished. finished.setting ≡ setting_view contracts.now) }
+    ensures contracts { IfOk result (λ finished. finished.setting ≡ setting_view version contracts.now) }
     ensures call { IfOk result (λ finished. finished.call ≡ call.now) }
     ensures replies { IfOk result (λ finished. GetsReplies finished.trace cells.old.cells) }
     ensures cells { cells.new ≡ cells.old }
 {
     cells.hold();
-    let (finished, done) = play(alloc, contracts, call, cells)?;
+    let (finished, done) = play(alloc, contracts, call, cells, version)?;
     end_all(cells, done, false);
     Ok(finished)
 }
@@ -131,7 +134,7 @@ pub fn replay<A: Allocator + Copy>(
     cells: &mut Cells<A>,
 ) -> Result<Option<Executed<A>>, NoMemory>
     requires { cells.old.unsettled ≡ finite.empty }
-    ensures executed { IfOk result (λ o. IfSome o (λ e. Executes finished.now.setting finished.now.call cells.old.cells cells.new.cells e.receipt.outcome e.receipt.used e.touched)) }
+    ensures executed { IfOk result (λ o. IfSome o (λ e. Executes finished.now.setting finished.now.call cells.old.cells cells.new.cells e.receipt e.touched)) }
     ensures replies { IfOk result (λ o. IsSome o ↔ GetsReplies finished.now.trace cells.old.cells) }
     ensures other { IfOk result (λ o. IfNone o (cells.new ≡ cells.old)) }
     ensures settled { cells.new.unsettled ≡ finite.empty }
@@ -152,8 +155,8 @@ pub fn replay<A: Allocator + Copy>(
     }
 }
 
-/// Runs the calls of these numbers, one after another, each over the cells that the one before left; the first runs over
-/// a copy of the cells. The fuel of a receipt is what the call used. A call that does not start has the number of the
+/// Runs the calls of these numbers by the rules of this version, one after another, each over the cells that the one before
+/// left; the first runs over a copy of the cells. The fuel of a receipt is what the call used. A call that does not start has the number of the
 /// cause, no fuel and no locks. A call whose number comes again is run again.
 ///
 /// # Errors
@@ -165,9 +168,10 @@ pub fn serial_core<A: Allocator + Copy>(
     cells: &Cells<A>,
     calls: &[Call],
     order: &[u32],
+    version: Version,
 ) -> Result<Core<A>, NoMemory>
     requires { All (λ number. number < length calls.now) order.now }
-    ensures serial { IfOk result (λ core. Serial (setting_view contracts.now) calls.now order.now cells.now.cells (positions core.receipts.items core.touched.items) core.cells.cells) }
+    ensures serial { IfOk result (λ core. Serial (setting_view version contracts.now) calls.now order.now cells.now.cells (positions core.receipts.items core.touched.items) core.cells.cells) }
     ensures receipts { IfOk result (λ core. length core.receipts.items ≡ length order.now) }
     ensures touched { IfOk result (λ core. length core.touched.items ≡ length order.now) }
     ensures settled { IfOk result (λ core. core.cells.unsettled ≡ finite.empty) }
@@ -176,7 +180,13 @@ pub fn serial_core<A: Allocator + Copy>(
     let mut touched = Vec::new(alloc);
     let mut current = cells.copy(alloc)?;
     for number in order {
-        let executed = execute(alloc, contracts, &calls[*number as usize], &mut current)?;
+        let executed = execute(
+            alloc,
+            contracts,
+            &calls[*number as usize],
+            &mut current,
+            version,
+        )?;
         receipts.push(executed.receipt)?;
         touched.push(executed.touched)?;
     }

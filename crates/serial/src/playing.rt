@@ -15,7 +15,7 @@ use interp::finished::Finished;
 use interp::machine::Machine;
 use interp::start::StartRefusal;
 use link::deployed::Deployed as Contract;
-use spec_ledger::{Inverse, NoMemory, Op, Reply};
+use spec_ledger::{Inverse, NoMemory, Op, Reply, Version};
 use std::alloc::Allocator;
 use storage::{Cells, end_all};
 use turn_loop::next_op;
@@ -110,31 +110,33 @@ fn rejected<'a, A: Allocator + Copy>(
     alloc: A,
     contracts: &'a [Contract<A>],
     call: &'a Call,
+    version: Version,
 ) -> Finished<'a, A>
-    requires { ¬ IsOpened (opening (setting_view contracts.now) call.now) }
-    ensures { IsRejection (setting_view contracts.now) call.now result }
+    requires { ¬ IsOpened (opening (setting_view version contracts.now) call.now) }
+    ensures { IsRejection (setting_view version contracts.now) call.now result }
 {
-    match Finished::rejected(alloc, contracts, call) {
+    match Finished::rejected(alloc, contracts, call, version) {
         Some(finished) => finished,
         None => unreachable!(),
     }
 }
 
-/// Runs a call over the cells, and answers its run with the inverses of its operations, first to last. After want of
+/// Runs a call over the cells by the rules of this version, and answers its run with the inverses of its operations, first to last. After want of
 /// memory the cells are as they were.
 pub(crate) fn play<'a, A: Allocator + Copy>(
     alloc: A,
     contracts: &'a [Contract<A>],
     call: &'a Call,
     cells: &mut Cells<A>,
+    version: Version,
 ) -> Result<(Finished<'a, A>, Vec<Inverse, A>), NoMemory>
     requires { cells.old.unsettled ≡ finite.empty }
-    ensures ok { IfOk result (λ r. IsPlayedOver (setting_view contracts.now) call.now cells.old r.0 cells.new r.1.items) }
+    ensures ok { IfOk result (λ r. IsPlayedOver (setting_view version contracts.now) call.now cells.old r.0 cells.new r.1.items) }
     ensures err { OnErr result (cells.new ≡ cells.old) }
 {
-    match Machine::start(alloc, contracts, call) {
+    match Machine::start_as(alloc, contracts, call, version) {
         Ok(machine) => run(alloc, machine, cells),
         Err(StartRefusal::NoMemory) => Err(NoMemory),
-        Err(_) => Ok((rejected(alloc, contracts, call), Vec::new(alloc))),
+        Err(_) => Ok((rejected(alloc, contracts, call, version), Vec::new(alloc))),
     }
 }

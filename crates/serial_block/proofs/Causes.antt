@@ -11,6 +11,7 @@ use Rattle.spec_ledger.specs.declared.Receipt.{Receipt}
 use Rattle.spec_ledger.specs.declared.Reply.{Reply}
 use Rattle.spec_ledger.specs.declared.Step.{Step}
 use Rattle.spec_ledger.specs.declared.Step.TheVariants.{Kept, Dropped}
+use Rattle.spec_ledger.specs.declared.Version.{Version}
 use Rattle.spec_ledger.specs.Cells.{Cells}
 use Rattle.spec_ledger.specs.Modes.{Modes}
 use Rattle.spec_execution.specs.Configuration.{Setting, Deployed, Contract, Function, Hosted, Defined, function_at, Seq, State, Config, Running, Trap}
@@ -45,9 +46,9 @@ export_has_cause c args (Some (ExportTable n)) = inr (inl refl)
 export_has_cause c args (Some (ExportMemory n)) = inr (inl refl)
 export_has_cause c args (Some (ExportGlobal n)) = inr (inl refl)
 
-contract_has_cause : (call : ContractCall) (o : Option Deployed) → HasCause (by_contract call o)
-contract_has_cause call None = inr (inr (inr (inr refl)))
-contract_has_cause call (Some d) = export_has_cause (record { number = call.contract; deployed = d }) call.args (exported call.entry d.tree.exports)
+contract_has_cause : (version : Version) (call : ContractCall) (o : Option Deployed) → HasCause (by_contract version call o)
+contract_has_cause version call None = inr (inr (inr (inr refl)))
+contract_has_cause version call (Some d) = export_has_cause (record { number = call.contract; deployed = d; version = version }) call.args (exported call.entry d.tree.exports)
 
 -- where a move is the end of a run, its outcome is possible
 abbrev MayEnd : Move → Type 0
@@ -108,7 +109,7 @@ module _ (setting : Setting) where
   end_is_possible limit used last o marks (exhausted c h) = tt
 
 run_is_possible : (setting : Setting) (call : ContractCall) (trace : List Step) (o : Outcome) (used : ℕ) → RunsWith setting call trace o used → IsPossible o
-run_is_possible setting call trace o used (refused code is) = subst HasCause is (contract_has_cause call (slice_get setting.contracts call.contract))
+run_is_possible setting call trace o used (refused code is) = subst HasCause is (contract_has_cause setting.version call (slice_get setting.contracts call.contract))
 run_is_possible setting call trace o used (ran c func t p f is run) = end_is_possible setting call.fuel f run.last p run.marks run.ends
 
 -- the receipts of calls that ran one after another

@@ -37,6 +37,7 @@ use Rattle.wtypes.proofs.ValType.TheSendSync as val_type
 use Rattle.spec_ledger.proofs.Outcome.TheSendSync as outcome
 use Rattle.spec_ledger.proofs.Step.TheSendSync as step
 use Rattle.spec_ledger.proofs.Lock.TheSendSync as lock
+use Rattle.spec_ledger.proofs.Version.TheSendSync as version
 use Rattle.module_tree.proofs.instr.Instr.TheLaws.TheKnot as instr
 use Rattle.module_tree.proofs.module.Export.TheSendSync as export
 use Rattle.module_tree.proofs.module.ExportDesc.TheSendSync as export_desc
@@ -68,6 +69,7 @@ pub ruleset crosses = (
   no_memory.the_field_send,
   outcome.the_field_send,
   step.the_field_send,
+  version.the_field_send,
   lock.the_field_sync,
   lock.the_sync,
   slot.the_field_sync,
@@ -75,6 +77,7 @@ pub ruleset crosses = (
   call.the_sync,
   outcome.the_send,
   step.the_send,
+  version.the_send,
   no_memory.the_send,
 )
 

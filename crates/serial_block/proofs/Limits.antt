@@ -1,36 +1,19 @@
 -- The fuel that calls use is within their limits.
-use Rattle.std.proofs.Common.{◌≡◌, ℕ, ◌+◌, ◌≤◌, List, [], ◌∷◌, Some, option_map, slice_get, length, sym, ◌∙◌, ap, refl, arith}
+use Rattle.std.proofs.Common.{◌≡◌, ℕ, ◌+◌, ◌≤◌, List, [], ◌∷◌, length, sym, ◌∙◌, ap, refl, arith}
 use Rattle.std.specs.Prelude.{slice_index, sum_by}
-use Rattle.std.proofs.lemmas.Option.{slice_get-map, get_or_from_slice_get}
 use Rattle.std.proofs.lemmas.List.Sums.{sum-map, sum_by-cons}
-use Rattle.spec_ledger.specs.declared.Outcome.{Outcome}
 use Rattle.spec_ledger.specs.declared.Receipt.{Receipt}
-use Rattle.spec_ledger.specs.declared.Step.{Step}
 use Rattle.spec_ledger.specs.Cells.{Cells}
 use Rattle.spec_ledger.specs.Modes.{Modes}
 use Rattle.spec_ledger.specs.Order.{limits_of}
 use Rattle.spec_execution.specs.Configuration.{Setting}
 use Rattle.spec_execution.specs.Run.{ContractCall}
-use Rattle.spec_execution.specs.Levels.{Levels, Reached, at_first, moved, replied, RunsWith, refused, ran}
 use Rattle.spec_execution.specs.Serial.{Ran, Serial}
 use Rattle.spec_block.specs.Worlds.{limits}
 use Rattle.spec_block.specs.Blocks.{fuel_of}
 use Rattle.serial.specs.Positions.{positions as ran_of}
+use Rattle.serial.proofs.Limits.{limit_at, executes_within}
 use Rattle.serial_block.specs.Ordered.{used_by}
-
-module _ (setting : Setting) (start : Levels) (limit : ℕ) where
-  reached_within : (trace : List Step) (used : ℕ) (last : Levels) → Reached setting start limit trace used last → used ≤ limit
-  reached_within trace used last at_first = omega arith
-  reached_within trace used last (moved t u a charge marks b r e h) = h
-  reached_within trace used last (replied t u a op go r reached asks fits) = reached_within t u a reached
-
-runs_within : (setting : Setting) (call : ContractCall) (trace : List Step) (o : Outcome) (used : ℕ) → RunsWith setting call trace o used → used ≤ call.fuel
-runs_within setting call trace o used (refused code e) = omega arith
-runs_within setting call trace o used (ran c func t p f e run) = reached_within setting _ call.fuel run.before f run.last run.reached
-
-limit_at : (calls : List ContractCall) (n : ℕ) (call : ContractCall) → slice_get calls n ≡ Some call → slice_index (limits calls) n ≡ call.fuel
-limit_at calls n call at =
-    get_or_from_slice_get (limits calls) n call.fuel 0 (slice_get-map (λ (c : ContractCall). c.fuel) calls n ∙ ap (option_map (λ (c : ContractCall). c.fuel)) at)
 
 abbrev pub used_in : List Ran → ℕ
 used_in rs = sum_by (λ (r : Ran). r.receipt.used) rs
@@ -44,7 +27,7 @@ serial_within setting calls [] cells [] last s = omega arith
 serial_within setting calls [] cells (r ∷ rs) last s = absurd s
 serial_within setting calls (n ∷ order) cells [] last s = absurd s
 serial_within setting calls (n ∷ order) cells (r ∷ rs) last s =
-    let one : r.receipt.used ≤ s.0.fuel = runs_within setting s.0 s.3.trace r.receipt.outcome r.receipt.used s.3.run in
+    let one : r.receipt.used ≤ s.0.fuel = executes_within setting s.0 cells s.1 r.receipt r.touched s.3 in
     let limit : slice_index (limits calls) n ≡ s.0.fuel = limit_at calls n s.0 s.2 in
     let rest : used_in rs ≤ allowed calls order = serial_within setting calls order s.1 rs last s.4 in
     let a : used_in (r ∷ rs) ≡ r.receipt.used + used_in rs = sum_by-cons (λ (x : Ran). x.receipt.used) r rs in

@@ -63,7 +63,7 @@ pub fn is_part(own: &[Step], trace: &[Step], shard: u32, shards: u32) -> bool
         if next >= own.len() {
             return false;
         }
-        if !same_step(own[next], *step) {
+        if !same_step(&own[next], step) {
             return false;
         }
         next += 1;

@@ -149,7 +149,7 @@ module _ (c : Contract) (s : Scope) (to : List ValType) where
   by_growth : (n : ℕ) (state : State) (delta : ℕ) (vs : List Value) (rest : Seq) (ts : List ValType) → StateTyped c.deployed s.locals state → types vs ≡ ts → SeqTyped c.deployed s rest (I32 ∷ ts) to → Kept (grown c n state delta vs rest)
   unfolding grown
   by_growth n state delta vs rest ts st e h =
-      either (nat_le (pages state.memory + delta) (most_pages c.deployed.tree.memories)) _ _ (λ _. gives n _ vs _ rest I32 ts (in_new_memory state _ st) refl e h) (gives n state vs _ rest I32 ts st refl e h)
+      either (nat_le (pages state.memory + delta) (most_pages c.version c.deployed.tree.memories)) _ _ (λ _. gives n _ vs _ rest I32 ts (in_new_memory state _ st) refl e h) (gives n state vs _ rest I32 ts st refl e h)
 
   by_element : (n : ℕ) (state : State) (t : FuncType) (e : Option (Option ℕ)) (vs : List Value) (rest : Seq) (below : List ValType) → StateTyped c.deployed s.locals state →
       ((f : ℕ) → e ≡ Some (Some f) → (g : Function) × (function_at c.deployed f ≡ Some g)) → types vs ≡ reverse t.params ++ below → SeqTyped c.deployed s rest (reverse t.results ++ below) to → Kept (indirect c n state t e vs rest)

@@ -9,6 +9,7 @@ use Rattle.wtypes.specs.declared.Value.{Value}
 use Rattle.wtypes.specs.declared.PlainInstr.TheVariants.{Const, GlobalGet}
 use Rattle.spec_syntax.specs.Syntax.{Plain, Instrs, nothing, seq, FuncType, Func, Global, GlobalType, Element, ExportDesc, ExportFunc, ExportTable, ExportMemory, ExportGlobal}
 use Rattle.spec_ledger.specs.declared.Reply.{Reply}
+use Rattle.spec_ledger.specs.declared.Version.{Version}
 use Rattle.spec_numeric.specs.Operators.{type_of, same_type}
 use Rattle.spec_typing.specs.Modules.{IsConstant, GlobalTyped, imported_globals, globals, func_type_indices}
 use Rattle.spec_typing.specs.Modules as modules
@@ -122,9 +123,9 @@ module _ (args : List Value) (c' : Contract) (f' : ℕ) where
   by_name c (Some (ExportMemory n)) e = absurd (cc)
   by_name c (Some (ExportGlobal n)) e = absurd (cc)
 
-opened : (call : ContractCall) (o : Option Deployed) (c : Contract) (f : ℕ) → by_contract call o ≡ Opens c f → IsOpen c.deployed call.args f
-opened call None c f e = absurd (cc)
-opened call (Some d) c f e = by_name call.args c f (record { number = call.contract; deployed = d }) (exported call.entry d.tree.exports) e
+opened : (version : Version) (call : ContractCall) (o : Option Deployed) (c : Contract) (f : ℕ) → by_contract version call o ≡ Opens c f → IsOpen c.deployed call.args f
+opened version call None c f e = absurd (cc)
+opened version call (Some d) c f e = by_name call.args c f (record { number = call.contract; deployed = d; version = version }) (exported call.entry d.tree.exports) e
 
 -- ---- runs
 
@@ -181,7 +182,7 @@ one_type d n f g e e' = let same : Some f ≡ Some g = sym e ∙ e' in cc
 
 module _ (setting : Setting) (call : ContractCall) (c : Contract) (func : ℕ) (linked : IsLinked c.deployed.tree c.deployed.hosts) (opens : opening setting call ≡ Opens c func) where
   is_open : IsOpen c.deployed call.args func
-  is_open = opened call (slice_get setting.contracts call.contract) c func opens
+  is_open = opened setting.version call (slice_get setting.contracts call.contract) c func opens
 
   start_typed : IsTyped setting c linked (reverse is_open.type.results) (first_level c func call.args)
   start_typed = record { config = first c func call.args; is = refl; good = (fresh_typed c.deployed linked, first_typed c.deployed linked call.args func is_open) }

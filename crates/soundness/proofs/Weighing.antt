@@ -102,7 +102,7 @@ module _ (c : Contract) (n m : ℕ) where
 
   by_growth : (s : State) (delta : ℕ) (vs : List Value) (a : Seq) → weight a < m → Kept (grown c n s delta vs a)
   unfolding grown
-  by_growth s delta vs a p = either (nat_le (pages s.memory + delta) (most_pages c.deployed.tree.memories)) _ _ (goes _ vs (Val _ a) p) (goes s vs (Val _ a) p)
+  by_growth s delta vs a p = either (nat_le (pages s.memory + delta) (most_pages c.version c.deployed.tree.memories)) _ _ (goes _ vs (Val _ a) p) (goes s vs (Val _ a) p)
 
   by_element : (s : State) (t : FuncType) (e : Option (Option ℕ)) (vs : List Value) (a : Seq) → 3 + weight a < m → Kept (indirect c n s t e vs a)
   by_element s t None vs a p = trapped trap.ElementOutOfTable

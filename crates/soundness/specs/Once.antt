@@ -1,6 +1,6 @@
 -- Over given cells a call has one execution, and an order of calls one serial execution.
 use Rattle.std.specs.Prelude.{◌≡◌, ℕ, ◌<◌, List, length, All}
-use Rattle.spec_ledger.specs.declared.Outcome.{Outcome}
+use Rattle.spec_ledger.specs.declared.Receipt.{Receipt}
 use Rattle.spec_ledger.specs.Cells.{Cells}
 use Rattle.spec_ledger.specs.Modes.{Modes}
 use Rattle.spec_typing.specs.Linking.{IsLinked}
@@ -20,11 +20,10 @@ AreNumbersOf calls order = All (λ n. n < length calls) order
 -- the call has an execution over these cells, and no other
 pub record ExecutesOnce (setting : Setting) (call : ContractCall) (cells : Cells) : Type 0 where
   pub later : Cells
-  pub outcome : Outcome
-  pub fuel : ℕ
+  pub receipt : Receipt
   pub locks : Modes
-  pub executes : Executes setting call cells later outcome fuel locks
-  pub only : (later' : Cells) (outcome' : Outcome) (fuel' : ℕ) (locks' : Modes) → Executes setting call cells later' outcome' fuel' locks' → (later' ≡ later) × (outcome' ≡ outcome) × (fuel' ≡ fuel) × (locks' ≡ locks)
+  pub executes : Executes setting call cells later receipt locks
+  pub only : (later' : Cells) (receipt' : Receipt) (locks' : Modes) → Executes setting call cells later' receipt' locks' → (later' ≡ later) × (receipt' ≡ receipt) × (locks' ≡ locks)
 
 -- the order has a serial execution from these cells, and no other
 pub record RunsSerially (setting : Setting) (calls : List ContractCall) (order : List ℕ) (cells : Cells) : Type 0 where

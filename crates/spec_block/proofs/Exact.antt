@@ -9,6 +9,7 @@ use Rattle.sha2.specs.Sha256.{sha256}
 use Rattle.spec_ledger.specs.declared.Entry.{Entry}
 use Rattle.spec_ledger.specs.Cells.{Cells}
 use Rattle.spec_ledger.specs.Order.{limits_of, turn_at}
+use Rattle.spec_ledger.specs.declared.Version.{Version}
 use Rattle.spec_block.specs.Worlds.{Call, World, Position, Block, order_of, profiles_of, limits, held_in}
 use Rattle.spec_block.proofs.Given.{RunsAreUnique}
 use Rattle.spec_execution.specs.Serial.{Ran}
@@ -56,7 +57,7 @@ held_alike (p ∷ ps) (r ∷ rs) e agree =
 module _ (world : World) (calls : List Call) (fuel : ℕ) where
   -- ---- from a verdict to a block
 
-  module _ (b : Block) (ran : List Ran) (last : Cells) (run : Serial world calls (order_of b) world.cells ran last)
+  module _ (b : Block) (ran : List Ran) (last : Cells) (run : Serial b.version world calls (order_of b) world.cells ran last)
       (none : (v : Verdict) → place v < 10 → ¬ (HoldsOf world calls fuel b v)) where
     in_order : (position n : ℕ) → ¬ (IsBadNumber calls (order_of b) position)
     in_order position n = none_at_all (IsBadNumber calls (order_of b)) (λ p least. none (BadOrder p) (omega arith) least) position
@@ -78,7 +79,7 @@ module _ (world : World) (calls : List Call) (fuel : ℕ) where
         (stable_receipt p.receipt r.receipt (λ ne. never (λ a. ne a.0)), stable_held (held_in p.profile) (entries r.touched) (λ ne. never (λ a. ne a.1)))
 
     lengths : length ran ≡ length b.positions
-    lengths = as_many world calls (order_of b) world.cells ran last run ∙ length-map b.positions (λ (p : Position). p.call)
+    lengths = as_many b.version world calls (order_of b) world.cells ran last run ∙ length-map b.positions (λ (p : Position). p.call)
 
     turned : (i : ℕ) (p : Position) → slice_get b.positions i ≡ Some p → AllByRecursion (HasTurn (profiles_of b) i) p.profile
     turned i p at =
@@ -98,23 +99,23 @@ module _ (world : World) (calls : List Call) (fuel : ℕ) where
         let is : IsMade (all_touched ran) i p r = record { receipt = a.0; profile = profile_made (all_touched ran) i p.profile r.touched a.1 turns } in
         subst (λ (n : ℕ). IsMade (all_touched ran) n p r) (let z : i ≡ 0 + i = omega arith in z) is
 
-    pub is_block : b ≡ block_of world calls (order_of b) ran last
+    pub is_block : b ≡ block_of b.version world calls (order_of b) ran last
     is_block =
         let before : b.before ≡ sha256 (world_bytes world) = stable_numbers _ _ (λ ne. none WrongWorld (omega arith) ne) in
         let digest : b.calls ≡ sha256 (calls_bytes calls) = stable_numbers _ _ (λ ne. none WrongCalls (omega arith) ne) in
         let ps : b.positions ≡ positions (order_of b) ran = rebuilt (all_touched ran) 0 b.positions ran lengths made in
         let total : b.fuel ≡ fuel_of ran = stable_number _ _ (λ ne. none WrongEnd (omega arith) (ran, last, run, inl ne)) in
         let end : b.after ≡ sha256 (world_bytes (world_after world last)) = stable_numbers _ _ (λ ne. none WrongEnd (omega arith) (ran, last, run, inr ne)) in
-        λ i. record { before = before i; calls = digest i; positions = ps i; fuel = total i; after = end i }
+        λ i. record { version = b.version; before = before i; calls = digest i; positions = ps i; fuel = total i; after = end i }
 
   -- ---- from a block to a verdict
 
-  module _ (unique : RunsAreUnique) (order : List ℕ) (ran : List Ran) (last : Cells) (run : Serial world calls order world.cells ran last) (fits : Admissible calls order fuel) where
-    made_order : order_of (block_of world calls order ran last) ≡ order
-    made_order = order_again (all_touched ran) 0 order ran (as_many world calls order world.cells ran last run)
+  module _ (unique : RunsAreUnique) (version : Version) (order : List ℕ) (ran : List Ran) (last : Cells) (run : Serial version world calls order world.cells ran last) (fits : Admissible calls order fuel) where
+    made_order : order_of (block_of version world calls order ran last) ≡ order
+    made_order = order_again (all_touched ran) 0 order ran (as_many version world calls order world.cells ran last run)
 
-    same_run : (rs : List Ran) (l : Cells) → Serial world calls (order_of (block_of world calls order ran last)) world.cells rs l → (rs ≡ ran) × (l ≡ last)
-    same_run rs l s = serial_once unique world calls order world.cells rs ran l last (subst (λ (o : List ℕ). Serial world calls o world.cells rs l) made_order s) run
+    same_run : (rs : List Ran) (l : Cells) → Serial version world calls (order_of (block_of version world calls order ran last)) world.cells rs l → (rs ≡ ran) × (l ≡ last)
+    same_run rs l s = serial_once unique version world calls order world.cells rs ran l last (subst (λ (o : List ℕ). Serial version world calls o world.cells rs l) made_order s) run
 
     no_bad : (position : ℕ) → ¬ (IsBadNumber calls order position)
     no_bad position bad =
@@ -126,10 +127,10 @@ module _ (world : World) (calls : List Call) (fuel : ℕ) where
         let lt = fits.no_room_left call (subst (λ (k : ℕ). call < k) (sym (length-map calls (λ (c : Call). c.fuel))) room.known) room.left_out in
         absurd (omega (arith, lt, room.fits))
 
-    right_turns : (i : ℕ) → ¬ (HasOtherTurns (profiles_of (block_of world calls order ran last)) i)
+    right_turns : (i : ℕ) → ¬ (HasOtherTurns (profiles_of (block_of version world calls order ran last)) i)
     right_turns i other =
         let ps = positions order ran in
-        let n = as_many world calls order world.cells ran last run in
+        let n = as_many version world calls order world.cells ran last run in
         let found = at_of ps i other.0 other.1 in
         let m = made_at (all_touched ran) 0 order ran i found.0 found.1 in
         let hold : AllByRecursion (HasTurn (map (λ (p : Position). p.profile) ps) i) (profile_at (all_touched ran) i (m.0).touched) =
@@ -149,7 +150,7 @@ module _ (world : World) (calls : List Call) (fuel : ℕ) where
         let held : held_in (other.0).profile ≡ entries (m.0).touched = ap held_in (m.2).profile ∙ held_again (all_touched ran) (0 + i) (m.0).touched in
         other.4 (subst (Agrees other.0) (sym same) ((m.2).receipt, held))
 
-    pub none_holds : (v : Verdict) → place v < 10 → ¬ (HoldsOf world calls fuel (block_of world calls order ran last) v)
+    pub none_holds : (v : Verdict) → place v < 10 → ¬ (HoldsOf world calls fuel (block_of version world calls order ran last) v)
     none_holds Malformed lt h = h
     none_holds WrongWorld lt h = h refl
     none_holds WrongCalls lt h = h refl
@@ -213,13 +214,13 @@ exactly unique world calls fuel bytes next = (to, back)
         let b = found.0 in
         let sp = found.1 in
         let h = found.2 in
-        let made = made_order world calls fuel unique h.order (h.of_order).ran (h.of_order).last (h.of_order).serial h.admissible in
-        let run : Serial world calls (order_of b) world.cells (h.of_order).ran (h.of_order).last =
-        subst (λ (o : List ℕ). Serial world calls o world.cells (h.of_order).ran (h.of_order).last) (sym (ap order_of (h.of_order).is ∙ made)) (h.of_order).serial in
+        let made = made_order world calls fuel unique b.version h.order (h.of_order).ran (h.of_order).last (h.of_order).serial h.admissible in
+        let run : Serial b.version world calls (order_of b) world.cells (h.of_order).ran (h.of_order).last =
+        subst (λ (o : List ℕ). Serial b.version world calls o world.cells (h.of_order).ran (h.of_order).last) (sym (ap order_of (h.of_order).is ∙ made)) (h.of_order).serial in
         record {
           holds = (b, sp, ((h.of_order).ran, (h.of_order).last, run, h.storage));
           none_before = λ w lt holds.
-              none_holds world calls fuel unique h.order (h.of_order).ran (h.of_order).last (h.of_order).serial h.admissible w lt
+              none_holds world calls fuel unique b.version h.order (h.of_order).ran (h.of_order).last (h.of_order).serial h.admissible w lt
               (subst (λ (c : Block). HoldsOf world calls fuel c w) (h.of_order).is (lowered b sp w holds));
         }
 
@@ -227,4 +228,4 @@ exactly unique world calls fuel bytes next = (to, back)
 pub published_turns : RunsAreUnique → (world : World) (calls : List Call) (fuel : ℕ) (block : Block) (next : World) → Headline world calls fuel block next → HaveTurns (profiles_of block)
 published_turns unique world calls fuel block next h =
     subst (λ (b : Block). HaveTurns (profiles_of b)) (sym (h.of_order).is)
-    (λ i es at. stable_turns (profiles_of (block_of world calls h.order (h.of_order).ran (h.of_order).last)) i es (λ other. right_turns world calls fuel unique h.order (h.of_order).ran (h.of_order).last (h.of_order).serial h.admissible i (es, at, other)))
+    (λ i es at. stable_turns (profiles_of (block_of block.version world calls h.order (h.of_order).ran (h.of_order).last)) i es (λ other. right_turns world calls fuel unique block.version h.order (h.of_order).ran (h.of_order).last (h.of_order).serial h.admissible i (es, at, other)))

@@ -98,7 +98,7 @@ module _ (unique : RunsAreUnique) (world : World) (calls : List Call) (fuel : �
       let block = one_block bytes a.0 b.0 a.1 b.1 in
       let h = subst (λ (c : Block). HoldsOf world calls fuel c (Deviates m)) block a.2 in
       let k = b.2 in
-      let run = serial_once unique world calls (order_of b.0) world.cells h.0 k.0 h.1 k.1 h.2 k.2 in
+      let run = serial_once unique b.0.version world calls (order_of b.0) world.cells h.0 k.0 h.1 k.1 h.2 k.2 in
       ap Deviates (one_least (IsOther (b.0).positions k.0) m n (subst (λ (r : List Ran). IsLeast (IsOther (b.0).positions r) m) run.0 h.3) k.3)
   same (Deviates m) WrongEnd e a b = absurd (omega (arith, e))
   same (Deviates m) (Accept n) e a b = absurd (omega (arith, e))
@@ -125,7 +125,7 @@ module _ (unique : RunsAreUnique) (world : World) (calls : List Call) (fuel : �
       let block = one_block bytes a.0 b.0 a.1 b.1 in
       let h = subst (λ (c : Block). HoldsOf world calls fuel c (Accept m)) block a.2 in
       let k = b.2 in
-      let run = serial_once unique world calls (order_of b.0) world.cells h.0 k.0 h.1 k.1 h.2 k.2 in
+      let run = serial_once unique b.0.version world calls (order_of b.0) world.cells h.0 k.0 h.1 k.1 h.2 k.2 in
       ap Accept (h.3 ∙ (ap (world_after world) run.1 ∙ sym k.3))
 
   pub one : (v w : Verdict) → IsVerdictOf world calls fuel bytes v → IsVerdictOf world calls fuel bytes w → v ≡ w

@@ -2,6 +2,7 @@
 use Rattle.std.specs.Prelude.{◌≡◌, ℕ, ◌+◌, List, [], ◌∷◌, map, sum}
 use Rattle.std.specs.FinMap.{entries}
 use Rattle.sha2.specs.Sha256.{sha256}
+use Rattle.spec_ledger.specs.declared.Version.{Version}
 use Rattle.spec_ledger.specs.declared.Lock.{Lock}
 use Rattle.spec_ledger.specs.declared.Mode.{Mode}
 use Rattle.spec_ledger.specs.declared.Entry.{Entry}
@@ -41,8 +42,9 @@ fuel_of ran = sum (map (λ (r : Ran). r.receipt.used) ran)
 abbrev pub world_after : World → Cells → World
 world_after world cells = record { contracts = world.contracts; cells = cells }
 
-abbrev pub block_of : World → List Call → List ℕ → List Ran → Cells → Block
-block_of world calls order ran last = record {
+abbrev pub block_of : Version → World → List Call → List ℕ → List Ran → Cells → Block
+block_of version world calls order ran last = record {
+  version = version;
   before = sha256 (world_bytes world);
   calls = sha256 (calls_bytes calls);
   positions = positions order ran;
@@ -54,5 +56,5 @@ block_of world calls order ran last = record {
 pub record IsBlockOf (world : World) (calls : List Call) (order : List ℕ) (block : Block) : Type 0 where
   pub ran : List Ran
   pub last : Cells
-  pub serial : Serial world calls order world.cells ran last
-  pub is : block ≡ block_of world calls order ran last
+  pub serial : Serial block.version world calls order world.cells ran last
+  pub is : block ≡ block_of block.version world calls order ran last

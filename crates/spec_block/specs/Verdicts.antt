@@ -73,7 +73,7 @@ IsOther positions ran position =
 
 -- the serial run of a block's order
 abbrev pub RunOf : World → List Call → Block → List Ran → Cells → Type 0
-RunOf world calls b ran last = Serial world calls (order_of b) world.cells ran last
+RunOf world calls b ran last = Serial b.version world calls (order_of b) world.cells ran last
 
 -- what a reason says of the block that the bytes spell
 abbrev pub HoldsOf : World → List Call → ℕ → Block → Verdict → Type 0

@@ -1,5 +1,6 @@
 -- Worlds, calls and blocks as plain values.
-use Rattle.std.specs.Prelude.{◌≡◌, ℕ, List, [], ◌∷◌, map}
+use Rattle.std.specs.Prelude.{ℕ, List, map}
+use Rattle.spec_ledger.specs.declared.Version.{Version}
 use Rattle.spec_ledger.specs.declared.Lock.{Lock}
 use Rattle.spec_ledger.specs.declared.Mode.{Mode}
 use Rattle.spec_ledger.specs.declared.Receipt.{Receipt}
@@ -19,6 +20,7 @@ pub record Position : Type 0 where
   pub profile : List Entry
 
 pub record Block : Type 0 where
+  pub version : Version
   pub before : List ℕ
   pub calls : List ℕ
   pub positions : List Position

@@ -3,6 +3,7 @@
 
 ghost use Rattle.std.specs.Prelude.{◌≡◌, ℕ, ◌<◌, ◌≤◌, ◌+◌, List, length, take};
 ghost use Rattle.std.specs.List.{AllByRecursion};
+ghost use Rattle.spec_ledger.specs.declared.Version.{Version};
 ghost use Rattle.spec_ledger.specs.declared.Entry.{Entry};
 ghost use Rattle.spec_ledger.specs.declared.Mode.{Mode};
 ghost use Rattle.spec_ledger.specs.Cells.{Cells};
@@ -27,7 +28,7 @@ pub fn one_block_a_spelling()
 
 /// An order has one serial run.
 pub fn one_serial_run()
-    ensures one { (world : World) (calls : List Call) (order : List ℕ) (cells : Cells) (rs ss : List Ran) (l m : Cells) → Serial world calls order cells rs l → Serial world calls order cells ss m → (rs ≡ ss) × (l ≡ m) }
+    ensures one { (version : Version) (world : World) (calls : List Call) (order : List ℕ) (cells : Cells) (rs ss : List Ran) (l m : Cells) → Serial version world calls order cells rs l → Serial version world calls order cells ss m → (rs ≡ ss) × (l ≡ m) }
 {
     spec_execution::runs_are_unique();
 }

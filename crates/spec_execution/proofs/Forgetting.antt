@@ -96,7 +96,7 @@ by_store n s bytes at x vs a = by_answer n (store s.memory at bytes x) _ _ (λ m
 
 by_growth : (c : Contract) (n : ℕ) (s : State) (delta : ℕ) (vs : List Value) (a : Seq) → SameNext (grown c n s delta vs a) (grown c n s delta vs (forget a))
 unfolding grown
-by_growth c n s delta vs a = either (nat_le (pages s.memory + delta) (most_pages c.deployed.tree.memories)) _ _ _ _
+by_growth c n s delta vs a = either (nat_le (pages s.memory + delta) (most_pages c.version c.deployed.tree.memories)) _ _ _ _
     (to_val n _ vs _ a) (to_val n s vs _ a)
 
 one_plain : (c : Contract) (s : State) (n : ℕ) (i : PlainInstr) (vs : List Value) (a : Seq) → SameNext (execute_plain c s n i vs a) (execute_plain c s n i vs (forget a))

@@ -84,7 +84,7 @@ module _ (c : Contract) (body : Instrs) where
 
   by_growth : (n : ℕ) (s : State) (delta : ℕ) (vs : List Value) (a : Seq) → IsPlaced c body a → Kept (grown c n s delta vs a)
   unfolding grown
-  by_growth n s delta vs a p = either (nat_le (pages s.memory + delta) (most_pages c.deployed.tree.memories)) _ _ (to_kept n _ vs (Val _ a) p) (to_kept n s vs (Val _ a) p)
+  by_growth n s delta vs a p = either (nat_le (pages s.memory + delta) (most_pages c.version c.deployed.tree.memories)) _ _ (to_kept n _ vs (Val _ a) p) (to_kept n s vs (Val _ a) p)
 
   by_element : (n : ℕ) (s : State) (t : FuncType) (e : Option (Option ℕ)) (vs : List Value) (a : Seq) → IsPlaced c body a → Kept (indirect c n s t e vs a)
   by_element n s t None vs a p = no tt

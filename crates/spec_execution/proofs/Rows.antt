@@ -16,6 +16,7 @@ use Rattle.spec_ledger.specs.declared.Op.TheVariants as op
 use Rattle.spec_ledger.specs.declared.Reply.TheVariants as reply
 use Rattle.spec_ledger.specs.declared.Outcome.TheVariants.{Returned, Trapped, OutOfFuel, Rejected}
 use Rattle.wtypes.specs.declared.HostCall.TheVariants as host
+use Rattle.spec_ledger.specs.declared.Version.TheVariants.{Two}
 use Rattle.spec_execution.specs.Configuration.{Setting, Deployed, Contract, Config}
 use Rattle.spec_execution.specs.Reduction.{reduce, execute, execute_plain}
 use Rattle.spec_execution.specs.Run.{ContractCall}
@@ -23,9 +24,9 @@ use Rattle.spec_execution.specs.Levels.{first_level}
 use Rattle.spec_execution.specs.Turns.{place_of, stack_of, locals_of}
 use Rattle.spec_execution.specs.Walk.{report, walk, start_at}
 
--- these contracts
+-- these contracts, in version 2
 abbrev pub over_these : List Deployed → Setting
-over_these ds = record { contracts = ds }
+over_these ds = record { contracts = ds; version = Two }
 
 -- replies 5 to `total`, as the cells do that hold 5 there
 abbrev pub five : List Step → Op → Reply
@@ -130,7 +131,7 @@ wrong_type = refl
 -- ---- what is shown of the countdown after 0, 3 and 8 turns
 
 abbrev contract_0 : Contract
-contract_0 = record { number = 0; deployed = counts_down }
+contract_0 = record { number = 0; deployed = counts_down; version = Two }
 
 abbrev after_moves : ℕ → Config
 after_moves n = (walk (over_these (counts_down ∷ [])) 16 five n (start_at (first_level contract_0 0 (I64 (pos 2) ∷ [])))).config.inner.config
@@ -157,7 +158,11 @@ locals_8 = refl
 
 -- the part that is taken of an `if` has its own ordinals
 abbrev branching : Contract
-branching = record { number = 0; deployed = one_function (record { params = []; results = [] }) (Plain (Const (I32 (pos 0))) ∷ If None (instrs_of (Plain (Const (I32 (pos 5))) ∷ [])) (instrs_of (Plain (Const (I32 (pos 6))) ∷ [])) ∷ Plain (Const (I32 (pos 7))) ∷ []) }
+branching = record {
+  number = 0;
+  deployed = one_function (record { params = []; results = [] }) (Plain (Const (I32 (pos 0))) ∷ If None (instrs_of (Plain (Const (I32 (pos 5))) ∷ [])) (instrs_of (Plain (Const (I32 (pos 6))) ∷ [])) ∷ Plain (Const (I32 (pos 7))) ∷ []);
+  version = Two;
+}
 
 in_else : place_of (walk (over_these (branching.deployed ∷ [])) 16 five 3 (start_at (first_level branching 0 []))).config.inner.config ≡ Some (0, 3)
 unfolding walk reduce execute execute_plain

@@ -7,6 +7,7 @@ use Rattle.wtypes.specs.declared.TrapCode.{TrapCode}
 use Rattle.spec_syntax.specs.Syntax.{Instr, Plain, Instrs, nothing, seq, FuncType, Func, Limits, Element, DataSegment, Module}
 use Rattle.spec_syntax.specs.Shape.{instr_preorder}
 use Rattle.wtypes.specs.declared.HostCall.{HostCall}
+use Rattle.spec_ledger.specs.declared.Version.{Version}
 use Rattle.spec_syntax.specs.Profile.{page_size, host_type}
 use Rattle.spec_numeric.specs.Operators.{value_of, bits_of}
 use Rattle.spec_numeric.specs.Memory.{written}
@@ -18,14 +19,16 @@ pub record Deployed : Type 0 where
   pub tree : Module
   pub hosts : List HostCall
 
--- what calls run over: the contracts
+-- what calls run over: the contracts, and the version whose rules hold
 pub record Setting : Type 0 where
   pub contracts : List Deployed
+  pub version : Version
 
--- a deployed module with its number
+-- a deployed module with its number, and the version whose rules it runs by
 pub record Contract : Type 0 where
   pub number : ℕ
   pub deployed : Deployed
+  pub version : Version
 
 -- a function: the host's, or the module's with its type
 pub data Function : Type 0 where

@@ -4,6 +4,7 @@ use Rattle.wtypes.specs.declared.ValType.TheVariants.{I64}
 use Rattle.wtypes.specs.declared.Value.{Value}
 use Rattle.wtypes.specs.declared.Value.TheVariants as value
 use Rattle.wtypes.specs.declared.TrapCode.{TrapCode}
+use Rattle.spec_ledger.specs.declared.Version.{Version}
 use Rattle.wtypes.specs.declared.TrapCode.TheVariants as trap
 use Rattle.spec_syntax.specs.Syntax.{FuncType, ExportDesc, ExportFunc}
 use Rattle.spec_ledger.specs.declared.Op.{Op}
@@ -45,13 +46,13 @@ abbrev pub by_asked_export : Contract → Option ExportDesc → Opening
 by_asked_export c (Some (ExportFunc f)) = by_asked_function c f (function_at c.deployed f)
 by_asked_export c _ = Refused 10
 
-abbrev pub by_asked_contract : (number export : ℕ) → Option Deployed → Opening
-by_asked_contract n e None = Refused 10
-by_asked_contract n e (Some d) = by_asked_export (record { number = n; deployed = d }) (option_map (λ x. x.desc) (slice_get d.tree.exports e))
+abbrev pub by_asked_contract : Version → (number export : ℕ) → Option Deployed → Opening
+by_asked_contract version n e None = Refused 10
+by_asked_contract version n e (Some d) = by_asked_export (record { number = n; deployed = d; version = version }) (option_map (λ x. x.desc) (slice_get d.tree.exports e))
 
 -- the depth is tested first
 abbrev pub asked : Setting → (level number export : ℕ) → Opening
-asked setting level n e = if nat_lt level level_limit then by_asked_contract n e (slice_get setting.contracts n) else Refused 11
+asked setting level n e = if nat_lt level level_limit then by_asked_contract setting.version n e (slice_get setting.contracts n) else Refused 11
 
 -- ---- configurations
 
@@ -183,7 +184,15 @@ pub record IsRun (setting : Setting) (start : Levels) (limit : ℕ) (trace : Lis
 abbrev pub IsSafe : Setting → Levels → ℕ → Type 0
 IsSafe setting start limit = (trace : List Step) (used : ℕ) (c : Levels) → Reached setting start limit trace used c → move setting c ≡ Nowhere → ⊥
 
--- The call has this run over these contracts.
+-- The call has this run in this setting.
 pub data RunsWith (setting : Setting) (call : ContractCall) : List Step → Outcome → ℕ → Type 0 where
   refused : (code : ℕ) → opening setting call ≡ Refused code → RunsWith setting call [] (Rejected code) 0
   ran : (c : Contract) (func : ℕ) (trace : List Step) (outcome : Outcome) (fuel : ℕ) → opening setting call ≡ Opens c func → IsRun setting (first_level c func call.args) call.fuel trace outcome fuel → RunsWith setting call trace outcome fuel
+
+-- the levels that were entered
+abbrev pub asks_in : List Step → ℕ
+asks_in [] = 0
+asks_in (Opened ∷ t) = 1 + asks_in t
+asks_in (Did op r ∷ t) = asks_in t
+asks_in (Kept ∷ t) = asks_in t
+asks_in (Dropped ∷ t) = asks_in t

@@ -1,7 +1,7 @@
 -- The reduction of configurations (Core 4.4, Instructions). The headings are the standard's sections. "Own" marks what this product adds: the
 -- charge, which is 1 for an instruction of the code and 0 else; the operations that an import asks of the host; and two limits, 1,024 pages
--- (`page_limit`) and 256 frames (`frame_limit`).
-use Rattle.std.specs.Prelude.{ℕ, ℤ, zero, suc, ◌+◌, ◌-◌, ◌*◌, ◌/◌, ◌^◌, min, Bool, true, false, ◌&&◌, ◌==◌, nat_lt, nat_le, if◌then◌else◌, List, [], ◌∷◌, ◌++◌, length, map, take, drop, reverse, replicate, Option, Some, None, Result, Ok, Err, slice_get, slice_set, unwrap_or}
+-- (`page_limit`; in version 1 `old_page_limit`) and 256 frames (`frame_limit`).
+use Rattle.std.specs.Prelude.{ℕ, ℤ, zero, suc, ◌+◌, ◌-◌, ◌*◌, ◌/◌, ◌^◌, min, max, Bool, true, false, ◌&&◌, ◌==◌, nat_lt, nat_le, if◌then◌else◌, List, [], ◌∷◌, ◌++◌, length, map, take, drop, reverse, replicate, Option, Some, None, Result, Ok, Err, slice_get, slice_set, unwrap_or}
 use Rattle.wtypes.specs.declared.ValType.{ValType}
 use Rattle.wtypes.specs.declared.ValType.TheVariants.{I32}
 use Rattle.wtypes.specs.declared.Value.{Value}
@@ -19,6 +19,8 @@ use Rattle.spec_ledger.specs.declared.Reply.{Reply}
 use Rattle.spec_ledger.specs.declared.Reply.TheVariants as reply
 use Rattle.wtypes.specs.declared.HostCall.{HostCall}
 use Rattle.wtypes.specs.declared.HostCall.TheVariants as host
+use Rattle.spec_ledger.specs.declared.Version.{Version}
+use Rattle.spec_ledger.specs.declared.Version.TheVariants.{One, Two}
 use Rattle.spec_syntax.specs.Profile.{page_limit, page_size, frame_limit}
 use Rattle.spec_numeric.specs.Operators.{same_type, type_of, bits_of, value_of, word, truth, unary, unary_type, binary, binary_type, test, test_type, compare, compare_type, convert, convert_from, convert_to}
 use Rattle.spec_numeric.specs.Storage.{load_type, load_width, extended, store_type, store_width}
@@ -84,10 +86,19 @@ arity (Some t) = 1
 abbrev pub pages : List ℕ → ℕ
 pages memory = length memory / page_size
 
--- the most pages that memory grows to; own: a declared maximum counts where it is below `page_limit`
-abbrev pub most_pages : List Limits → ℕ
-most_pages [] = page_limit
-most_pages (l ∷ ls) = min page_limit (unwrap_or l.max page_limit)
+-- the limit of version 1
+abbrev pub old_page_limit : ℕ
+old_page_limit = 256
+
+-- the most pages that a memory of this minimum grows to, where it declares no maximum: own
+abbrev pub pages_of : Version → ℕ → ℕ
+pages_of One min = max old_page_limit min
+pages_of Two min = page_limit
+
+-- the most pages that memory grows to; own: a declared maximum counts where it is below these
+abbrev pub most_pages : Version → List Limits → ℕ
+most_pages v [] = page_limit
+most_pages v (l ∷ ls) = min (pages_of v l.min) (unwrap_or l.max (pages_of v l.min))
 
 abbrev pub with_memory : State → List ℕ → State
 with_memory s memory = record s { memory = memory }
@@ -106,7 +117,7 @@ stored charge s bytes at x vs rest =
 unfoldable pub grown : Contract → ℕ → State → ℕ → List Value → Seq → Next
 grown c charge s delta vs rest =
     let old = pages s.memory in
-    if nat_le (old + delta) (most_pages c.deployed.tree.memories)
+    if nat_le (old + delta) (most_pages c.version c.deployed.tree.memories)
     then Goes charge (with_memory s (s.memory ++ replicate (page_size * delta) 0)) (values vs (Val (value_of I32 old) rest))
     else Goes charge s (values vs (Val (value_of I32 (2 ^ 32 - 1)) rest))
 

@@ -4,6 +4,7 @@ use Rattle.std.specs.Int.{w32, w64}
 use Rattle.wtypes.specs.declared.ValType.{ValType}
 use Rattle.wtypes.specs.declared.Value.{Value}
 use Rattle.wtypes.specs.declared.TrapCode.{TrapCode}
+use Rattle.spec_ledger.specs.declared.Version.{Version}
 use Rattle.spec_syntax.specs.Syntax.{Name, Export, ExportDesc, ExportFunc}
 use Rattle.spec_ledger.specs.declared.Place.{Place}
 use Rattle.spec_ledger.specs.declared.Op.{Op}
@@ -102,12 +103,12 @@ by_export c args None = Refused 1
 by_export c args (Some (ExportFunc f)) = by_function c f args (function_at c.deployed f)
 by_export c args (Some _) = Refused 2
 
-abbrev pub by_contract : ContractCall → Option Deployed → Opening
-by_contract call None = Refused 6
-by_contract call (Some d) = by_export (record { number = call.contract; deployed = d }) call.args (exported call.entry d.tree.exports)
+abbrev pub by_contract : Version → ContractCall → Option Deployed → Opening
+by_contract version call None = Refused 6
+by_contract version call (Some d) = by_export (record { number = call.contract; deployed = d; version = version }) call.args (exported call.entry d.tree.exports)
 
 abbrev pub opening : Setting → ContractCall → Opening
-opening setting call = by_contract call (slice_get setting.contracts call.contract)
+opening setting call = by_contract setting.version call (slice_get setting.contracts call.contract)
 
 -- the start function first, if there is one
 abbrev pub after_start : Option ℕ → Seq → Seq

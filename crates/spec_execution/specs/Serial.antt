@@ -19,4 +19,4 @@ Serial setting calls [] cells (r ∷ rs) last = ⊥
 Serial setting calls (n ∷ order) cells [] last = ⊥
 Serial setting calls (n ∷ order) cells (r ∷ rs) last =
     (call : ContractCall) × (next : Cells) × (slice_get calls n ≡ Some call)
-    × Executes setting call cells next r.receipt.outcome r.receipt.used r.touched × Serial setting calls order next rs last
+    × Executes setting call cells next r.receipt r.touched × Serial setting calls order next rs last

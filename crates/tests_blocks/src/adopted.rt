@@ -1,5 +1,6 @@
 // Books that are closed, published by runs of their calls.
 ghost use Rattle.std.specs.Prelude.{◌≡◌, ◌<◌, ◌^◌, IfSome, Some, length, slice_get};
+ghost use Rattle.spec_ledger.specs.declared.Version.TheVariants.{Two};
 ghost use Rattle.interp.specs.Lent.{setting_view};
 ghost use Rattle.publish.specs.Adoption.{AreMade, IsMade};
 
@@ -13,7 +14,7 @@ use lock_profile::Touched;
 use publish::{MadeRun, Published, Publishing};
 use serial::{run_alone, touched_by};
 use spec_ledger::Mode::{Add, Excl};
-use spec_ledger::{Receipt, Step};
+use spec_ledger::{Receipt, Step, Version};
 use std::alloc::Global;
 use storage::Cells;
 use wtypes::Value;
@@ -180,12 +181,12 @@ fn made<'a>(
     calls: &'a [Call],
     made: &Made,
 ) -> Option<MadeRun<'a>>
-    ensures { IfSome result (λ run. (run.finished.setting ≡ setting_view contracts.now) × (slice_get calls.now run.call ≡ Some run.finished.call)) }
+    ensures { IfSome result (λ run. (run.finished.setting ≡ setting_view Two contracts.now) × (slice_get calls.now run.call ≡ Some run.finished.call)) }
 {
     let (call, held) = made;
     let known = calls.get(*call as usize)?;
     let mut cells = cells(alloc, *held)?;
-    let finished = run_alone(alloc, contracts, known, &mut cells).ok()?;
+    let finished = run_alone(alloc, contracts, known, &mut cells, Version::Two).ok()?;
     Some(MadeRun {
         call: *call,
         finished,
@@ -199,7 +200,7 @@ fn handed<'a>(
     calls: &'a [Call],
     one: &Made,
 ) -> Option<(MadeRun<'a>, Touched)>
-    ensures { IfSome result (λ r. IsMade (setting_view contracts.now) calls.now r.0 r.1) }
+    ensures { IfSome result (λ r. IsMade (setting_view Two contracts.now) calls.now r.0 r.1) }
 {
     let run = made(alloc, contracts, calls, one)?;
     let touched = touched_by(alloc, run.finished.trace()).ok()?;
@@ -213,7 +214,7 @@ fn all_handed<'a>(
     calls: &'a [Call],
     all: &[Made],
 ) -> Option<(Vec<MadeRun<'a>>, Vec<Touched>)>
-    ensures { IfSome result (λ r. AreMade (setting_view contracts.now) calls.now r.0.items r.1.items) }
+    ensures { IfSome result (λ r. AreMade (setting_view Two contracts.now) calls.now r.0.items r.1.items) }
 {
     match all {
         [] => Some((Vec::new(alloc), Vec::new(alloc))),
@@ -283,7 +284,7 @@ fn adopt<'a>(
     touched: Vec<Touched>,
 ) -> Option<Option<Published>>
     requires calls { length calls.now < 2 ^ 32 }
-    requires runs { AreMade (setting_view contracts.now) calls.now runs.now touched.items }
+    requires runs { AreMade (setting_view Two contracts.now) calls.now runs.now touched.items }
 {
     book.hold();
     let closed = book.close();

@@ -16,6 +16,8 @@ mod runs;
 #[cfg(test)]
 mod settings;
 #[cfg(test)]
+mod versions;
+#[cfg(test)]
 mod worlds;
 #[cfg(test)]
 mod worlds_read;

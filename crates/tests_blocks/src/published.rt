@@ -1,5 +1,6 @@
 // Orders of calls of one contract, and of calls of none, published.
 ghost use Rattle.std.specs.Prelude.{◌≡◌, ◌<◌, ◌^◌, length};
+ghost use Rattle.spec_ledger.specs.declared.Version.TheVariants.{Two};
 ghost use Rattle.interp.specs.Lent.{setting_view};
 ghost use Rattle.publish.specs.Publication.{IsSameJob};
 
@@ -10,7 +11,7 @@ use link::deployed::Deployed;
 use publish::{Published, Publishing};
 use serial::run_alone;
 use spec_ledger::Mode::{Add, Excl};
-use spec_ledger::Receipt;
+use spec_ledger::{Receipt, Version};
 use std::alloc::Global;
 use storage::Cells;
 use wtypes::Value;
@@ -214,7 +215,7 @@ fn takes_run(
     cells: &Cells,
     taken: Taken,
 ) -> bool
-    requires contracts { publishing.old.setting ≡ setting_view contracts.now }
+    requires contracts { publishing.old.setting ≡ setting_view Two contracts.now }
     requires calls { publishing.old.calls ≡ calls.now }
     ensures { IsSameJob publishing.old publishing.new }
 {
@@ -227,7 +228,7 @@ fn takes_run(
     let Ok(mut opening) = cells.copy(alloc) else {
         return false;
     };
-    let Ok(run) = run_alone(alloc, contracts, known, &mut opening) else {
+    let Ok(run) = run_alone(alloc, contracts, known, &mut opening, Version::Two) else {
         return false;
     };
     publishing.take_run(call, &run) == Ok(answer)
@@ -250,7 +251,7 @@ fn is_played(
     cells: &Cells,
     row: &Row,
 ) -> bool
-    requires contracts { publishing.old.setting ≡ setting_view contracts.now }
+    requires contracts { publishing.old.setting ≡ setting_view Two contracts.now }
     requires calls { publishing.old.calls ≡ calls.now }
 {
     if !takes_run(alloc, publishing, contracts, calls, cells, row.runs.0)

@@ -4,7 +4,7 @@ use lock_profile::Touched;
 use serial::{Core, execute, replay, run_alone, serial_core};
 use spec_ledger::Kind::Counter;
 use spec_ledger::Mode::{self, Add, Excl};
-use spec_ledger::{Outcome, Receipt};
+use spec_ledger::{Outcome, Receipt, Version};
 use std::alloc::Global;
 use wtypes::Value;
 
@@ -26,21 +26,25 @@ struct Row<'b> {
 pub const REFUSED: Receipt = Receipt {
     outcome: Outcome::Rejected(6),
     used: 0,
+    asks: 0,
 };
 
 pub const RETURNED_5: Receipt = Receipt {
     outcome: Outcome::Returned(Some(Value::I64(5))),
     used: 7,
+    asks: 0,
 };
 
 pub const RETURNED_10: Receipt = Receipt {
     outcome: Outcome::Returned(Some(Value::I64(10))),
     used: 7,
+    asks: 0,
 };
 
 pub const STOPPED: Receipt = Receipt {
     outcome: Outcome::OutOfFuel,
     used: 6,
+    asks: 0,
 };
 
 pub const SEVEN: Cell = (0, Counter, 7);
@@ -119,7 +123,7 @@ fn core(alloc: Global, row: &Row) -> Option<Core> {
         .iter()
         .all(|number| (*number as usize) < calls.len())
     {
-        serial_core(alloc, &contracts, &cells, &calls, row.order).ok()
+        serial_core(alloc, &contracts, &cells, &calls, row.order, Version::Two).ok()
     } else {
         None
     }
@@ -167,7 +171,7 @@ fn alone(alloc: Global) -> Option<(Outcome, Option<u64>)> {
     let contracts = contracts(alloc, true)?;
     let calls = calls(alloc, &RUN)?;
     let mut cells = cells(alloc, &[(SEVEN, 3)])?;
-    let outcome = run_alone(alloc, &contracts, calls.first()?, &mut cells)
+    let outcome = run_alone(alloc, &contracts, calls.first()?, &mut cells, Version::Two)
         .ok()?
         .outcome();
     Some((outcome, cells.get(lock(SEVEN))))
@@ -188,7 +192,7 @@ fn replayed(alloc: Global) -> Option<[Step; 3]> {
     let calls = calls(alloc, &RUN)?;
     let call = calls.first()?;
     let mut cells = cells(alloc, &[])?;
-    let run = run_alone(alloc, &contracts, call, &mut cells).ok()?;
+    let run = run_alone(alloc, &contracts, call, &mut cells, Version::Two).ok()?;
     let first = replay(alloc, &run, &mut cells).ok()?;
     let first = (
         first.map(|executed| executed.receipt),
@@ -199,7 +203,7 @@ fn replayed(alloc: Global) -> Option<[Step; 3]> {
         second.map(|executed| executed.receipt),
         cells.get(lock(SEVEN)),
     );
-    let third = execute(alloc, &contracts, call, &mut cells).ok()?;
+    let third = execute(alloc, &contracts, call, &mut cells, Version::Two).ok()?;
     Some([first, second, (Some(third.receipt), cells.get(lock(SEVEN)))])
 }
 

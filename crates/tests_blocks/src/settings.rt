@@ -58,7 +58,11 @@ pub fn cells(alloc: Global, held: &[(Cell, u64)]) -> Option<Cells>
 
 /// The world of the example contract and these cells.
 pub fn world(alloc: Global, held: &[(Cell, u64)]) -> Option<World> {
-    let contract = samples::example(alloc).ok()?;
+    world_of(alloc, samples::example(alloc).ok()?, held)
+}
+
+/// The world of this contract and these cells.
+pub fn world_of(alloc: Global, contract: Deployed<Global>, held: &[(Cell, u64)]) -> Option<World> {
     let mut contracts = Vec::new(alloc);
     contracts.push(contract).ok()?;
     let cells = cells(alloc, held)?;

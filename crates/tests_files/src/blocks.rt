@@ -6,17 +6,18 @@ use codec::{Failures, MemorySink};
 use records::Position;
 use spec_ledger::Kind::{Counter, Map};
 use spec_ledger::Mode::{Add, Excl, Read};
-use spec_ledger::{Outcome, Receipt};
+use spec_ledger::{Outcome, Receipt, Version};
 use std::alloc::Global;
 use wtypes::TrapCode;
 
 /// A position: the call, its receipt and its locks.
 type Ran<'b> = (u32, Receipt, &'b [Turn]);
 
-/// A block between worlds whose digests are 1 and 3 in each byte, of calls whose digest is 2 in each: its positions, its fuel and its
-/// bytes.
+/// A block between worlds whose digests are 1 and 3 in each byte, of calls whose digest is 2 in each: its version, its positions, its fuel
+/// and its bytes.
 struct Row<'b> {
     name: &'b str,
+    version: Version,
     positions: &'b [Ran<'b>],
     fuel: u64,
     bytes: &'b [u8],
@@ -48,30 +49,71 @@ const TWO_LOCKS: [u8; 170] = [
     3, 3, 3, 3, 3, 3, 3, 3, 3, 3, 3, 3,
 ];
 
+/// The block of no calls in version 2.
+const NO_CALLS_TWO: [u8; 116] = [
+    87, 66, 76, 75, 2, 0, 0, 0, 1, 1, 1, 1, 1, 1, 1, 1, 1, 1, 1, 1, 1, 1, 1, 1, 1, 1, 1, 1, 1, 1,
+    1, 1, 1, 1, 1, 1, 1, 1, 1, 1, 2, 2, 2, 2, 2, 2, 2, 2, 2, 2, 2, 2, 2, 2, 2, 2, 2, 2, 2, 2, 2, 2,
+    2, 2, 2, 2, 2, 2, 2, 2, 2, 2, 0, 0, 0, 0, 0, 0, 0, 0, 0, 0, 0, 0, 3, 3, 3, 3, 3, 3, 3, 3, 3, 3,
+    3, 3, 3, 3, 3, 3, 3, 3, 3, 3, 3, 3, 3, 3, 3, 3, 3, 3, 3, 3, 3, 3,
+];
+
+/// The block of two bumps in version 2, which has the levels that each call entered behind its fuel.
+const TWO_BUMPS_TWO: [u8; 196] = [
+    87, 66, 76, 75, 2, 0, 0, 0, 1, 1, 1, 1, 1, 1, 1, 1, 1, 1, 1, 1, 1, 1, 1, 1, 1, 1, 1, 1, 1, 1,
+    1, 1, 1, 1, 1, 1, 1, 1, 1, 1, 2, 2, 2, 2, 2, 2, 2, 2, 2, 2, 2, 2, 2, 2, 2, 2, 2, 2, 2, 2, 2, 2,
+    2, 2, 2, 2, 2, 2, 2, 2, 2, 2, 2, 0, 0, 0, 0, 0, 0, 0, 3, 0, 0, 0, 0, 0, 0, 0, 0, 0, 0, 0, 0, 0,
+    1, 0, 0, 0, 0, 0, 0, 0, 1, 7, 0, 0, 0, 0, 0, 0, 0, 1, 0, 0, 0, 0, 1, 0, 0, 0, 3, 0, 0, 0, 0, 0,
+    0, 0, 0, 0, 0, 0, 0, 0, 1, 0, 0, 0, 0, 0, 0, 0, 1, 7, 0, 0, 0, 0, 0, 0, 0, 1, 0, 0, 0, 0, 6, 0,
+    0, 0, 0, 0, 0, 0, 3, 3, 3, 3, 3, 3, 3, 3, 3, 3, 3, 3, 3, 3, 3, 3, 3, 3, 3, 3, 3, 3, 3, 3, 3, 3,
+    3, 3, 3, 3, 3, 3,
+];
+
+/// The call that trapped, in version 2, where it entered 258 levels.
+const TWO_LOCKS_TWO: [u8; 174] = [
+    87, 66, 76, 75, 2, 0, 0, 0, 1, 1, 1, 1, 1, 1, 1, 1, 1, 1, 1, 1, 1, 1, 1, 1, 1, 1, 1, 1, 1, 1,
+    1, 1, 1, 1, 1, 1, 1, 1, 1, 1, 2, 2, 2, 2, 2, 2, 2, 2, 2, 2, 2, 2, 2, 2, 2, 2, 2, 2, 2, 2, 2, 2,
+    2, 2, 2, 2, 2, 2, 2, 2, 2, 2, 1, 0, 0, 0, 1, 0, 0, 0, 4, 0, 0, 0, 0, 0, 0, 0, 2, 1, 0, 0, 1, 1,
+    2, 0, 0, 0, 0, 0, 0, 0, 0, 1, 0, 0, 0, 0, 0, 0, 0, 0, 0, 0, 0, 0, 0, 0, 0, 0, 0, 2, 0, 0, 0, 0,
+    0, 0, 0, 2, 1, 0, 0, 0, 4, 0, 0, 0, 0, 0, 0, 0, 3, 3, 3, 3, 3, 3, 3, 3, 3, 3, 3, 3, 3, 3, 3, 3,
+    3, 3, 3, 3, 3, 3, 3, 3, 3, 3, 3, 3, 3, 3, 3, 3,
+];
+
 const ADDED: Receipt = Receipt {
     outcome: Outcome::Returned(None),
     used: 3,
+    asks: 0,
 };
 
 const TRAPPED: Receipt = Receipt {
     outcome: Outcome::Trapped(TrapCode::Unreachable),
     used: 4,
+    asks: 0,
+};
+
+/// The same of a call that entered 258 levels.
+const TRAPPED_IN_LEVELS: Receipt = Receipt {
+    outcome: Outcome::Trapped(TrapCode::Unreachable),
+    used: 4,
+    asks: 258,
 };
 
 const OUT_OF_FUEL: Receipt = Receipt {
     outcome: Outcome::OutOfFuel,
     used: 0,
+    asks: 0,
 };
 
-const ROWS: [Row; 3] = [
+const ROWS: [Row; 6] = [
     Row {
         name: "a block of no calls has 116 bytes",
+        version: Version::One,
         positions: &[],
         fuel: 0,
         bytes: &NO_CALLS,
     },
     Row {
-        name: "a block of two bumps has 188 bytes",
+        name: "a block of two bumps has 188 bytes in version 1",
+        version: Version::One,
         positions: &[
             (0, ADDED, &[(Counter, 7, Add, 0)]),
             (1, ADDED, &[(Counter, 7, Add, 0)]),
@@ -81,25 +123,57 @@ const ROWS: [Row; 3] = [
     },
     Row {
         name: "locks rise within a position",
+        version: Version::One,
         positions: &[(1, TRAPPED, &[(Map, 1, Read, 0), (Map, 2, Excl, 1)])],
         fuel: 4,
         bytes: &TWO_LOCKS,
     },
+    Row {
+        name: "a block of no calls has 116 bytes in version 2",
+        version: Version::Two,
+        positions: &[],
+        fuel: 0,
+        bytes: &NO_CALLS_TWO,
+    },
+    Row {
+        name: "a block of two bumps has 196 bytes in version 2",
+        version: Version::Two,
+        positions: &[
+            (0, ADDED, &[(Counter, 7, Add, 0)]),
+            (1, ADDED, &[(Counter, 7, Add, 0)]),
+        ],
+        fuel: 6,
+        bytes: &TWO_BUMPS_TWO,
+    },
+    Row {
+        name: "version 2 tells of levels",
+        version: Version::Two,
+        positions: &[(
+            1,
+            TRAPPED_IN_LEVELS,
+            &[(Map, 1, Read, 0), (Map, 2, Excl, 1)],
+        )],
+        fuel: 4,
+        bytes: &TWO_LOCKS_TWO,
+    },
 ];
 
-/// The block of these positions.
-fn block(alloc: Global, ran: &[Ran], fuel: u64) -> Option<Block> {
+/// The block of this version and these positions.
+fn block(alloc: Global, version: Version, ran: &[Ran], fuel: u64) -> Option<Block> {
     let mut positions = Vec::new(alloc);
     for (call, receipt, turns) in ran {
         positions
             .push(position(alloc, *call, *receipt, *turns)?)
             .ok()?;
     }
-    Block::new([1; 32], [2; 32], positions, fuel, [3; 32])
+    Block::new(version, [1; 32], [2; 32], positions, fuel, [3; 32])
 }
 
-/// The bytes of a block.
+/// The bytes of a block whose version can tell its receipts.
 fn written(alloc: Global, block: &Block) -> Option<Vec<u8>> {
+    if !block.fits_version() {
+        return None;
+    }
     let mut sink = MemorySink::new(alloc, 2_000_000, Failures::none());
     write_block(alloc, block, &mut sink).ok()?;
     sink.bytes().to_vec(alloc).ok()
@@ -107,7 +181,7 @@ fn written(alloc: Global, block: &Block) -> Option<Vec<u8>> {
 
 /// The block is written so.
 fn is_written(alloc: Global, row: &Row) -> bool {
-    match block(alloc, row.positions, row.fuel) {
+    match block(alloc, row.version, row.positions, row.fuel) {
         Some(block) => match written(alloc, &block) {
             Some(bytes) => bytes.as_slice() == row.bytes,
             None => false,
@@ -136,7 +210,8 @@ fn are_positions(positions: &[Position], ran: &[Ran]) -> bool {
 fn is_read(alloc: Global, row: &Row) -> bool {
     match read_block(alloc, row.bytes) {
         Ok(block) => {
-            *block.before() == [1; 32]
+            block.version() == row.version
+                && *block.before() == [1; 32]
                 && *block.calls() == [2; 32]
                 && are_positions(block.positions(), row.positions)
                 && block.fuel() == row.fuel
@@ -171,6 +246,22 @@ fn blocks_are_written_and_read(rt: HostRuntime) {
     }
 }
 
+/// Whether version 1, and whether version 2, can tell this receipt.
+fn versions_of(alloc: Global, receipt: Receipt) -> Option<(bool, bool)> {
+    let one = block(alloc, Version::One, &[(0, receipt, &[])], 0)?;
+    let two = block(alloc, Version::Two, &[(0, receipt, &[])], 0)?;
+    Some((one.fits_version(), two.fits_version()))
+}
+
+#[test]
+fn version_1_tells_of_no_level(rt: HostRuntime) {
+    assert_eq!(rt; versions_of(rt.alloc(), TRAPPED), Some((true, true)));
+    assert_eq!(rt;
+        versions_of(rt.alloc(), TRAPPED_IN_LEVELS),
+        Some((false, true))
+    );
+}
+
 /// Where the fields of a block of no calls begin and end.
 const FIELDS: [(usize, usize); 7] = [
     (0, 4),
@@ -203,9 +294,11 @@ fn a_front_is_refused_at_the_field_that_it_cuts(rt: HostRuntime) {
 /// A byte of a block that is replaced, and the answer.
 type Fault<'b> = (&'b [u8], usize, u8, BlockRefusal);
 
-const THE_FIRST_FAULT_IS_ANSWERED_AT_ITS_FIRST_BYTE: [Fault; 10] = [
+const THE_FIRST_FAULT_IS_ANSWERED_AT_ITS_FIRST_BYTE: [Fault; 19] = [
     (&TWO_BUMPS, 3, 0x4c, BlockRefusal::Malformed(0)),
     (&TWO_BUMPS, 7, 1, BlockRefusal::Malformed(4)),
+    (&TWO_BUMPS, 4, 0, BlockRefusal::Malformed(4)),
+    (&TWO_BUMPS, 4, 3, BlockRefusal::Malformed(4)),
     (&TWO_BUMPS, 72, 7, BlockRefusal::Malformed(72)),
     (&TWO_BUMPS, 74, 1, BlockRefusal::TooLarge),
     (&TWO_BUMPS, 88, 4, BlockRefusal::Malformed(88)),
@@ -214,6 +307,13 @@ const THE_FIRST_FAULT_IS_ANSWERED_AT_ITS_FIRST_BYTE: [Fault; 10] = [
     (&TWO_BUMPS, 98, 2, BlockRefusal::Malformed(98)),
     (&TWO_BUMPS, 107, 3, BlockRefusal::Malformed(107)),
     (&TWO_BUMPS, 124, 9, BlockRefusal::Malformed(124)),
+    (&TWO_BUMPS_TWO, 4, 0, BlockRefusal::Malformed(4)),
+    (&TWO_BUMPS_TWO, 4, 3, BlockRefusal::Malformed(4)),
+    (&TWO_BUMPS_TWO, 72, 6, BlockRefusal::Malformed(72)),
+    (&TWO_BUMPS_TWO, 92, 4, BlockRefusal::Malformed(92)),
+    (&TWO_BUMPS_TWO, 93, 2, BlockRefusal::Malformed(93)),
+    (&TWO_BUMPS_TWO, 94, 9, BlockRefusal::Malformed(94)),
+    (&TWO_BUMPS_TWO, 132, 9, BlockRefusal::Malformed(132)),
 ];
 
 /// The second key made equal to the first, and then less.
@@ -259,6 +359,10 @@ fn the_first_fault_is_answered_at_its_first_byte(rt: HostRuntime) {
         refusal(alloc, &TWO_BUMPS, &[], &[0]),
         Some(BlockRefusal::Malformed(188))
     );
+    assert_eq!(rt;
+        refusal(alloc, &TWO_BUMPS_TWO, &[], &[0]),
+        Some(BlockRefusal::Malformed(196))
+    );
 }
 
 #[test]
@@ -287,14 +391,11 @@ fn spells(alloc: Global, bytes: &[u8]) -> Option<bool> {
 }
 
 /// How many of the blocks with this byte flipped in four ways are read, each as what it spells.
-fn taken(alloc: Global, at: usize) -> Option<u32> {
-    let byte = *TWO_BUMPS.get(at)?;
+fn taken(alloc: Global, bytes: &[u8], at: usize) -> Option<u32> {
+    let byte = *bytes.get(at)?;
     let mut taken = 0u32;
     for flip in [1, 2, 0x80, 0xff] {
-        if spells(
-            alloc,
-            &changed(alloc, &TWO_BUMPS, &[(at, byte ^ flip)], &[])?,
-        )? {
+        if spells(alloc, &changed(alloc, bytes, &[(at, byte ^ flip)], &[])?)? {
             taken = taken.saturating_add(1);
         }
     }
@@ -302,10 +403,10 @@ fn taken(alloc: Global, at: usize) -> Option<u32> {
 }
 
 /// How many blocks with one byte flipped are read, each as what it spells.
-fn all_taken(alloc: Global) -> Option<u32> {
+fn all_taken(alloc: Global, bytes: &[u8]) -> Option<u32> {
     let mut sum = 0u32;
-    for at in 0..TWO_BUMPS.len() {
-        sum = sum.saturating_add(taken(alloc, at)?);
+    for at in 0..bytes.len() {
+        sum = sum.saturating_add(taken(alloc, bytes, at)?);
     }
     Some(sum)
 }
@@ -314,25 +415,29 @@ fn all_taken(alloc: Global) -> Option<u32> {
 /// there one of the lock's kind and one of its mode.
 const READ_FLIPS: u32 = 4 * (96 + 8 + 2 * (4 + 8 + 4 + 8 + 4)) + 2 * 2;
 
+/// In version 2 also those of the levels.
+const READ_FLIPS_TWO: u32 = READ_FLIPS + 4 * 2 * 4;
+
 #[test]
 fn a_changed_byte_is_refused_or_reads_as_what_it_spells(rt: HostRuntime) {
-    assert_eq!(rt; all_taken(rt.alloc()), Some(READ_FLIPS));
+    assert_eq!(rt; all_taken(rt.alloc(), &TWO_BUMPS), Some(READ_FLIPS));
+    assert_eq!(rt; all_taken(rt.alloc(), &TWO_BUMPS_TWO), Some(READ_FLIPS_TWO));
 }
 
 /// A block of so many positions of calls out of fuel.
-fn block_of(alloc: Global, size: u32) -> Option<Block> {
+fn block_of(alloc: Global, version: Version, size: u32) -> Option<Block> {
     let mut positions = Vec::new(alloc);
     for call in 0..size {
         positions
             .push(position(alloc, call, OUT_OF_FUEL, &[])?)
             .ok()?;
     }
-    Block::new([1; 32], [2; 32], positions, 0, [3; 32])
+    Block::new(version, [1; 32], [2; 32], positions, 0, [3; 32])
 }
 
 /// The size in bytes of a block of so many positions, how many are read, and the call of the last.
-fn sizes(alloc: Global, size: u32) -> Option<(usize, usize, u32)> {
-    let bytes = written(alloc, &block_of(alloc, size)?)?;
+fn sizes(alloc: Global, version: Version, size: u32) -> Option<(usize, usize, u32)> {
+    let bytes = written(alloc, &block_of(alloc, version, size)?)?;
     let read = read_block(alloc, &bytes).ok()?;
     let last = read.positions().last()?.call();
     Some((bytes.len(), read.positions().len(), last))
@@ -342,10 +447,15 @@ fn sizes(alloc: Global, size: u32) -> Option<(usize, usize, u32)> {
 fn positions_are_limited_to_65535(rt: HostRuntime) {
     let alloc = rt.alloc();
     assert_eq!(rt;
-        sizes(alloc, 65_535),
+        sizes(alloc, Version::One, 65_535),
         Some((116 + 17 * 65_535, 65_535, 65_534))
     );
-    assert!(rt; block_of(alloc, 65_536).is_none());
+    assert_eq!(rt;
+        sizes(alloc, Version::Two, 65_535),
+        Some((116 + 21 * 65_535, 65_535, 65_534))
+    );
+    assert!(rt; block_of(alloc, Version::One, 65_536).is_none());
+    assert!(rt; block_of(alloc, Version::Two, 65_536).is_none());
     // One more is too large, also where its bytes are not there.
     let head = &NO_CALLS[..72];
     assert_eq!(rt;
@@ -360,6 +470,9 @@ fn positions_are_limited_to_65535(rt: HostRuntime) {
 
 /// A sink of pieces of at most 16 bytes that fails after so many has taken them, and no sink fails after the last of the twelve.
 fn keeps_a_beginning(alloc: Global, block: &Block, failing: u64) -> bool {
+    if !block.fits_version() {
+        return false;
+    }
     let mut sink = MemorySink::new(alloc, 16, Failures::after(failing));
     let put = write_block(alloc, block, &mut sink);
     if failing < 12 {

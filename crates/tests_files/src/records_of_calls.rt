@@ -6,16 +6,22 @@ use records::{
 };
 use spec_ledger::Kind::{Counter, Map};
 use spec_ledger::Mode::{Add, Excl, Read};
-use spec_ledger::{Outcome, Receipt};
+use spec_ledger::{Outcome, Receipt, Version};
 use std::alloc::Global;
 use wtypes::{TrapCode, Value};
 
 const NOTHING: &[u8] = &[];
 
-/// The record of call 0 where two bumps of counter 7 commute.
+/// The record of call 0 where two bumps of counter 7 commute, in version 1.
 pub const RECORD: [u8; 36] = [
     0, 0, 0, 0, 3, 0, 0, 0, 0, 0, 0, 0, 0, 0, 1, 0, 0, 0, 0, 0, 0, 0, 1, 7, 0, 0, 0, 0, 0, 0, 0, 1,
     0, 0, 0, 0,
+];
+
+/// The same record in version 2.
+const RECORD_TWO: [u8; 40] = [
+    0, 0, 0, 0, 3, 0, 0, 0, 0, 0, 0, 0, 0, 0, 0, 0, 0, 0, 1, 0, 0, 0, 0, 0, 0, 0, 1, 7, 0, 0, 0, 0,
+    0, 0, 0, 1, 0, 0, 0, 0,
 ];
 
 const VALUES: [(Value, &[u8]); 4] = [
@@ -69,21 +75,69 @@ const OUTCOMES: [(Outcome, &[u8]); 8] = [
     (Outcome::Rejected(6), &[3, 6]),
 ];
 
-/// The receipt with 258 of fuel has the fuel and then this, and is read back before a byte that is not its own.
-fn is_receipt(alloc: Global, outcome: Outcome, tail: &[u8]) -> bool {
-    let receipt = Receipt { outcome, used: 258 };
+/// What a receipt with 258 of fuel has in front of its outcome: the version, the levels, and the bytes.
+const FRONTS: [(Version, u32, &[u8]); 3] = [
+    (Version::One, 0, &[2, 1, 0, 0, 0, 0, 0, 0]),
+    (Version::Two, 0, &[2, 1, 0, 0, 0, 0, 0, 0, 0, 0, 0, 0]),
+    (Version::Two, 772, &[2, 1, 0, 0, 0, 0, 0, 0, 4, 3, 0, 0]),
+];
+
+/// The receipt with 258 of fuel has these bytes and then those, and is read back before a byte that is not its own.
+fn is_receipt(alloc: Global, front: &(Version, u32, &[u8]), outcome: Outcome, tail: &[u8]) -> bool {
+    let (version, asks, front) = *front;
+    let receipt = Receipt {
+        outcome,
+        used: 258,
+        asks,
+    };
     let mut bytes = Vec::new(alloc);
-    append_receipt(&mut bytes, receipt).is_ok()
-        && bytes.get(..8) == Some([2, 1, 0, 0, 0, 0, 0, 0].as_slice())
-        && bytes.get(8..) == Some(tail)
+    append_receipt(version, &mut bytes, receipt).is_ok()
+        && bytes.get(..front.len()) == Some(front)
+        && bytes.get(front.len()..) == Some(tail)
         && bytes.push(9).is_ok()
-        && read_receipt(&bytes) == Ok((receipt, [9].as_slice()))
+        && read_receipt(version, &bytes) == Ok((receipt, [9].as_slice()))
 }
 
 #[test]
 fn a_receipt_has_a_kind_and_what_the_kind_has(rt: HostRuntime) {
     for (outcome, tail) in &OUTCOMES {
-        assert!(rt; is_receipt(rt.alloc(), *outcome, *tail), "{outcome:?}");
+        for front in &FRONTS {
+            assert!(rt;
+                is_receipt(rt.alloc(), front, *outcome, *tail),
+                "{outcome:?}"
+            );
+        }
+    }
+}
+
+/// In version 2 the levels stand where version 1 has the kind, and are at fault where they are cut.
+#[test]
+fn version_2_tells_of_levels_behind_the_fuel(rt: HostRuntime) {
+    let bytes = [0, 0, 0, 0, 0, 0, 0, 0, 2, 0, 0, 0, 2];
+    let out_of_fuel = Receipt {
+        outcome: Outcome::OutOfFuel,
+        used: 0,
+        asks: 0,
+    };
+    let asked = Receipt {
+        outcome: Outcome::OutOfFuel,
+        used: 0,
+        asks: 2,
+    };
+    assert_eq!(rt;
+        read_receipt(Version::One, &bytes),
+        Ok((out_of_fuel, [0, 0, 0, 2].as_slice()))
+    );
+    assert_eq!(rt;
+        read_receipt(Version::Two, &bytes),
+        Ok((asked, [].as_slice()))
+    );
+    for size in 8..12 {
+        assert_eq!(rt;
+            read_receipt(Version::Two, &bytes[..size]),
+            Err(Fault::Malformed(size - 8)),
+            "{size}"
+        );
     }
 }
 
@@ -103,7 +157,7 @@ const CODES_THAT_MEAN_NOTHING: [(&[u8], usize); 8] = [
 fn a_code_that_means_nothing_is_at_fault(rt: HostRuntime) {
     for (bytes, left) in &CODES_THAT_MEAN_NOTHING {
         assert_eq!(rt;
-            read_receipt(*bytes),
+            read_receipt(Version::One, *bytes),
             Err(Fault::Malformed(*left)),
             "{bytes:?}"
         );
@@ -248,11 +302,13 @@ fn a_profile_has_its_locks_rising(rt: HostRuntime) {
 const ADDER: Receipt = Receipt {
     outcome: Outcome::Returned(None),
     used: 3,
+    asks: 0,
 };
 
 /// The position of a call with such a receipt and these locks is written so.
 fn writes_position(
     alloc: Global,
+    version: Version,
     call: u32,
     receipt: Receipt,
     turns: &[Turn],
@@ -262,7 +318,7 @@ fn writes_position(
         return false;
     };
     let mut out = Vec::new(alloc);
-    append_position(&mut out, &position).is_ok() && out.as_slice() == bytes
+    append_position(version, &mut out, &position).is_ok() && out.as_slice() == bytes
 }
 
 /// The position of a call with such a receipt and these locks, if there is one.
@@ -271,8 +327,15 @@ pub fn position(alloc: Global, call: u32, receipt: Receipt, turns: &[Turn]) -> O
 }
 
 /// The bytes are read to their end as the position of a call with such a receipt and these locks.
-fn is_position(alloc: Global, bytes: &[u8], call: u32, receipt: Receipt, turns: &[Turn]) -> bool {
-    match read_position(alloc, bytes) {
+fn is_position(
+    alloc: Global,
+    version: Version,
+    bytes: &[u8],
+    call: u32,
+    receipt: Receipt,
+    turns: &[Turn],
+) -> bool {
+    match read_position(version, alloc, bytes) {
         Ok((position, rest)) => {
             position.call() == call
                 && position.receipt() == receipt
@@ -285,13 +348,20 @@ fn is_position(alloc: Global, bytes: &[u8], call: u32, receipt: Receipt, turns: 
 
 #[test]
 fn a_position_is_its_call_its_receipt_and_its_profile(rt: HostRuntime) {
-    assert!(rt; writes_position(rt.alloc(), 0, ADDER, &[ADDED], &RECORD));
-    assert!(rt; is_position(rt.alloc(), &RECORD, 0, ADDER, &[ADDED]));
-    for size in 0..RECORD.len() {
-        assert!(rt;
-            read_position(rt.alloc(), &RECORD[..size]).is_err(),
-            "{size}"
-        );
+    let records = [
+        (Version::One, RECORD.as_slice()),
+        (Version::Two, RECORD_TWO.as_slice()),
+    ];
+    for (version, record) in records {
+        let alloc = rt.alloc();
+        assert!(rt; writes_position(alloc, version, 0, ADDER, &[ADDED], record));
+        assert!(rt; is_position(alloc, version, record, 0, ADDER, &[ADDED]));
+        for size in 0..record.len() {
+            assert!(rt;
+                read_position(version, alloc, &record[..size]).is_err(),
+                "{size}"
+            );
+        }
     }
 }
 
@@ -310,6 +380,7 @@ fn a_rejection_without_a_meaning_has_no_position(rt: HostRuntime) {
         let receipt = Receipt {
             outcome: Outcome::Rejected(code),
             used: 0,
+            asks: 0,
         };
         assert_eq!(rt;
             position(rt.alloc(), 1, receipt, &[]).is_some(),

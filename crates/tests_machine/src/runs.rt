@@ -5,8 +5,9 @@ ghost use Rattle.interp.specs.Progress.{IsFree};
 ghost use Rattle.spec_execution.specs.Run.{IsReply};
 
 use crate::programs::{
-    ASKING_FIRST, COUNTDOWN, DECLARED_BEYOND, ELEMENTS, EMPTY_START, ENDLESS_START, EXPORTS,
-    FALLING, GROWTH, HOST, IMPORTED_ELEMENTS, PAGES, ROWS, SIGNS, STARTED, STORING,
+    ASKING_FIRST, COUNTDOWN, DECLARED_BETWEEN, DECLARED_BEYOND, ELEMENTS, EMPTY_START,
+    ENDLESS_START, EXPORTS, FALLING, GROWTH, HOST, IMPORTED_ELEMENTS, LARGE_AT_FIRST, PAGES, ROWS,
+    SIGNS, STARTED, STORING,
 };
 use call::Call;
 use interp::finished::Finished;
@@ -16,7 +17,7 @@ use interp::turns::Turn;
 use link::deployed::Deployed;
 use linked_list_allocator::LocalHeap;
 use samples::{FIRST_MODULE, call, deployed};
-use spec_ledger::{Op, Outcome, Place, Reply, Step};
+use spec_ledger::{Op, Outcome, Place, Reply, Step, Version};
 use std::alloc::{Allocator, Global};
 use std::process::Abort;
 use std::test::Fail;
@@ -97,6 +98,19 @@ fn run<'a>(
     call: &'a Call,
 ) -> Result<Finished<'a, Global>, Fail> {
     let mut machine = Machine::start(alloc, contracts, call)
+        .ok()
+        .ok_or("a machine")?;
+    play(&mut machine);
+    Ok(machine.finish().ok().ok_or("its end")?)
+}
+
+fn run_as<'a>(
+    alloc: Global,
+    contracts: &'a [Deployed<Global>],
+    call: &'a Call,
+    version: Version,
+) -> Result<Finished<'a, Global>, Fail> {
+    let mut machine = Machine::start_as(alloc, contracts, call, version)
         .ok()
         .ok_or("a machine")?;
     play(&mut machine);
@@ -214,29 +228,47 @@ fn extensions_of_signs(rt: HostRuntime) -> Result<(), Fail> {
     Ok(())
 }
 
-// The values are those that V8 (Node.js 20.20) gives where a maximum of 1,024 pages is declared.
+// The values are those that V8 (Node.js 20.20) gives where a maximum is declared: of 1,024 pages for version 2, of 256 pages, or of
+// the minimum where that is more, for version 1.
 #[test]
 fn growth_to_the_page_limit(rt: HostRuntime) -> Result<(), Fail> {
     let alloc = rt.alloc();
     let pages = [deployed(alloc, &PAGES)?];
-    let declared = [deployed(alloc, &DECLARED_BEYOND)?];
-    let one = Outcome::Returned(Some(Value::I32(1)));
-    let refused = Outcome::Returned(Some(Value::I32(-1)));
-    let most = Outcome::Returned(Some(Value::I32(1024)));
-    let nine = Outcome::Returned(Some(Value::I32(9)));
-    let outside = Outcome::Trapped(TrapCode::MemoryOutOfBounds);
-    for (contracts, name, outcome, used) in [
-        (&pages, "by_256", one, 2),
-        (&pages, "by_1023", one, 2),
-        (&pages, "by_1024", refused, 2),
-        (&pages, "size_after", most, 7),
-        (&pages, "last_byte", nine, 8),
-        (&pages, "past", outside, 5),
-        (&declared, "by_1023", one, 2),
-        (&declared, "by_1024", refused, 2),
+    let beyond = [deployed(alloc, &DECLARED_BEYOND)?];
+    let between = [deployed(alloc, &DECLARED_BETWEEN)?];
+    let large = [deployed(alloc, &LARGE_AT_FIRST)?];
+    let one = (Outcome::Returned(Some(Value::I32(1))), 2);
+    let first = (Outcome::Returned(Some(Value::I32(300))), 2);
+    let refused = (Outcome::Returned(Some(Value::I32(-1))), 2);
+    let few = (Outcome::Returned(Some(Value::I32(2))), 7);
+    let most = (Outcome::Returned(Some(Value::I32(1024))), 7);
+    let nine = (Outcome::Returned(Some(Value::I32(9))), 8);
+    let store = (Outcome::Trapped(TrapCode::MemoryOutOfBounds), 6);
+    let load = (Outcome::Trapped(TrapCode::MemoryOutOfBounds), 5);
+    for (contracts, name, in_version_1, in_version_2) in [
+        (&pages, "by_256", refused, one),
+        (&pages, "by_1023", refused, one),
+        (&pages, "by_1024", refused, refused),
+        (&pages, "size_after", few, most),
+        (&pages, "last_byte", store, nine),
+        (&pages, "past", load, load),
+        (&beyond, "by_1023", refused, one),
+        (&beyond, "by_1024", refused, refused),
+        (&between, "by_255", one, one),
+        (&between, "by_256", refused, one),
+        (&large, "by_0", first, first),
+        (&large, "by_1", refused, first),
     ] {
+        for (version, wanted) in [(Version::One, in_version_1), (Version::Two, in_version_2)] {
+            let call = call(alloc, 0, name, &[], 10_000)?;
+            let finished = run_as(alloc, contracts, &call, version)?;
+            let found = (finished.outcome(), finished.used());
+            assert_eq!(rt; found, wanted, "of {name} in version {version:?}");
+            assert_eq!(rt; finished.version(), version, "of {name}");
+            assert_eq!(rt; finished.asks(), 0, "of {name}");
+        }
         let found = ending(alloc, contracts, name, 10_000)?;
-        assert_eq!(rt; found, (outcome, used), "of {name}");
+        assert_eq!(rt; found, in_version_2, "of {name}");
     }
     Ok(())
 }
@@ -362,9 +394,7 @@ fn turns(rt: HostRuntime) -> Result<(), Fail> {
     let alloc = rt.alloc();
     let contracts = [deployed(alloc, &FIRST_MODULE)?];
     let call = call(alloc, 0, "run", &[Value::I64(7)], 7)?;
-    let machine = Machine::start(alloc, &contracts, &call)
-        .ok()
-        .ok_or("a machine")?;
+    let machine = started(alloc, &contracts, &call)?;
     let mut machine = machine.finish().err().ok_or("no end before a turn")?;
     let done = Turn::Done(Outcome::Returned(Some(Value::I64(12))));
     'turns: for (number, turn) in [
@@ -605,9 +635,7 @@ fn the_start_function_asks_the_host_before_the_entry(rt: HostRuntime) -> Result<
     let alloc = rt.alloc();
     let contracts = [deployed(alloc, &ASKING_FIRST)?];
     let call = call(alloc, 0, "peek", &[Value::I64(7)], 5)?;
-    let machine = Machine::start(alloc, &contracts, &call)
-        .ok()
-        .ok_or("a machine")?;
+    let machine = started(alloc, &contracts, &call)?;
     let mut machine = machine.finish().err().ok_or("no end before a turn")?;
     let done = Turn::Done(Outcome::Returned(Some(Value::I64(12))));
     'turns: for (number, turn) in [

@@ -4,7 +4,7 @@ use debugger::Contract;
 use debugger::session::{Refusal, Session};
 use interp::start::StartRefusal;
 use samples::{EXAMPLE, Unfit, call, deployed};
-use spec_ledger::Outcome;
+use spec_ledger::{Outcome, Version};
 use std::alloc::Global;
 use std::process::Abort;
 use std::test::Fail;
@@ -48,7 +48,7 @@ fn open<'a>(
     cells: &'a Cells,
     call: &'a Call,
 ) -> Result<Session<'a, Global>, Fail> {
-    let session = Session::open(alloc, contracts, cells, call);
+    let session = Session::open(alloc, contracts, cells, call, Version::Two);
     Ok(session.ok().ok_or("it starts")?)
 }
 
@@ -297,7 +297,7 @@ fn a_call_that_does_not_start(rt: HostRuntime) -> Result<(), Fail> {
     ] {
         let call = call(alloc, number, name, args, 15)?;
         assert_eq!(rt;
-            Session::open(alloc, &contracts, &cells, &call).err(),
+            Session::open(alloc, &contracts, &cells, &call, Version::Two).err(),
             Some(refusal),
             "of {name}"
         );

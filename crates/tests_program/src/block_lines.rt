@@ -1,6 +1,9 @@
 //! Lines of words that mine and validate, at each fault in turn.
 
-use crate::blocks::{BUMP, FIRST_AND_LAST, LEFT, NO_CALLS, TWO, WITHOUT_LAST};
+use crate::blocks::{
+    BUMP, BUMP_OF_2, FIRST_AND_LAST, FIRST_AND_LAST_OF_2, LEFT, LEFT_OF_2, NO_CALLS, NO_CALLS_OF_2,
+    TWO, TWO_OF_2, WITHOUT_LAST,
+};
 use crate::modules::{WORLD, WORLD_OF_FIRST, WORLD_OF_MANY, WORLD_WITH_2, WORLD_WITH_5};
 use crate::rows::Wanted::{self, Absent, All, Cut, Front, Part as Holds, Text};
 use crate::rows::{File, Line, NOTHING, Part, unlike};
@@ -81,10 +84,10 @@ const PEEK_AND_SET: [Part; 2] = [(1, b"0 100 peek i64:1\n"), (1, b"0 100 set i64
 const OF_BUMP: [File; 2] = [("w", &WORLD), ("c", &ONE_BUMP)];
 
 /// These with the block of the call.
-const OF_BLOCK: [File; 3] = [("w", &WORLD), ("c", &ONE_BUMP), ("b", &[(1, &BUMP)])];
+const OF_BLOCK: [File; 3] = [("w", &WORLD), ("c", &ONE_BUMP), ("b", &[(1, &BUMP_OF_2)])];
 
 /// The block of `bump(7,5)`.
-const A_BLOCK: (&str, Wanted) = ("b", All(&[(1, &BUMP)]));
+const A_BLOCK: (&str, Wanted) = ("b", All(&[(1, &BUMP_OF_2)]));
 
 /// The world after it.
 const NEXT: (&str, Wanted) = ("n", All(&WORLD_WITH_5));
@@ -99,7 +102,10 @@ const BUMPED: Wanted = All(&[
 /// What is printed where the only call is left.
 const IS_LEFT: Wanted = All(&[(1, b"left 0\nfuel 0\n"), (1, BEFORE), (1, SAME)]);
 
-const CHAINED: [Row; 4] = [
+/// What is printed of its block that is accepted.
+const ACCEPTED: Wanted = All(&[(1, b"accept\n"), (1, WITH_5)]);
+
+const CHAINED: [Row; 6] = [
     (
         "mine --workers=1 w c --fuel 100 b n",
         &OF_BUMP,
@@ -109,8 +115,21 @@ const CHAINED: [Row; 4] = [
     (
         "validate w c b --fuel=100 --workers 2",
         &OF_BLOCK,
-        All(&[(1, b"accept\n"), (1, WITH_5)]),
-        &[],
+        ACCEPTED,
+        &[("w", All(&WORLD)), ("n", Absent)],
+    ),
+    // who validates may go on from the miner's next world
+    (
+        "validate --next n w c b --fuel=100",
+        &OF_BLOCK,
+        ACCEPTED,
+        &[A_BLOCK, NEXT],
+    ),
+    (
+        "validate w c b --fuel=100 --next=w --workers=1",
+        &OF_BLOCK,
+        ACCEPTED,
+        &[A_BLOCK, ("w", All(&WORLD_WITH_5))],
     ),
     // the next world is a world, and may take the place of the one before
     (
@@ -137,7 +156,7 @@ const MINED: [Row; 5] = [
         "mine w c b n --fuel=0 --workers=4",
         &[("w", &WORLD), ("c", &[])],
         All(&[(1, b"fuel 0\n"), (1, BEFORE), (1, SAME)]),
-        &[("b", All(&[(1, &NO_CALLS)])), ("n", All(&WORLD))],
+        &[("b", All(&[(1, &NO_CALLS_OF_2)])), ("n", All(&WORLD))],
     ),
     (
         "mine w c b n --fuel=100 --workers=1",
@@ -155,7 +174,7 @@ const MINED: [Row; 5] = [
         "mine w c b n --fuel=99",
         &[("w", &WORLD), ("c", &OTHER_BUMP)],
         IS_LEFT,
-        &[("b", All(&[(1, &LEFT)]))],
+        &[("b", All(&[(1, &LEFT_OF_2)]))],
     ),
     // limits count, and not the fuel used
     (
@@ -168,7 +187,7 @@ const MINED: [Row; 5] = [
             (1, WITH_2),
         ]),
         &[
-            ("b", All(&[(1, &FIRST_AND_LAST)])),
+            ("b", All(&[(1, &FIRST_AND_LAST_OF_2)])),
             ("n", All(&WORLD_WITH_2)),
         ],
     ),
@@ -305,7 +324,7 @@ fn changed(alloc: Global, bytes: &[u8], changes: &[(usize, u8)]) -> Result<Vec<u
     Ok(copy)
 }
 
-const JUDGED: [Judged; 20] = [
+const JUDGED: [Judged; 34] = [
     (
         &NO_CALLS,
         &[],
@@ -321,6 +340,121 @@ const JUDGED: [Judged; 20] = [
         200,
         b"accept\nafter 9f2fc0686bb827ca292338c9e58ca50f6165f51f61f87af407bc3cb32e694327\n",
         "",
+    ),
+    // the same in either version
+    (
+        &NO_CALLS_OF_2,
+        &[],
+        &[],
+        0,
+        b"accept\nafter ddc5e3d488f3844cdf731c6e2fcdb213a1eea2313f8fc0baf8aaafed8b7d0b92\n",
+        "",
+    ),
+    (
+        &TWO_OF_2,
+        &[],
+        &PEEK_AND_SET,
+        200,
+        b"accept\nafter 9f2fc0686bb827ca292338c9e58ca50f6165f51f61f87af407bc3cb32e694327\n",
+        "",
+    ),
+    (
+        &BUMP,
+        &[],
+        &ONE_BUMP,
+        100,
+        b"accept\nafter 771327414d62d43fc9ac4f25b2072caf6a5f630b2a3fde2819bf8f990bd82d69\n",
+        "",
+    ),
+    (
+        &BUMP_OF_2,
+        &[],
+        &ONE_BUMP,
+        100,
+        b"accept\nafter 771327414d62d43fc9ac4f25b2072caf6a5f630b2a3fde2819bf8f990bd82d69\n",
+        "",
+    ),
+    (
+        &FIRST_AND_LAST,
+        &[],
+        &THREE_BUMPS,
+        100,
+        b"accept\nafter 09c01476d491558048df3d2e326244fada59b60b436bb77a2a13e141164b53a1\n",
+        "",
+    ),
+    (
+        &FIRST_AND_LAST_OF_2,
+        &[],
+        &THREE_BUMPS,
+        100,
+        b"accept\nafter 09c01476d491558048df3d2e326244fada59b60b436bb77a2a13e141164b53a1\n",
+        "",
+    ),
+    // another version: without positions the rest stays as it is
+    (
+        &NO_CALLS,
+        &[(4, 2)],
+        &[],
+        0,
+        b"accept\nafter ddc5e3d488f3844cdf731c6e2fcdb213a1eea2313f8fc0baf8aaafed8b7d0b92\n",
+        "",
+    ),
+    (
+        &NO_CALLS,
+        &[(4, 3)],
+        &[],
+        0,
+        b"reject 1\n",
+        "block, byte 4: the version of the format is neither 1 nor 2",
+    ),
+    (
+        &BUMP,
+        &[(4, 2)],
+        &ONE_BUMP,
+        100,
+        b"reject 1\n",
+        "block, byte 138: the block ends here, and the file goes on",
+    ),
+    (
+        &BUMP_OF_2,
+        &[(4, 1)],
+        &ONE_BUMP,
+        100,
+        b"reject 1\n",
+        "block, byte 134: the block ends here, and the file goes on",
+    ),
+    // a level that the call did not enter, and the version 2 of three changes that stand below
+    (
+        &BUMP_OF_2,
+        &[(88, 1)],
+        &ONE_BUMP,
+        100,
+        b"reject 8 0\n",
+        "block: position 0 has another receipt",
+    ),
+    (
+        &BUMP_OF_2,
+        &[(112, 1)],
+        &ONE_BUMP,
+        100,
+        b"reject 7 0\n",
+        "block: position 0 has turns other than those of its modes",
+    ),
+    (
+        &BUMP_OF_2,
+        &[(111, 2)],
+        &ONE_BUMP,
+        100,
+        b"reject 8 0\n",
+        "block: position 0 has another receipt",
+    ),
+    (
+        &BUMP_OF_2,
+        &[(116, 8)],
+        &ONE_BUMP,
+        100,
+        b"reject 9\n",
+        "block: the total fuel or the digest after is not",
     ),
     // the magic, the digest before, the number of the call, the turn and the mode of its lock, the fuel of all
     (
@@ -474,23 +608,32 @@ const JUDGED: [Judged; 20] = [
     ),
 ];
 
+/// What the file of the next world holds before.
+const KEPT: [Part; 1] = [(1, b"kept")];
+
+/// An accepted block leaves a world there.
+const A_WORLD: After = &[("n", Front(b"WBWD"))];
+
+/// A rejected block leaves the file of the next world as it was.
+const AS_BEFORE: After = &[("n", All(&KEPT))];
+
 #[test]
 fn judges_blocks(rt: HostRuntime) -> Result<(), Fail> {
     let alloc = rt.alloc();
     for (block, changes, calls, fuel, verdict, part) in JUDGED {
-        let (status, err) = if verdict.starts_with(b"accept") {
-            (Done, NOTHING)
+        let (status, err, after) = if verdict.starts_with(b"accept") {
+            (Done, NOTHING, A_WORLD)
         } else {
-            (Refused, Holds(part))
+            (Refused, Holds(part), AS_BEFORE)
         };
-        let words = format!(in alloc; "validate w c b --fuel={fuel}")?;
+        let words = format!(in alloc; "validate w c b --fuel={fuel} --next=n")?;
         let block = changed(alloc, block, changes)?;
         let block: [Part; 1] = [(1, &block)];
-        let files: [File; 3] = [("w", &WORLD), ("c", calls), ("b", &block)];
+        let files: [File; 4] = [("w", &WORLD), ("c", calls), ("b", &block), ("n", &KEPT)];
         comes_to(
             &rt,
             alloc,
-            (words.as_str(), &files, Text(verdict), &[]),
+            (words.as_str(), &files, Text(verdict), after),
             status,
             err,
         )?;
@@ -528,7 +671,7 @@ fn fails_as_told<R: Abort + Threads + Wait + Sync>(
 }
 
 /// A beginning of the block.
-const PART_OF_BLOCK: (&str, Wanted) = ("b", Cut(&[(1, &BUMP)]));
+const PART_OF_BLOCK: (&str, Wanted) = ("b", Cut(&[(1, &BUMP_OF_2)]));
 
 /// A beginning of the world after it.
 const PART_OF_NEXT: (&str, Wanted) = ("n", Cut(&WORLD_WITH_5));
@@ -547,10 +690,22 @@ const CUT_SHORT: [Fault; 10] = [
     (None, Some(0), b"stdout", &[A_BLOCK, NEXT]),
 ];
 
+// the three files are read before
+const NEXT_CUT_SHORT: [Fault; 5] = [
+    (Some(3), None, b"n", &[("n", Absent)]),
+    (Some(4), None, b"n", &[PART_OF_NEXT]),
+    (Some(5), None, b"n", &[PART_OF_NEXT]),
+    (Some(6), None, b"n", &[PART_OF_NEXT]),
+    (None, Some(0), b"stdout", &[NEXT]),
+];
+
 #[test]
-fn the_block_is_written_before_the_next_world(rt: HostRuntime) -> Result<(), Fail> {
+fn the_next_world_is_written_last(rt: HostRuntime) -> Result<(), Fail> {
+    let alloc = rt.alloc();
     let words = "mine w c b n --fuel=100";
-    fails_as_told(&rt, rt.alloc(), words, &OF_BUMP, &CUT_SHORT)
+    fails_as_told(&rt, alloc, words, &OF_BUMP, &CUT_SHORT)?;
+    let words = "validate w c b --fuel=100 --next n";
+    fails_as_told(&rt, alloc, words, &OF_BLOCK, &NEXT_CUT_SHORT)
 }
 
 /// The example contract's world with no cells, no calls and their block.

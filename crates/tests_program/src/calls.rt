@@ -125,33 +125,48 @@ fn keeps_the_limits(rt: HostRuntime) -> Result<(), Fail> {
     Ok(())
 }
 
-/// A receipt's outcome and fuel, and its text.
-const RECEIPTS: [(Outcome, u64, &str); 6] = [
-    (Outcome::Returned(None), 3, "returned fuel 3"),
+/// A receipt's outcome, fuel and levels, and its text.
+const RECEIPTS: [(Outcome, u64, u32, &str); 9] = [
+    (Outcome::Returned(None), 3, 0, "returned fuel 3"),
     (
         Outcome::Returned(Some(Value::I64(10))),
         7,
+        0,
         "returned i64:10 fuel 7",
     ),
     (
         Outcome::Returned(Some(Value::I32(-1))),
         2,
+        0,
         "returned i32:-1 fuel 2",
     ),
     (
         Outcome::Trapped(TrapCode::CallDepth),
         256,
+        0,
         "trapped 8 fuel 256",
     ),
-    (Outcome::OutOfFuel, 6, "out-of-fuel fuel 6"),
-    (Outcome::Rejected(6), 0, "rejected 6 fuel 0"),
+    (Outcome::OutOfFuel, 6, 0, "out-of-fuel fuel 6"),
+    (Outcome::Rejected(6), 0, 0, "rejected 6 fuel 0"),
+    (Outcome::Returned(None), 3, 1, "returned fuel 3 asks 1"),
+    (
+        Outcome::Returned(Some(Value::I64(10))),
+        7,
+        4_294_967_295,
+        "returned i64:10 fuel 7 asks 4294967295",
+    ),
+    (Outcome::OutOfFuel, 6, 2, "out-of-fuel fuel 6 asks 2"),
 ];
 
 #[test]
 fn prints_receipts(rt: HostRuntime) -> Result<(), Fail> {
     let alloc = rt.alloc();
-    for (outcome, used, text) in RECEIPTS {
-        let receipt = Receipt { outcome, used };
+    for (outcome, used, asks, text) in RECEIPTS {
+        let receipt = Receipt {
+            outcome,
+            used,
+            asks,
+        };
         let line = PositionLine {
             position: 1,
             call: 0,

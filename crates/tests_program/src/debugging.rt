@@ -1,6 +1,7 @@
 //! Lines of words that debug a call, over modules whose bytes another program made.
 
-use crate::modules::{WORLD, WORLD_OF_LOOP, WORLD_OF_WRITER};
+use crate::blocks::{OPENED, OPENED_OF_2};
+use crate::modules::{WORLD, WORLD_OF_DOOR, WORLD_OF_LOOP, WORLD_OF_WRITER};
 use crate::rows::Wanted::{self, Part as Holds, Text};
 use crate::rows::{File, Line, NOTHING, Part, unlike};
 use std::alloc::Global;
@@ -209,6 +210,153 @@ fn tells_the_file_that_is_not_read(rt: HostRuntime) -> Result<(), Fail> {
     for (words, fails, said) in FAULTS {
         let row: Session = (words, &WORLD_OF_LOOP, &[], b"");
         comes_to(&rt, rt.alloc(), row, fails, NotReached, Text(said))?;
+    }
+    Ok(())
+}
+
+/// `open`, `enter` and `wide`, which stand in the blocks, and a call that is left.
+const OF_DOOR: [Part; 1] = [(1, b"0 100 open\n0 100 enter\n0 100 wide\n0 7 open\n")];
+
+/// The block in version 1.
+const IN_1: [Part; 1] = [(1, &OPENED)];
+
+/// The block in version 2.
+const IN_2: [Part; 1] = [(1, &OPENED_OF_2)];
+
+/// A line that debugs over the world of the door: its words, the calls, the file `b`, how it ends, what it prints, and what it says.
+type InBlock<'a> = (
+    &'a str,
+    &'a [Part<'a>],
+    &'a [Part<'a>],
+    Status,
+    &'a [u8],
+    Wanted<'a>,
+);
+
+const IN_BLOCKS: [InBlock; 12] = [
+    // what is put before it is there in the block alone
+    (
+        "debug w c 1 cont",
+        &OF_DOOR,
+        &IN_2,
+        Done,
+        b"5 done trapped 1 fuel 5\n",
+        Text(b""),
+    ),
+    (
+        "debug w c 1 step:2 stack cont stack back:4 stack --block b",
+        &OF_DOOR,
+        &IN_2,
+        Done,
+        b"2 at 3 2\nstack i64:5\n6 done returned i64:5 fuel 6\nstack i64:5\n2 at 3 2\nstack i64:5\n",
+        Text(b""),
+    ),
+    (
+        "debug w c 0 cont --block b",
+        &OF_DOOR,
+        &IN_2,
+        Done,
+        b"3 done returned fuel 3\n",
+        Text(b""),
+    ),
+    // by the rules of the block's version
+    (
+        "debug --block=b w c 1 cont",
+        &OF_DOOR,
+        &IN_1,
+        Done,
+        b"6 done returned i64:5 fuel 6\n",
+        Text(b""),
+    ),
+    (
+        "debug --block b w c 2 cont",
+        &OF_DOOR,
+        &IN_1,
+        Done,
+        b"2 done returned i32:-1 fuel 2\n",
+        Text(b""),
+    ),
+    (
+        "debug --block b w c 2 cont",
+        &OF_DOOR,
+        &IN_2,
+        Done,
+        b"2 done returned i32:1 fuel 2\n",
+        Text(b""),
+    ),
+    // a call that does not stand in it
+    (
+        "debug w c 3 cont --block b",
+        &OF_DOOR,
+        &IN_2,
+        Refused,
+        b"refused left 3\n",
+        Holds("block: call 3 does not stand in it; "),
+    ),
+    (
+        "debug w c 4 cont --block b",
+        &OF_DOOR,
+        &IN_2,
+        Usage,
+        b"",
+        Holds("usage: there is no call 4 "),
+    ),
+    // a block that is forged, of another world, and of other calls
+    (
+        "debug w c 1 cont --block b",
+        &OF_DOOR,
+        &[(1, &OPENED_OF_2), (1, b"\0")],
+        Refused,
+        b"reject 1\n",
+        Holds("block, byte 232: the block ends here"),
+    ),
+    (
+        "debug n c 1 cont --block b",
+        &OF_DOOR,
+        &IN_2,
+        Refused,
+        b"reject 2\n",
+        Holds("block: the digest before is not the world's; "),
+    ),
+    (
+        "debug w c 1 cont --block b",
+        &[(1, b"0 100 open\n0 100 enter\n0 100 wide\n0 8 open\n")],
+        &IN_2,
+        Refused,
+        b"reject 3\n",
+        Holds("block: the digest of the calls is not that of the calls; "),
+    ),
+    (
+        "debug w c 1 cont --block x",
+        &OF_DOOR,
+        &IN_2,
+        NotReached,
+        b"",
+        Text(b"file x\n"),
+    ),
+];
+
+#[test]
+fn debugs_calls_in_blocks(rt: HostRuntime) -> Result<(), Fail> {
+    for (words, calls, block, status, printed, err) in IN_BLOCKS {
+        let files: [File; 4] = [
+            ("w", &WORLD_OF_DOOR),
+            ("n", &WORLD_OF_LOOP),
+            ("c", calls),
+            ("b", block),
+        ];
+        let line = Line {
+            words,
+            files: &files,
+            file_fails: None,
+            out_fails: None,
+            err_fails: None,
+            status,
+            out: Text(printed),
+            err,
+            after: &[],
+        };
+        assert_eq!(rt; unlike(&rt, rt.alloc(), &line)?, None, "{words}");
     }
     Ok(())
 }

@@ -110,7 +110,7 @@ fn names_the_field_of_a_world(rt: HostRuntime) -> Result<(), Fail> {
     Ok(())
 }
 
-const BLOCKS: [Row; 13] = [
+const BLOCKS: [Row; 16] = [
     (
         &[],
         "block, byte 0: the file does not begin as a block does, and is empty; name the file BLOCK that `mine` wrote, whole",
@@ -120,8 +120,12 @@ const BLOCKS: [Row; 13] = [
         "block, byte 0: the file does not begin as a block does, and is a world; name the file BLOCK that `mine` wrote, whole",
     ),
     (
+        &[(1, b"WBLK\x03\0\0\0")],
+        "block, byte 4: the version of the format is neither 1 nor 2; name the file BLOCK that `mine` wrote, whole",
+    ),
+    (
         &[(1, b"WBLK\x02\0\0\0")],
-        "block, byte 4: the version of the format is not 1; name the file BLOCK that `mine` wrote, whole",
+        "block, byte 8: the digest of the world before is cut off; name the file BLOCK that `mine` wrote, whole",
     ),
     (
         &[(1, b"WBLK\x01\0\0\0")],
@@ -176,6 +180,29 @@ const BLOCKS: [Row; 13] = [
             (60, b"\0"),
         ],
         "block, byte 89, position 0: its locks are cut off, have another kind or mode than there is, or do not rise; name the file BLOCK that `mine` wrote, whole",
+    ),
+    // in version 2 the receipt has 4 bytes more
+    (
+        &[
+            (1, b"WBLK\x02\0\0\0"),
+            (64, b"\0"),
+            (1, b"\x01\0\0\0"),
+            (16, b"\0"),
+            (1, b"\x09"),
+            (60, b"\0"),
+        ],
+        "block, byte 92, position 0: its receipt is cut off, or is none that a call has; name the file BLOCK that `mine` wrote, whole",
+    ),
+    (
+        &[
+            (1, b"WBLK\x02\0\0\0"),
+            (64, b"\0"),
+            (1, b"\x01\0\0\0"),
+            (16, b"\0"),
+            (1, b"\x02\x09\0\0\0"),
+            (60, b"\0"),
+        ],
+        "block, byte 93, position 0: its locks are cut off, have another kind or mode than there is, or do not rise; name the file BLOCK that `mine` wrote, whole",
     ),
 ];
 

@@ -26,6 +26,8 @@ mod modules;
 #[cfg(test)]
 mod paces;
 #[cfg(test)]
+mod progress;
+#[cfg(test)]
 mod rows;
 #[cfg(test)]
 mod rules;

@@ -80,8 +80,9 @@ fn are_refused<R: Abort + Threads + Wait + Sync>(
 }
 
 /// Lines that would write over what they read, or over what they wrote, and what is said of each.
-const SLIPS: [(&str, &str); 7] = [
+const SLIPS: [(&str, &str); 10] = [
     ("asm text text", "usage: TEXT and MODULE are both `text`"),
+    ("text m m", "usage: MODULE and TEXT are both `m`"),
     ("deploy w w", "usage: MODULE and WORLD are both `w`"),
     (
         "deploy w contract w",
@@ -103,6 +104,14 @@ const SLIPS: [(&str, &str); 7] = [
         "mine w c b c --fuel=5",
         "usage: CALLS and NEXT are both `c`",
     ),
+    (
+        "validate w c b --fuel=5 --next=c",
+        "usage: CALLS and NEXT are both `c`",
+    ),
+    (
+        "validate --next b w c b --fuel=5",
+        "usage: BLOCK and NEXT are both `b`",
+    ),
 ];
 
 #[test]
@@ -116,7 +125,7 @@ fn nothing_is_overwritten_by_a_slip(rt: HostRuntime) -> Result<(), Fail> {
 }
 
 /// Lines that ask to be told of the program, and a part of what is printed.
-const TOLD: [(&str, &str); 8] = [
+const TOLD: [(&str, &str); 11] = [
     ("--help", "Usage: wblock <COMMAND>"),
     ("-h", "Usage: wblock <COMMAND>"),
     ("asm -h", "Usage: wblock asm <TEXT> <MODULE>"),
@@ -126,7 +135,10 @@ const TOLD: [(&str, &str); 8] = [
         "--tries <N>    How often a call is tried that meets a conflict, 1 to 16 [default: 3]",
     ),
     ("validate w c b --help", "1 to 64 [default: 4]"),
+    ("validate -h", "--next <NEXT>"),
+    ("mine -h", "--quiet"),
     ("debug --help", "bytes:FROM:N"),
+    ("text -h", "Usage: wblock text <MODULE> <TEXT>"),
     ("--version", "wblock 0.1.0\n"),
 ];
 
@@ -414,7 +426,7 @@ fn tells_faults_of_files(rt: HostRuntime) -> Result<(), Fail> {
 }
 
 /// Lines that the command line does not take.
-const NOT_TAKEN: [&str; 17] = [
+const NOT_TAKEN: [&str; 20] = [
     "check",
     "check contract nops",
     "check contract --heap",
@@ -428,9 +440,12 @@ const NOT_TAKEN: [&str; 17] = [
     "mine w c b n --fuel",
     "mine w c b n --fuel=5 --fuel=5",
     "mine w c b n --fuel=5 --heap=5",
+    "mine w c b n --fuel=5 --next=o",
     "validate w c b",
     "validate w c b n --fuel=5",
     "validate w c b --fuel=5 --tries=3",
+    "validate w c b --fuel=5 --next",
+    "validate w c b --fuel=5 --next=n --next=n",
     "walk",
 ];
 

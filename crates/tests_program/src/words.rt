@@ -88,15 +88,26 @@ fn reads_lists_of_words(rt: HostRuntime) -> Result<(), Fail> {
     Ok(())
 }
 
-/// The world, the calls, the call and the commands that a line asks for.
-type Asked<'a> = (&'a str, &'a str, u64, &'a [Command]);
+/// The world, the calls, the call, the commands and the block that a line asks for.
+type Asked<'a> = (&'a str, &'a str, u64, &'a [Command], Option<&'a str>);
 
 /// Lines of words with single spaces between them, and what they ask to debug.
-const LINES: [(&str, Option<Asked>); 13] = [
+const LINES: [(&str, Option<Asked>); 18] = [
     (
         "debug w c 12 step:3 stack",
-        Some(("w", "c", 12, &[Command::Step(3), Command::Stack])),
+        Some(("w", "c", 12, &[Command::Step(3), Command::Stack], None)),
     ),
+    (
+        "debug w c 12 stack --block b",
+        Some(("w", "c", 12, &[Command::Stack], Some("b"))),
+    ),
+    (
+        "debug --block=w w c 12 stack",
+        Some(("w", "c", 12, &[Command::Stack], Some("w"))),
+    ),
+    ("debug w c 0 stack --block b --block b", None),
+    ("debug w c 0 stack --block b --fuel 3", None),
+    ("debug w c 0 stack --blocks b", None),
     (
         "debug w c 18446744073709551615 stack place",
         Some((
@@ -104,6 +115,7 @@ const LINES: [(&str, Option<Asked>); 13] = [
             "c",
             18_446_744_073_709_551_615,
             &[Command::Stack, Command::Place],
+            None,
         )),
     ),
     ("debug w c 0 steps:3", None),
@@ -125,7 +137,14 @@ fn asks(alloc: Global, line: &str, asked: Option<Asked>) -> Result<bool, Fail> {
     let line = split_words(alloc, &words)?.ok_or("a line")?;
     match debugging_of(alloc, &line)? {
         Some(task) => Ok(
-            asked == Some((task.world, task.calls, task.call, task.commands.as_slice())),
+            asked
+                == Some((
+                    task.world,
+                    task.calls,
+                    task.call,
+                    task.commands.as_slice(),
+                    task.block,
+                )),
         ),
         None => Ok(asked.is_none()),
     }

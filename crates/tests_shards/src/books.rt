@@ -1,10 +1,12 @@
-// Calls over a book in 1, 2 and 16 shards, whose answers do not depend on the number of shards.
-use boost::book::{BeginRefusal, CommitRefusal, OpRefusal, Run};
+// A script over a book in shards: what its calls ask for, what each is answered, and what is left in the end.
+use boost::book::{
+    BeginRefusal, Closed, CommitRefusal, EnterRefusal, LeaveRefusal, OpRefusal, Run,
+};
+use shard_parts::CloseRefusal;
 use shards::{NoGate, Shards, Ticket};
 use spec_ledger::{Kind, Lock, Op, Outcome, Place, Reply, Step};
-use std::alloc::{Allocator, Global};
+use std::alloc::Allocator;
 use std::sync::Wait;
-use std::test::Fail;
 use storage::{Cells, NoMemory};
 use wtypes::TrapCode;
 
@@ -29,7 +31,60 @@ pub(crate) fn cell(kind: Kind, key: u64) -> Lock {
     }
 }
 
-/// These cells of contract 0. A number of 0 is no cell.
+pub(crate) fn adding(key: u64, value: u64) -> Step {
+    Step::Did(Op::Add(at(key), value), Reply::Nothing)
+}
+
+/// What a call asks for.
+#[derive(Clone, Copy)]
+pub(crate) enum Act {
+    Begin,
+    Op(Op),
+    Enter,
+    Leave(bool),
+    Undo,
+    Commit(&'static [Step], Outcome),
+    /// As `Commit`, of a book in which nothing was begun.
+    CommitElsewhere(&'static [Step], Outcome),
+}
+
+/// What it is answered.
+#[derive(Clone, Copy, PartialEq)]
+pub(crate) enum Answer {
+    /// The number of the attempt.
+    Begin(Result<u64, BeginRefusal>),
+    Op(Result<Reply, OpRefusal>),
+    Enter(Result<(), EnterRefusal>),
+    Leave(Result<(), LeaveRefusal>),
+    Undone,
+    Commit(Result<u32, CommitRefusal>),
+}
+
+/// A script of two calls.
+pub(crate) struct Script {
+    /// The cells of contract 0 that the book is opened over.
+    pub(crate) opening: &'static [(Kind, u64, u64)],
+    /// By call what it asks for, and the answer.
+    pub(crate) rows: &'static [(u32, Act, Answer)],
+    /// What cells of contract 0 hold in the end.
+    pub(crate) cells: &'static [(Kind, u64, Option<u64>)],
+    /// How many calls are committed.
+    pub(crate) entries: usize,
+}
+
+/// What comes of a script.
+#[derive(Clone, Copy, Debug, PartialEq)]
+pub(crate) enum Came {
+    AsSaid,
+    /// The first row that is answered otherwise.
+    Otherwise(usize),
+    /// Each row is answered so, and other things are left.
+    OtherEnd,
+    /// Memory was refused where nothing is done again.
+    NoMemory,
+}
+
+/// These cells of contract 0.
 pub(crate) fn cells_of<A: Allocator + Copy>(
     alloc: A,
     rows: &[(Kind, u64, u64)],
@@ -43,247 +98,205 @@ pub(crate) fn cells_of<A: Allocator + Copy>(
     Ok(cells)
 }
 
-/// A book of two calls.
-fn book_of(
-    alloc: Global,
+/// A book of two calls. None where memory was refused, or there is no book of so many shards.
+fn opened<A: Allocator + Copy>(
+    alloc: A,
     rows: &[(Kind, u64, u64)],
     shards: u32,
-) -> Result<Shards<'static, NoGate>, Fail> {
+) -> Option<Shards<'static, NoGate, A>> {
     if shards < 1 || shards > 16 {
-        return Err(Fail::from("outside the conditions"));
+        return None;
     }
-    let cells = cells_of(alloc, rows)?;
-    Ok(Shards::open(alloc, cells, 2, shards, &NoGate)?)
+    let cells = cells_of(alloc, rows).ok()?;
+    Shards::open(alloc, cells, 2, shards, &NoGate).ok()
 }
 
-/// Begins an attempt.
-fn begun<R: Wait>(rt: &R, book: &Shards<'_, NoGate>, call: u32) -> Result<Ticket, Fail> {
+/// Commits with the ticket in the hand, to which it comes back where that is refused. None where there is none.
+fn committed<R: Wait, A: Allocator + Copy>(
+    rt: &R,
+    book: &Shards<'_, NoGate, A>,
+    hand: &mut Option<Ticket<A>>,
+    run: &Run<'_>,
+) -> Option<Answer> {
+    match book.commit(rt, hand.take()?, run) {
+        Ok(position) => Some(Answer::Commit(Ok(position))),
+        Err((ticket, refusal)) => {
+            *hand = Some(ticket);
+            Some(Answer::Commit(Err(refusal)))
+        }
+    }
+}
+
+/// As [`committed`], of another book, which is then closed with no entry. None where it has one.
+fn committed_elsewhere<R: Wait, A: Allocator + Copy>(
+    rt: &R,
+    alloc: A,
+    shards: u32,
+    hand: &mut Option<Ticket<A>>,
+    run: &Run<'_>,
+) -> Option<Answer> {
+    let book = opened(alloc, &[], shards)?;
+    let answer = committed(rt, &book, hand, run);
+    if book.close().ok()?.entries.is_empty() {
+        answer
+    } else {
+        None
+    }
+}
+
+/// Begins an attempt. Its ticket comes into the hand.
+fn begun<R: Wait, A: Allocator + Copy>(
+    rt: &R,
+    book: &Shards<'_, NoGate, A>,
+    hand: &mut Option<Ticket<A>>,
+    call: u32,
+) -> Answer {
     match book.begin(rt, call) {
-        Ok(ticket) => Ok(ticket),
-        Err(_) => Err(Fail::from("not begun")),
+        Ok(ticket) => {
+            let number = ticket.number();
+            *hand = Some(ticket);
+            Answer::Begin(Ok(number))
+        }
+        Err(refusal) => Answer::Begin(Err(refusal)),
     }
 }
 
-/// Whether an operation gets this reply.
-fn replies<R: Wait>(rt: &R, book: &Shards<'_, NoGate>, ticket: &mut Ticket, step: &Step) -> bool {
-    match *step {
-        Step::Did(op, reply) => book.op(rt, ticket, op) == Ok(reply),
-        Step::Opened | Step::Kept | Step::Dropped => false,
-    }
-}
-
-/// Whether an attempt is committed at this position.
-fn commits<R: Wait>(
+/// What the book in shards answers to a call. None where it has no ticket.
+fn answered<R: Wait, A: Allocator + Copy>(
     rt: &R,
-    book: &Shards<'_, NoGate>,
-    ticket: Ticket,
-    trace: &[Step],
-    outcome: Outcome,
-    position: u32,
-) -> bool {
-    match book.commit(rt, ticket, &Run { trace, outcome }) {
-        Ok(found) => found == position,
-        Err(_) => false,
+    alloc: A,
+    shards: u32,
+    book: &Shards<'_, NoGate, A>,
+    hand: &mut Option<Ticket<A>>,
+    call: u32,
+    act: Act,
+) -> Option<Answer> {
+    match act {
+        Act::Begin => return Some(begun(rt, book, hand, call)),
+        Act::Commit(trace, outcome) => return committed(rt, book, hand, &Run { trace, outcome }),
+        Act::CommitElsewhere(trace, outcome) => {
+            return committed_elsewhere(rt, alloc, shards, hand, &Run { trace, outcome });
+        }
+        Act::Undo => {
+            book.undo(rt, hand.take()?);
+            return Some(Answer::Undone);
+        }
+        _ => {}
+    }
+    let Some(ticket) = hand else {
+        return None;
+    };
+    match act {
+        Act::Op(op) => Some(Answer::Op(book.op(rt, ticket, op))),
+        Act::Enter => Some(Answer::Enter(book.enter(rt, ticket))),
+        Act::Leave(keep) => Some(Answer::Leave(book.leave(rt, ticket, keep))),
+        _ => None,
     }
 }
 
-pub(crate) fn adding(key: u64, value: u64) -> Step {
-    Step::Did(Op::Add(at(key), value), Reply::Nothing)
-}
-
-pub(crate) fn putting(key: u64, value: u64) -> Step {
-    Step::Did(Op::Put(at(key), value), Reply::Nothing)
-}
-
-pub(crate) fn getting(key: u64, value: i64) -> Step {
-    Step::Did(Op::Get(at(key)), Reply::I64(value))
-}
-
-/// Two calls that add to one counter, of which the second is committed first.
-fn two_bumps<R: Wait>(rt: &R, alloc: Global, shards: u32) -> Result<bool, Fail> {
-    let book = book_of(alloc, &[(Kind::Counter, 7, 3)], shards)?;
-    let mut first = begun(rt, &book, 0)?;
-    let mut second = begun(rt, &book, 1)?;
-    let done = replies(rt, &book, &mut first, &adding(7, 5))
-        && replies(rt, &book, &mut second, &adding(7, 8));
-    let ended = commits(rt, &book, second, &[adding(7, 8)], RETURNED, 0)
-        && commits(rt, &book, first, &[adding(7, 5)], RETURNED, 1);
-    let closed = book.close()?;
-    Ok(
-        done && ended
-            && closed.entries.len() == 2
-            && closed.opening.get(cell(Kind::Counter, 7)) == Some(3)
-            && closed.cells.get(cell(Kind::Counter, 7)) == Some(16),
+/// Whether memory was refused to what can be done again.
+fn lacks_memory(answer: Option<Answer>) -> bool {
+    matches!(
+        answer,
+        Some(
+            Answer::Op(Err(OpRefusal::NoMemory))
+                | Answer::Enter(Err(EnterRefusal::NoMemory))
+                | Answer::Commit(Err(CommitRefusal::NoMemory))
+        )
     )
 }
 
-#[test]
-fn two_bumps_stand_in_the_order_of_their_commits(rt: HostRuntime) -> Result<(), Fail> {
-    for shards in &COUNTS {
-        assert!(rt; two_bumps(&rt, rt.alloc(), *shards)?, "{shards} shards");
-    }
-    Ok(())
+/// The tickets of both calls.
+#[derive(Drop)]
+struct Hands<A: Allocator> {
+    first: Option<Ticket<A>>,
+    second: Option<Ticket<A>>,
 }
 
-/// A call that fails and one that does not, which add to one counter at once and put a cell of their own.
-fn fail_and_bump<R: Wait>(rt: &R, alloc: Global, shards: u32) -> Result<bool, Fail> {
-    let book = book_of(alloc, &[(Kind::Map, 1, 10)], shards)?;
-    let mut first = begun(rt, &book, 0)?;
-    let mut second = begun(rt, &book, 1)?;
-    let done = replies(rt, &book, &mut first, &adding(7, 5))
-        && replies(rt, &book, &mut first, &putting(1, 9))
-        && replies(rt, &book, &mut second, &adding(7, 8))
-        && replies(rt, &book, &mut second, &putting(2, 4));
-    let ended = commits(rt, &book, first, &[adding(7, 5), putting(1, 9)], TRAPPED, 0)
-        && commits(
-            rt,
-            &book,
-            second,
-            &[adding(7, 8), putting(2, 4)],
-            RETURNED,
-            1,
-        );
-    let closed = book.close()?;
-    Ok(
-        done && ended
-            && closed.entries.len() == 2
-            && closed.cells.get(cell(Kind::Counter, 7)) == Some(8)
-            && closed.cells.get(cell(Kind::Map, 1)) == Some(10)
-            && closed.cells.get(cell(Kind::Map, 2)) == Some(4),
-    )
-}
-
-#[test]
-fn what_a_failed_call_changed_is_taken_back(rt: HostRuntime) -> Result<(), Fail> {
-    for shards in &COUNTS {
-        assert!(rt; fail_and_bump(&rt, rt.alloc(), *shards)?, "{shards} shards");
-    }
-    Ok(())
-}
-
-/// Whether a commit is refused so. The ticket comes back.
-fn is_refused<R: Wait>(
+/// The first row that the book in shards answers otherwise. What memory was refused to is asked for again if `again`.
+fn first_other<R: Wait, A: Allocator + Copy>(
     rt: &R,
-    book: &Shards<'_, NoGate>,
-    ticket: Ticket,
-    trace: &[Step],
-    refusal: CommitRefusal,
-) -> Result<(Ticket, bool), Fail> {
-    match book.commit(
-        rt,
-        ticket,
-        &Run {
-            trace,
-            outcome: RETURNED,
-        },
-    ) {
-        Ok(_) => Err(Fail::from("committed")),
-        Err((ticket, found)) => Ok((ticket, found == refusal)),
+    alloc: A,
+    shards: u32,
+    book: &Shards<'_, NoGate, A>,
+    hands: &mut Hands<A>,
+    rows: &[(u32, Act, Answer)],
+    again: bool,
+) -> Option<usize> {
+    for (row, (call, act, expected)) in rows.iter().enumerate() {
+        let hand = if *call == 0 {
+            &mut hands.first
+        } else {
+            &mut hands.second
+        };
+        let mut answer = answered(rt, alloc, shards, book, hand, *call, *act);
+        if again && lacks_memory(answer) {
+            answer = answered(rt, alloc, shards, book, hand, *call, *act);
+        }
+        if answer != Some(*expected) {
+            return Some(row);
+        }
+    }
+    None
+}
+
+/// What the book in shards comes to with the rows of a script.
+pub(crate) fn closed<R: Wait, A: Allocator + Copy>(
+    rt: &R,
+    alloc: A,
+    shards: u32,
+    script: &Script,
+    again: bool,
+) -> Result<Closed<A>, Came> {
+    let Some(book) = opened(alloc, script.opening, shards) else {
+        return Err(Came::NoMemory);
+    };
+    let mut hands = Hands {
+        first: None,
+        second: None,
+    };
+    let other = first_other(rt, alloc, shards, &book, &mut hands, script.rows, again);
+    if let Some(row) = other {
+        return Err(Came::Otherwise(row));
+    }
+    match book.close() {
+        Ok(closed) => Ok(closed),
+        Err(CloseRefusal::NoMemory) => Err(Came::NoMemory),
+        Err(CloseRefusal::Differs) => Err(Came::OtherEnd),
     }
 }
 
-const TOTAL_OF_100: Step = Step::Did(
-    Op::Total(Place {
-        contract: 0,
-        key: 7,
-    }),
-    Reply::I64(100),
-);
-
-/// A total that is refused while another call adds, and each refusal of the book.
-fn refused_total<R: Wait>(rt: &R, alloc: Global, shards: u32) -> Result<bool, Fail> {
-    let book = book_of(alloc, &[(Kind::Counter, 7, 100)], shards)?;
-    let other = book_of(alloc, &[], shards)?;
-    let mut first = begun(rt, &book, 0)?;
-    let live = book.begin(rt, 0).err() == Some(BeginRefusal::Live)
-        && book.begin(rt, 2).err() == Some(BeginRefusal::NoSuchCall);
-    let added = replies(rt, &book, &mut first, &adding(7, 5));
-    let mut second = begun(rt, &book, 1)?;
-    let kept_out = book.op(rt, &mut second, Op::Total(at(7))) == Err(OpRefusal::Conflict);
-    book.undo(rt, first);
-    let read = replies(rt, &book, &mut second, &TOTAL_OF_100);
-    let (second, less) = is_refused(rt, &book, second, &[], CommitRefusal::Differs)?;
-    let more = [TOTAL_OF_100, getting(8, 0)];
-    let (second, more) = is_refused(rt, &book, second, &more, CommitRefusal::Differs)?;
-    let trace = [TOTAL_OF_100];
-    let (second, strange) = is_refused(rt, &other, second, &trace, CommitRefusal::Stale)?;
-    let committed = commits(rt, &book, second, &trace, RETURNED, 0);
-    let over = book.begin(rt, 1).err() == Some(BeginRefusal::Committed);
-    let again = begun(rt, &book, 0)?;
-    let numbered = again.number() == 1;
-    book.undo(rt, again);
-    let closed = book.close()?;
-    let other = other.close()?;
-    Ok(
-        live && added
-            && kept_out
-            && read
-            && less
-            && more
-            && strange
-            && committed
-            && over
-            && numbered
-            && other.entries.is_empty()
-            && closed.entries.len() == 1
-            && closed.cells.get(cell(Kind::Counter, 7)) == Some(100),
-    )
-}
-
-#[test]
-fn a_total_waits_for_those_who_add(rt: HostRuntime) -> Result<(), Fail> {
-    for shards in &COUNTS {
-        assert!(rt; refused_total(&rt, rt.alloc(), *shards)?, "{shards} shards");
+/// Whether a script leaves so.
+pub(crate) fn is_left<A: Allocator + Copy>(closed: &Closed<A>, script: &Script) -> bool {
+    for (kind, key, number) in script.opening {
+        if closed.opening.get(cell(*kind, *key)) != Some(*number) {
+            return false;
+        }
     }
-    Ok(())
-}
-
-/// Two calls that move a number to the other's place: each is refused the put, and both are undone and run one after another.
-fn two_movers<R: Wait>(rt: &R, alloc: Global, shards: u32) -> Result<bool, Fail> {
-    let book = book_of(alloc, &[(Kind::Map, 1, 10), (Kind::Map, 2, 20)], shards)?;
-    let mut first = begun(rt, &book, 0)?;
-    let mut second = begun(rt, &book, 1)?;
-    let met = replies(rt, &book, &mut first, &getting(1, 10))
-        && replies(rt, &book, &mut second, &getting(2, 20))
-        && book.op(rt, &mut first, Op::Put(at(2), 10)) == Err(OpRefusal::Conflict)
-        && book.op(rt, &mut second, Op::Put(at(1), 20)) == Err(OpRefusal::Conflict);
-    book.undo(rt, first);
-    book.undo(rt, second);
-    let mut first = begun(rt, &book, 0)?;
-    let moved = replies(rt, &book, &mut first, &getting(1, 10))
-        && replies(rt, &book, &mut first, &putting(2, 10))
-        && commits(
-            rt,
-            &book,
-            first,
-            &[getting(1, 10), putting(2, 10)],
-            RETURNED,
-            0,
-        );
-    let mut second = begun(rt, &book, 1)?;
-    let moved_back = replies(rt, &book, &mut second, &getting(2, 10))
-        && replies(rt, &book, &mut second, &putting(1, 10))
-        && commits(
-            rt,
-            &book,
-            second,
-            &[getting(2, 10), putting(1, 10)],
-            RETURNED,
-            1,
-        );
-    let closed = book.close()?;
-    Ok(
-        met && moved
-            && moved_back
-            && closed.cells.get(cell(Kind::Map, 1)) == Some(10)
-            && closed.cells.get(cell(Kind::Map, 2)) == Some(10),
-    )
-}
-
-#[test]
-fn two_movers_are_refused_and_run_one_after_another(rt: HostRuntime) -> Result<(), Fail> {
-    for shards in &COUNTS {
-        assert!(rt; two_movers(&rt, rt.alloc(), *shards)?, "{shards} shards");
+    for (kind, key, number) in script.cells {
+        if closed.cells.get(cell(*kind, *key)) != *number {
+            return false;
+        }
     }
-    Ok(())
+    closed.entries.len() == script.entries
+}
+
+/// What comes of a script over a book in shards.
+pub(crate) fn played<R: Wait, A: Allocator + Copy>(
+    rt: &R,
+    alloc: A,
+    shards: u32,
+    script: &Script,
+    again: bool,
+) -> Came {
+    match closed(rt, alloc, shards, script, again) {
+        Ok(closed) => {
+            if is_left(&closed, script) {
+                Came::AsSaid
+            } else {
+                Came::OtherEnd
+            }
+        }
+        Err(came) => came,
+    }
 }

@@ -6,10 +6,12 @@ mod books;
 #[cfg(test)]
 mod held;
 #[cfg(test)]
-mod levels;
-#[cfg(test)]
 mod one_shard;
 #[cfg(test)]
 mod parts;
 #[cfg(test)]
 mod refused;
+#[cfg(test)]
+mod scripts;
+#[cfg(test)]
+mod whole;

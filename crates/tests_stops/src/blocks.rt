@@ -12,7 +12,7 @@ use rand::RngExt;
 use rand_pcg::Pcg32;
 use samples::example;
 use serial::serial_core;
-use spec_ledger::{Outcome, Receipt};
+use spec_ledger::{Outcome, Receipt, Version};
 use std::alloc::{Allocator, Global};
 use std::sync::Wait;
 use std::test::Fail;
@@ -50,6 +50,9 @@ pub(crate) fn calls_of(alloc: Global, rows: &[Row]) -> Result<Vec<Call>, Fail>
 
 /// The bytes of a block.
 fn written(alloc: Global, block: &Block) -> Result<Vec<u8>, Fail> {
+    if !block.fits_version() {
+        return Err(Fail::from("a receipt that is not told"));
+    }
     let mut sink = MemorySink::new(alloc, 1_000_000, Failures::none());
     write_block(alloc, block, &mut sink).or(Err("refused"))?;
     Ok(sink.bytes().to_vec(alloc)?)
@@ -114,7 +117,14 @@ fn is_serial(alloc: Global, calls: &[Call], mined: &Mined) -> Result<bool, Fail>
         return Ok(false);
     }
     let world = world_of(alloc)?;
-    let alone = serial_core(alloc, world.contracts(), world.cells(), calls, &order)?;
+    let alone = serial_core(
+        alloc,
+        world.contracts(),
+        world.cells(),
+        calls,
+        &order,
+        Version::Two,
+    )?;
     let same_cells = alone.cells.entries().eq(mined.world.cells().entries());
     let mut both = alone.receipts.iter().zip(mined.block.positions().iter());
     Ok(same_cells && both.all(|(receipt, position)| *receipt == position.receipt()))
@@ -126,6 +136,7 @@ const BUMPS: [Row; 2] = [("bump", [7, 5]), ("bump", [7, -5])];
 const BUMPED: Receipt = Receipt {
     outcome: Outcome::Returned(None),
     used: 3,
+    asks: 0,
 };
 
 /// Whether each position of a block has the receipt of a bump.

@@ -1,4 +1,5 @@
 // What is answered to a text.
+use crate::written::written_again;
 use assembler::{AsmRefusal, assemble};
 use encoder::encode;
 use std::alloc::Global;
@@ -13,7 +14,7 @@ pub type Broken<'b> = (&'b str, AsmRefusal);
 
 const HEADER: [u8; 8] = [0x00, 0x61, 0x73, 0x6D, 0x01, 0x00, 0x00, 0x00];
 
-/// Each text names the module of these sections.
+/// Each text names the module of these sections, and so does the text that the module is written as.
 pub fn assembles(rt: &impl Abort, a: Global, rows: &[Row]) -> Result<(), Fail> {
     for (text, sections) in rows {
         match assemble(a, *text) {
@@ -22,6 +23,8 @@ pub fn assembles(rt: &impl Abort, a: Global, rows: &[Row]) -> Result<(), Fail> {
                 encode(&module, &mut bytes)?;
                 assert_eq!(rt; &bytes[..8], HEADER.as_slice(), "{text}");
                 assert_eq!(rt; &bytes[8..], *sections, "{text}");
+                let again = written_again(a, &module)?;
+                assert_eq!(rt; again.as_slice(), bytes.as_slice(), "{text}");
             }
             Err(refusal) => {
                 assert!(rt; false, "{text}: {refusal:?}");

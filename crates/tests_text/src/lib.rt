@@ -1,5 +1,6 @@
 //! Tests of modules in text: the tokens, words, bodies and fields of a text, also in heaps of fixed size and of texts that nest deeply; its names,
-//! types, spaces and parts; and the bytes of the module that a whole text names, and where the others are refused. There is no code here.
+//! types, spaces and parts; the bytes of the module that a whole text names, and where the others are refused; and
+//! modules written as text. There is no code here.
 #![tactic(auto)]
 
 #[cfg(test)]
@@ -36,3 +37,5 @@ mod tokens_of_texts;
 mod types;
 #[cfg(test)]
 mod words_of_tokens;
+#[cfg(test)]
+mod written;

@@ -24,6 +24,9 @@ const FUEL: u64 = 10_000_000;
 
 /// The bytes of a block.
 fn written(alloc: Global, block: &Block) -> Result<Vec<u8>, Fail> {
+    if !block.fits_version() {
+        return Err(Fail::from("a receipt that is not told"));
+    }
     let mut sink = MemorySink::new(alloc, 10_000_000, Failures::none());
     write_block(alloc, block, &mut sink).or(Err("refused"))?;
     Ok(sink.bytes().to_vec(alloc)?)

@@ -8,8 +8,8 @@ use block_judge::Reason;
 use call::Call;
 use codec::{Failures, MemorySink};
 use pace::{NoPace, Pace};
-use serial_block::run;
-use spec_ledger::Kind;
+use serial_block::run_as;
+use spec_ledger::{Kind, Version};
 use std::alloc::Global;
 use std::sync::Wait;
 use std::test::Fail;
@@ -19,6 +19,9 @@ use world::World;
 
 /// An entry of the contract, and its numbers.
 pub(crate) type Entry = (&'static str, &'static [i64]);
+
+/// The versions.
+pub(crate) const VERSIONS: [Version; 2] = [Version::One, Version::Two];
 
 /// Two calls that run one after another over these cells.
 pub(crate) struct Two {
@@ -41,44 +44,50 @@ pub(crate) fn calling(alloc: Global, entry: Entry) -> Result<Call, Fail>
 }
 
 /// The bytes of a block.
-fn written(alloc: Global, block: &Block) -> Result<Vec<u8>, Fail> {
+pub(crate) fn written(alloc: Global, block: &Block) -> Result<Vec<u8>, Fail> {
+    if !block.fits_version() {
+        return Err(Fail::from("a receipt that is not told"));
+    }
     let mut sink = MemorySink::new(alloc, 1_000_000, Failures::none());
     write_block(alloc, block, &mut sink).or(Err("refused"))?;
     Ok(sink.bytes().to_vec(alloc)?)
 }
 
-/// Two calls, and the bytes of their block, the second one first where `swapped`.
+/// Two calls, and the bytes of their block of this version, the second one first where `swapped`.
 fn made(
     alloc: Global,
     world: &World,
     first: Call,
     second: Call,
     swapped: bool,
+    version: Version,
 ) -> Result<([Call; 2], Vec<u8>), Fail>
     requires first { first.fuel ≡ 100 }
     requires second { second.fuel ≡ 100 }
 {
     let calls = [first, second];
     let order = if swapped { [1, 0] } else { [0, 1] };
-    let Ok((block, _)) = run(alloc, world, &calls, &order) else {
+    let Ok((block, _)) = run_as(alloc, world, &calls, &order, version) else {
         return Err(Fail::from("refused"));
     };
     let bytes = written(alloc, &block)?;
     Ok((calls, bytes))
 }
 
-/// Two calls, and the bytes of their block.
+/// Two calls, and the bytes of their block of this version.
 pub(crate) fn made_of(
     alloc: Global,
     world: &World,
     two: &Two,
+    version: Version,
 ) -> Result<([Call; 2], Vec<u8>), Fail> {
     let [first, second] = two.calls;
     let first = calling(alloc, first)?;
-    made(alloc, world, first, calling(alloc, second)?, two.swapped)
+    let second = calling(alloc, second)?;
+    made(alloc, world, first, second, two.swapped, version)
 }
 
-/// A change of bytes.
+/// A change of the bytes of a block of version 1.
 #[derive(Clone, Copy)]
 enum Edit {
     /// The byte at this place is this one.
@@ -98,23 +107,43 @@ fn without(alloc: Global, bytes: &[u8], from: usize, to: usize) -> Result<Vec<u8
     Ok(kept)
 }
 
-/// The bytes after these changes, one after another.
-fn edited(alloc: Global, bytes: &[u8], edits: &[Edit]) -> Result<Vec<u8>, Fail> {
+/// Where the byte at a place of a block of two calls that return no value or trap stands in this version: in version 2 there are 4 bytes more
+/// before each outcome.
+fn placed(version: Version, at: usize) -> usize {
+    match version {
+        Version::One => at,
+        Version::Two => {
+            if at < 88 {
+                at
+            } else if at < 124 {
+                at.wrapping_add(4)
+            } else {
+                at.wrapping_add(8)
+            }
+        }
+    }
+}
+
+/// The bytes of a block of this version after these changes, one after another.
+fn edited(alloc: Global, bytes: &[u8], version: Version, edits: &[Edit]) -> Result<Vec<u8>, Fail> {
     let mut copy = bytes.to_vec(alloc)?;
     for edit in edits {
         match edit {
             Edit::Byte(at, byte) => {
-                let place = copy.get_mut(*at).ok_or("a byte")?;
+                let place = copy.get_mut(placed(version, *at)).ok_or("a byte")?;
                 *place = *byte;
             }
-            Edit::Cut(from, to) => copy = without(alloc, &copy, *from, *to)?,
+            Edit::Cut(from, to) => {
+                let (from, to) = (placed(version, *from), placed(version, *to));
+                copy = without(alloc, &copy, from, to)?;
+            }
         }
     }
     Ok(copy)
 }
 
 /// Why the bytes are rejected by four workers, with 1,000 of fuel. None where they are accepted.
-fn reason<R: Threads + Wait + Sync>(
+pub(crate) fn reason<R: Threads + Wait + Sync>(
     rt: &R,
     alloc: Global,
     world: &World,
@@ -195,55 +224,79 @@ struct Accepted {
     after: &'static [CellRow],
 }
 
-/// Whether the block of two calls is accepted, with these cells after it, and no position of it is run again.
+/// Whether the block of this version of two calls is accepted, with these cells after it, and no position of it is run again.
 fn is_accepted<R: Threads + Wait + Sync>(
     rt: &R,
     alloc: Global,
     row: &Accepted,
+    version: Version,
 ) -> Result<bool, Fail> {
     let world = world_of(alloc, row.two.cells)?;
-    let (calls, bytes) = made_of(alloc, &world, &row.two)?;
+    let (calls, bytes) = made_of(alloc, &world, &row.two, version)?;
     let next = after(rt, alloc, &world, &calls, &bytes, row.meeting)?;
     let again = again(rt, alloc, &world, &calls, &bytes)?;
     Ok(are_cells(next.cells(), row.after) && again == 0)
 }
 
-/// Why the block of two calls is rejected after these changes of its bytes. None where it is accepted.
+/// Why the block of this version of two calls is rejected after these changes of its bytes. None where it is accepted.
 fn reason_of<R: Threads + Wait + Sync>(
     rt: &R,
     alloc: Global,
     two: &Two,
+    version: Version,
     edits: &[Edit],
 ) -> Result<Option<Reason>, Fail> {
     let world = world_of(alloc, two.cells)?;
-    let (calls, bytes) = made_of(alloc, &world, two)?;
-    let other = edited(alloc, &bytes, edits)?;
+    let (calls, bytes) = made_of(alloc, &world, two, version)?;
+    let other = edited(alloc, &bytes, version, edits)?;
     reason(rt, alloc, &world, &calls, &other)
 }
 
-/// How many bytes the block of no calls has, and why it is rejected after these changes.
+/// How many bytes the block of this version of no calls has, and why it is rejected after this change.
 fn reason_of_none<R: Threads + Wait + Sync>(
     rt: &R,
     alloc: Global,
-    edits: &[Edit],
+    version: Version,
+    edit: Option<Edit>,
 ) -> Result<(usize, Option<Reason>), Fail> {
     let world = world_of(alloc, &[])?;
-    let Ok((block, _)) = run(alloc, &world, &[], &[]) else {
+    let Ok((block, _)) = run_as(alloc, &world, &[], &[], version) else {
         return Err(Fail::from("refused"));
     };
     let bytes = written(alloc, &block)?;
-    let other = edited(alloc, &bytes, edits)?;
+    let other = match edit {
+        Some(edit) => edited(alloc, &bytes, Version::One, &[edit])?,
+        None => bytes.to_vec(alloc)?,
+    };
     Ok((bytes.len(), reason(rt, alloc, &world, &[], &other)?))
 }
 
 #[test]
 fn no_calls_are_accepted(rt: HostRuntime) -> Result<(), Fail> {
     let rows = [
-        ([].as_slice(), None),
-        ([Edit::Cut(115, 116)].as_slice(), Some(Reason::Malformed)),
+        (Version::One, None, None),
+        (Version::Two, None, None),
+        (Version::One, Some(Edit::Byte(4, 2)), None),
+        (Version::Two, Some(Edit::Byte(4, 1)), None),
+        (
+            Version::Two,
+            Some(Edit::Byte(4, 3)),
+            Some(Reason::Malformed),
+        ),
+        (
+            Version::One,
+            Some(Edit::Cut(115, 116)),
+            Some(Reason::Malformed),
+        ),
+        (
+            Version::Two,
+            Some(Edit::Cut(115, 116)),
+            Some(Reason::Malformed),
+        ),
     ];
-    for (edits, expected) in rows {
-        assert_eq!(rt; reason_of_none(&rt, rt.alloc(), edits)?, (116, expected));
+    for (version, edit, expected) in rows {
+        let found = reason_of_none(&rt, rt.alloc(), version, edit)?;
+        assert_eq!(rt; found, (116, expected));
     }
     Ok(())
 }
@@ -332,15 +385,21 @@ const ACCEPTED: [Accepted; 7] = [
 #[test]
 fn blocks_are_accepted(rt: HostRuntime) -> Result<(), Fail> {
     for row in &ACCEPTED {
-        assert!(rt; is_accepted(&rt, rt.alloc(), row)?, "{}", row.name);
+        for version in VERSIONS {
+            assert!(rt;
+                is_accepted(&rt, rt.alloc(), row, version)?,
+                "{} {version:?}",
+                row.name
+            );
+        }
     }
     Ok(())
 }
 
-/// Each field of the block of a reader and a writer, changed: a byte and its new value, and the verdict.
+/// Each field of the block of a reader and a writer, changed: a byte's place in version 1 and its new value, and the verdict.
 const ONE_CHANGED_BYTE: [(usize, u8, Reason); 24] = [
     (0, 0x58, Reason::Malformed),
-    (4, 2, Reason::Malformed),
+    (4, 3, Reason::Malformed),
     (8, 0, Reason::WrongWorld),
     (40, 0, Reason::WrongCalls),
     (72, 1, Reason::Malformed),
@@ -368,13 +427,60 @@ const ONE_CHANGED_BYTE: [(usize, u8, Reason); 24] = [
 #[test]
 fn one_changed_byte(rt: HostRuntime) -> Result<(), Fail> {
     for (at, byte, expected) in ONE_CHANGED_BYTE {
-        let found = reason_of(&rt, rt.alloc(), &READER_AND_WRITER, &[Edit::Byte(at, byte)])?;
-        assert_eq!(rt; found, Some(expected), "byte {at} is {byte}");
+        for version in VERSIONS {
+            let edits = [Edit::Byte(at, byte)];
+            let found = reason_of(&rt, rt.alloc(), &READER_AND_WRITER, version, &edits)?;
+            assert_eq!(rt; found, Some(expected), "byte {at} is {byte} {version:?}");
+        }
     }
     Ok(())
 }
 
-/// Changes of the bytes of a block, and why it is rejected after them.
+/// The version of a block of two calls, what its version byte is changed to, and the verdict.
+const OTHER_VERSIONS: [(Version, u8, Option<Reason>); 4] = [
+    (Version::One, 1, None),
+    (Version::One, 2, Some(Reason::Malformed)),
+    (Version::Two, 1, Some(Reason::Malformed)),
+    (Version::Two, 2, None),
+];
+
+#[test]
+fn the_version_alone_changed(rt: HostRuntime) -> Result<(), Fail> {
+    for (version, byte, expected) in OTHER_VERSIONS {
+        let edits = [Edit::Byte(4, byte)];
+        let found = reason_of(&rt, rt.alloc(), &READER_AND_WRITER, version, &edits)?;
+        assert_eq!(rt; found, expected, "version {byte} for {version:?}");
+        let found = reason_of(&rt, rt.alloc(), &COUNTERS, version, &edits)?;
+        assert_eq!(rt; found, expected, "version {byte} for {version:?}");
+    }
+    Ok(())
+}
+
+/// A level that no call entered, told in a block of version 2: a byte of the count of either call.
+const TOLD_LEVELS: [(usize, Reason); 4] = [
+    (88, Reason::Deviates(0)),
+    (91, Reason::Deviates(0)),
+    (128, Reason::Deviates(1)),
+    (131, Reason::Deviates(1)),
+];
+
+#[test]
+fn levels_that_no_call_entered(rt: HostRuntime) -> Result<(), Fail> {
+    let alloc = rt.alloc();
+    let world = world_of(alloc, &[])?;
+    let (calls, bytes) = made_of(alloc, &world, &READER_AND_WRITER, Version::Two)?;
+    for (at, expected) in TOLD_LEVELS {
+        let other = edited(alloc, &bytes, Version::One, &[Edit::Byte(at, 1)])?;
+        assert_eq!(rt;
+            reason(&rt, alloc, &world, &calls, &other)?,
+            Some(expected),
+            "byte {at}"
+        );
+    }
+    Ok(())
+}
+
+/// Changes of the bytes of a block, by their places in version 1, and why it is rejected after them.
 struct Changed {
     name: &'static str,
     two: Two,
@@ -424,8 +530,10 @@ const CHANGED: [Changed; 6] = [
 #[test]
 fn changed_blocks(rt: HostRuntime) -> Result<(), Fail> {
     for row in &CHANGED {
-        let found = reason_of(&rt, rt.alloc(), &row.two, row.edits)?;
-        assert_eq!(rt; found, Some(row.reason), "{}", row.name);
+        for version in VERSIONS {
+            let found = reason_of(&rt, rt.alloc(), &row.two, version, row.edits)?;
+            assert_eq!(rt; found, Some(row.reason), "{} {version:?}", row.name);
+        }
     }
     Ok(())
 }

@@ -28,3 +28,5 @@ mod sharded_blocks;
 mod shared_books;
 #[cfg(test)]
 mod shared_lanes;
+#[cfg(test)]
+mod versions;

@@ -145,21 +145,25 @@ fn is_mined<R: Threads + Wait + Sync>(rt: &R, alloc: Global, row: &Row) -> Resul
 pub(crate) const RETURNED: Receipt = Receipt {
     outcome: Outcome::Returned(None),
     used: 3,
+    asks: 0,
 };
 
 pub(crate) const MOVED: Receipt = Receipt {
     outcome: Outcome::Returned(None),
     used: 4,
+    asks: 0,
 };
 
 const TOTAL_OF_3: Receipt = Receipt {
     outcome: Outcome::Returned(Some(Value::I64(3))),
     used: 5,
+    asks: 0,
 };
 
 pub(crate) const TRAPPED: Receipt = Receipt {
     outcome: Outcome::Trapped(TrapCode::Unreachable),
     used: 4,
+    asks: 0,
 };
 
 pub(crate) const ROWS: [Row; 6] = [

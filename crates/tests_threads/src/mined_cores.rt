@@ -10,7 +10,7 @@ use mining::{MinedCore, mine_core};
 use pace::{NoPace, Pace};
 use samples::first;
 use serial::serial_core;
-use spec_ledger::{Kind, Outcome, Receipt};
+use spec_ledger::{Kind, Outcome, Receipt, Version};
 use std::alloc::Global;
 use std::sync::Wait;
 use std::test::Fail;
@@ -62,7 +62,14 @@ fn is_serial(alloc: Global, given: &Given, mined: &MinedCore) -> Result<bool, Fa
     if !order.iter().all(|call| (*call as usize) < calls.len()) {
         return Ok(false);
     }
-    let alone = serial_core(alloc, &given.contracts, &given.cells, calls, order)?;
+    let alone = serial_core(
+        alloc,
+        &given.contracts,
+        &given.cells,
+        calls,
+        order,
+        Version::Two,
+    )?;
     let same_cells = alone.cells.entries().eq(mined.cells.entries());
     let mut locks = alone.touched.iter().zip(mined.touched.iter());
     let same_locks = locks.all(|(one, other)| one.held() == other.held());
@@ -248,31 +255,37 @@ fn is_spread<R: Threads + Wait + Sync>(
 const RETURNED_5: Receipt = Receipt {
     outcome: Outcome::Returned(Some(Value::I64(5))),
     used: 7,
+    asks: 0,
 };
 
 const RETURNED_8: Receipt = Receipt {
     outcome: Outcome::Returned(Some(Value::I64(8))),
     used: 7,
+    asks: 0,
 };
 
 const RETURNED_10: Receipt = Receipt {
     outcome: Outcome::Returned(Some(Value::I64(10))),
     used: 7,
+    asks: 0,
 };
 
 const RETURNED_13: Receipt = Receipt {
     outcome: Outcome::Returned(Some(Value::I64(13))),
     used: 7,
+    asks: 0,
 };
 
 const REJECTED: Receipt = Receipt {
     outcome: Outcome::Rejected(6),
     used: 0,
+    asks: 0,
 };
 
 const STOPPED: Receipt = Receipt {
     outcome: Outcome::OutOfFuel,
     used: 6,
+    asks: 0,
 };
 
 const ROWS: [Row; 6] = [

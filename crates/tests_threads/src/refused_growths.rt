@@ -22,7 +22,7 @@ use pace::NoPace;
 use ration::Ration;
 use samples::{EXAMPLE, deployed, typed};
 use serial_block::run;
-use spec_ledger::Kind;
+use spec_ledger::{Kind, Version};
 use std::alloc::{Allocator, Global};
 use std::sync::Wait;
 use std::test::Fail;
@@ -185,11 +185,14 @@ const PEEK_THEN_SET: Two = Two {
 
 /// The calls, and the bytes of their block.
 fn block_of(heap: Global) -> Result<([Call; 2], Vec<u8>), Fail> {
-    made_of(heap, &world_of(heap, &CELLS)?, &PEEK_THEN_SET)
+    made_of(heap, &world_of(heap, &CELLS)?, &PEEK_THEN_SET, Version::Two)
 }
 
 /// The bytes of a block.
 fn written<A: Allocator>(heap: Global, lent: A, block: &Block<A>) -> Result<Vec<u8>, Fail> {
+    if !block.fits_version() {
+        return Err(Fail::from("a receipt that is not told"));
+    }
     let mut sink = MemorySink::new(heap, 1_000_000, Failures::none());
     write_block(lent, block, &mut sink).or(Err("not written"))?;
     Ok(sink.bytes().to_vec(heap)?)
@@ -341,7 +344,7 @@ fn debug_in<A: Allocator + Copy>(heap: Global, lent: A, alloc: A) -> Result<Came
     contracts.push(deployed(lent, &STORER)?)?;
     let cells = Cells::new(lent);
     let call = calling(heap, ("w", &[]))?;
-    match Session::open(alloc, &contracts, &cells, &call) {
+    match Session::open(alloc, &contracts, &cells, &call, Version::Two) {
         Ok(session) => {
             let mut session = session;
             for (ask, turns, byte) in ASKS {

@@ -10,6 +10,8 @@ use std::test::Fail;
 pub enum Change {
     /// A call used more, or ended otherwise.
     Receipt,
+    /// A call entered a level more.
+    Asks,
     /// A turn is another.
     Turn,
     /// A lock is dropped from a profile.
@@ -30,6 +32,8 @@ pub enum Change {
     Twice,
     /// A position is left out.
     LeftOut,
+    /// The version alone is another.
+    Version,
     /// A byte is cut off.
     Cut,
     /// A byte anywhere is another.
@@ -37,8 +41,9 @@ pub enum Change {
 }
 
 /// The kinds.
-pub const CHANGES: [Change; 13] = [
+pub const CHANGES: [Change; 15] = [
     Change::Receipt,
+    Change::Asks,
     Change::Turn,
     Change::LockDropped,
     Change::LockAdded,
@@ -49,6 +54,7 @@ pub const CHANGES: [Change; 13] = [
     Change::Fuel,
     Change::Twice,
     Change::LeftOut,
+    Change::Version,
     Change::Cut,
     Change::Byte,
 ];
@@ -139,10 +145,18 @@ fn change_byte(bytes: &mut [u8], random: &mut Random) {
     }
 }
 
+/// Names the other version.
+fn change_version(bytes: &mut [u8]) {
+    if let Some(byte) = bytes.get_mut(4) {
+        *byte = if *byte == 1 { 2 } else { 1 };
+    }
+}
+
 /// Changes what stands at one position.
 fn change_place(place: &mut Place, change: Change, random: &mut Random) -> Result<(), Fail> {
     match change {
         Change::Receipt => change_receipt(place, random),
+        Change::Asks => place.receipt.asks = place.receipt.asks.wrapping_add(1),
         Change::Turn => change_turn(place, random),
         Change::LockDropped => drop_lock(place, random),
         Change::LockAdded => add_lock(place, random)?,
@@ -219,7 +233,7 @@ pub fn change_block(
         Change::Fuel => plain.fuel = plain.fuel.wrapping_add(u64::from(random.below(9))),
         Change::Twice => put_twice(alloc, plain, random)?,
         Change::LeftOut => leave_out(&mut plain.places, random),
-        Change::Cut | Change::Byte => {}
+        Change::Version | Change::Cut | Change::Byte => {}
         _ => {
             let at = random.place(plain.places.len());
             if let Some(place) = plain.places.get_mut(at) {
@@ -241,6 +255,7 @@ pub fn change_bytes(bytes: &mut Vec<u8>, change: Change, random: &mut Random) {
             bytes.truncate(kept);
         }
         Change::Byte => change_byte(bytes, random),
+        Change::Version => change_version(bytes),
         _ => {}
     }
 }

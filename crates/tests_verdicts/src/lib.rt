@@ -23,4 +23,6 @@ mod sealed;
 #[cfg(test)]
 mod verdict;
 #[cfg(test)]
+mod versions;
+#[cfg(test)]
 mod write;

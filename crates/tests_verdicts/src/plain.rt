@@ -1,5 +1,5 @@
 // Blocks as plain data, which need not be the blocks of an order, nor within the limits.
-use spec_ledger::{Entry, Lock, Mode, Receipt};
+use spec_ledger::{Entry, Lock, Mode, Receipt, Version};
 
 /// What a block says at a position.
 #[derive(Drop)]
@@ -12,6 +12,7 @@ pub struct Place {
 /// A block.
 #[derive(Drop)]
 pub struct Plain {
+    pub version: Version,
     pub before: Vec<u8>,
     pub calls: Vec<u8>,
     pub places: Vec<Place>,

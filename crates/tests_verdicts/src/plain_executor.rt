@@ -158,6 +158,7 @@ impl Run<'_> {
                 return Ok(Receipt {
                     outcome: Outcome::OutOfFuel,
                     used,
+                    asks: 0,
                 });
             }
             used += 1;
@@ -165,6 +166,7 @@ impl Run<'_> {
                 return Ok(Receipt {
                     outcome: Outcome::Trapped(TrapCode::Unreachable),
                     used,
+                    asks: 0,
                 });
             }
             self.act(*doing)?;
@@ -173,6 +175,7 @@ impl Run<'_> {
         Ok(Receipt {
             outcome: Outcome::Returned(result),
             used,
+            asks: 0,
         })
     }
 }
@@ -202,6 +205,7 @@ fn refused(alloc: Global, code: u8) -> Ran {
     let receipt = Receipt {
         outcome: Outcome::Rejected(code),
         used: 0,
+        asks: 0,
     };
     Ran {
         receipt,

@@ -1,6 +1,6 @@
 // What the bytes of a block say, by hand.
 use crate::plain::{Place, Plain};
-use spec_ledger::{Entry, Kind, Lock, Mode, Outcome, Receipt};
+use spec_ledger::{Entry, Kind, Lock, Mode, Outcome, Receipt, Version};
 use std::alloc::{AllocError, Global};
 use wtypes::{TrapCode, Value};
 
@@ -82,8 +82,12 @@ impl<'a> Reader<'a> {
         code
     }
 
-    fn receipt(&mut self) -> Receipt {
+    fn receipt(&mut self, version: Version) -> Receipt {
         let used = self.number(8);
+        let asks = match version {
+            Version::One => 0,
+            Version::Two => self.u32(),
+        };
         let outcome = match self.byte() {
             0 => Outcome::Returned(self.returned()),
             1 => Outcome::Trapped(self.trap()),
@@ -93,7 +97,11 @@ impl<'a> Reader<'a> {
                 Outcome::Rejected(self.rejected())
             }
         };
-        Receipt { outcome, used }
+        Receipt {
+            outcome,
+            used,
+            asks,
+        }
     }
 
     fn lock(&mut self) -> Lock {
@@ -143,9 +151,9 @@ impl<'a> Reader<'a> {
     }
 
     /// What stands at a position.
-    fn place(&mut self, alloc: Global) -> Result<Place, AllocError> {
+    fn place(&mut self, alloc: Global, version: Version) -> Result<Place, AllocError> {
         let call = self.u32();
-        let receipt = self.receipt();
+        let receipt = self.receipt(version);
         let entries = self.entries(alloc)?;
         Ok(Place {
             call,
@@ -155,7 +163,7 @@ impl<'a> Reader<'a> {
     }
 
     /// The positions.
-    fn places(&mut self, alloc: Global) -> Result<Vec<Place>, AllocError> {
+    fn places(&mut self, alloc: Global, version: Version) -> Result<Vec<Place>, AllocError> {
         let count = self.u32();
         self.is_good = self.is_good && count <= 65_535;
         let mut places = Vec::new(alloc);
@@ -163,28 +171,34 @@ impl<'a> Reader<'a> {
             if !self.is_good {
                 break;
             }
-            places.push(self.place(alloc)?)?;
+            places.push(self.place(alloc, version)?)?;
         }
         Ok(places)
     }
 
     /// The format's name and version.
-    fn version(&mut self) {
+    fn version(&mut self) -> Version {
         let name = self.number(4);
         let version = self.u32();
-        self.is_good = self.is_good && name == 0x4B4C_4257 && version == 1;
+        self.is_good = self.is_good && name == 0x4B4C_4257 && matches!(version, 1 | 2);
+        if version == 1 {
+            Version::One
+        } else {
+            Version::Two
+        }
     }
 
     /// A block, and nothing behind it.
     fn block(&mut self, alloc: Global) -> Result<Plain, AllocError> {
-        self.version();
+        let version = self.version();
         let before = self.bytes(32).to_vec(alloc)?;
         let calls = self.bytes(32).to_vec(alloc)?;
-        let places = self.places(alloc)?;
+        let places = self.places(alloc, version)?;
         let fuel = self.number(8);
         let after = self.bytes(32).to_vec(alloc)?;
         self.is_good = self.is_good && self.rest.is_empty();
         Ok(Plain {
+            version,
             before,
             calls,
             places,

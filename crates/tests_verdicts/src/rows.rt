@@ -14,6 +14,7 @@ use call::Call;
 use codec::{Failures, MemorySink};
 use mining::mine;
 use pace::{Pace, Step};
+use spec_ledger::Version;
 use std::alloc::{AllocError, Global};
 use std::process::Abort;
 use std::sync::Wait;
@@ -28,7 +29,7 @@ use world::World;
 const BLOCKS: u32 = 50;
 
 /// How many calls there are for each.
-const CALLS: u32 = 50;
+pub const CALLS: u32 = 50;
 
 /// Lets other threads go first now and then.
 #[derive(Drop)]
@@ -61,7 +62,10 @@ pub struct Given {
 }
 
 /// The bytes of a block.
-fn written(alloc: Global, block: &Block) -> Result<Vec<u8>, Fail> {
+pub fn written(alloc: Global, block: &Block) -> Result<Vec<u8>, Fail> {
+    if !block.fits_version() {
+        return Err(Fail::from("a receipt that is not told"));
+    }
     let mut sink = MemorySink::new(alloc, 1_000_000, Failures::none());
     write_block(alloc, block, &mut sink).or(Err("not written"))?;
     Ok(sink.bytes().to_vec(alloc)?)
@@ -90,7 +94,7 @@ fn mined<R: Threads + Wait + Sync>(rt: &R, alloc: Global, given: &Given) -> Resu
 }
 
 /// The numbers of so many calls, in a random order.
-fn shuffled(alloc: Global, count: u32, random: &mut Random) -> Result<Vec<u32>, AllocError> {
+pub fn shuffled(alloc: Global, count: u32, random: &mut Random) -> Result<Vec<u32>, AllocError> {
     let mut numbers = Vec::new(alloc);
     for number in 0..count {
         numbers.push(number)?;
@@ -100,7 +104,7 @@ fn shuffled(alloc: Global, count: u32, random: &mut Random) -> Result<Vec<u32>, 
 }
 
 /// Those of the calls whose limits fit into the fuel one after another.
-fn fitting(alloc: Global, given: &Given, numbers: &[u32]) -> Result<Vec<u32>, AllocError> {
+pub fn fitting(alloc: Global, given: &Given, numbers: &[u32]) -> Result<Vec<u32>, AllocError> {
     let mut order = Vec::new(alloc);
     let mut rest = given.fuel;
     for number in numbers {
@@ -123,7 +127,7 @@ fn accepted(alloc: Global, next: &World, bytes: &[u8]) -> Result<Option<Reason>,
 }
 
 /// The validator's reason against the bytes, none where it accepts them; it then leaves the world whose digest they have.
-fn validated<R: Threads + Wait + Sync>(
+pub fn validated<R: Threads + Wait + Sync>(
     rt: &R,
     alloc: Global,
     given: &Given,
@@ -151,7 +155,7 @@ fn validated<R: Threads + Wait + Sync>(
 }
 
 /// Random cells and calls, and the fuel for their block: at times too little for all of them.
-fn random_given(alloc: Global, random: &mut Random) -> Result<Given, Fail> {
+pub fn random_given(alloc: Global, random: &mut Random) -> Result<Given, Fail> {
     let world = world_with(alloc, &random_cells(alloc, random)?)?;
     let calls = random_calls(alloc, random, CALLS)?;
     let mut fuel: u64 = if random.once_in(2) { 1_000_000 } else { 0 };
@@ -168,7 +172,7 @@ fn random_given(alloc: Global, random: &mut Random) -> Result<Given, Fail> {
     })
 }
 
-/// The bytes of a block: mined, or of a random order.
+/// The bytes of a block: mined, or of a random order, in either version.
 fn made<R: Threads + Wait + Sync>(
     rt: &R,
     alloc: Global,
@@ -180,7 +184,12 @@ fn made<R: Threads + Wait + Sync>(
     }
     let numbers = shuffled(alloc, CALLS, random)?;
     let order = fitting(alloc, given, &numbers)?;
-    let sealed = seal(alloc, &given.world, &given.calls, &order)?;
+    let version = if random.once_in(2) {
+        Version::One
+    } else {
+        Version::Two
+    };
+    let sealed = seal(alloc, &given.world, &given.calls, &order, version)?;
     Ok(write(alloc, &sealed)?)
 }
 

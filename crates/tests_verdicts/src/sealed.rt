@@ -4,7 +4,7 @@ use crate::plain_executor::{Ran, Stored, execute};
 use block::digest_calls;
 use call::Call;
 use samples::example;
-use spec_ledger::{Entry, Kind};
+use spec_ledger::{Entry, Kind, Version};
 use std::alloc::{AllocError, Global};
 use std::collections::BTreeMap;
 use std::test::Fail;
@@ -96,7 +96,7 @@ fn places_of(alloc: Global, order: &[u32], all: &[Ran]) -> Result<Vec<Place>, Al
     Ok(places)
 }
 
-/// The block of calls that ran in this order in a world.
+/// The block of this version of calls that ran in this order in a world.
 fn sealed(
     alloc: Global,
     world: &World,
@@ -104,12 +104,14 @@ fn sealed(
     order: &[u32],
     all: &[Ran],
     after: &World,
+    version: Version,
 ) -> Result<Plain, Fail> {
     let places = places_of(alloc, order, all)?;
     let before = world_digest(alloc, world)?;
     let after = world_digest(alloc, after)?;
     let calls = calls_digest(alloc, calls)?;
     Ok(Plain {
+        version,
         before,
         calls,
         places,
@@ -118,10 +120,16 @@ fn sealed(
     })
 }
 
-/// The block of an order of calls in a world.
-pub fn seal(alloc: Global, world: &World, calls: &[Call], order: &[u32]) -> Result<Plain, Fail> {
+/// The block of this version of an order of calls in a world. The contract has no memory, so its calls come to the same in each version.
+pub fn seal(
+    alloc: Global,
+    world: &World,
+    calls: &[Call],
+    order: &[u32],
+    version: Version,
+) -> Result<Plain, Fail> {
     let mut cells = stored_in(alloc, world)?;
     let all = run_all(alloc, calls, order, &mut cells)?;
     let after = world_with(alloc, &cells)?;
-    sealed(alloc, world, calls, order, &all, &after)
+    sealed(alloc, world, calls, order, &all, &after, version)
 }

@@ -1,6 +1,6 @@
 // The bytes of blocks, by hand.
 use crate::plain::{Place, Plain};
-use spec_ledger::{Entry, Kind, Mode, Outcome, Receipt};
+use spec_ledger::{Entry, Kind, Mode, Outcome, Receipt, Version};
 use std::alloc::{AllocError, Global};
 use wtypes::{TrapCode, Value};
 
@@ -44,8 +44,12 @@ fn put_value(out: &mut Vec<u8>, value: Value) -> Result<(), AllocError> {
     }
 }
 
-fn put_receipt(out: &mut Vec<u8>, receipt: Receipt) -> Result<(), AllocError> {
+fn put_receipt(out: &mut Vec<u8>, version: Version, receipt: Receipt) -> Result<(), AllocError> {
     put_u64(out, receipt.used)?;
+    match version {
+        Version::One => {}
+        Version::Two => put_u32(out, receipt.asks)?,
+    }
     match receipt.outcome {
         Outcome::Returned(None) => out.extend_from_slice(&[0, 0])?,
         Outcome::Returned(Some(value)) => {
@@ -74,9 +78,9 @@ fn put_entry(out: &mut Vec<u8>, entry: Entry) -> Result<(), AllocError> {
     put_u32(out, entry.turn)
 }
 
-fn put_place(out: &mut Vec<u8>, place: &Place) -> Result<(), AllocError> {
+fn put_place(out: &mut Vec<u8>, version: Version, place: &Place) -> Result<(), AllocError> {
     put_u32(out, place.call)?;
-    put_receipt(out, place.receipt)?;
+    put_receipt(out, version, place.receipt)?;
     put_count(out, place.entries.len())?;
     for entry in &place.entries {
         put_entry(out, *entry)?;
@@ -87,12 +91,18 @@ fn put_place(out: &mut Vec<u8>, place: &Place) -> Result<(), AllocError> {
 /// The bytes of a block.
 pub fn write(alloc: Global, plain: &Plain) -> Result<Vec<u8>, AllocError> {
     let mut out = b"WBLK".to_vec(alloc)?;
-    put_u32(&mut out, 1)?;
+    put_u32(
+        &mut out,
+        match plain.version {
+            Version::One => 1,
+            Version::Two => 2,
+        },
+    )?;
     out.extend_from_slice(&plain.before)?;
     out.extend_from_slice(&plain.calls)?;
     put_count(&mut out, plain.places.len())?;
     for place in &plain.places {
-        put_place(&mut out, place)?;
+        put_place(&mut out, plain.version, place)?;
     }
     put_u64(&mut out, plain.fuel)?;
     out.extend_from_slice(&plain.after)?;

@@ -9,6 +9,7 @@ use Rattle.std.proofs.Crossing as std
 use Rattle.std.proofs.CrossingOver as over
 use Rattle.std.proofs.MapsCrossingOver as maps_over
 use Rattle.spec_ledger.proofs.Entry.TheSendSync as entry
+use Rattle.spec_ledger.proofs.Version.TheSendSync as version
 use Rattle.schedule.specs.contracts.board.Board as board_row
 use Rattle.ahead.specs.contracts.Ahead as ahead_row
 use Rattle.lock_profile.specs.contracts.Profile as profile_row
@@ -52,10 +53,13 @@ module _ (B : RattleType) (g : Ghosts B.Denot) (send : IsSend B) (sync : IsSync 
           (
             search crosses depth 60 fits 100000,
             (
-              search crosses depth 60 fits 100000,
+              search (crosses, version.the_field_sync, version.the_sync) depth 60 fits 100000,
               (
-                search (crosses, profile_sync) depth 60 fits 100000,
-                (as_row_sync (row_field (ShrRef a.mir a.lft P)) (shr_sync a.mir a.lft P pace), tt),
+                search crosses depth 60 fits 100000,
+                (
+                  search (crosses, profile_sync) depth 60 fits 100000,
+                  (as_row_sync (row_field (ShrRef a.mir a.lft P)) (shr_sync a.mir a.lft P pace), tt),
+                ),
               ),
             ),
           ),

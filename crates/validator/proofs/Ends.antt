@@ -2,6 +2,7 @@
 use Rattle.std.proofs.Common.{◌≡◌, ◌⊎◌, ℕ, ◌<◌, ◌≤◌, List, subst, ⊎_elim, arith, ◌≢◌}
 use Rattle.sha2.specs.Sha256.{sha256}
 use Rattle.spec_ledger.specs.declared.Receipt.{Receipt}
+use Rattle.spec_ledger.specs.declared.Version.{Version}
 use Rattle.spec_ledger.specs.Cells.{Cells}
 use Rattle.spec_ledger.specs.Modes.{Modes}
 use Rattle.serial.specs.Positions.{positions as ran_of}
@@ -13,7 +14,7 @@ use Rattle.spec_block.specs.Serial.{Serial}
 use Rattle.spec_block.specs.Verdicts.{Malformed, WrongWorld, WrongCalls, BadOrder, OverBudget, RoomLeft, BadTurns, Deviates, WrongEnd, Accept, IsLeast, IsOther, RunOf, HoldsOf}
 use Rattle.block_judge.specs.Judging.{IsFirstFrom, NoneFrom}
 
-module _ (one : (world : World) (calls : List Call) (order : List ℕ) (cells : Cells) (rs ss : List Ran) (l m : Cells) → Serial world calls order cells rs l → Serial world calls order cells ss m → (rs ≡ ss) × (l ≡ m))
+module _ (one : (version : Version) (world : World) (calls : List Call) (order : List ℕ) (cells : Cells) (rs ss : List Ran) (l m : Cells) → Serial version world calls order cells rs l → Serial version world calls order cells ss m → (rs ≡ ss) × (l ≡ m))
     (world : World) (b : Block) (ran : List Ran) (last : Cells) (calls : List Call) (fuel : ℕ) (run : RunOf world calls b ran last) where
   pub deviates : (p : ℕ) → IsLeast (IsOther b.positions ran) p → IsFirstFrom (HoldsOf world calls fuel b) 8 (Deviates p)
   deviates p least = record { holds = (ran, last, run, least); within = omega arith; none_before = λ v from before. absurd (omega (arith, from, before)) }
@@ -27,7 +28,7 @@ module _ (one : (world : World) (calls : List Call) (order : List ℕ) (cells : 
     none_deviates n le end OverBudget from before h = absurd (omega (arith, from))
     none_deviates n le end (RoomLeft c) from before h = absurd (omega (arith, from))
     none_deviates n le end (BadTurns p) from before h = absurd (omega (arith, from))
-    none_deviates n le end (Deviates p) from before h = alike p (subst (λ (rs : List Ran). IsOther b.positions rs p) (one world calls (order_of b) world.cells h.0 ran h.1 last h.2 run).0 (h.3).holds)
+    none_deviates n le end (Deviates p) from before h = alike p (subst (λ (rs : List Ran). IsOther b.positions rs p) (one b.version world calls (order_of b) world.cells h.0 ran h.1 last h.2 run).0 (h.3).holds)
     none_deviates n le end WrongEnd from before h = end before h
     none_deviates n le end (Accept w) from before h = absurd (omega (arith, before, le))
 
@@ -37,7 +38,7 @@ module _ (one : (world : World) (calls : List Call) (order : List ℕ) (cells : 
     module _ (total : b.fuel ≡ fuel_of ran) (after : b.after ≡ sha256 (world_bytes (world_after world last))) where
       right_end : ¬ (HoldsOf world calls fuel b WrongEnd)
       right_end h =
-          let same = one world calls (order_of b) world.cells ran h.0 last h.1 run h.2 in
+          let same = one b.version world calls (order_of b) world.cells ran h.0 last h.1 run h.2 in
           ⊎_elim (λ ne. ne (subst (λ (rs : List Ran). b.fuel ≡ fuel_of rs) same.0 total))
           (λ ne. ne (subst (λ (c : Cells). b.after ≡ sha256 (world_bytes (world_after world c))) same.1 after)) h.3
 

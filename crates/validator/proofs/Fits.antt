@@ -33,7 +33,7 @@ right_turns b profiles is turns = subst HaveTurns (sym is) turns
 
 -- what ran elsewhere is a run of the block
 pub run_of : (world : World) (calls : List Call) (b : Block) (setting : Setting) (order : List ℕ) (cells : Cells) (ran : List Ran) (last : Cells)
-    → setting ≡ setting_of world → order ≡ order_of b → cells ≡ world.cells → Serial setting calls order cells ran last → RunOf world calls b ran last
+    → setting ≡ setting_of b.version world → order ≡ order_of b → cells ≡ world.cells → Serial setting calls order cells ran last → RunOf world calls b ran last
 run_of world calls b setting order cells ran last same_setting same_order same_cells run =
     subst (λ (t : Setting × (List ℕ × Cells)). Serial t.0 calls t.1.0 t.1.1 ran last) (λ k. (same_setting k, (same_order k, same_cells k))) run
 

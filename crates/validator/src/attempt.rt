@@ -18,7 +18,7 @@ use interp::start::StartRefusal;
 use link::deployed::Deployed as Contract;
 use lock_profile::Profile;
 use pace::{Pace, Step};
-use spec_ledger::{NoMemory, Op, Reply};
+use spec_ledger::{NoMemory, Op, Reply, Version};
 use std::alloc::Allocator;
 use std::sync::{Mutex, Wait};
 use storage::returned;
@@ -141,11 +141,12 @@ fn rejected<'a, A: Allocator + Copy>(
     alloc: A,
     contracts: &'a [Contract<A>],
     call: &'a Call,
+    version: Version,
 ) -> Finished<'a, A>
-    requires { ¬ IsOpened (opening (setting_view contracts.now) call.now) }
-    ensures { IsRejection (setting_view contracts.now) call.now result }
+    requires { ¬ IsOpened (opening (setting_view version contracts.now) call.now) }
+    ensures { IsRejection (setting_view version contracts.now) call.now result }
 {
-    match Finished::rejected(alloc, contracts, call) {
+    match Finished::rejected(alloc, contracts, call, version) {
         Some(finished) => finished,
         None => unreachable!(),
     }
@@ -159,14 +160,14 @@ fn play<'a, A: Allocator + Copy, R: Wait, P: Pace>(
     number: u32,
 ) -> Result<Finished<'a, A>, Stop>
     requires { number < length job.now.calls.now }
-    ensures { IfOk result (IsRunOf (setting_view job.now.contracts.now) job.now.calls.now number) }
+    ensures { IfOk result (IsRunOf (setting_view job.now.version job.now.contracts.now) job.now.calls.now number) }
 {
     let call = &job.calls[number as usize];
     let _limit = call.fuel();
-    match Machine::start(job.alloc, job.contracts, call) {
+    match Machine::start_as(job.alloc, job.contracts, call, job.version) {
         Ok(machine) => run(rt, place, machine),
         Err(StartRefusal::NoMemory) => Err(Stop::NoMemory),
-        Err(_) => Ok(rejected(job.alloc, job.contracts, call)),
+        Err(_) => Ok(rejected(job.alloc, job.contracts, call, job.version)),
     }
 }
 
@@ -187,7 +188,7 @@ pub(crate) fn attempt<'a, A: Allocator + Copy, R: Wait, P: Pace>(
     position: u32,
 ) -> Result<Came<'a, A>, NoMemory>
     requires { All (λ number. number < length job.now.calls.now) job.now.order.now }
-    ensures { IfOk result (λ came. IfSome came.run (IsMade (setting_view job.now.contracts.now) job.now.calls.now)) }
+    ensures { IfOk result (λ came. IfSome came.run (IsMade (setting_view job.now.version job.now.contracts.now) job.now.calls.now)) }
 {
     let at = position as usize;
     if at >= job.order.len() || at >= job.profiles.len() {

@@ -39,9 +39,9 @@ fn execute_by<'a, A: Allocator + Copy, P: Pace>(
     run: &Option<Made<'a, A>>,
     cells: &mut Cells<A>,
 ) -> Result<Option<Executed<A>>, NoMemory>
-    requires run { IfSome run.now (IsMade (setting_view job.now.contracts.now) job.now.calls.now) }
+    requires run { IfSome run.now (IsMade (setting_view job.now.version job.now.contracts.now) job.now.calls.now) }
     requires settled { cells.old.unsettled ≡ finite.empty }
-    ensures executed { IfOk result (λ o. IfSome o (λ e. (call : ContractCall) → slice_get job.now.calls.now number ≡ Some call → Executes (setting_view job.now.contracts.now) call cells.old.cells cells.new.cells e.receipt.outcome e.receipt.used e.touched)) }
+    ensures executed { IfOk result (λ o. IfSome o (λ e. (call : ContractCall) → slice_get job.now.calls.now number ≡ Some call → Executes (setting_view job.now.version job.now.contracts.now) call cells.old.cells cells.new.cells e.receipt e.touched)) }
     ensures other { IfOk result (λ o. IfNone o (cells.new ≡ cells.old)) }
     ensures settled { cells.new.unsettled ≡ finite.empty }
 {
@@ -63,9 +63,9 @@ fn execute_one<'a, A: Allocator + Copy, P: Pace>(
     cells: &mut Cells<A>,
 ) -> Result<Done<A>, NoMemory>
     requires known { number < length job.now.calls.now }
-    requires run { IfSome run.now (IsMade (setting_view job.now.contracts.now) job.now.calls.now) }
+    requires run { IfSome run.now (IsMade (setting_view job.now.version job.now.contracts.now) job.now.calls.now) }
     requires settled { cells.old.unsettled ≡ finite.empty }
-    ensures executed { IfOk result (λ done. (call : ContractCall) → slice_get job.now.calls.now number ≡ Some call → Executes (setting_view job.now.contracts.now) call cells.old.cells cells.new.cells done.executed.receipt.outcome done.executed.receipt.used done.executed.touched) }
+    ensures executed { IfOk result (λ done. (call : ContractCall) → slice_get job.now.calls.now number ≡ Some call → Executes (setting_view job.now.version job.now.contracts.now) call cells.old.cells cells.new.cells done.executed.receipt done.executed.touched) }
     ensures settled { cells.new.unsettled ≡ finite.empty }
 {
     if let Some(executed) = execute_by(job, number, run, cells)? {
@@ -75,7 +75,7 @@ fn execute_one<'a, A: Allocator + Copy, P: Pace>(
         });
     }
     let call = &job.calls[number as usize];
-    let executed = execute(job.alloc, job.contracts, call, cells)?;
+    let executed = execute(job.alloc, job.contracts, call, cells, job.version)?;
     Ok(Done {
         executed,
         again: true,
@@ -91,8 +91,8 @@ pub(crate) fn fold<'a, A: Allocator + Copy, P: Pace>(
     requires few { length job.now.order.now ≤ 65535 }
     requires known { All (λ number. number < length job.now.calls.now) job.now.order.now }
     requires size { length runs.now ≡ length job.now.order.now }
-    requires runs { AreFound (setting_view job.now.contracts.now) job.now.calls.now runs.now }
-    ensures serial { IfOk result (λ folded. Serial (setting_view job.now.contracts.now) job.now.calls.now job.now.order.now cells.now.cells (positions folded.core.receipts.items folded.core.touched.items) folded.core.cells.cells) }
+    requires runs { AreFound (setting_view job.now.version job.now.contracts.now) job.now.calls.now runs.now }
+    ensures serial { IfOk result (λ folded. Serial (setting_view job.now.version job.now.contracts.now) job.now.calls.now job.now.order.now cells.now.cells (positions folded.core.receipts.items folded.core.touched.items) folded.core.cells.cells) }
     ensures receipts { IfOk result (λ folded. length folded.core.receipts.items ≡ length job.now.order.now) }
     ensures touched { IfOk result (λ folded. length folded.core.touched.items ≡ length job.now.order.now) }
     ensures again { IfOk result (λ folded. folded.again ≤ length job.now.order.now) }

@@ -5,6 +5,7 @@ use interp::finished::Finished;
 use link::deployed::Deployed as Contract;
 use lock_profile::Profile;
 use pace::Pace;
+use spec_ledger::Version;
 use std::alloc::Allocator;
 
 /// What the workers share: the calls that a block orders, and what it publishes of them by position.
@@ -13,6 +14,8 @@ pub(crate) struct Job<'s, 'a, A: Allocator, P: Pace> {
     pub(crate) alloc: A,
     pub(crate) contracts: &'a [Contract<A>],
     pub(crate) calls: &'a [Call],
+    /// The version of the block, by whose rules the calls run.
+    pub(crate) version: Version,
     pub(crate) order: &'s [u32],
     pub(crate) profiles: &'s [Profile<A>],
     pub(crate) pace: &'s P,

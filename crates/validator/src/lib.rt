@@ -68,6 +68,7 @@ fn run<R: Threads + Wait + Sync, A: Allocator + Copy + Send + Sync, P: Pace>(
         alloc,
         contracts: world.contracts(),
         calls,
+        version: fit.block.version(),
         order: &fit.order,
         profiles: &fit.profiles,
         pace,

@@ -42,8 +42,8 @@ fn work_on<'a, R: Wait, A: Allocator + Copy, P: Pace>(
     position: u32,
 ) -> Result<bool, NoMemory>
     requires known { All (λ number. number < length job.now.calls.now) job.now.order.now }
-    requires made { AreMade (setting_view job.now.contracts.now) job.now.calls.now made.old.items }
-    ensures { OnOk result (AreMade (setting_view job.now.contracts.now) job.now.calls.now made.new.items) }
+    requires made { AreMade (setting_view job.now.version job.now.contracts.now) job.now.calls.now made.old.items }
+    ensures { OnOk result (AreMade (setting_view job.now.version job.now.contracts.now) job.now.calls.now made.new.items) }
 {
     let Came { run, stops } = attempt(rt, job, &shared.ahead, position)?;
     if let Some(run) = run {
@@ -63,7 +63,7 @@ fn work_through<'a, R: Wait, A: Allocator + Copy, P: Pace>(
     mut thief: Thief<A>,
 ) -> Result<Part<'a, A>, NoMemory>
     requires { All (λ number. number < length job.now.calls.now) job.now.order.now }
-    ensures { IfOk result (λ part. AreMade (setting_view job.now.contracts.now) job.now.calls.now part.made.items) }
+    ensures { IfOk result (λ part. AreMade (setting_view job.now.version job.now.contracts.now) job.now.calls.now part.made.items) }
 {
     let mut made = Vec::new(job.alloc);
     for _ in rt.forever() {
@@ -94,7 +94,7 @@ fn work<'a, R: Wait, A: Allocator + Copy, P: Pace>(
     thief: Thief<A>,
 ) -> Result<Part<'a, A>, NoMemory>
     requires { All (λ number. number < length job.now.calls.now) job.now.order.now }
-    ensures { IfOk result (λ part. AreMade (setting_view job.now.contracts.now) job.now.calls.now part.made.items) }
+    ensures { IfOk result (λ part. AreMade (setting_view job.now.version job.now.contracts.now) job.now.calls.now part.made.items) }
 {
     let worked = work_through(rt, job, shared, lane, thief);
     if worked.is_err() {
@@ -109,9 +109,9 @@ fn note<'a, A: Allocator + Copy, P: Pace>(
     runs: &mut Vec<Option<Made<'a, A>>, A>,
     made: Made<'a, A>,
 )
-    requires runs { AreFound (setting_view _job.now.contracts.now) _job.now.calls.now runs.old.items }
-    requires made { IsMade (setting_view _job.now.contracts.now) _job.now.calls.now made }
-    ensures runs { AreFound (setting_view _job.now.contracts.now) _job.now.calls.now runs.new.items }
+    requires runs { AreFound (setting_view _job.now.version _job.now.contracts.now) _job.now.calls.now runs.old.items }
+    requires made { IsMade (setting_view _job.now.version _job.now.contracts.now) _job.now.calls.now made }
+    ensures runs { AreFound (setting_view _job.now.version _job.now.contracts.now) _job.now.calls.now runs.new.items }
     ensures size { length runs.new.items ≡ length runs.old.items }
 {
     let position = made.position as usize;
@@ -126,9 +126,9 @@ fn take_part<'a, A: Allocator + Copy, P: Pace>(
     runs: &mut Vec<Option<Made<'a, A>>, A>,
     mut part: Vec<Made<'a, A>, A>,
 )
-    requires runs { AreFound (setting_view job.now.contracts.now) job.now.calls.now runs.old.items }
-    requires part { AreMade (setting_view job.now.contracts.now) job.now.calls.now part.items }
-    ensures runs { AreFound (setting_view job.now.contracts.now) job.now.calls.now runs.new.items }
+    requires runs { AreFound (setting_view job.now.version job.now.contracts.now) job.now.calls.now runs.old.items }
+    requires part { AreMade (setting_view job.now.version job.now.contracts.now) job.now.calls.now part.items }
+    ensures runs { AreFound (setting_view job.now.version job.now.contracts.now) job.now.calls.now runs.new.items }
     ensures size { length runs.new.items ≡ length runs.old.items }
 {
     while let Some(made) = part.pop() {
@@ -142,9 +142,9 @@ fn take_in<'a, A: Allocator + Copy, P: Pace>(
     runs: &mut Vec<Option<Made<'a, A>>, A>,
     mut parts: Parts<'a, A>,
 ) -> Result<(), NoMemory>
-    requires runs { AreFound (setting_view job.now.contracts.now) job.now.calls.now runs.old.items }
-    requires parts { ArePartsMade (setting_view job.now.contracts.now) job.now.calls.now parts.items }
-    ensures runs { OnOk result (AreFound (setting_view job.now.contracts.now) job.now.calls.now runs.new.items) }
+    requires runs { AreFound (setting_view job.now.version job.now.contracts.now) job.now.calls.now runs.old.items }
+    requires parts { ArePartsMade (setting_view job.now.version job.now.contracts.now) job.now.calls.now parts.items }
+    ensures runs { OnOk result (AreFound (setting_view job.now.version job.now.contracts.now) job.now.calls.now runs.new.items) }
     ensures size { OnOk result (length runs.new.items ≡ length runs.old.items) }
 {
     while let Some(part) = parts.pop() {
@@ -157,7 +157,7 @@ fn take_in<'a, A: Allocator + Copy, P: Pace>(
 fn no_runs<'a, A: Allocator + Copy, P: Pace>(
     job: &Job<'_, 'a, A, P>,
 ) -> Result<Vec<Option<Made<'a, A>>, A>, NoMemory>
-    ensures runs { IfOk result (λ runs. AreFound (setting_view job.now.contracts.now) job.now.calls.now runs.items) }
+    ensures runs { IfOk result (λ runs. AreFound (setting_view job.now.version job.now.contracts.now) job.now.calls.now runs.items) }
     ensures size { IfOk result (λ runs. length runs.items ≡ length job.now.order.now) }
 {
     let mut runs = Vec::new(job.alloc);
@@ -193,14 +193,14 @@ fn run_workers<'a, R: Threads + Wait + Sync, A: Allocator + Copy + Send + Sync, 
     pairs: Vec<(Lane<A>, Thief<A>), A>,
 ) -> Result<Parts<'a, A>, NoMemory>
     requires { All (λ number. number < length job.now.calls.now) job.now.order.now }
-    ensures { IfOk result (λ parts. ArePartsMade (setting_view job.now.contracts.now) job.now.calls.now parts.items) }
+    ensures { IfOk result (λ parts. ArePartsMade (setting_view job.now.version job.now.contracts.now) job.now.calls.now parts.items) }
 {
     let parts = thread::map_vec(
         rt,
         pairs,
         &|pair: (Lane<A>, Thief<A>)| -> Result<Part<A>, NoMemory>
             requires { All (λ number. number < length job.now.calls.now) job.now.order.now }
-            ensures { IfOk result (λ part. AreMade (setting_view job.entry.now.contracts.now) job.entry.now.calls.now part.made.items) }
+            ensures { IfOk result (λ part. AreMade (setting_view job.entry.now.version job.entry.now.contracts.now) job.entry.now.calls.now part.made.items) }
         {
             let (lane, thief) = pair;
             work(rt, job, shared, lane, thief)
@@ -221,7 +221,7 @@ pub(crate) fn run_ready<'a, R: Threads + Wait + Sync, A: Allocator + Copy + Send
     requires known { All (λ number. number < length job.now.calls.now) job.now.order.now }
     requires turns { HaveTurns job.now.profiles.now }
     requires workers { 1 ≤ workers }
-    ensures runs { IfOk result (λ runs. AreFound (setting_view job.now.contracts.now) job.now.calls.now runs.items) }
+    ensures runs { IfOk result (λ runs. AreFound (setting_view job.now.version job.now.contracts.now) job.now.calls.now runs.items) }
     ensures size { IfOk result (λ runs. length runs.items ≡ length job.now.order.now) }
 {
     let board = Board::open(job.alloc, &Graph::of(job.alloc, job.profiles)?)?;

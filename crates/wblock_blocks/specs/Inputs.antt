@@ -3,9 +3,7 @@ use Rattle.std.specs.Prelude.{◌≡◌, ℕ, ◌≤◌, ◌⊎◌, List, [], �
 use Rattle.spec_block.specs.Worlds.{World, Call}
 use Rattle.spec_block.specs.Bytes.{SpellsWorld}
 use Rattle.world.specs.Views.{world_view}
-use Rattle.world_reader.specs.Reading.{IsNoWorld, Refuses}
-use Rattle.world_reader.specs.declared.read.ReadRefusal.{ReadRefusal}
-use Rattle.world_reader.specs.declared.read.ReadRefusal.TheVariants as world
+use Rattle.wblock_line.specs.Worlds.{TellsNoWorld}
 use Rattle.calls_text.specs.Texts.{SpellsCalls}
 use Rattle.calls_text.specs.Refusals.{Tells, IsCallsLine}
 use Rattle.calls_text.specs.declared.reader.CallsRefusal.{CallsRefusal}
@@ -26,19 +24,6 @@ HoldsWorld holds name world = Holds holds name (λ bytes. SpellsWorld bytes worl
 -- the file of a name holds the text of the calls
 abbrev pub HoldsCalls : Holding → List ℕ → List Call → Type 0
 HoldsCalls holds name calls = Holds holds name (λ text. SpellsCalls text calls)
-
--- `refused world N P`
-abbrev pub IsWorldLine : ReadRefusal → List ℕ → Type 0
-IsWorldLine (world.Malformed at) line = line ≡ codes "refused world 1 " ++ decimal at ++ 10 ∷ []
-IsWorldLine world.TooLarge line = line ≡ codes "refused world 2 -" ++ 10 ∷ []
-IsWorldLine world.NoMemory line = ⊥
-
--- the bytes spell no world, and the line tells the first fault in them
-pub record TellsNoWorld (bytes line : List ℕ) : Type 0 where
-  pub none : IsNoWorld bytes
-  pub refusal : ReadRefusal
-  pub first : Refuses bytes refusal
-  pub line_is : IsWorldLine refusal line
 
 -- the line tells the first line of the text that spells no call, or that the calls are too many
 pub record TellsNoCalls (text line : List ℕ) : Type 0 where

@@ -1,5 +1,6 @@
 -- What `mine` answers.
 use Rattle.std.specs.Prelude.{◌≡◌, ℕ, ◌⊎◌, List, [], ◌∷◌, string_bytes}
+use Rattle.spec_ledger.specs.declared.Version.TheVariants.{Two}
 use Rattle.spec_block.specs.Worlds.{World, Call, Block, order_of}
 use Rattle.spec_block.specs.Bytes.{world_bytes, block_bytes}
 use Rattle.spec_block.specs.Headline.{Headline, IsLeft}
@@ -18,7 +19,7 @@ pub record IsDone (task : Mining) (block : Block) (next : World) (left : List �
   pub writes : writes_of a ≡ (task.block.now, block_bytes block) ∷ (task.next.now, world_bytes next) ∷ []
   pub text : text_of a ≡ block_text block left
 
--- the block is one of the calls over the world that their files hold: the order is admissible, and what the block and the next world say is what the
+-- the block is one of version 2, of the calls over the world that their files hold: the order is admissible, and what the block and the next world say is what the
 -- calls come to when they run one after another in that order
 pub record IsMined (holds : Holding) (task : Mining) (a : Answer) : Type 0 where
   pub world : World
@@ -28,6 +29,7 @@ pub record IsMined (holds : Holding) (task : Mining) (a : Answer) : Type 0 where
   pub block : Block
   pub next : World
   pub headline : Headline world calls task.fuel block next
+  pub version : block.version ≡ Two
   pub left : List ℕ
   pub is_left : IsLeft calls (order_of block) left
   pub done : IsDone task block next left a

@@ -1,5 +1,6 @@
 -- What `validate` answers.
-use Rattle.std.specs.Prelude.{◌≡◌, ℕ, ◌⊎◌, List, [], ◌∷◌, ◌++◌, Option, Some, None, codes, decimal, string_bytes}
+use Rattle.std.specs.Prelude.{◌≡◌, ℕ, ◌⊎◌, List, [], ◌∷◌, ◌++◌, Option, Some, None, codes, decimal, map, string_bytes}
+use Rattle.std.specs.Borrow.{Bor}
 use Rattle.hex.specs.Hex.{encode_lower}
 use Rattle.sha2.specs.Sha256.{sha256}
 use Rattle.spec_block.specs.Worlds.{World, Call}
@@ -9,6 +10,7 @@ use Rattle.block_judge.specs.Judging.{place_in}
 use Rattle.wblock_io.specs.Holding.{Holding}
 use Rattle.wblock_line.specs.declared.answer.Answer.{Answer}
 use Rattle.wblock_line.specs.declared.answer.Answer.TheVariants.{Done, Refused}
+use Rattle.wblock_line.specs.Answers.{Written, write_of}
 use Rattle.wblock_blocks.specs.Inputs.{HoldsWorld, HoldsCalls, IsNextInput, TellsRefusal}
 use Rattle.wblock_blocks.specs.declared.validate.Validation.{Validation}
 
@@ -24,26 +26,32 @@ place_text None = []
 abbrev pub reject_line : Verdict → List ℕ
 reject_line v = codes "reject " ++ decimal (place v) ++ place_text (place_in v) ++ 10 ∷ []
 
--- the answer's text tells the verdict, and no file is to be written
-abbrev pub Accepts : World → Answer → Type 0
-Accepts next (Done writes text) = (writes.items ≡ []) × (string_bytes text ≡ accept_text next)
-Accepts next (Refused line why) = ⊥
+-- the world after the block, in the file that is named for it; nothing where none is
+abbrev pub next_writes : Option (Bor (List ℕ)) → World → List Written
+next_writes (Some name) next = (name.now, world_bytes next) ∷ []
+next_writes None next = []
 
+-- the answer's text tells the verdict, and the world after the block is to be written where a file is named for it
+abbrev pub Accepts : Option (Bor (List ℕ)) → World → Answer → Type 0
+Accepts name next (Done writes text) = (map write_of writes.items ≡ next_writes name next) × (string_bytes text ≡ accept_text next)
+Accepts name next (Refused line why) = ⊥
+
+-- the answer's line tells why the block is rejected, and no file is to be written
 abbrev pub Rejects : Verdict → Answer → Type 0
 Rejects v (Done writes text) = ⊥
 Rejects v (Refused line why) = string_bytes line ≡ reject_line v
 
-abbrev pub TellsVerdict : Verdict → Answer → Type 0
-TellsVerdict (Accept next) a = Accepts next a
-TellsVerdict Malformed a = Rejects Malformed a
-TellsVerdict WrongWorld a = Rejects WrongWorld a
-TellsVerdict WrongCalls a = Rejects WrongCalls a
-TellsVerdict (BadOrder p) a = Rejects (BadOrder p) a
-TellsVerdict OverBudget a = Rejects OverBudget a
-TellsVerdict (RoomLeft c) a = Rejects (RoomLeft c) a
-TellsVerdict (BadTurns p) a = Rejects (BadTurns p) a
-TellsVerdict (Deviates p) a = Rejects (Deviates p) a
-TellsVerdict WrongEnd a = Rejects WrongEnd a
+abbrev pub TellsVerdict : Option (Bor (List ℕ)) → Verdict → Answer → Type 0
+TellsVerdict name (Accept next) a = Accepts name next a
+TellsVerdict name Malformed a = Rejects Malformed a
+TellsVerdict name WrongWorld a = Rejects WrongWorld a
+TellsVerdict name WrongCalls a = Rejects WrongCalls a
+TellsVerdict name (BadOrder p) a = Rejects (BadOrder p) a
+TellsVerdict name OverBudget a = Rejects OverBudget a
+TellsVerdict name (RoomLeft c) a = Rejects (RoomLeft c) a
+TellsVerdict name (BadTurns p) a = Rejects (BadTurns p) a
+TellsVerdict name (Deviates p) a = Rejects (Deviates p) a
+TellsVerdict name WrongEnd a = Rejects WrongEnd a
 
 -- the answer tells the verdict on the bytes that the file of the block holds, over the world and the calls that their files hold
 pub record IsJudged (holds : Holding) (task : Validation) (a : Answer) : Type 0 where
@@ -55,7 +63,7 @@ pub record IsJudged (holds : Holding) (task : Validation) (a : Answer) : Type 0 
   pub held_block : holds task.block.now ≡ Some bytes
   pub verdict : Verdict
   pub is : IsVerdictOf world calls task.fuel bytes verdict
-  pub tells : TellsVerdict verdict a
+  pub tells : TellsVerdict task.next verdict a
 
 -- the answer tells why the world or the calls are refused
 abbrev pub IsRefused : Holding → Validation → Answer → Type 0

@@ -1,20 +1,16 @@
 //! The files that the commands over a world share: a world and a text of calls, read and judged.
 
 ghost use Rattle.std.specs.Prelude.{◌≡◌, ◌≤◌, IsTrue, IfOk, IfErr, OnOk, MatchResult, vec_len, string_bytes};
-ghost use Rattle.spec_block.specs.Bytes.{SpellsWorld};
-ghost use Rattle.world.specs.Views.{world_view};
 ghost use Rattle.calls_text.specs.Texts.{SpellsCalls};
 ghost use Rattle.wblock_line.specs.Answers.{CountsFault, IsOfFile};
-ghost use Rattle.wblock_blocks.specs.Inputs.{IsWorldLine, TellsNoWorld, TellsNoCalls, HasFew, Gives, IsNextInput};
+ghost use Rattle.wblock_blocks.specs.Inputs.{TellsNoCalls, HasFew, Gives, IsNextInput};
 
 use call::Call;
 use calls_text::{calls_words, read_calls, refusal_line};
 use std::alloc::{AllocError, Global};
 use wblock_io::Files;
-use wblock_line::{Fault, read_file};
-use wblock_words::world_words;
+use wblock_line::{Fault, judge_world, read_file};
 use world::World;
-use world_reader::{ReadRefusal, read_world};
 
 /// What the files of a world and of calls give.
 #[derive(Drop)]
@@ -24,32 +20,6 @@ pub enum Inputs {
     /// One of the files is refused, with this line: `refused world N P`, `refused calls 1 LINE` or `refused calls 2`; and with the sentence of the
     /// refusal.
     Refused(String, String),
-}
-
-/// The line of a world that is refused.
-fn world_line(alloc: Global, refusal: ReadRefusal) -> Result<String, AllocError>
-    ensures { IfOk result (λ line. IsWorldLine refusal (string_bytes line)) }
-{
-    let line = match refusal {
-        ReadRefusal::Malformed(at) => format!(in alloc; "refused world 1 {at}\n")?,
-        ReadRefusal::TooLarge => "refused world 2 -\n".to_string(alloc)?,
-        ReadRefusal::NoMemory => return Err(AllocError),
-    };
-    Ok(line)
-}
-
-/// The world that bytes spell, or the line and the sentence that say why they spell none.
-fn judge_world(alloc: Global, bytes: &[u8]) -> Result<Result<World, (String, String)>, AllocError>
-    ensures { IfOk result (λ read. MatchResult read (λ world. SpellsWorld bytes.now (world_view world)) (λ told. TellsNoWorld bytes.now (string_bytes told.0))) }
-{
-    match read_world(alloc, bytes) {
-        Ok(world) => Ok(Ok(world)),
-        Err(refusal) => {
-            let line = world_line(alloc, refusal)?;
-            let why = world_words(alloc, bytes, refusal)?;
-            Ok(Err((line, why)))
-        }
-    }
 }
 
 /// The calls that a text spells, or the line, `refused calls 1 LINE` or `refused calls 2`, and the sentence that say why it spells none.

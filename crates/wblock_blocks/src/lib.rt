@@ -8,4 +8,4 @@ mod validate;
 
 pub use inputs::{Inputs, judge_calls, read_inputs};
 pub use mine::{Mining, mine_block};
-pub use validate::{Validation, validate_block};
+pub use validate::{Validation, reason_words, reject_line_of, validate_block};

@@ -1,8 +1,10 @@
 //! The command `mine WORLD CALLS BLOCK NEXT --fuel N [--workers 4] [--tries 3]`: a block of calls over a world, and the world after it.
 
 ghost use Rattle.std.specs.Prelude.{◌≡◌, ◌≤◌, IsTrue, IfOk, IfErr, OnOk, length};
+ghost use Rattle.std.specs.List.{AllByRecursion};
+ghost use Rattle.spec_ledger.specs.declared.Version.TheVariants.{Two};
 ghost use Rattle.spec_block.specs.Worlds.{order_of};
-ghost use Rattle.spec_block.specs.Bytes.{block_bytes};
+ghost use Rattle.spec_block.specs.Bytes.{block_bytes, ForVersion};
 ghost use Rattle.spec_block.specs.Headline.{Headline, IsLeft};
 ghost use Rattle.world.specs.Views.{world_view};
 ghost use Rattle.wblock_line.specs.Answers.{CountsFault, IsOfFile};
@@ -56,6 +58,7 @@ fn mine_calls<R: Threads + Wait + Sync, P: Pace>(
     requires workers { (1 ≤ task.workers) × (task.workers ≤ 64) }
     requires tries { (1 ≤ task.tries) × (task.tries ≤ 16) }
     ensures headline { IfOk result (λ mined. Headline (world_view world.now) calls.now task.entry.fuel mined.block (world_view mined.world)) }
+    ensures version { IfOk result (λ mined. mined.block.version ≡ Two) }
     ensures left { IfOk result (λ mined. IsLeft calls.now (order_of mined.block) mined.left.items) }
 {
     mine(
@@ -72,6 +75,7 @@ fn mine_calls<R: Threads + Wait + Sync, P: Pace>(
 
 /// The bytes of a block. A sink in memory fails only where memory is refused.
 fn encode_block(alloc: Global, block: &Block) -> Result<Vec<u8>, NoMemory>
+    requires { AllByRecursion (λ p. ForVersion block.now.version p.receipt) block.now.positions }
     ensures { IfOk result (λ bytes. bytes.items ≡ block_bytes block.now) }
 {
     let mut sink = MemorySink::new(alloc, usize::MAX, Failures::none());
@@ -84,6 +88,7 @@ fn encode_block(alloc: Global, block: &Block) -> Result<Vec<u8>, NoMemory>
 
 /// The answer that writes a block and the world after it, and prints the block's lines.
 fn done<'a>(alloc: Global, task: Mining<'a>, mined: &Mined) -> Result<Answer<'a>, NoMemory>
+    requires { mined.now.block.version ≡ Two }
     ensures { IfOk result (IsDone task.entry mined.now.block (world_view mined.now.world) mined.now.left.items) }
 {
     let block = encode_block(alloc, &mined.block)?;

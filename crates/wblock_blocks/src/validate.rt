@@ -1,12 +1,13 @@
-//! The command `validate WORLD CALLS BLOCK --fuel N [--workers 4]`: the verdict on a block of calls over a world.
+//! The command `validate WORLD CALLS BLOCK --fuel N [--workers 4] [--next NEXT]`: the verdict on a block of calls over a world, and the world after
+//! the block.
 
-ghost use Rattle.std.specs.Prelude.{◌≡◌, ◌≤◌, IsTrue, IfOk, IfErr, OnOk, length, string_bytes};
+ghost use Rattle.std.specs.Prelude.{◌≡◌, ◌≤◌, IsTrue, IfOk, IfErr, OnOk, length, map, string_bytes};
 ghost use Rattle.spec_block.specs.Verdicts.{IsVerdictOf};
 ghost use Rattle.block_judge.specs.Judging.{told};
 ghost use Rattle.validator.specs.Judged.{told_by};
 ghost use Rattle.world.specs.Views.{world_view};
-ghost use Rattle.wblock_line.specs.Answers.{CountsFault, IsOfFile};
-ghost use Rattle.wblock_blocks.specs.Validates.{accept_text, reject_line, TellsVerdict, Validates, IsNextFile};
+ghost use Rattle.wblock_line.specs.Answers.{CountsFault, IsOfFile, write_of};
+ghost use Rattle.wblock_blocks.specs.Validates.{accept_text, next_writes, reject_line, TellsVerdict, Validates, IsNextFile};
 
 use crate::{Inputs, read_inputs};
 use block::read_block;
@@ -18,9 +19,9 @@ use std::sync::Wait;
 use std::thread::Threads;
 use validator::{Verdict, validate};
 use wblock_io::Files;
-use wblock_line::{Answer, Fault, read_file};
+use wblock_line::{Answer, Fault, Write, read_file};
 use wblock_words::{advice_on, block_words};
-use world::{World, digest_world};
+use world::{World, digest_world, encode_world};
 use wtypes::NoMemory;
 
 /// What is to be validated.
@@ -36,6 +37,8 @@ pub struct Validation<'a> {
     pub fuel: u64,
     /// How many workers run the calls, 1 to 64.
     pub workers: u32,
+    /// The name of the file that is to hold the world after the block where it is accepted, if any.
+    pub next: Option<&'a str>,
 }
 
 /// The verdict on the bytes of a block.
@@ -74,8 +77,24 @@ fn accept_text_of(alloc: Global, next: &World) -> Result<String, NoMemory>
     Ok(text)
 }
 
+/// What is to be written of the world after a block that is accepted: all of it, where a file is named for it.
+fn next_writes_of<'a>(
+    alloc: Global,
+    name: Option<&'a str>,
+    next: &World,
+) -> Result<Vec<Write<'a>>, NoMemory>
+    ensures { IfOk result (λ writes. map write_of writes.items ≡ next_writes name.entry (world_view next.now)) }
+{
+    let mut writes = Vec::new(alloc);
+    if let Some(name) = name {
+        let bytes = encode_world(alloc, next)?;
+        writes.push(Write { name, bytes })?;
+    }
+    Ok(writes)
+}
+
 /// `reject N`, and behind it the position or the call that the reason speaks of, where it speaks of one.
-fn reject_line_of(alloc: Global, reason: Reason) -> Result<String, AllocError>
+pub fn reject_line_of(alloc: Global, reason: Reason) -> Result<String, AllocError>
     ensures { IfOk result (λ line. string_bytes line ≡ reject_line (told reason)) }
 {
     let number = reason.number();
@@ -87,7 +106,7 @@ fn reject_line_of(alloc: Global, reason: Reason) -> Result<String, AllocError>
 }
 
 /// The sentence of a block of these bytes that is rejected.
-fn reason_words(alloc: Global, bytes: &[u8], reason: Reason) -> Result<String, AllocError> {
+pub fn reason_words(alloc: Global, bytes: &[u8], reason: Reason) -> Result<String, AllocError> {
     if reason == Reason::Malformed {
         if let Err(refusal) = read_block(alloc, bytes) {
             return block_words(alloc, bytes, refusal);
@@ -97,14 +116,20 @@ fn reason_words(alloc: Global, bytes: &[u8], reason: Reason) -> Result<String, A
     format!(in alloc; "block: {reason}; {advice}")
 }
 
-/// The answer that tells a verdict on these bytes.
-fn tell<'a>(alloc: Global, bytes: &[u8], verdict: &Verdict) -> Result<Answer<'a>, NoMemory>
-    ensures { IfOk result (TellsVerdict (told_by verdict.now)) }
+/// The answer that tells a verdict on these bytes, and writes the world after a block that is accepted where a file is named for it.
+fn tell<'a>(
+    alloc: Global,
+    name: Option<&'a str>,
+    bytes: &[u8],
+    verdict: &Verdict,
+) -> Result<Answer<'a>, NoMemory>
+    ensures { IfOk result (TellsVerdict name.entry (told_by verdict.now)) }
 {
     match verdict {
         Verdict::Accept(next) => {
             let text = accept_text_of(alloc, next)?;
-            Ok(Answer::Done(Vec::new(alloc), text))
+            let writes = next_writes_of(alloc, name, next)?;
+            Ok(Answer::Done(writes, text))
         }
         Verdict::Reject(reason) => {
             let line = reject_line_of(alloc, *reason)?;
@@ -114,8 +139,9 @@ fn tell<'a>(alloc: Global, bytes: &[u8], verdict: &Verdict) -> Result<Answer<'a>
     }
 }
 
-/// What `validate` comes to: `accept` and the digest of the world after the block, or `reject` with the first of the nine reasons that holds; or
-/// the line that says why the world or the calls are refused. No file is written. The pace is told each step of the workers.
+/// What `validate` comes to: `accept` and the digest of the world after the block, which is to be written where a file is named for it, or `reject`
+/// with the first of the nine reasons that holds; or the line that says why the world or the calls are refused. No file is written yet. The pace is
+/// told each step of the workers.
 pub fn validate_block<'a, R: Threads + Wait + Sync, F: Files, P: Pace>(
     rt: &R,
     alloc: Global,
@@ -138,7 +164,7 @@ pub fn validate_block<'a, R: Threads + Wait + Sync, F: Files, P: Pace>(
     let Ok(verdict) = judge(rt, alloc, &world, &calls, task, &bytes, pace) else {
         return Err(Fault::NoMemory);
     };
-    match tell(alloc, &bytes, &verdict) {
+    match tell(alloc, task.next, &bytes, &verdict) {
         Ok(answer) => Ok(answer),
         Err(NoMemory) => Err(Fault::NoMemory),
     }

@@ -1,4 +1,5 @@
 mod Asked
 mod Lines
+mod Next
 pub mod Numbers
 mod Saying

@@ -1,5 +1,5 @@
 -- Lists of words, word by word.
-use Rattle.std.proofs.Common.{◌≡◌, Option, Some, None, MatchOption, ℕ, ◌<◌, ◌≤◌, ◌-◌, List, [], ◌∷◌, take, drop, length, slice_index_or, Bor, refl, sym, ap, arith}
+use Rattle.std.proofs.Common.{◌≡◌, Option, Some, None, MatchOption, ℕ, ◌<◌, ◌≤◌, ◌-◌, List, [], ◌∷◌, take, drop, length, slice_index_or, Bor, refl, sym, ap, subst, arith}
 use Rattle.std.proofs.lemmas.List.{take_all, length-drop}
 use Rattle.wblock_commands.specs.Words.{texts, choices}
 
@@ -44,3 +44,7 @@ one_choice (o ∷ p ∷ os) lt le = absurd (omega (arith, le))
 pub if_none : {A : Type 0} (o : Option A) (P : Type 0) (Q : A → Type 0) → o ≡ None → MatchOption o P Q → P
 if_none None P Q e h = h
 if_none (Some x) P Q e h = absurd cc
+
+pub if_some : {A : Type 0} (o : Option A) (P : Type 0) (Q : A → Type 0) (x : A) → o ≡ Some x → MatchOption o P Q → Q x
+if_some None P Q x e h = absurd cc
+if_some (Some y) P Q x e h = let same : y ≡ x = cc in subst Q same h

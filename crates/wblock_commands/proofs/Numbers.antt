@@ -1,6 +1,7 @@
 -- The numbers of the calls, and the receipts at their places.
 use Rattle.std.proofs.Common.{◌≡◌, ℕ, ◌+◌, ◌<◌, List, [], ◌∷◌, length, slice_index_or, refl, ap, sym, subst, ◌∙◌, arith, zero, suc}
 use Rattle.std.specs.FinMap.{empty}
+use Rattle.spec_ledger.specs.declared.Version.TheVariants.{Two}
 use Rattle.spec_ledger.specs.declared.Receipt.{Receipt}
 use Rattle.spec_ledger.specs.Modes.{Modes}
 use Rattle.spec_ledger.specs.Cells.{Cells}
@@ -27,14 +28,14 @@ receipts_again (r ∷ rs) (m ∷ ms) e = ap (λ l. r ∷ l) (receipts_again rs m
 
 -- the calls ran in rising number over empty cells, and the text tells their receipts
 pub shown : (contract : Deployed) (calls : List ContractCall) (lent : Setting) (order : List ℕ) (cells last : Cells) (receipts : List Receipt) (touched : List Modes) (text : List ℕ)
-    → lent ≡ record { contracts = contract ∷ [] } → order ≡ numbers_from 0 calls → cells ≡ empty → Serial lent calls order cells (positions receipts touched) last
+    → lent ≡ record { contracts = contract ∷ []; version = Two } → order ≡ numbers_from 0 calls → cells ≡ empty → Serial lent calls order cells (positions receipts touched) last
     → length receipts ≡ length order → length touched ≡ length order → text ≡ told_of receipts → Shows contract calls text
 shown contract calls lent order cells last receipts touched text l o e s n m t =
     let s1 = subst (λ x. Serial x calls order cells (positions receipts touched) last) l s in
-    let s2 = subst (λ x. Serial (record { contracts = contract ∷ [] }) calls x cells (positions receipts touched) last) o s1 in
+    let s2 = subst (λ x. Serial (record { contracts = contract ∷ []; version = Two }) calls x cells (positions receipts touched) last) o s1 in
     record {
       ran = positions receipts touched;
       last = last;
-      serial = subst (λ x. Serial (record { contracts = contract ∷ [] }) calls (numbers_from 0 calls) x (positions receipts touched) last) e s2;
+      serial = subst (λ x. Serial (record { contracts = contract ∷ []; version = Two }) calls (numbers_from 0 calls) x (positions receipts touched) last) e s2;
       text_is = t ∙ ap told_of (sym (receipts_again receipts touched (n ∙ sym m)));
     }

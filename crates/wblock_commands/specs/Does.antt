@@ -9,12 +9,13 @@ use Rattle.wblock_commands.specs.Stored.{ShowsStored}
 use Rattle.wblock_modules.specs.Assembles.{Assembles}
 use Rattle.wblock_modules.specs.Checks.{Checks}
 use Rattle.wblock_modules.specs.Deploys.{Deploys, IsNextModule}
+use Rattle.wblock_modules.specs.Texts.{WritesText}
 use Rattle.wblock_blocks.specs.Inputs.{IsNextInput}
 use Rattle.wblock_blocks.specs.Mines.{Mines}
 use Rattle.wblock_blocks.specs.Validates.{Validates, IsNextFile}
-use Rattle.wblock_debug.specs.Debugs.{Debugs, IsNotListed}
+use Rattle.wblock_debug.specs.Debugs.{Debugs, IsNotListed, IsNextRead}
 use Rattle.wblock_commands.specs.declared.command.Command.{Command}
-use Rattle.wblock_commands.specs.declared.command.Command.TheVariants.{Stored, Help, Version, Asm, Check, Deploy, Mine, Validate, Debug}
+use Rattle.wblock_commands.specs.declared.command.Command.TheVariants.{Stored, Help, Version, Asm, Text, Check, Deploy, Mine, Validate, Debug}
 use Rattle.wblock_commands.specs.Lines.{EndsLine}
 use Rattle.wblock_commands.specs.Words.{texts}
 
@@ -29,6 +30,7 @@ Answers Stored holds answer = ShowsStored answer
 Answers (Help words) holds answer = TellsText answer
 Answers Version holds answer = TellsText answer
 Answers (Asm text target) holds answer = Assembles holds text.now target.now answer
+Answers (Text source target) holds answer = WritesText holds source.now target.now answer
 Answers (Check target heap) holds answer = Checks holds target.now answer
 Answers (Deploy world modules) holds answer = Deploys holds world.now (texts modules.now) answer
 Answers (Mine task) holds answer = Mines holds task answer
@@ -64,11 +66,12 @@ Reads Stored holds name = ⊥
 Reads (Help words) holds name = ⊥
 Reads Version holds name = ⊥
 Reads (Asm text target) holds name = name ≡ text.now
+Reads (Text source target) holds name = name ≡ source.now
 Reads (Check target heap) holds name = name ≡ target.now
 Reads (Deploy world modules) holds name = IsNextModule holds (texts modules.now) name
 Reads (Mine task) holds name = IsNextInput holds task.world.now task.calls.now name
 Reads (Validate task) holds name = IsNextFile holds task name
-Reads (Debug task) holds name = IsNextInput holds task.world.now task.calls.now name
+Reads (Debug task) holds name = IsNextRead holds task name
 
 -- nothing was written or printed
 pub record IsKept (old new : Holding) (before after : List ℕ) : Type 0 where

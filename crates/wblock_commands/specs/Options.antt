@@ -1,5 +1,6 @@
--- The numbers that options ask for.
-use Rattle.std.specs.Prelude.{◌≡◌, ℕ, ◌+◌, ◌-◌, ◌^◌, ◌≤◌, ◌⊎◌, List, [], ◌∷◌, codes, decimal, length, if◌then◌else◌}
+-- What options ask for.
+use Rattle.std.specs.Prelude.{◌≡◌, ℕ, ◌+◌, ◌-◌, ◌^◌, ◌≤◌, ◌⊎◌, List, [], ◌∷◌, Option, Some, None, codes, decimal, length, if◌then◌else◌}
+use Rattle.std.specs.Borrow.{Bor}
 use Rattle.std.specs.Str.{bytes_eq}
 use Rattle.wblock_line.specs.Words.{Choice}
 
@@ -34,9 +35,18 @@ AsksWorkers options n = IsNumberOr 4 (values_in (codes "--workers") options) 1 6
 abbrev pub AsksTries : List Choice → ℕ → Type 0
 AsksTries options n = IsNumberOr 3 (values_in (codes "--tries") options) 1 16 n
 
+-- an option is given once, and its value is this name; or it is not given
+abbrev pub IsNameOrNone : List (List ℕ) → Option (Bor (List ℕ)) → Type 0
+IsNameOrNone values (Some name) = values ≡ name.now ∷ []
+IsNameOrNone values None = values ≡ []
+
+-- `--next NEXT`, or no file
+abbrev pub AsksNext : List Choice → Option (Bor (List ℕ)) → Type 0
+AsksNext options next = IsNameOrNone (values_in (codes "--next") options) next
+
 -- no option has another name: together these are as many as there are options
 abbrev pub HasOnlyMining : List Choice → Type 0
 HasOnlyMining options = length options ≡ count_of (codes "--fuel") options + count_of (codes "--workers") options + count_of (codes "--tries") options
 
 abbrev pub HasOnlyValidation : List Choice → Type 0
-HasOnlyValidation options = length options ≡ count_of (codes "--fuel") options + count_of (codes "--workers") options
+HasOnlyValidation options = length options ≡ count_of (codes "--fuel") options + count_of (codes "--workers") options + count_of (codes "--next") options

@@ -1,6 +1,7 @@
 -- What the calls of a contract come to, and the lines that tell it.
 use Rattle.std.specs.Prelude.{◌≡◌, ℕ, ◌+◌, List, [], ◌∷◌, ◌++◌, codes, decimal, map, sum_by}
 use Rattle.std.specs.FinMap.{empty}
+use Rattle.spec_ledger.specs.declared.Version.TheVariants.{Two}
 use Rattle.spec_ledger.specs.declared.Receipt.{Receipt}
 use Rattle.spec_ledger.specs.Cells.{Cells}
 use Rattle.spec_execution.specs.Configuration.{Deployed as Contract}
@@ -36,5 +37,5 @@ told_of receipts = lines_from 0 receipts ++ fuel_line receipts
 pub record Shows (contract : Contract) (calls : List ContractCall) (text : List ℕ) : Type 0 where
   pub ran : List Ran
   pub last : Cells
-  pub serial : Serial (record { contracts = contract ∷ [] }) calls (numbers_from 0 calls) empty ran last
+  pub serial : Serial (record { contracts = contract ∷ []; version = Two }) calls (numbers_from 0 calls) empty ran last
   pub text_is : text ≡ told_of (receipts_of ran)

@@ -1,10 +1,10 @@
 -- What the words of a line ask for.
-use Rattle.std.specs.Prelude.{◌≡◌, ◌≢◌, ℕ, ◌<◌, ◌≤◌, ◌⊎◌, List, [], ◌∷◌, Option, Some, None, codes, decimal, length, map}
+use Rattle.std.specs.Prelude.{◌≡◌, ◌≢◌, ℕ, ◌<◌, ◌≤◌, ◌⊎◌, List, [], ◌∷◌, Option, Some, None, IfSome, codes, decimal, length, map}
 use Rattle.std.specs.Borrow.{Bor}
 use Rattle.wblock_line.specs.Words.{Line, Choice, split}
 use Rattle.wblock_commands.specs.declared.command.Command.{Command}
-use Rattle.wblock_commands.specs.declared.command.Command.TheVariants.{Stored, Help, Version, Asm, Check, Deploy, Mine, Validate, Debug}
-use Rattle.wblock_commands.specs.Options.{AsksFuel, AsksWorkers, AsksTries, HasOnlyMining, HasOnlyValidation}
+use Rattle.wblock_commands.specs.declared.command.Command.TheVariants.{Stored, Help, Version, Asm, Text, Check, Deploy, Mine, Validate, Debug}
+use Rattle.wblock_commands.specs.Options.{AsksFuel, AsksWorkers, AsksTries, AsksNext, HasOnlyMining, HasOnlyValidation}
 use Rattle.wblock_debug.specs.Asks.{AsksDebug}
 use Rattle.wblock_debug.specs.declared.asked.Debugging.{Debugging}
 use Rattle.wblock_blocks.specs.declared.mine.Mining.{Mining}
@@ -43,6 +43,12 @@ pub record AsksAsm (line : Line) (text target : List ℕ) : Type 0 where
   pub options : line.options ≡ []
   pub apart : text ≢ target
 
+-- `text MODULE TEXT`, of different names
+pub record AsksText (line : Line) (source target : List ℕ) : Type 0 where
+  pub words : line.words ≡ codes "text" ∷ source ∷ target ∷ []
+  pub options : line.options ≡ []
+  pub apart : source ≢ target
+
 -- `check MODULE [--heap N]`
 pub record AsksCheck (line : Line) (target : List ℕ) (heap : Option ℕ) : Type 0 where
   pub words : line.words ≡ codes "check" ∷ target ∷ []
@@ -72,12 +78,26 @@ pub record AsksMine (line : Line) (m : Mining) : Type 0 where
   pub only : HasOnlyMining line.options
   pub apart : KeepsInputs m
 
--- `validate WORLD CALLS BLOCK --fuel N [--workers 4]`
-pub record AsksValidate (line : Line) (v : Validation) : Type 0 where
-  pub words : line.words ≡ codes "validate" ∷ v.world.now ∷ v.calls.now ∷ v.block.now ∷ []
-  pub fuel : AsksFuel line.options v.fuel
-  pub workers : AsksWorkers line.options v.workers
+-- `validate WORLD CALLS BLOCK --fuel N [--workers 4]`, and maybe `--next`
+pub record CountsValidate (line : Line) (world calls block : List ℕ) (fuel workers : ℕ) : Type 0 where
+  pub words : line.words ≡ codes "validate" ∷ world ∷ calls ∷ block ∷ []
+  pub fuel_is : AsksFuel line.options fuel
+  pub workers_are : AsksWorkers line.options workers
   pub only : HasOnlyValidation line.options
+
+-- `validate WORLD CALLS BLOCK --fuel N [--workers 4] [--next NEXT]`, whatever NEXT is
+pub record SpellsValidate (line : Line) (v : Validation) : Type 0 where
+  pub counts : CountsValidate line v.world.now v.calls.now v.block.now v.fuel v.workers
+  pub next : AsksNext line.options v.next
+
+-- the world after the block takes the place of neither the calls nor the block; it may take that of the world
+abbrev pub NextIsApart : Validation → Type 0
+NextIsApart v = IfSome v.next (λ next. (v.calls.now ≢ next.now) × (v.block.now ≢ next.now))
+
+-- `validate WORLD CALLS BLOCK --fuel N [--workers 4] [--next NEXT]`, NEXT of a name that neither CALLS nor BLOCK has
+pub record AsksValidate (line : Line) (v : Validation) : Type 0 where
+  pub spells : SpellsValidate line v
+  pub apart : NextIsApart v
 
 -- the line asks for no command over a world and calls
 pub record AsksNoTask (line : Line) : Type 0 where
@@ -90,6 +110,7 @@ IsLineOf line Stored = AsksStored line
 IsLineOf line (Help words) = ⊥
 IsLineOf line Version = ⊥
 IsLineOf line (Asm text target) = AsksAsm line text.now target.now
+IsLineOf line (Text source target) = AsksText line source.now target.now
 IsLineOf line (Check target heap) = AsksCheck line target.now heap
 IsLineOf line (Deploy world modules) = AsksDeploy line world.now (texts modules.now)
 IsLineOf line (Mine task) = AsksMine line task
@@ -116,6 +137,7 @@ HasFew Stored = Unit {0}
 HasFew (Help words) = Unit {0}
 HasFew Version = Unit {0}
 HasFew (Asm text target) = Unit {0}
+HasFew (Text source target) = Unit {0}
 HasFew (Check target heap) = Unit {0}
 HasFew (Deploy world modules) = length modules.now ≤ 1024
 HasFew (Mine task) = ((1 ≤ task.workers) × (task.workers ≤ 64)) × ((1 ≤ task.tries) × (task.tries ≤ 16))

@@ -2,22 +2,19 @@
 
 ghost use Rattle.std.specs.Prelude.{◌≡◌, ◌≢◌, ◌≤◌, ◌↔◌, ℕ, List, [], ◌∷◌, Option, IfOk, IfSome, IsTrue, MatchOption, codes, decimal};
 ghost use Rattle.wblock_line.specs.Words.{line_of};
-ghost use Rattle.wblock_commands.specs.Words.{AsksStored, AsksAsm, AsksHeap, IsSize, AsksCheck, AsksDeploy, AsksMine, AsksValidate, AsksNoTask, IsLineOf, IsApart, KeepsInputs, AsksHelp, IsTold, HasFew, texts, choices};
+ghost use Rattle.wblock_commands.specs.Words.{AsksStored, AsksAsm, AsksText, AsksHeap, IsSize, AsksCheck, AsksDeploy, AsksMine, AsksValidate, CountsValidate, SpellsValidate, AsksNoTask, IsLineOf, IsApart, KeepsInputs, NextIsApart, AsksHelp, IsTold, HasFew, texts, choices};
 ghost use Rattle.wblock_commands.specs.declared.command.Command.{Command as Asked};
 ghost use Rattle.wblock_blocks.specs.declared.mine.Mining.{Mining as TheMining};
 ghost use Rattle.wblock_blocks.specs.declared.validate.Validation.{Validation as TheValidation};
 
-use crate::options::{fuel_in, has_only_mining, has_only_validation, tries_in, workers_in};
-use calls_text::number_of;
+use crate::declared::HEAP;
+use crate::options::{
+    fuel_in, has_only_mining, has_only_validation, next_in, number_within, tries_in, workers_in,
+};
 use std::alloc::{AllocError, Global};
 use wblock_blocks::{Mining, Validation};
 use wblock_debug::{Debugging, debugging_of};
 use wblock_line::Line;
-
-/// The least and the most bytes of the heap of `check`.
-const LEAST_HEAP: u64 = 1_024;
-
-const MOST_HEAP: u64 = 16_777_216;
 
 /// A command with its words.
 #[derive(Debug, Drop)]
@@ -30,15 +27,17 @@ pub enum Command<'l, 'w> {
     Version,
     /// `asm TEXT MODULE`: the module that a text names, in its shortest spelling.
     Asm(&'w str, &'w str),
+    /// `text MODULE TEXT`: a text that names a module.
+    Text(&'w str, &'w str),
     /// `check MODULE [--heap N]`: whether a module is valid, its tree in an arena or in a heap of N bytes, 1,024 to 16,777,216.
     Check(&'w str, Option<u32>),
     /// `deploy WORLD MODULE...`: the world of these modules, 1 to 1,024.
     Deploy(&'w str, &'l [&'w str]),
     /// `mine WORLD CALLS BLOCK NEXT --fuel N [--workers 4] [--tries 3]`: a block of the calls over the world, and the world after it.
     Mine(Mining<'w>),
-    /// `validate WORLD CALLS BLOCK --fuel N [--workers 4]`: the verdict on the block.
+    /// `validate WORLD CALLS BLOCK --fuel N [--workers 4] [--next NEXT]`: the verdict on the block, and the world after it.
     Validate(Validation<'w>),
-    /// `debug WORLD CALLS CALL CMD...`: a call that runs alone, turn by turn.
+    /// `debug WORLD CALLS CALL CMD... [--block BLOCK]`: a call that runs alone, or in a block, turn by turn.
     Debug(Debugging<'w>),
 }
 
@@ -53,16 +52,10 @@ fn is_stored(words: &[&str], options: &[(&str, &str)]) -> bool
 fn size_of(alloc: Global, word: &str) -> Result<Option<u32>, AllocError>
     ensures { IfOk result (λ found. MatchOption found ((n : ℕ) → 1024 ≤ n → n ≤ 16777216 → word.now ≢ decimal n) (λ n. IsSize word.now n)) }
 {
-    let Some(size) = number_of(alloc, word)? else {
-        return Ok(None);
-    };
-    if size < LEAST_HEAP {
-        return Ok(None);
+    match number_within(alloc, word, HEAP.least, HEAP.most)? {
+        Some(size) => Ok(Some(size as u32)),
+        None => Ok(None),
     }
-    if size > MOST_HEAP {
-        return Ok(None);
-    }
-    Ok(Some(size as u32))
 }
 
 /// Whether a word is none of these.
@@ -89,7 +82,7 @@ fn heap_of(alloc: Global, options: &[(&str, &str)]) -> Result<Option<Option<u32>
     if options.is_empty() {
         return Ok(Some(None));
     }
-    if options.len() > 1 || !is_word(options[0].0, "--heap") {
+    if options.len() > 1 || !is_word(options[0].0, HEAP.word) {
         return Ok(None);
     }
     match size_of(alloc, options[0].1)? {
@@ -120,6 +113,19 @@ fn asm_of<'w>(words: &[&'w str], options: &[(&str, &str)]) -> Option<(&'w str, &
     ensures { MatchOption result ((text target : List ℕ) → ¬ AsksAsm (record { words = texts words.now; options = choices options.now }) text target) (λ x. AsksAsm (record { words = texts words.now; options = choices options.now }) x.0.now x.1.now) }
 {
     if !options.is_empty() || words.len() != 3 || !is_word(words[0], "asm") {
+        return None;
+    }
+    if is_word(words[1], words[2]) {
+        return None;
+    }
+    Some((words[1], words[2]))
+}
+
+/// The module and the text of `text`.
+fn text_of<'w>(words: &[&'w str], options: &[(&str, &str)]) -> Option<(&'w str, &'w str)>
+    ensures { MatchOption result ((source target : List ℕ) → ¬ AsksText (record { words = texts words.now; options = choices options.now }) source target) (λ x. AsksText (record { words = texts words.now; options = choices options.now }) x.0.now x.1.now) }
+{
+    if !options.is_empty() || words.len() != 3 || !is_word(words[0], "text") {
         return None;
     }
     if is_word(words[1], words[2]) {
@@ -194,13 +200,23 @@ fn mining_of<'w>(
     Ok(Some(mining))
 }
 
-/// What `validate` is asked for.
-fn validation_of<'w>(
+/// Whether NEXT takes the place of neither CALLS nor BLOCK; it may be WORLD.
+fn next_is_apart(validation: Validation) -> bool
+    ensures { IsTrue result ↔ NextIsApart validation.entry }
+{
+    match validation.next {
+        Some(next) => !is_word(validation.calls, next) && !is_word(validation.block, next),
+        None => true,
+    }
+}
+
+/// What `validate` is asked for, without NEXT.
+fn counted_validation<'w>(
     alloc: Global,
     words: &[&'w str],
     options: &[(&'w str, &'w str)],
 ) -> Result<Option<Validation<'w>>, AllocError>
-    ensures { IfOk result (λ found. MatchOption found ((v : TheValidation) → ¬ AsksValidate (record { words = texts words.now; options = choices options.now }) v) (AsksValidate (record { words = texts words.now; options = choices options.now }))) }
+    ensures { IfOk result (λ found. MatchOption found ((world calls block : List ℕ) (fuel workers : ℕ) → ¬ CountsValidate (record { words = texts words.now; options = choices options.now }) world calls block fuel workers) (λ v. CountsValidate (record { words = texts words.now; options = choices options.now }) v.world.now v.calls.now v.block.now v.fuel v.workers)) }
 {
     if words.len() != 4 || !is_word(words[0], "validate") || !has_only_validation(options) {
         return Ok(None);
@@ -217,7 +233,42 @@ fn validation_of<'w>(
         block: words[3],
         fuel,
         workers,
+        next: None,
     }))
+}
+
+/// What `validate` is asked for, whatever NEXT is.
+fn spelled_validation<'w>(
+    alloc: Global,
+    words: &[&'w str],
+    options: &[(&'w str, &'w str)],
+) -> Result<Option<Validation<'w>>, AllocError>
+    ensures { IfOk result (λ found. MatchOption found ((v : TheValidation) → ¬ SpellsValidate (record { words = texts words.now; options = choices options.now }) v) (SpellsValidate (record { words = texts words.now; options = choices options.now }))) }
+{
+    let Some(counted) = counted_validation(alloc, words, options)? else {
+        return Ok(None);
+    };
+    let Some(next) = next_in(alloc, options)? else {
+        return Ok(None);
+    };
+    Ok(Some(Validation { next, ..counted }))
+}
+
+/// What `validate` is asked for.
+fn validation_of<'w>(
+    alloc: Global,
+    words: &[&'w str],
+    options: &[(&'w str, &'w str)],
+) -> Result<Option<Validation<'w>>, AllocError>
+    ensures { IfOk result (λ found. MatchOption found ((v : TheValidation) → ¬ AsksValidate (record { words = texts words.now; options = choices options.now }) v) (AsksValidate (record { words = texts words.now; options = choices options.now }))) }
+{
+    let Some(validation) = spelled_validation(alloc, words, options)? else {
+        return Ok(None);
+    };
+    if !next_is_apart(validation) {
+        return Ok(None);
+    }
+    Ok(Some(validation))
 }
 
 /// The command over a world and calls that a line asks for.
@@ -252,6 +303,9 @@ pub fn command_of<'l, 'w>(
     }
     if let Some((text, target)) = asm_of(words, options) {
         return Ok(Some(Command::Asm(text, target)));
+    }
+    if let Some((source, target)) = text_of(words, options) {
+        return Ok(Some(Command::Text(source, target)));
     }
     if let Some((target, heap)) = check_of(alloc, words, options)? {
         return Ok(Some(Command::Check(target, heap)));

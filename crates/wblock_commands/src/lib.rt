@@ -3,6 +3,7 @@
 
 mod answer;
 mod command;
+mod declared;
 mod line;
 mod misuse;
 mod options;

@@ -19,7 +19,7 @@ use wblock_blocks::{mine_block, validate_block};
 use wblock_debug::debug_world;
 use wblock_io::Files;
 use wblock_line::{Answer, Fault, Status, carry_out, split_words, tell_fault};
-use wblock_modules::{assemble_file, check_module, deploy_modules};
+use wblock_modules::{assemble_file, check_module, deploy_modules, write_text};
 
 /// What a command comes to, or None where a call is asked for that is not there. No file is written yet.
 fn answer_of<'l, 'w, R: Threads + Wait + Sync, F: Files, P: Pace>(
@@ -42,6 +42,7 @@ fn answer_of<'l, 'w, R: Threads + Wait + Sync, F: Files, P: Pace>(
         Command::Help(words) => tell_help(alloc, words)?,
         Command::Version => tell_version(alloc)?,
         Command::Asm(text, target) => assemble_file(alloc, files, text, target)?,
+        Command::Text(source, target) => write_text(alloc, files, source, target)?,
         Command::Check(target, heap) => check_module(alloc, files, target, heap)?,
         Command::Deploy(world, modules) => deploy_modules(alloc, files, world, modules)?,
         Command::Mine(task) => mine_block(rt, alloc, files, task, pace)?,

@@ -1,5 +1,6 @@
 //! What is wrong with words that the command line's reader takes and that ask for nothing, for people.
 
+use crate::declared::{BLOCK, NEXT};
 use calls_text::number_of;
 use std::alloc::{AllocError, Global};
 use wblock_debug::command_of;
@@ -33,6 +34,24 @@ fn mining_misuse(
     Ok(None)
 }
 
+/// What is wrong with the file that options of `validate` name for the world after the block.
+fn validation_misuse(
+    alloc: Global,
+    calls: &str,
+    block: &str,
+    options: &[(&str, &str)],
+) -> Result<Option<String>, AllocError> {
+    for (name, value) in options {
+        if *name == NEXT.word && *value == calls {
+            return Ok(Some(clash(alloc, "CALLS", "NEXT", calls)?));
+        }
+        if *name == NEXT.word && *value == block {
+            return Ok(Some(clash(alloc, "BLOCK", "NEXT", block)?));
+        }
+    }
+    Ok(None)
+}
+
 /// What is wrong with the words of `debug` behind the files.
 fn debugging_misuse(alloc: Global, call: &str, commands: &[&str]) -> Result<String, AllocError> {
     if number_of(alloc, call)?.is_none() {
@@ -50,11 +69,18 @@ fn debugging_misuse(alloc: Global, call: &str, commands: &[&str]) -> Result<Stri
     format!(in alloc; "usage: there is no call {call} in CALLS: its lines count from 0")
 }
 
-/// What is wrong with the words that are no options, or None.
-fn names_misuse(alloc: Global, words: &[&str]) -> Result<Option<String>, AllocError> {
+/// What is wrong with the words that are no options and with the files that options name, or None.
+fn names_misuse(
+    alloc: Global,
+    words: &[&str],
+    options: &[(&str, &str)],
+) -> Result<Option<String>, AllocError> {
     match words {
         ["asm", text, target] if *text == *target => {
             Ok(Some(clash(alloc, "TEXT", "MODULE", *text)?))
+        }
+        ["text", source, target] if *source == *target => {
+            Ok(Some(clash(alloc, "MODULE", "TEXT", *source)?))
         }
         ["deploy", world, modules @ ..] => {
             let count = modules.len();
@@ -71,6 +97,7 @@ fn names_misuse(alloc: Global, words: &[&str]) -> Result<Option<String>, AllocEr
         ["mine", world, calls, block, next] => {
             mining_misuse(alloc, (*world, *calls, *block, *next))
         }
+        ["validate", _, calls, block] => validation_misuse(alloc, *calls, *block, options),
         ["debug", _, _, call, commands @ ..] => {
             Ok(Some(debugging_misuse(alloc, *call, commands)?))
         }
@@ -78,16 +105,21 @@ fn names_misuse(alloc: Global, words: &[&str]) -> Result<Option<String>, AllocEr
     }
 }
 
+/// Whether the value of the option of this name is a file's name.
+fn names_file(name: &str) -> bool {
+    name == BLOCK.word || name == NEXT.word
+}
+
 /// `usage`, and what is wrong with words that the command line's reader takes.
 pub(crate) fn misuse_text(alloc: Global, words: &[&str]) -> Result<String, AllocError> {
     let Some(line) = split_words(alloc, words)? else {
         return "usage: the value of the last option is missing".to_string(alloc);
     };
-    if let Some(text) = names_misuse(alloc, line.words.as_slice())? {
+    if let Some(text) = names_misuse(alloc, line.words.as_slice(), line.options.as_slice())? {
         return Ok(text);
     }
     for (name, value) in &line.options {
-        if number_of(alloc, *value)?.is_none() {
+        if !names_file(*name) && number_of(alloc, *value)?.is_none() {
             return format!(in alloc;
                 "usage: `{value}` of `{name}` is no number: decimal without sign and needless zeros"
             );

@@ -1,9 +1,11 @@
-//! The numbers that options ask for.
+//! What options ask for.
 
-ghost use Rattle.std.specs.Prelude.{◌≡◌, ◌≢◌, ◌≤◌, ◌<◌, ◌+◌, ◌^◌, ◌↔◌, ℕ, IfOk, IsTrue, MatchOption, decimal, length};
-ghost use Rattle.wblock_commands.specs.Options.{values_in, IsNumber, IsNumberOr, count_of, AsksFuel, AsksWorkers, AsksTries, HasOnlyMining, HasOnlyValidation};
+ghost use Rattle.std.specs.Borrow.{Bor};
+ghost use Rattle.std.specs.Prelude.{◌≡◌, ◌≢◌, ◌≤◌, ◌<◌, ◌+◌, ◌^◌, ◌↔◌, ℕ, List, Option, IfOk, IsTrue, MatchOption, decimal, length};
+ghost use Rattle.wblock_commands.specs.Options.{values_in, IsNumber, IsNumberOr, IsNameOrNone, count_of, AsksFuel, AsksWorkers, AsksTries, AsksNext, HasOnlyMining, HasOnlyValidation};
 ghost use Rattle.wblock_commands.specs.Words.{texts, choices};
 
+use crate::declared::{FUEL, NEXT, TRIES, USUAL_TRIES, USUAL_WORKERS, WORKERS};
 use calls_text::number_of;
 use std::alloc::{AllocError, Global};
 
@@ -25,7 +27,7 @@ fn values_of<'w>(
 }
 
 /// The number that a word spells, in decimal with no needless zero, where it is in the range.
-fn number_within(
+pub(crate) fn number_within(
     alloc: Global,
     word: &str,
     least: u64,
@@ -61,19 +63,20 @@ fn number_in(
     }
 }
 
-/// The number from 1 to the most that the only value spells, or the usual one where there is no value.
+/// The number in the range that the only value spells, or the usual one where there is no value.
 fn count_in(
     alloc: Global,
     values: &[&str],
     usual: u32,
+    least: u32,
     most: u32,
 ) -> Result<Option<u32>, AllocError>
-    ensures { IfOk result (λ found. MatchOption found ((n : ℕ) → ¬ IsNumberOr usual (texts values.now) 1 most n) (IsNumberOr usual (texts values.now) 1 most)) }
+    ensures { IfOk result (λ found. MatchOption found ((n : ℕ) → ¬ IsNumberOr usual (texts values.now) least most n) (IsNumberOr usual (texts values.now) least most)) }
 {
     if values.is_empty() {
         return Ok(Some(usual));
     }
-    match number_in(alloc, values, 1, u64::from(most))? {
+    match number_in(alloc, values, u64::from(least), u64::from(most))? {
         Some(number) => Ok(Some(number as u32)),
         None => Ok(None),
     }
@@ -83,24 +86,60 @@ fn count_in(
 pub(crate) fn fuel_in(alloc: Global, options: &[(&str, &str)]) -> Result<Option<u64>, AllocError>
     ensures { IfOk result (λ found. MatchOption found ((n : ℕ) → ¬ AsksFuel (choices options.now) n) (AsksFuel (choices options.now))) }
 {
-    let values = values_of(alloc, options, "--fuel")?;
-    number_in(alloc, values.as_slice(), 0, u64::MAX)
+    let values = values_of(alloc, options, FUEL.word)?;
+    number_in(alloc, values.as_slice(), FUEL.least, FUEL.most)
 }
 
 /// How many workers options ask for, 1 to 64, or 4 where they do not say; or None where they say something else.
 pub(crate) fn workers_in(alloc: Global, options: &[(&str, &str)]) -> Result<Option<u32>, AllocError>
     ensures { IfOk result (λ found. MatchOption found ((n : ℕ) → ¬ AsksWorkers (choices options.now) n) (AsksWorkers (choices options.now))) }
 {
-    let values = values_of(alloc, options, "--workers")?;
-    count_in(alloc, values.as_slice(), 4, 64)
+    let values = values_of(alloc, options, WORKERS.word)?;
+    count_in(
+        alloc,
+        values.as_slice(),
+        USUAL_WORKERS.number,
+        WORKERS.least as u32,
+        WORKERS.most as u32,
+    )
 }
 
 /// How often options ask to try a call at most, 1 to 16, or 3 times where they do not say; or None where they say something else.
 pub(crate) fn tries_in(alloc: Global, options: &[(&str, &str)]) -> Result<Option<u32>, AllocError>
     ensures { IfOk result (λ found. MatchOption found ((n : ℕ) → ¬ AsksTries (choices options.now) n) (AsksTries (choices options.now))) }
 {
-    let values = values_of(alloc, options, "--tries")?;
-    count_in(alloc, values.as_slice(), 3, 16)
+    let values = values_of(alloc, options, TRIES.word)?;
+    count_in(
+        alloc,
+        values.as_slice(),
+        USUAL_TRIES.number,
+        TRIES.least as u32,
+        TRIES.most as u32,
+    )
+}
+
+/// The name that the only value is, or that there is none; or None where there are several.
+fn only_name<'w>(values: &[&'w str]) -> Option<Option<&'w str>>
+    ensures { MatchOption result ((name : Option (Bor (List ℕ))) → ¬ IsNameOrNone (texts values.now) name) (IsNameOrNone (texts values.now)) }
+{
+    if values.is_empty() {
+        return Some(None);
+    }
+    if values.len() > 1 {
+        return None;
+    }
+    Some(Some(values[0]))
+}
+
+/// The file that options name for the world after a block, if any; or None where they name several.
+pub(crate) fn next_in<'w>(
+    alloc: Global,
+    options: &[(&'w str, &'w str)],
+) -> Result<Option<Option<&'w str>>, AllocError>
+    ensures { IfOk result (λ found. MatchOption found ((next : Option (Bor (List ℕ))) → ¬ AsksNext (choices options.now) next) (AsksNext (choices options.now))) }
+{
+    let values = values_of(alloc, options, NEXT.word)?;
+    Ok(only_name(values.as_slice()))
 }
 
 /// How many options have this name.
@@ -121,9 +160,9 @@ fn count_of(options: &[(&str, &str)], name: &str) -> usize
 pub(crate) fn has_only_mining(options: &[(&str, &str)]) -> bool
     ensures { IsTrue result ↔ HasOnlyMining (choices options.now) }
 {
-    let fuel = count_of(options, "--fuel");
-    let workers = count_of(options, "--workers");
-    let tries = count_of(options, "--tries");
+    let fuel = count_of(options, FUEL.word);
+    let workers = count_of(options, WORKERS.word);
+    let tries = count_of(options, TRIES.word);
     options.len() == fuel + workers + tries
 }
 
@@ -131,7 +170,8 @@ pub(crate) fn has_only_mining(options: &[(&str, &str)]) -> bool
 pub(crate) fn has_only_validation(options: &[(&str, &str)]) -> bool
     ensures { IsTrue result ↔ HasOnlyValidation (choices options.now) }
 {
-    let fuel = count_of(options, "--fuel");
-    let workers = count_of(options, "--workers");
-    options.len() == fuel + workers
+    let fuel = count_of(options, FUEL.word);
+    let workers = count_of(options, WORKERS.word);
+    let next = count_of(options, NEXT.word);
+    options.len() == fuel + workers + next
 }

@@ -8,7 +8,7 @@ use call::Call;
 use calls_text::PositionLine;
 use link::deployed::Deployed;
 use serial::serial_core;
-use spec_ledger::Receipt;
+use spec_ledger::{Receipt, Version};
 use std::alloc::{AllocError, Global};
 use std::fmt::Write;
 use storage::Cells;
@@ -51,7 +51,7 @@ fn lines_of(alloc: Global, receipts: &[Receipt]) -> Result<String, AllocError>
     Ok(text)
 }
 
-/// The lines of a contract's calls, one after another over empty cells: one for each call, and one for their fuel.
+/// The lines of a contract's calls, one after another over empty cells by the rules of version 2: one for each call, and one for their fuel.
 pub(crate) fn run_calls(
     alloc: Global,
     contract: Deployed<Global>,
@@ -68,6 +68,7 @@ pub(crate) fn run_calls(
         &Cells::new(alloc),
         calls,
         order.as_slice(),
+        Version::Two,
     ) {
         Ok(core) => core,
         Err(_) => return Err(AllocError),

@@ -4,9 +4,12 @@ ghost use Rattle.std.specs.Prelude.{◌≡◌, IfOk, IfErr, string_bytes};
 ghost use Rattle.wblock_commands.specs.Lines.{EndsLine};
 ghost use Rattle.wblock_commands.specs.Does.{TellsText};
 
+use crate::declared::{
+    BLOCK, FUEL, FileOption, HEAP, NEXT, NumberOption, QUIET, Switch, TRIES, WORKERS,
+};
 use crate::misuse::misuse_text;
 use clap::builder::ValueParser;
-use clap::{Arg, Command};
+use clap::{Arg, ArgAction, Command};
 use std::alloc::{AllocError, Global};
 use wblock_line::{Answer, Fault};
 
@@ -15,20 +18,40 @@ fn required<'a>(alloc: Global, name: &'a str, help: &'a str) -> Arg<'a> {
     Arg::new(alloc, name).required(true).help(help)
 }
 
-/// An option whose value is a number from the least to the most, and what it means.
-fn number<'a>(alloc: Global, name: &'a str, least: u64, most: u64, help: &'a str) -> Arg<'a> {
-    Arg::new(alloc, name)
-        .long(name)
+/// An option that is a number, as it is declared.
+fn number<'a>(alloc: Global, option: NumberOption) -> Arg<'a> {
+    let arg = Arg::new(alloc, option.name)
+        .long(option.name)
         .value_name("N")
-        .value_parser(ValueParser::unsigned(least, most))
-        .help(help)
+        .value_parser(ValueParser::unsigned(option.least, option.most))
+        .help(option.help);
+    match option.usual {
+        Some(usual) => arg.default_value(usual.word),
+        None => arg,
+    }
+}
+
+/// An option that is a file's name, as it is declared.
+fn file<'a>(alloc: Global, option: FileOption) -> Arg<'a> {
+    Arg::new(alloc, option.name)
+        .long(option.name)
+        .value_name(option.value)
+        .help(option.help)
+}
+
+/// An option without a value, as it is declared.
+fn switch<'a>(alloc: Global, option: Switch) -> Arg<'a> {
+    Arg::new(alloc, option.name)
+        .long(option.name)
+        .action(ArgAction::SetTrue)
+        .help(option.help)
 }
 
 fn world<'a>(alloc: Global) -> Arg<'a> {
     required(
         alloc,
         "WORLD",
-        "The file of the world, which `deploy` or `mine` wrote",
+        "The file of the world, which `deploy`, `mine` or `validate` wrote",
     )
 }
 
@@ -40,19 +63,9 @@ fn calls<'a>(alloc: Global) -> Arg<'a> {
     )
 }
 
-fn fuel<'a>(alloc: Global, help: &'a str) -> Arg<'a> {
-    number(alloc, "fuel", 0, u64::MAX, help).required(true)
-}
-
-fn workers<'a>(alloc: Global) -> Arg<'a> {
-    number(
-        alloc,
-        "workers",
-        1,
-        64,
-        "How many threads run calls, 1 to 64",
-    )
-    .default_value("4")
+/// The fuel, which has to be given.
+fn fuel<'a>(alloc: Global) -> Arg<'a> {
+    number(alloc, FUEL).required(true)
 }
 
 fn asm<'a>(alloc: Global) -> Result<Command<'a>, AllocError> {
@@ -62,17 +75,20 @@ fn asm<'a>(alloc: Global) -> Result<Command<'a>, AllocError> {
         .arg(required(alloc, "MODULE", "The file to be written; another than TEXT"))
 }
 
+fn text<'a>(alloc: Global) -> Result<Command<'a>, AllocError> {
+    Command::new(alloc, "text")
+        .about(
+            "Writes a module in text, one instruction a line: `asm` of it gives the module again",
+        )
+        .arg(required(alloc, "MODULE", "The file of the module in binary"))?
+        .arg(required(alloc, "TEXT", "The file to be written; another than MODULE"))
+}
+
 fn check<'a>(alloc: Global) -> Result<Command<'a>, AllocError> {
     Command::new(alloc, "check")
         .about("Says whether a module is valid")
         .arg(required(alloc, "MODULE", "The file of the module in binary"))?
-        .arg(number(
-            alloc,
-            "heap",
-            1_024,
-            16_777_216,
-            "The bytes of a heap for the module's tree, 1024 to 16777216; if not given, there is no bound",
-        ))
+        .arg(number(alloc, HEAP))
 }
 
 fn deploy<'a>(alloc: Global) -> Result<Command<'a>, AllocError> {
@@ -102,19 +118,10 @@ fn mine<'a>(alloc: Global) -> Result<Command<'a>, AllocError> {
             "NEXT",
             "The file of the world after it, to be written; it may be WORLD",
         ))?
-        .arg(fuel(
-            alloc,
-            "The block's fuel, 0 to 18446744073709551615: the limits of its calls add up to at most this",
-        ))?
-        .arg(workers(alloc))?
-        .arg(number(
-            alloc,
-            "tries",
-            1,
-            16,
-            "How often a call is tried that meets a conflict, 1 to 16",
-        )
-        .default_value("3"))
+        .arg(fuel(alloc))?
+        .arg(number(alloc, WORKERS))?
+        .arg(number(alloc, TRIES))?
+        .arg(switch(alloc, QUIET))
 }
 
 fn validate<'a>(alloc: Global) -> Result<Command<'a>, AllocError> {
@@ -123,16 +130,19 @@ fn validate<'a>(alloc: Global) -> Result<Command<'a>, AllocError> {
         .arg(world(alloc))?
         .arg(calls(alloc))?
         .arg(required(alloc, "BLOCK", "The file of the block"))?
-        .arg(fuel(
-            alloc,
+        .arg(fuel(alloc).help(
             "The fuel with which the block was mined, 0 to 18446744073709551615",
         ))?
-        .arg(workers(alloc))
+        .arg(number(alloc, WORKERS))?
+        .arg(file(alloc, NEXT))?
+        .arg(switch(alloc, QUIET))
 }
 
 fn debug<'a>(alloc: Global) -> Result<Command<'a>, AllocError> {
     Command::new(alloc, "debug")
-        .about("Runs one call alone over a world, turn by turn, and shows its states")
+        .about(
+            "Runs one call, alone over a world or in a block, turn by turn, and shows its states",
+        )
         .arg(world(alloc))?
         .arg(calls(alloc))?
         .arg(required(alloc, "CALL", "The number of the call, from 0"))?
@@ -141,7 +151,8 @@ fn debug<'a>(alloc: Global) -> Result<Command<'a>, AllocError> {
             "CMD",
             "step:N, back:N, cont, place, break:F:O, clear:F:O, stack, locals, globals, bytes:FROM:N",
         )
-        .num_args(1..))
+        .num_args(1..))?
+        .arg(file(alloc, BLOCK))
 }
 
 fn program<'a>(alloc: Global) -> Result<Command<'a>, AllocError> {
@@ -158,6 +169,7 @@ fn program<'a>(alloc: Global) -> Result<Command<'a>, AllocError> {
         .subcommand_required(true)
         .disable_help_subcommand(true)
         .subcommand(asm(alloc)?)?
+        .subcommand(text(alloc)?)?
         .subcommand(check(alloc)?)?
         .subcommand(deploy(alloc)?)?
         .subcommand(mine(alloc)?)?
@@ -189,6 +201,8 @@ const HELP: [&str; 1] = ["--help"];
 
 const ASM: [&str; 2] = ["asm", "--help"];
 
+const TEXT: [&str; 2] = ["text", "--help"];
+
 const CHECK: [&str; 2] = ["check", "--help"];
 
 const DEPLOY: [&str; 2] = ["deploy", "--help"];
@@ -208,6 +222,7 @@ fn topic_of(words: &[&str]) -> &'static [&'static str] {
     };
     match *word {
         "asm" => ASM.as_slice(),
+        "text" => TEXT.as_slice(),
         "check" => CHECK.as_slice(),
         "deploy" => DEPLOY.as_slice(),
         "mine" => MINE.as_slice(),

@@ -1,6 +1,7 @@
 -- What the words of a line ask to debug.
-use Rattle.std.specs.Prelude.{◌≡◌, ℕ, ◌<◌, ◌^◌, List, [], ◌∷◌, codes, decimal, length}
-use Rattle.wblock_line.specs.Words.{Line}
+use Rattle.std.specs.Prelude.{◌≡◌, ℕ, ◌<◌, ◌^◌, List, [], ◌∷◌, Option, Some, None, codes, decimal, length}
+use Rattle.std.specs.Borrow.{Bor}
+use Rattle.wblock_line.specs.Words.{Line, Choice}
 use Rattle.wblock_debug.specs.Words.{Spell}
 use Rattle.wblock_debug.specs.declared.asked.Debugging.{Debugging}
 
@@ -9,7 +10,7 @@ pub record IsSplit (words : List (List ℕ)) (world calls call : List ℕ) (comm
   pub words_are : words ≡ codes "debug" ∷ world ∷ calls ∷ call ∷ commands
   pub some : 0 < length commands
 
--- `debug WORLD CALLS CALL CMD...`
+-- `debug WORLD CALLS CALL CMD...`, whatever the block
 pub record AsksWords (words : List (List ℕ)) (d : Debugging) : Type 0 where
   -- the words of the commands
   pub spelling : List (List ℕ)
@@ -17,7 +18,12 @@ pub record AsksWords (words : List (List ℕ)) (d : Debugging) : Type 0 where
   pub in_range : d.call < 2 ^ 64
   pub spelled : Spell spelling d.commands.items
 
--- and there is no option
+-- `--block BLOCK`, or nothing
+abbrev pub AsksBlock : List Choice → Option (Bor (List ℕ)) → Type 0
+AsksBlock options None = options ≡ []
+AsksBlock options (Some block) = options ≡ (codes "--block", block.now) ∷ []
+
+-- `debug WORLD CALLS CALL CMD... [--block BLOCK]`
 pub record AsksDebug (line : Line) (d : Debugging) : Type 0 where
   pub words : AsksWords line.words d
-  pub options : line.options ≡ []
+  pub block : AsksBlock line.options d.block

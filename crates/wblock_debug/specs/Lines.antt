@@ -11,7 +11,7 @@ use Rattle.calls_text.specs.Receipts.{receipt_text}
 
 -- where a call stands after so many turns: how it has ended, or else the function and the ordinal of the instruction to come
 abbrev pub standing_text : ℕ → Option Outcome → Option (ℕ × ℕ) → List ℕ
-standing_text turns (Some o) place = codes " done " ++ receipt_text (record { outcome = o; used = turns })
+standing_text turns (Some o) place = codes " done " ++ receipt_text (record { outcome = o; used = turns; asks = 0 })
 standing_text turns None (Some p) = codes " at " ++ decimal p.0 ++ codes " " ++ decimal p.1
 standing_text turns None None = []
 
@@ -43,3 +43,7 @@ refusal_line r = codes "refused " ++ decimal (code_of r) ++ 10 ∷ []
 -- `refused start N`
 abbrev pub start_line : ℕ → List ℕ
 start_line code = codes "refused start " ++ decimal code ++ 10 ∷ []
+
+-- `refused left C`
+abbrev pub left_line : ℕ → List ℕ
+left_line call = codes "refused left " ++ decimal call ++ 10 ∷ []

@@ -1,7 +1,8 @@
 -- The words of a debugger's commands.
-use Rattle.std.specs.Prelude.{◌≡◌, ◌≢◌, ℕ, ◌<◌, ◌^◌, List, [], ◌∷◌, ◌++◌, codes, decimal, map}
+use Rattle.std.specs.Prelude.{◌≡◌, ◌≢◌, ℕ, ◌<◌, ◌^◌, List, ◌∷◌, ◌++◌, codes, decimal, map}
 use Rattle.std.specs.List.{AllByRecursion, AllZip}
 use Rattle.std.specs.Borrow.{Bor}
+use Rattle.wblock_line.specs.Words.{Choice}
 use Rattle.wblock_debug.specs.declared.command.Command.{Command}
 use Rattle.wblock_debug.specs.declared.command.Command.TheVariants.{Step, Back, Cont, Place, Break, Clear, Stack, Locals, Globals, Bytes}
 
@@ -49,6 +50,9 @@ Spell words commands = AllZip Spells words commands
 
 abbrev pub texts : List (Bor (List ℕ)) → List (List ℕ)
 texts words = map (λ w. w.now) words
+
+abbrev pub choices : List (Bor (List ℕ) × Bor (List ℕ)) → List Choice
+choices options = map (λ o. (o.0.now, o.1.now)) options
 
 -- ---- words that spell no command of a kind
 

@@ -1,17 +1,23 @@
-//! The command `debug WORLD CALLS CALL CMD...`: a call that runs alone over a world, turn by turn, and what is read of its states.
+//! The command `debug WORLD CALLS CALL CMD... [--block BLOCK]`: a call that runs alone over a world, or over the cells that it meets in a block, turn by
+//! turn, and what is read of its states.
 
-ghost use Rattle.std.specs.Prelude.{◌≡◌, IsTrue, IfOk, IfErr, OnOk, MatchOption, string_bytes};
+ghost use Rattle.std.specs.Prelude.{◌≡◌, ◌≤◌, ◌<◌, ◌^◌, IsTrue, IfOk, IfErr, OnOk, MatchOption, Some, length, slice_get, string_bytes};
 ghost use Rattle.world.specs.Views.{world_view};
+ghost use Rattle.block_judge.specs.Judging.{told};
 ghost use Rattle.wblock_line.specs.Answers.{CountsFault, IsOfFile};
-ghost use Rattle.wblock_blocks.specs.Inputs.{IsNextInput};
-ghost use Rattle.wblock_debug.specs.Debugs.{IsText, TellsCall, IsNotListed, Debugs};
+ghost use Rattle.wblock_blocks.specs.Validates.{Rejects};
+ghost use Rattle.wblock_debug.specs.Debugs.{IsText, TellsAbsent, TellsCall, TellsOfBlock, TellsListed, IsBlockName, IsNextRead, IsNotListed, Debugs};
 
 use crate::{Debugging, Printed, debug_call};
+use block_judge::{Reason, Unfit};
+use block_prefix::met_by;
 use call::Call;
-use std::alloc::Global;
-use wblock_blocks::{Inputs, read_inputs};
+use spec_ledger::Version;
+use std::alloc::{AllocError, Global};
+use storage::Cells;
+use wblock_blocks::{Inputs, read_inputs, reason_words, reject_line_of};
 use wblock_io::Files;
-use wblock_line::{Answer, Fault};
+use wblock_line::{Answer, Fault, read_file};
 use world::World;
 use wtypes::NoMemory;
 
@@ -26,27 +32,106 @@ fn answer_of<'a>(alloc: Global, printed: Printed) -> Answer<'a>
     }
 }
 
-/// What the commands print of a call over a world.
-fn debug_in_world<'a>(
+/// What the commands print of a call over these cells, by the rules of this version.
+fn debug_over<'a>(
     alloc: Global,
     world: &World,
+    cells: &Cells,
     call: &Call,
     task: &Debugging,
+    version: Version,
 ) -> Result<Answer<'a>, NoMemory>
-    ensures { IfOk result (TellsCall (world_view world.now) call.now task.now) }
+    ensures { IfOk result (TellsCall version (world_view world.now) cells.now.cells call.now task.now) }
 {
     let printed = debug_call(
         alloc,
         world.contracts(),
-        world.cells(),
+        cells,
         call,
         &task.commands,
+        version,
     )?;
     Ok(answer_of(alloc, printed))
 }
 
-/// What `debug` comes to: a line for each command, read off the states of the call alone over the world; or the line that says why the world or
-/// the calls are refused, or why the call does not start. None where there is no call of this number. No file is written.
+/// The answer that the block has no call of this number.
+fn absent<'a>(alloc: Global, number: u64) -> Result<Answer<'a>, AllocError>
+    ensures { IfOk result (TellsAbsent number) }
+{
+    let line = format!(in alloc; "refused left {number}\n")?;
+    let why = format!(in alloc;
+        "block: call {number} does not stand in it; without --block the call runs alone over WORLD"
+    )?;
+    Ok(Answer::Refused(line, why))
+}
+
+/// The answer that a block of these bytes is rejected.
+fn rejected<'a>(alloc: Global, bytes: &[u8], reason: Reason) -> Result<Answer<'a>, AllocError>
+    ensures { IfOk result (Rejects (told reason)) }
+{
+    let line = reject_line_of(alloc, reason)?;
+    let why = reason_words(alloc, bytes, reason)?;
+    Ok(Answer::Refused(line, why))
+}
+
+/// What the commands print of the call of the task's number over the cells that it meets in the block of these bytes.
+fn debug_in_block<'a>(
+    alloc: Global,
+    world: &World,
+    calls: &[Call],
+    call: &Call,
+    task: &Debugging,
+    bytes: &[u8],
+) -> Result<Answer<'a>, NoMemory>
+    requires few { length calls.now ≤ 65535 }
+    requires number { task.now.call < 2 ^ 32 }
+    ensures { IfOk result (TellsOfBlock (world_view world.now) calls.now call.now task.now bytes.now) }
+{
+    match met_by(alloc, world, calls, bytes, task.call as u32) {
+        Ok(Some(met)) => Ok(debug_over(alloc, world, &met.cells, call, task, met.version)?),
+        Ok(None) => Ok(absent(alloc, task.call)?),
+        Err(Unfit::Rejected(reason)) => Ok(rejected(alloc, bytes, reason)?),
+        Err(Unfit::NoMemory) => Err(NoMemory),
+    }
+}
+
+/// What the commands print of this call of the list: alone over the world, by the rules of version 2, by which calls are mined; or in the block that the
+/// task names.
+fn debug_listed<'a, F: Files>(
+    alloc: Global,
+    files: &mut F,
+    world: &World,
+    calls: &[Call],
+    call: &Call,
+    task: &Debugging<'a>,
+) -> Result<Answer<'a>, Fault<'a>>
+    requires few { length calls.now ≤ 65535 }
+    requires listed { slice_get calls.now task.now.call ≡ Some call.now }
+    ensures answers { IfOk result (λ a. IsTrue F.tells → TellsListed (F.holds files.old) (world_view world.now) calls.now call.now task.now task.now.block a) }
+    ensures kept { IsTrue F.tells → F.holds files.new ≡ F.holds files.old }
+    ensures calm { OnOk result (F.failures files.new ≡ F.failures files.old) }
+    ensures counted { IfErr result (λ f. CountsFault f (F.failures files.old) (F.failures files.new)) }
+    ensures next { IfErr result (IsOfFile (IsBlockName task.now.block)) }
+{
+    let Some(name) = task.block else {
+        return match debug_over(alloc, world, world.cells(), call, task, Version::Two) {
+            Ok(answer) => Ok(answer),
+            Err(NoMemory) => Err(Fault::NoMemory),
+        };
+    };
+    let bytes = match read_file(alloc, files, name) {
+        Ok(bytes) => bytes,
+        Err(fault) => return Err(fault),
+    };
+    match debug_in_block(alloc, world, calls, call, task, &bytes) {
+        Ok(answer) => Ok(answer),
+        Err(NoMemory) => Err(Fault::NoMemory),
+    }
+}
+
+/// What `debug` comes to: a line for each command, read off the states of the call alone over the world, or, where a block is named, over the cells that the
+/// calls before it leave in the block's order, by the rules of the block's version; or the line that says why the world, the calls or the block are
+/// refused, that the block has no such call, or why the call does not start. None where there is no call of this number. No file is written.
 pub fn debug_world<'a, F: Files>(
     alloc: Global,
     files: &mut F,
@@ -56,17 +141,18 @@ pub fn debug_world<'a, F: Files>(
     ensures kept { IsTrue F.tells → F.holds files.new ≡ F.holds files.old }
     ensures calm { OnOk result (F.failures files.new ≡ F.failures files.old) }
     ensures counted { IfErr result (λ f. CountsFault f (F.failures files.old) (F.failures files.new)) }
-    ensures next { IfErr result (IsOfFile (λ name. IsTrue F.tells → IsNextInput (F.holds files.old) task.now.world.now task.now.calls.now name)) }
+    ensures next { IfErr result (IsOfFile (λ name. IsTrue F.tells → IsNextRead (F.holds files.old) task.now name)) }
 {
     let (world, calls) = match read_inputs(alloc, files, task.world, task.calls)? {
         Inputs::Read(world, calls) => (world, calls),
         Inputs::Refused(line, why) => return Ok(Some(Answer::Refused(line, why))),
     };
-    let Some(call) = calls.get(task.call as usize) else {
+    let list = calls.as_slice();
+    let Some(call) = list.get(task.call as usize) else {
         return Ok(None);
     };
-    match debug_in_world(alloc, &world, call, task) {
+    match debug_listed(alloc, files, &world, list, call, task) {
         Ok(answer) => Ok(Some(answer)),
-        Err(NoMemory) => Err(Fault::NoMemory),
+        Err(fault) => Err(fault),
     }
 }

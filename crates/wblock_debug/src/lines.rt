@@ -18,7 +18,11 @@ pub(crate) fn state_line_of<A: Allocator + Copy>(
 {
     let used = session.turns();
     if let Some(outcome) = session.ending() {
-        let receipt = ReceiptText(Receipt { outcome, used });
+        let receipt = ReceiptText(Receipt {
+            outcome,
+            used,
+            asks: 0,
+        });
         let line = format!(in alloc; "{used} done {receipt}\n")?;
         return Ok(line);
     }

@@ -15,6 +15,7 @@ use call::Call;
 use debugger::Contract;
 use debugger::session::{Refusal, Session};
 use interp::start::StartRefusal;
+use spec_ledger::Version;
 use std::alloc::{AllocError, Allocator};
 use storage::Cells;
 use wtypes::NoMemory;
@@ -135,7 +136,7 @@ fn refuse_start<A: Allocator + Copy>(
     })
 }
 
-/// What the commands print of the call alone over the cells: a line for each, one after another. It is `K at F O` or `K done RECEIPT` for a
+/// What the commands print of the call alone over the cells, by the rules of this version: a line for each, one after another. It is `K at F O` or `K done RECEIPT` for a
 /// command that moves or asks for the place, `ok` for one that sets or clears a break, a name and the values or the bytes for one that shows
 /// them, and `refused N` for one that is refused. The line is `refused start N` where the call does not start.
 ///
@@ -148,10 +149,11 @@ pub fn debug_call<A: Allocator + Copy>(
     cells: &Cells<A>,
     call: &Call,
     commands: &[Command],
+    version: Version,
 ) -> Result<Printed<A>, NoMemory>
-    ensures { IfOk result (λ p. IsDebugged (setting_view contracts.now) cells.now.cells call.now commands.now p.refused (string_bytes p.text)) }
+    ensures { IfOk result (λ p. IsDebugged (setting_view version contracts.now) cells.now.cells call.now commands.now p.refused (string_bytes p.text)) }
 {
-    match Session::open(alloc, contracts, cells, call) {
+    match Session::open(alloc, contracts, cells, call, version) {
         Ok(mut session) => {
             session.is_sight();
             perform_all(alloc, &mut session, commands)

@@ -4,3 +4,4 @@ pub mod FaultLaws
 pub mod Refusals
 pub mod Modules
 pub mod Places
+pub mod Worlds

@@ -1,6 +1,6 @@
 //! Why a module's bytes give no contract.
 
-ghost use Rattle.std.specs.Prelude.{◌≡◌, ◌++◌, Some, None, IfOk, string_bytes};
+ghost use Rattle.std.specs.Prelude.{◌≡◌, [], ◌∷◌, ◌++◌, Some, None, IfOk, string_bytes};
 ghost use Rattle.module_tree.specs.Modules.{module_view};
 ghost use Rattle.wblock_words.specs.Sentences.{Begins, broken_place};
 ghost use Rattle.wblock_line.specs.Places.{TellsPlace, TellsRefusal, TellsRule};
@@ -238,5 +238,13 @@ impl ModuleRefusal {
             ModuleRefusal::TooManyPages => room_words(alloc, true),
             ModuleRefusal::TableTooLarge => room_words(alloc, false),
         }
+    }
+    /// The line of the refusal of a module of these bytes, and its sentence.
+    pub fn told(self, alloc: Global, bytes: &[u8]) -> Result<(String, String), AllocError>
+        ensures { IfOk result (λ told. string_bytes told.0 ≡ refusal_text self ++ 10 ∷ []) }
+    {
+        let line = format!(in alloc; "{self}\n")?;
+        let why = self.words(alloc, bytes)?;
+        Ok((line, why))
     }
 }

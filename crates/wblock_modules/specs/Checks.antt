@@ -4,9 +4,8 @@ use Rattle.spec_syntax.specs.Syntax.{Module}
 use Rattle.wblock_io.specs.Holding.{Holding}
 use Rattle.wblock_line.specs.declared.answer.Answer.{Answer}
 use Rattle.wblock_line.specs.declared.answer.Answer.TheVariants.{Done, Refused}
-use Rattle.wblock_line.specs.declared.refusals.ModuleRefusal.{ModuleRefusal}
-use Rattle.wblock_line.specs.Modules.{IsValidOf, IsWhy}
-use Rattle.wblock_line.specs.Refusals.{refusal_text}
+use Rattle.wblock_line.specs.Modules.{IsValidOf}
+use Rattle.wblock_line.specs.Refusals.{TellsNoModule}
 
 -- the bytes spell a valid module that defines so many functions
 pub record CountsFunctions (bytes : List ℕ) (count : ℕ) : Type 0 where
@@ -23,15 +22,9 @@ pub record TellsFunctions (bytes text : List ℕ) : Type 0 where
   pub counted : CountsFunctions bytes count
   pub text_is : text ≡ valid_line count
 
--- the line says why the bytes spell no valid module
-pub record TellsRefusal (bytes line : List ℕ) : Type 0 where
-  pub refusal : ModuleRefusal
-  pub why : IsWhy bytes refusal
-  pub line_is : line ≡ refusal_text refusal ++ 10 ∷ []
-
 abbrev pub IsAnswer : List ℕ → Answer → Type 0
 IsAnswer bytes (Done writes text) = (writes.items ≡ []) × TellsFunctions bytes (string_bytes text)
-IsAnswer bytes (Refused line why) = TellsRefusal bytes (string_bytes line)
+IsAnswer bytes (Refused line why) = TellsNoModule bytes (string_bytes line)
 
 -- what is answered to the file of a name
 pub record Checks (holds : Holding) (target : List ℕ) (answer : Answer) : Type 0 where

@@ -1,3 +1,4 @@
 pub mod Assembles
 pub mod Checks
 pub mod Deploys
+pub mod Texts

@@ -1,16 +1,15 @@
 //! The command `check MODULE [--heap N]`: whether a module is valid. Its tree stands in an arena, or in a heap of N bytes.
 
-ghost use Rattle.std.specs.Prelude.{◌≡◌, [], ◌∷◌, ◌++◌, IsTrue, IfOk, IfErr, OnOk, string_bytes};
+ghost use Rattle.std.specs.Prelude.{◌≡◌, IsTrue, IfOk, IfErr, OnOk, string_bytes};
 ghost use Rattle.wblock_line.specs.Answers.{CountsFault, IsOfFile};
 ghost use Rattle.wblock_line.specs.Modules.{StopsAt};
-ghost use Rattle.wblock_line.specs.Refusals.{refusal_text};
 ghost use Rattle.wblock_modules.specs.Checks.{CountsFunctions, IsAnswer, Checks, valid_line};
 
 use bumpalo::Bump;
 use linked_list_allocator::LocalHeap;
 use std::alloc::{AllocError, Allocator, Global};
 use wblock_io::Files;
-use wblock_line::{Answer, Fault, ModuleRefusal, Stop, read_file, read_valid};
+use wblock_line::{Answer, Fault, Stop, read_file, read_valid};
 
 /// The number of the functions that a valid module defines. Its tree stands under `room`.
 fn count_functions<A: Allocator + Clone>(
@@ -51,19 +50,6 @@ fn valid_text(alloc: Global, count: usize) -> Result<String, AllocError>
     Ok(text)
 }
 
-/// The line of a module of these bytes that is refused, and the sentence of the refusal.
-fn refusal_of(
-    alloc: Global,
-    bytes: &[u8],
-    refusal: ModuleRefusal,
-) -> Result<(String, String), AllocError>
-    ensures { IfOk result (λ told. string_bytes told.0 ≡ refusal_text refusal ++ 10 ∷ []) }
-{
-    let line = format!(in alloc; "{refusal}\n")?;
-    let why = refusal.words(alloc, bytes)?;
-    Ok((line, why))
-}
-
 /// The line that tells a number of functions, or why a module is refused.
 fn answer_bytes<'a>(alloc: Global, heap: Option<u32>, bytes: &[u8]) -> Result<Answer<'a>, Fault<'a>>
     ensures answer { IfOk result (IsAnswer bytes.now) }
@@ -74,7 +60,7 @@ fn answer_bytes<'a>(alloc: Global, heap: Option<u32>, bytes: &[u8]) -> Result<An
             Ok(text) => Ok(Answer::Done(Vec::new(alloc), text)),
             Err(AllocError) => Err(Fault::NoMemory),
         },
-        Err(Stop::Refused(refusal)) => match refusal_of(alloc, bytes, refusal) {
+        Err(Stop::Refused(refusal)) => match refusal.told(alloc, bytes) {
             Ok((line, why)) => Ok(Answer::Refused(line, why)),
             Err(AllocError) => Err(Fault::NoMemory),
         },

@@ -1,11 +1,13 @@
-//! The commands on modules: `asm`, `check` and `deploy`.
+//! The commands on modules: `asm`, `check`, `deploy` and `text`.
 #![tactic(auto)]
 
 mod asm;
 mod check;
 mod deploy;
 mod places;
+mod text;
 
 pub use asm::assemble_file;
 pub use check::check_module;
 pub use deploy::deploy_modules;
+pub use text::write_text;

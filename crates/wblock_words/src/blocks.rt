@@ -7,6 +7,7 @@ use crate::files::kind_of;
 use crate::places::told;
 use block::BlockRefusal;
 use records::{Fault, read_position, read_receipt, read_u32};
+use spec_ledger::Version;
 use std::alloc::{AllocError, Global};
 
 /// What to do about a block that is rejected for the reason of this number.
@@ -59,29 +60,37 @@ enum Field {
     Over,
 }
 
-/// The field at which bytes are no position.
-fn position_field(bytes: &[u8]) -> PositionField {
+/// The version of a block whose bytes name one.
+fn version_of(bytes: &[u8]) -> Version {
+    match bytes {
+        [_, _, _, _, 2, ..] => Version::Two,
+        _ => Version::One,
+    }
+}
+
+/// The field at which bytes are no position of this version.
+fn position_field(version: Version, bytes: &[u8]) -> PositionField {
     let Ok((_, rest)) = read_u32(bytes) else {
         return PositionField::Call;
     };
-    if read_receipt(rest).is_ok() {
+    if read_receipt(version, rest).is_ok() {
         PositionField::Profile
     } else {
         PositionField::Receipt
     }
 }
 
-/// The field of a block at which it is read no further, of the bytes from the number of positions on.
-fn field_of(alloc: Global, bytes: &[u8]) -> Result<Field, AllocError> {
+/// The field of a block of this version at which it is read no further, of the bytes from the number of positions on.
+fn field_of(alloc: Global, version: Version, bytes: &[u8]) -> Result<Field, AllocError> {
     let Ok((count, mut rest)) = read_u32(bytes) else {
         return Ok(Field::Count);
     };
     for number in 0..count {
-        match read_position(alloc, rest) {
+        match read_position(version, alloc, rest) {
             Ok((_, after)) => rest = after,
             Err(Fault::NoMemory) => return Err(AllocError),
             Err(Fault::Malformed(_) | Fault::TooLarge) => {
-                return Ok(Field::Position(number, position_field(rest)));
+                return Ok(Field::Position(number, position_field(version, rest)));
             }
         }
     }
@@ -116,13 +125,13 @@ fn fault_at(alloc: Global, bytes: &[u8], at: usize) -> Result<String, AllocError
             let kind = kind_of(bytes);
             format!(in alloc; ": the file does not begin as a block does, and {kind}")
         }
-        4 => ": the version of the format is not 1".to_string(alloc),
+        4 => ": the version of the format is neither 1 nor 2".to_string(alloc),
         8 => ": the digest of the world before is cut off".to_string(alloc),
         40 => ": the digest of the calls is cut off".to_string(alloc),
         72 => field_fault(alloc, Field::Count),
         _ => match bytes.get(72..) {
             Some(rest) => {
-                let field = field_of(alloc, rest)?;
+                let field = field_of(alloc, version_of(bytes), rest)?;
                 field_fault(alloc, field)
             }
             None => field_fault(alloc, Field::Over),

@@ -15,6 +15,7 @@ use Rattle.spec_ledger.specs.declared.Reply.{Reply}
 use Rattle.spec_ledger.specs.declared.Reply.TheVariants as reply
 use Rattle.spec_ledger.specs.declared.Step.{Step}
 use Rattle.spec_ledger.specs.declared.Outcome.{Outcome}
+use Rattle.spec_ledger.specs.declared.Receipt.{Receipt}
 use Rattle.spec_ledger.specs.declared.Outcome.TheVariants.{Returned, Trapped, OutOfFuel, Rejected}
 use Rattle.spec_ledger.specs.Cells.{Cells, lock_cmp, rank, lock_of, cell_after, reply_of, set_at, cells_after}
 use Rattle.spec_ledger.specs.Book.{after, GetsReplies, has_returned}
@@ -22,12 +23,12 @@ use Rattle.spec_ledger.specs.Modes.{Modes, touched}
 use Rattle.spec_execution.specs.Configuration.{Setting}
 use Rattle.spec_execution.specs.Reduction.{reduce, execute, execute_plain}
 use Rattle.spec_execution.specs.Run.{IsReply, to_get, to_has, to_put, to_del, to_add, to_total, ContractCall}
-use Rattle.spec_execution.specs.Levels.{RunsWith}
+use Rattle.spec_execution.specs.Levels.{RunsWith, asks_in}
 use Rattle.spec_execution.specs.Exec.{Executes}
 use Rattle.spec_execution.specs.Serial.{Serial}
 use Rattle.spec_execution.specs.Unique.{ExecutesOneWay}
 use Rattle.spec_execution.specs.Walk.{walk}
-use Rattle.worked_rows.specs.Worked.{adds_seven, gives_up, counts, keeps, only, call_with, on_five, on_key_nine, nine, returned, adds_and_reads, puts_and_deletes, counted}
+use Rattle.worked_rows.specs.Worked.{adds_seven, gives_up, counts, keeps, only, call_with, on_five, on_key_nine, nine, returned, adds_and_reads, puts_and_deletes, counted, alone_with}
 use Rattle.worked_rows.proofs.Computing.{is_run}
 
 -- ---- a host of fixed replies
@@ -116,27 +117,27 @@ counter_after cells x total here = is_done (Total nine) (cells_after (Add nine 5
 
 -- ---- executions
 
-silent : (setting : Setting) (call : ContractCall) (o : Outcome) (f : ℕ) (cells : Cells) → RunsWith setting call [] o f → Executes setting call cells cells o f empty
-silent setting call o f cells run = record { trace = []; run = run; replies = tt; later_is = as_they_were (has_returned o); locks_are = refl }
+silent : (setting : Setting) (call : ContractCall) (o : Outcome) (f : ℕ) (cells : Cells) → RunsWith setting call [] o f → Executes setting call cells cells (alone_with o f) empty
+silent setting call o f cells run = record { trace = []; run = run; asks = refl; replies = tt; later_is = as_they_were (has_returned o); locks_are = refl }
   where
     as_they_were : (b : Bool) → cells ≡ cond b cells cells
     as_they_were true = refl
     as_they_were false = refl
 
-pub keeps_executes : (cells : Cells) → Executes (only keeps) (on_key_nine 11) cells (after (puts_and_deletes 5) cells) (returned 5) 11 (touched (puts_and_deletes 5))
-keeps_executes cells = record { trace = puts_and_deletes 5; run = keeps_run; replies = keeps_replies cells; later_is = refl; locks_are = refl }
+pub keeps_executes : (cells : Cells) → Executes (only keeps) (on_key_nine 11) cells (after (puts_and_deletes 5) cells) (alone_with (returned 5) 11) (touched (puts_and_deletes 5))
+keeps_executes cells = record { trace = puts_and_deletes 5; run = keeps_run; asks = refl; replies = keeps_replies cells; later_is = refl; locks_are = refl }
 
 counter_empty : let cells : Cells = empty in get cells (lock_of (Add nine 5)) ≡ None
 counter_empty = get-empty lock_cmp (lock_of (Add nine 5))
 
-first_executes : Executes (only counts) (on_key_nine 5) empty (after (adds_and_reads 5) empty) (returned 5) 5 (touched (adds_and_reads 5))
-first_executes = record { trace = adds_and_reads 5; run = counts_to_5; replies = counts_replies empty None 5 counter_empty refl; later_is = refl; locks_are = refl }
+first_executes : Executes (only counts) (on_key_nine 5) empty (after (adds_and_reads 5) empty) (alone_with (returned 5) 5) (touched (adds_and_reads 5))
+first_executes = record { trace = adds_and_reads 5; run = counts_to_5; asks = refl; replies = counts_replies empty None 5 counter_empty refl; later_is = refl; locks_are = refl }
 
 abbrev after_one : Cells
 after_one = after (adds_and_reads 5) empty
 
-second_executes : Executes (only counts) (on_key_nine 5) after_one (after (adds_and_reads 10) after_one) (returned 10) 5 (touched (adds_and_reads 10))
-second_executes = record { trace = adds_and_reads 10; run = counts_to_10; replies = counts_replies after_one (Some 5) 10 (counter_after empty None 5 counter_empty) refl; later_is = refl; locks_are = refl }
+second_executes : Executes (only counts) (on_key_nine 5) after_one (after (adds_and_reads 10) after_one) (alone_with (returned 10) 5) (touched (adds_and_reads 10))
+second_executes = record { trace = adds_and_reads 10; run = counts_to_10; asks = refl; replies = counts_replies after_one (Some 5) 10 (counter_after empty None 5 counter_empty) refl; later_is = refl; locks_are = refl }
 
 pub two_serial : Serial (only counts) (on_key_nine 5 ∷ on_key_nine 5 ∷ []) (0 ∷ 1 ∷ []) empty (counted 5 ∷ counted 10 ∷ []) (after (adds_and_reads 10) after_one)
 two_serial = (on_key_nine 5, after_one, refl, first_executes, (on_key_nine 5, after (adds_and_reads 10) after_one, refl, second_executes, refl))
@@ -160,34 +161,35 @@ number_got _ = 0
 
 module _ (one_way : ExecutesOneWay) where
   -- another run with the same trace has the same end
-  same_end : (setting : Setting) (call : ContractCall) (cells later : Cells) (o o' : Outcome) (f f' : ℕ) (m : Modes) (trace : List Step) → GetsReplies trace cells → Executes setting call cells later o f m → RunsWith setting call trace o' f' → (o ≡ o') × (f ≡ f')
-  same_end setting call cells later o o' f f' m trace replies e run =
-      let same = one_way setting call cells later (cond (has_returned o') (after trace cells) cells) o o' f f' m (touched trace) e (record { trace = trace; run = run; replies = replies; later_is = refl; locks_are = refl }) in
-      (same.1, same.2)
+  same_end : (setting : Setting) (call : ContractCall) (cells later : Cells) (r : Receipt) (o' : Outcome) (f' : ℕ) (m : Modes) (trace : List Step) → GetsReplies trace cells → Executes setting call cells later r m → RunsWith setting call trace o' f' → (r.outcome ≡ o') × (r.used ≡ f')
+  same_end setting call cells later r o' f' m trace replies e run =
+      let other : Receipt = record { outcome = o'; used = f'; asks = asks_in trace } in
+      let same = one_way setting call cells later (cond (has_returned o') (after trace cells) cells) r other m (touched trace) e (record { trace = trace; run = run; asks = refl; replies = replies; later_is = refl; locks_are = refl }) in
+      (ap (λ (r : Receipt). r.outcome) same.1, ap (λ (r : Receipt). r.used) same.1)
 
   pub not_13 : RunsWith (only adds_seven) (on_five 3) [] (returned 13) 3 → ⊥
-  not_13 run = omega (arith, ap number_in (same_end _ _ empty _ _ _ _ _ _ [] tt (silent _ _ _ _ empty adds_run) run).0)
+  not_13 run = omega (arith, ap number_in (same_end _ _ empty _ _ _ _ _ [] tt (silent _ _ _ _ empty adds_run) run).0)
 
   pub not_by_2 : RunsWith (only adds_seven) (on_five 3) [] (returned 12) 2 → ⊥
-  not_by_2 run = omega (arith, (same_end _ _ empty _ _ _ _ _ _ [] tt (silent _ _ _ _ empty adds_run) run).1)
+  not_by_2 run = omega (arith, (same_end _ _ empty _ _ _ _ _ [] tt (silent _ _ _ _ empty adds_run) run).1)
 
   pub not_within_2 : RunsWith (only adds_seven) (on_five 2) [] (returned 12) 3 → ⊥
-  not_within_2 run = omega (arith, (same_end _ _ empty _ _ _ _ _ _ [] tt (silent _ _ _ _ empty adds_with_2) run).1)
+  not_within_2 run = omega (arith, (same_end _ _ empty _ _ _ _ _ [] tt (silent _ _ _ _ empty adds_with_2) run).1)
 
-  pub only_12 : (cells later : Cells) (o : Outcome) (f : ℕ) (m : Modes) → Executes (only adds_seven) (on_five 3) cells later o f m → (later ≡ cells) × (o ≡ returned 12) × (f ≡ 3)
-  only_12 cells later o f m e = let same = one_way _ _ cells _ _ _ _ _ _ _ _ e (silent _ _ _ _ cells adds_run) in (same.0, same.1, same.2)
+  pub only_12 : (cells later : Cells) (r : Receipt) (m : Modes) → Executes (only adds_seven) (on_five 3) cells later r m → (later ≡ cells) × (r ≡ alone_with (returned 12) 3)
+  only_12 cells later r m e = let same = one_way _ _ cells _ _ _ _ _ _ e (silent _ _ _ _ cells adds_run) in (same.0, same.1)
 
   pub no_free_trap : RunsWith (only gives_up) (call_with 100 []) [] (Trapped Unreachable) 0 → ⊥
-  no_free_trap run = omega (arith, (same_end _ _ empty _ _ _ _ _ _ [] tt (silent _ _ _ _ empty trap_run) run).1)
+  no_free_trap run = omega (arith, (same_end _ _ empty _ _ _ _ _ [] tt (silent _ _ _ _ empty trap_run) run).1)
 
   pub no_return : RunsWith (only gives_up) (call_with 100 []) [] (returned 0) 1 → ⊥
-  no_return run = omega (arith, ap has_ended (same_end _ _ empty _ _ _ _ _ _ [] tt (silent _ _ _ _ empty trap_run) run).0)
+  no_return run = omega (arith, ap has_ended (same_end _ _ empty _ _ _ _ _ [] tt (silent _ _ _ _ empty trap_run) run).0)
 
   pub not_number_4 : RunsWith (only adds_seven) (call_with 100 []) [] (Rejected 4) 0 → ⊥
-  not_number_4 run = omega (arith, ap has_ended (same_end _ _ empty _ _ _ _ _ _ [] tt (silent _ _ _ _ empty refused_run) run).0)
+  not_number_4 run = omega (arith, ap has_ended (same_end _ _ empty _ _ _ _ _ [] tt (silent _ _ _ _ empty refused_run) run).0)
 
   pub not_by_10 : RunsWith (only keeps) (on_key_nine 11) (puts_and_deletes 5) (returned 5) 10 → ⊥
-  not_by_10 run = omega (arith, (same_end _ _ empty _ _ _ _ _ _ (puts_and_deletes 5) (keeps_replies empty) (keeps_executes empty) run).1)
+  not_by_10 run = omega (arith, (same_end _ _ empty _ _ _ _ _ (puts_and_deletes 5) (keeps_replies empty) (keeps_executes empty) run).1)
 
   pub not_6 : (cells : Cells) → GetsReplies (puts_and_deletes 6) cells → ⊥
   not_6 cells g = let h = keeps_replies cells in omega (arith, ap number_got (g.1.1.0 ∙ sym (h.1.1.0)))
@@ -196,19 +198,19 @@ module _ (one_way : ExecutesOneWay) where
   not_5_again last h =
       let one : h.0 ≡ on_key_nine 5 = (let e : Some (on_key_nine 5) ≡ Some (h.0) = h.2 in cc) in
       let two : h.4.0 ≡ on_key_nine 5 = (let e : Some (on_key_nine 5) ≡ Some (h.4.0) = h.4.2 in cc) in
-      let cells = (one_way (only counts) (on_key_nine 5) empty h.1 after_one _ _ _ _ _ _ (subst (λ (k : ContractCall). Executes (only counts) k empty h.1 (returned 5) 5 (touched (adds_and_reads 5))) one h.3) first_executes).0 in
-      let again : Executes (only counts) (on_key_nine 5) after_one h.4.1 (returned 5) 5 (touched (adds_and_reads 5)) = subst (λ (x : Cells). Executes (only counts) (on_key_nine 5) x h.4.1 (returned 5) 5 (touched (adds_and_reads 5))) cells
-      (subst (λ (k : ContractCall). Executes (only counts) k h.1 h.4.1 (returned 5) 5 (touched (adds_and_reads 5))) two h.4.3) in
-      omega (arith, ap number_in (one_way (only counts) (on_key_nine 5) after_one _ _ (returned 5) (returned 10) _ _ _ _ again second_executes).1)
+      let cells = (one_way (only counts) (on_key_nine 5) empty h.1 after_one _ _ _ _ (subst (λ (k : ContractCall). Executes (only counts) k empty h.1 (alone_with (returned 5) 5) (touched (adds_and_reads 5))) one h.3) first_executes).0 in
+      let again : Executes (only counts) (on_key_nine 5) after_one h.4.1 (alone_with (returned 5) 5) (touched (adds_and_reads 5)) = subst (λ (x : Cells). Executes (only counts) (on_key_nine 5) x h.4.1 (alone_with (returned 5) 5) (touched (adds_and_reads 5))) cells
+      (subst (λ (k : ContractCall). Executes (only counts) k h.1 h.4.1 (alone_with (returned 5) 5) (touched (adds_and_reads 5))) two h.4.3) in
+      omega (arith, ap (λ (r : Receipt). number_in r.outcome) (one_way (only counts) (on_key_nine 5) after_one _ _ (alone_with (returned 5) 5) (alone_with (returned 10) 5) _ _ again second_executes).1)
 
   pub not_one_call : (last : Cells) → Serial (only counts) (on_key_nine 5 ∷ on_key_nine 5 ∷ []) (0 ∷ 1 ∷ []) empty (counted 5 ∷ []) last → ⊥
   not_one_call last h = h.4
 
-pub adds_executes : (cells : Cells) → Executes (only adds_seven) (on_five 3) cells cells (returned 12) 3 empty
+pub adds_executes : (cells : Cells) → Executes (only adds_seven) (on_five 3) cells cells (alone_with (returned 12) 3) empty
 adds_executes cells = silent _ _ _ _ cells adds_run
 
-pub trap_executes : (cells : Cells) → Executes (only gives_up) (call_with 100 []) cells cells (Trapped Unreachable) 1 empty
+pub trap_executes : (cells : Cells) → Executes (only gives_up) (call_with 100 []) cells cells (alone_with (Trapped Unreachable) 1) empty
 trap_executes cells = silent _ _ _ _ cells trap_run
 
-pub refused_executes : (cells : Cells) → Executes (only adds_seven) (call_with 100 []) cells cells (Rejected 3) 0 empty
+pub refused_executes : (cells : Cells) → Executes (only adds_seven) (call_with 100 []) cells cells (alone_with (Rejected 3) 0) empty
 refused_executes cells = silent _ _ _ _ cells refused_run

@@ -9,10 +9,12 @@ use Rattle.wtypes.specs.declared.HostCall.{HostCall}
 use Rattle.wtypes.specs.declared.HostCall.TheVariants as host
 use Rattle.spec_syntax.specs.Syntax.{Instr, Plain, nothing, instrs_of, FuncType, Import, ImportFunc, ExportFunc}
 use Rattle.spec_syntax.specs.Profile.{host_module, host_name, host_type}
+use Rattle.spec_ledger.specs.declared.Version.TheVariants.{Two}
 use Rattle.spec_ledger.specs.declared.Place.{Place}
 use Rattle.spec_ledger.specs.declared.Op.TheVariants as op
 use Rattle.spec_ledger.specs.declared.Outcome.{Outcome}
 use Rattle.spec_ledger.specs.declared.Outcome.TheVariants.{Returned}
+use Rattle.spec_ledger.specs.declared.Receipt.{Receipt}
 use Rattle.spec_ledger.specs.declared.Reply.TheVariants as reply
 use Rattle.spec_ledger.specs.declared.Step.{Step}
 use Rattle.spec_ledger.specs.declared.Step.TheVariants.{Did}
@@ -69,12 +71,12 @@ keeps =
     ∷ Plain (Call 2) ∷ Plain (LocalGet 0) ∷ Plain (Call 3) ∷ Plain Drop ∷ []
     )
 
--- over this contract alone, with number 0
+-- over this contract alone, with number 0, in version 2
 abbrev pub only : Deployed → Setting
-only d = record { contracts = d ∷ [] }
+only d = record { contracts = d ∷ []; version = Two }
 
 abbrev pub at_0 : Deployed → Contract
-at_0 d = record { number = 0; deployed = d }
+at_0 d = record { number = 0; deployed = d; version = Two }
 
 -- a call of "run" of contract 0
 abbrev pub call_with : (fuel : ℕ) → List Value → ContractCall
@@ -93,6 +95,10 @@ nine = record { contract = 0; key = 9 }
 abbrev pub returned : ℕ → Outcome
 returned n = Returned (Some (I64 (pos n)))
 
+-- the receipt of a call that entered no level
+abbrev pub alone_with : Outcome → (fuel : ℕ) → Receipt
+alone_with outcome fuel = record { outcome = outcome; used = fuel; asks = 0 }
+
 -- what `counts` asks, where it comes to this total
 abbrev pub adds_and_reads : (total : ℕ) → List Step
 adds_and_reads total = Did (op.Add nine 5) reply.Nothing ∷ Did (op.Total nine) (reply.I64 (pos total)) ∷ []
@@ -105,7 +111,7 @@ puts_and_deletes got =
 
 -- what a call of `counts` comes to, with this total
 abbrev pub counted : (total : ℕ) → Ran
-counted total = record { receipt = record { outcome = returned total; used = 5 }; touched = touched (adds_and_reads total) }
+counted total = record { receipt = alone_with (returned total) 5; touched = touched (adds_and_reads total) }
 
 -- ---- states
 

@@ -1,12 +1,12 @@
 // Worked rows: closed instances of the definitions that hold, and such that do not. A premise that nothing meets, added to a rule, would make a row fail.
 #![tactic(auto)]
 
-ghost use Rattle.std.specs.Prelude.{◌≡◌, ℕ, List, [], ◌∷◌, codes};
+ghost use Rattle.std.specs.Prelude.{◌≡◌, List, [], ◌∷◌, codes};
 ghost use Rattle.std.specs.FinMap.{empty};
 ghost use Rattle.wtypes.specs.declared.TrapCode.TheVariants.{Unreachable};
 ghost use Rattle.spec_syntax.specs.Syntax.{Module};
-ghost use Rattle.spec_ledger.specs.declared.Outcome.{Outcome};
 ghost use Rattle.spec_ledger.specs.declared.Outcome.TheVariants.{OutOfFuel, Rejected, Trapped};
+ghost use Rattle.spec_ledger.specs.declared.Receipt.{Receipt};
 ghost use Rattle.spec_ledger.specs.Book.{GetsReplies, after};
 ghost use Rattle.spec_ledger.specs.Cells.{Cells};
 ghost use Rattle.spec_ledger.specs.Modes.{Modes, touched};
@@ -18,17 +18,17 @@ ghost use Rattle.spec_execution.specs.Turning.{IsState};
 ghost use Rattle.spec_text.specs.declared.TokenKind.TheVariants.{Close};
 ghost use Rattle.spec_text.specs.Lexical.{Lexes};
 ghost use Rattle.spec_text.specs.Names.{Names};
-ghost use Rattle.worked_rows.specs.Worked.{adds_and_reads, adds_seven, after_the_sum, at_0, bare, before_the_sum, before_the_total, call_with, counted, counts, gives_up, keeps, on_five, on_key_nine, only, puts_and_deletes, returned};
+ghost use Rattle.worked_rows.specs.Worked.{adds_and_reads, adds_seven, after_the_sum, alone_with, at_0, bare, before_the_sum, before_the_total, call_with, counted, counts, gives_up, keeps, on_five, on_key_nine, only, puts_and_deletes, returned};
 
 /// 5 and 7 more is 12, with fuel 3: with a limit of 2 it is out of fuel. Another value, one unit less, or another end is no run.
 pub fn a_call_that_adds()
     ensures runs { RunsWith (only adds_seven) (on_five 3) [] (returned 12) 3 }
     ensures out_of_fuel { RunsWith (only adds_seven) (on_five 2) [] OutOfFuel 2 }
-    ensures executes { (cells : Cells) → Executes (only adds_seven) (on_five 3) cells cells (returned 12) 3 empty }
+    ensures executes { (cells : Cells) → Executes (only adds_seven) (on_five 3) cells cells (alone_with (returned 12) 3) empty }
     ensures no_other_value { ¬ (RunsWith (only adds_seven) (on_five 3) [] (returned 13) 3) }
     ensures no_less_fuel { ¬ (RunsWith (only adds_seven) (on_five 3) [] (returned 12) 2) }
     ensures no_other_end { ¬ (RunsWith (only adds_seven) (on_five 2) [] (returned 12) 3) }
-    ensures no_other_cells { (cells later : Cells) (outcome : Outcome) (fuel : ℕ) (locks : Modes) → Executes (only adds_seven) (on_five 3) cells later outcome fuel locks → (later ≡ cells) × (outcome ≡ returned 12) × (fuel ≡ 3) }
+    ensures no_other_cells { (cells later : Cells) (receipt : Receipt) (locks : Modes) → Executes (only adds_seven) (on_five 3) cells later receipt locks → (later ≡ cells) × (receipt ≡ alone_with (returned 12) 3) }
 {
     spec_execution::runs_are_unique();
 }
@@ -36,7 +36,7 @@ pub fn a_call_that_adds()
 /// A trap is charged, and it does not return.
 pub fn a_call_that_traps()
     ensures runs { RunsWith (only gives_up) (call_with 100 []) [] (Trapped Unreachable) 1 }
-    ensures executes { (cells : Cells) → Executes (only gives_up) (call_with 100 []) cells cells (Trapped Unreachable) 1 empty }
+    ensures executes { (cells : Cells) → Executes (only gives_up) (call_with 100 []) cells cells (alone_with (Trapped Unreachable) 1) empty }
     ensures no_free_trap { ¬ (RunsWith (only gives_up) (call_with 100 []) [] (Trapped Unreachable) 0) }
     ensures no_return { ¬ (RunsWith (only gives_up) (call_with 100 []) [] (returned 0) 1) }
 {
@@ -46,7 +46,7 @@ pub fn a_call_that_traps()
 /// A call without its argument is refused by number 3, and by no other.
 pub fn a_call_that_is_refused()
     ensures runs { RunsWith (only adds_seven) (call_with 100 []) [] (Rejected 3) 0 }
-    ensures executes { (cells : Cells) → Executes (only adds_seven) (call_with 100 []) cells cells (Rejected 3) 0 empty }
+    ensures executes { (cells : Cells) → Executes (only adds_seven) (call_with 100 []) cells cells (alone_with (Rejected 3) 0) empty }
     ensures no_other_number { ¬ (RunsWith (only adds_seven) (call_with 100 []) [] (Rejected 4) 0) }
 {
     spec_execution::runs_are_unique();
@@ -55,7 +55,7 @@ pub fn a_call_that_is_refused()
 /// A cell is put, found, got and deleted, over any cells. It gets what was put, and no other number.
 pub fn a_call_that_keeps()
     ensures runs { RunsWith (only keeps) (on_key_nine 11) (puts_and_deletes 5) (returned 5) 11 }
-    ensures executes { (cells : Cells) → Executes (only keeps) (on_key_nine 11) cells (after (puts_and_deletes 5) cells) (returned 5) 11 (touched (puts_and_deletes 5)) }
+    ensures executes { (cells : Cells) → Executes (only keeps) (on_key_nine 11) cells (after (puts_and_deletes 5) cells) (alone_with (returned 5) 11) (touched (puts_and_deletes 5)) }
     ensures no_other_reply { (cells : Cells) → ¬ (GetsReplies (puts_and_deletes 6) cells) }
     ensures no_less_fuel { ¬ (RunsWith (only keeps) (on_key_nine 11) (puts_and_deletes 5) (returned 5) 10) }
 {

@@ -2,7 +2,7 @@ use Rattle.std.proofs.Common.{◌≡◌, ◌<◌, ◌*◌, sym, ap, ◌∙◌, s
 use Rattle.std.proofs.lemmas.List.{length-replicate}
 use Rattle.spec_numeric.specs.Operators.{bits_of}
 use Rattle.spec_numeric.specs.Memory.{written}
-use Rattle.spec_syntax.specs.Profile.{page_size}
+use Rattle.spec_syntax.specs.Profile.{page_size, page_limit}
 use Rattle.memory.specs.Linear.{Stored}
 use Rattle.memory.specs.declared.StoreRefusal.{StoreRefusal}
 use Rattle.std.specs.Prelude.{map, replicate, take}
@@ -12,13 +12,18 @@ use Rattle.module_tree.specs.Modules.{module_view}
 use Rattle.link.specs.Parts.{tree_of, hosts_of}
 use Rattle.spec_execution.specs.Configuration.{size_of, constant, with_datas}
 use Rattle.spec_execution.specs.Reduction.{most_pages}
-use Rattle.instance.proofs.Segments.{fits_known, segment_fits, segment_small, one_segment_more, length_in_place}
+use Rattle.instance.proofs.Segments.{fits_known, few_known, segment_fits, segment_small, one_segment_more, length_in_place}
 use Rattle.instance.proofs.open_memory.Goals as goal
 
-pub first_memory-requires : goal.first_memory-requires
-first_memory-requires g c =
-    subst (λ ms. size_of (map limits_view ms) ≤ most_pages (map limits_view ms)) (sym (c.deref.ensures.value ∙ ap (λ t. t.memories.items) c.module-tree.ensures))
-    (fits_known (module_view (tree_of c.args.deployed.now)) (hosts_of c.args.deployed.now) c.is_linked.ensures)
+pub first_memory-requires-clause-few : goal.first_memory-requires-clause-few
+first_memory-requires-clause-few g c =
+    subst (λ ms. size_of (map limits_view ms) ≤ page_limit) (sym (c.deref.ensures.value ∙ ap (λ t. t.memories.items) c.module-tree.ensures))
+    (few_known (module_view (tree_of c.args.deployed.now)) (hosts_of c.args.deployed.now) c.is_linked.ensures)
+
+pub first_memory-requires-clause-fits : goal.first_memory-requires-clause-fits
+first_memory-requires-clause-fits g c =
+    subst (λ ms. size_of (map limits_view ms) ≤ most_pages c.args.version (map limits_view ms)) (sym (c.deref.ensures.value ∙ ap (λ t. t.memories.items) c.module-tree.ensures))
+    (fits_known c.args.version (module_view (tree_of c.args.deployed.now)) (hosts_of c.args.deployed.now) c.is_linked.ensures)
 
 pub loop-segment-init : goal.loop-segment-init
 loop-segment-init g c =
@@ -27,7 +32,7 @@ loop-segment-init g c =
     record {
       bytes = bytes;
       len = ap length bytes ∙ length-replicate (page_size * size_of (map limits_view (tree_of c.args.deployed.now).memories.items)) 0;
-      max = c.in_ok-memory.ensures.max ∙ ap (λ ms. most_pages (map limits_view ms)) ms;
+      max = c.in_ok-memory.ensures.max ∙ ap (λ ms. most_pages c.args.version (map limits_view ms)) ms;
     }
 
 pub overflow_cast-at : goal.overflow_cast-at

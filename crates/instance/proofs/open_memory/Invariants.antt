@@ -11,5 +11,5 @@ abbrev pub invariant-loop-segment : goal.invariant-loop-segment
 invariant-loop-segment g l = record {
   bytes : l.memory.bytes ≡ with_datas (map data_view (take l.segment-index (tree_of l.deployed).datas.items)) (replicate (page_size * size_of (map limits_view (tree_of l.deployed).memories.items)) 0);
   len : length l.memory.bytes ≡ page_size * size_of (map limits_view (tree_of l.deployed).memories.items);
-  max : l.memory.max ≡ most_pages (map limits_view (tree_of l.deployed).memories.items);
+  max : l.memory.max ≡ most_pages l.fn.version (map limits_view (tree_of l.deployed).memories.items);
 }

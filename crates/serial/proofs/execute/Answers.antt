@@ -10,7 +10,7 @@ conclude-requires g c = may_end c.args.cells.now c.play.new.cells c.in_ok-finish
 pub returns-clause-executed : goal.returns-clause-executed
 returns-clause-executed g c =
     IfOk-weaker c.conclude.result _ _
-    (λ e h. executed_for (setting_view c.args.contracts.now) c.args.call.now c.args.cells.now c.play.new.cells c.in_ok-finished.finished c.in_ok-finished.inverses.items c.in_ok-finished.ensures.ok c.conclude.new.cells.cells e.receipt.outcome e.receipt.used e.touched
+    (λ e h. executed_for (setting_view c.args.version c.args.contracts.now) c.args.call.now c.args.cells.now c.play.new.cells c.in_ok-finished.finished c.in_ok-finished.inverses.items c.in_ok-finished.ensures.ok c.conclude.new.cells.cells e.receipt e.touched
     (h c.args.cells.now c.in_ok-finished.ensures.ok.done c.requires c.hold.ensures.cells))
     c.conclude.ensures.executed
 

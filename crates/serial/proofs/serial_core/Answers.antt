@@ -12,7 +12,7 @@ pub loop-number-preserved : goal.loop-number-preserved
 loop-number-preserved g c =
     let below = All-get_or (λ n. n < length c.args.calls.now) c.args.order.now c.loop-number.number-index 0 c.loop-number-test.true c.requires in
     record {
-      serial = serial_more (setting_view c.args.contracts.now) c.args.calls.now c.args.order.now c.loop-number.number-index 0 c.args.cells.now.cells c.loop-number.current.cells c.execute.new.cells.cells
+      serial = serial_more (setting_view c.args.version c.args.contracts.now) c.args.calls.now c.args.order.now c.loop-number.number-index 0 c.args.cells.now.cells c.loop-number.current.cells c.execute.new.cells.cells
           c.loop-number.receipts.items c.push.new.self.items c.loop-number.touched.items c.push-in-loop-number.new.self.items c.in_ok-executed.executed.receipt c.in_ok-executed.executed.touched c.index-calls-number.result
           c.loop-number-test.true c.loop-number.invariant.serial (omega (arith, c.loop-number.invariant.receipts, c.loop-number.invariant.touched)) c.in_ok-push.ensures.items c.in_ok-push-2.ensures.items
           (slice_get_read c.args.calls.now (length c.args.calls.now) (get_or c.args.order.now c.loop-number.number-index 0) c.index-calls-number.result refl below c.index-calls-number.is) c.in_ok-executed.ensures.executed;

@@ -26,4 +26,4 @@ returns-clause-block g c =
     let made = c.in_ok-positions.ensures ∙ (λ k. positions c.args.order.now (ran_of (c.deref.ensures.value k) (c.deref-2.ensures.value k))) in
     let fuel = c.fuel_of-fuel.ensures ∙ (ap used_by c.deref-3.ensures.value ∙ fuel_is receipts touched (c.requires.receipts ∙ sym c.requires.touched)) in
     let after = c.in_ok-after.ensures ∙ ap (λ (w : World). sha256 (world_bytes w)) next in
-    c.in-Some.ensures.is ∙ (λ k. record { before = c.in_ok-before.ensures k; calls = c.in_ok-calls_digest.ensures k; positions = made k; fuel = fuel k; after = after k })
+    c.in-Some.ensures.is ∙ (λ k. record { version = c.args.version; before = c.in_ok-before.ensures k; calls = c.in_ok-calls_digest.ensures k; positions = made k; fuel = fuel k; after = after k })

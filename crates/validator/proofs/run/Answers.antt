@@ -11,7 +11,7 @@ returns-clause-verdict g c = λ fuel.
     let world = world_view c.args.world.now in
     let calls = c.args.calls.now in
     let core = c.in_ok-folded.folded.core in
-    let same_setting : setting_view c.contracts.result.now ≡ setting_of world = λ k. record { contracts = c.contracts.ensures.contracts k } in
+    let same_setting : setting_view c.version.result c.contracts.result.now ≡ setting_of c.args.fit.now.block.version world = λ k. record { contracts = c.contracts.ensures.contracts k; version = c.version.ensures k } in
     c.in_ok-verdict.ensures calls fuel
-    (run_of world calls c.args.fit.now.block (setting_view c.contracts.result.now) c.deref.result.now c.cells-2.result.now.cells (ran_of core.receipts.items core.touched.items) core.cells.cells
+    (run_of world calls c.args.fit.now.block (setting_view c.version.result c.contracts.result.now) c.deref.result.now c.cells-2.result.now.cells (ran_of core.receipts.items core.touched.items) core.cells.cells
     same_setting (c.deref.ensures.value ∙ c.requires.order) c.cells-2.ensures c.in_ok-folded.ensures.serial)

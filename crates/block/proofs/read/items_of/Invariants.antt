@@ -6,4 +6,4 @@ use Rattle.block.specs.Reading.{next_position_at}
 use Rattle.block.proofs.read.items_of.Given as goal
 
 abbrev pub invariant-loop : goal.invariant-loop
-invariant-loop g l = (before : Option Position) × (with_front l.positions.items (items_at next_position_at (l.count - l.counter) before l.rest) ≡ items_at next_position_at l.count None l.bytes)
+invariant-loop g l = (before : Option Position) × (with_front l.positions.items (items_at (next_position_at l.version) (l.count - l.counter) before l.rest) ≡ items_at (next_position_at l.version) l.count None l.bytes)

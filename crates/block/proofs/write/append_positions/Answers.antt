@@ -6,5 +6,5 @@ use Rattle.block.proofs.write.append_positions.Goals as goal
 
 pub loop-position-preserved : goal.loop-position-preserved
 loop-position-preserved g c =
-    one_more position_bytes c.args.out.now.items (to_le_bytes w32 (length c.args.positions.now)) c.loop-position.out.items c.append_position.new.out.items c.args.positions.now c.loop-position.position-index c.position-item.result
+    one_more (position_bytes c.args.version) c.args.out.now.items (to_le_bytes w32 (length c.args.positions.now)) c.loop-position.out.items c.append_position.new.out.items c.args.positions.now c.loop-position.position-index c.position-item.result
     c.loop-position-test.true c.position-item.is c.loop-position.invariant c.in_ok-append_position.ensures.bytes

@@ -4,4 +4,4 @@ use Rattle.debugger.proofs.cursor.open.Goals as goal
 
 pub returns-in-Ok-clause-at : goal.returns-in-Ok-clause-at
 returns-in-Ok-clause-at g c =
-    started (setting_view c.args.contracts.now) c.args.call.now c.args.start.now.cells c.in-Ok.cells.cells c.in_ok-machine.machine c.in_ok-machine.ensures.start c.in_ok-machine.ensures.on_run c.in-Ok.ensures.cells
+    started (setting_view c.args.version c.args.contracts.now) c.args.call.now c.args.start.now.cells c.in-Ok.cells.cells c.in_ok-machine.machine c.in_ok-machine.ensures.start c.in_ok-machine.ensures.on_run c.in-Ok.ensures.cells

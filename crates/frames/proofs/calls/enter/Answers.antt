@@ -18,15 +18,15 @@ pub index-function-requires : goal.index-function-requires
 index-function-requires g c =
     let l = c.args.lent.now in
     let m = l.module.now in
-    omega (arith, call_found m l.hosts.now l.number (view (base_of l) c.args.parts.now) c.args.func c.requires.call.fine c.requires.call.defined, m.funcs.ok.0)
+    omega (arith, call_found m l.hosts.now l.number l.version (view (base_of l) c.args.parts.now) c.args.func c.requires.call.fine c.requires.call.defined, m.funcs.ok.0)
 
 pub index-form-requires : goal.index-form-requires
 index-form-requires g c =
     let l = c.args.lent.now in
     let m = l.module.now in
-    let found = call_found m l.hosts.now l.number (view (base_of l) c.args.parts.now) c.args.func c.requires.call.fine c.requires.call.defined in
+    let found = call_found m l.hosts.now l.number l.version (view (base_of l) c.args.parts.now) c.args.func c.requires.call.fine c.requires.call.defined in
     let eg = slice_get_read m.funcs.items _ (c.args.func - length l.hosts.now) c.index-function.result.now refl found c.index-function.ensures in
-    omega (arith, type_found m l.hosts.now l.number (view (base_of l) c.args.parts.now) c.args.func c.requires.call.fine c.requires.call.defined c.index-function.result.now eg, m.types.ok.0)
+    omega (arith, type_found m l.hosts.now l.number l.version (view (base_of l) c.args.parts.now) c.args.func c.requires.call.fine c.requires.call.defined c.index-function.result.now eg, m.types.ok.0)
 
 pub returns-then-parts-ge-MOST_FRAMES-clause-entered : goal.returns-then-parts-ge-MOST_FRAMES-clause-entered
 returns-then-parts-ge-MOST_FRAMES-clause-entered g c =
@@ -37,10 +37,10 @@ returns-then-parts-ge-MOST_FRAMES-clause-entered g c =
     let le = c.requires.call.defined in
     let f = c.index-function.result.now in
     let t = c.index-form.result.now in
-    let eg = slice_get_read m.funcs.items _ (c.args.func - length l.hosts.now) f refl (call_found m l.hosts.now l.number v c.args.func fine le) c.index-function.ensures in
-    let et = slice_get_read m.types.items _ f.type_index t refl (type_found m l.hosts.now l.number v c.args.func fine le f eg) c.index-form.ensures in
-    let fits = args_found m l.hosts.now l.number v c.args.func fine le f t (c.requires.ordered (base_of l)) eg et in
-    (too_deep_view m l.hosts.now l.number v c.args.func f t fine le (c.requires.ordered (base_of l)) eg et (length v.stack - length t.params.items) (omega arith) (omega (arith, c.requires.counted.count, c.if-parts-ge-MOST_FRAMES.true)), refl)
+    let eg = slice_get_read m.funcs.items _ (c.args.func - length l.hosts.now) f refl (call_found m l.hosts.now l.number l.version v c.args.func fine le) c.index-function.ensures in
+    let et = slice_get_read m.types.items _ f.type_index t refl (type_found m l.hosts.now l.number l.version v c.args.func fine le f eg) c.index-form.ensures in
+    let fits = args_found m l.hosts.now l.number l.version v c.args.func fine le f t (c.requires.ordered (base_of l)) eg et in
+    (too_deep_view m l.hosts.now l.number l.version v c.args.func f t fine le (c.requires.ordered (base_of l)) eg et (length v.stack - length t.params.items) (omega arith) (omega (arith, c.requires.counted.count, c.if-parts-ge-MOST_FRAMES.true)), refl)
 
 pub overflow_sub-height : goal.overflow_sub-height
 overflow_sub-height g c =
@@ -51,9 +51,9 @@ overflow_sub-height g c =
     let le = c.requires.call.defined in
     let f = c.index-function.result.now in
     let t = c.index-form.result.now in
-    let eg = slice_get_read m.funcs.items _ (c.args.func - length l.hosts.now) f refl (call_found m l.hosts.now l.number v c.args.func fine le) c.index-function.ensures in
-    let et = slice_get_read m.types.items _ f.type_index t refl (type_found m l.hosts.now l.number v c.args.func fine le f eg) c.index-form.ensures in
-    omega (arith, args_found m l.hosts.now l.number v c.args.func fine le f t (c.requires.ordered (base_of l)) eg et, c.len.ensures, c.len-2.ensures, t.params.ok.0, c.args.parts.now.stack.ok.0)
+    let eg = slice_get_read m.funcs.items _ (c.args.func - length l.hosts.now) f refl (call_found m l.hosts.now l.number l.version v c.args.func fine le) c.index-function.ensures in
+    let et = slice_get_read m.types.items _ f.type_index t refl (type_found m l.hosts.now l.number l.version v c.args.func fine le f eg) c.index-form.ensures in
+    omega (arith, args_found m l.hosts.now l.number l.version v c.args.func fine le f t (c.requires.ordered (base_of l)) eg et, c.len.ensures, c.len-2.ensures, t.params.ok.0, c.args.parts.now.stack.ok.0)
 
 pub returns-clause-entered : goal.returns-clause-entered
 returns-clause-entered g c =
@@ -65,12 +65,12 @@ returns-clause-entered g c =
     let le = c.requires.call.defined in
     let f = c.index-function.result.now in
     let t = c.index-form.result.now in
-    let found = call_found m l.hosts.now l.number v c.args.func fine le in
+    let found = call_found m l.hosts.now l.number l.version v c.args.func fine le in
     let eg = slice_get_read m.funcs.items _ (c.args.func - length l.hosts.now) f refl found c.index-function.ensures in
-    let et = slice_get_read m.types.items _ f.type_index t refl (type_found m l.hosts.now l.number v c.args.func fine le f eg) c.index-form.ensures in
-    let fits = args_found m l.hosts.now l.number v c.args.func fine le f t (c.requires.ordered (base_of l)) eg et in
+    let et = slice_get_read m.types.items _ f.type_index t refl (type_found m l.hosts.now l.number l.version v c.args.func fine le f eg) c.index-form.ensures in
+    let fits = args_found m l.hosts.now l.number l.version v c.args.func fine le f t (c.requires.ordered (base_of l)) eg et in
     let cut = c.len.result - c.len-2.result in
-    started_view m l.hosts.now l.number v c.args.func f t fine le (c.requires.ordered (base_of l)) eg et cut
+    started_view m l.hosts.now l.number l.version v c.args.func f t fine le (c.requires.ordered (base_of l)) eg et cut
     (omega (arith, fits, c.len.ensures, c.len-2.ensures, t.params.ok.0, p.stack.ok.0))
     _ (open_of (record { kind = Frame c.args.func c.replace-saved.result; ordinal = 0; arity = c.len-3.result; height = cut; from = p.code }))
     (omega (arith, c.requires.counted.count, c.if-parts-ge-MOST_FRAMES.false)) refl (ap opens_of c.in_ok-push.ensures.items ∙ opens_push p.entries.items _) c.truncate.ensures.items
@@ -84,7 +84,7 @@ returns-clause-counted g c =
     let m = l.module.now in
     let p = c.args.parts.now in
     let f = c.index-function.result.now in
-    let eg = slice_get_read m.funcs.items _ (c.args.func - length l.hosts.now) f refl (call_found m l.hosts.now l.number (view (base_of l) p) c.args.func c.requires.call.fine c.requires.call.defined) c.index-function.ensures in
+    let eg = slice_get_read m.funcs.items _ (c.args.func - length l.hosts.now) f refl (call_found m l.hosts.now l.number l.version (view (base_of l) p) c.args.func c.requires.call.fine c.requires.call.defined) c.index-function.ensures in
     let q : Parts g.row.A.Denot = record { code = c.deref-parts.result; entries = c.push.new.self; depth = p.depth + 1; stack = c.truncate.new.self; locals = c.replace-saved.new.dest; instance = p.instance } in
     let e : Entry g.row.A.Denot = record { kind = Frame c.args.func c.replace-saved.result; ordinal = 0; arity = c.len-3.result; height = c.len.result - c.len-2.result; from = p.code } in
     pushed_counted p q e c.in_ok-push.ensures.items c.requires.counted (subst (λ is. AreNumbered is) (sym c.deref-parts.ensures.value) (body_counted m (c.args.func - length l.hosts.now) f eg m.numbered)) c.requires.counted.code refl (omega arith)

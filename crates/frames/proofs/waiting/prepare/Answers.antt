@@ -13,9 +13,9 @@ returns-clause-prepared g c =
     let m = l.module.now in
     let f = c.index-function.result.now in
     let t = c.index-form.result.now in
-    let eg = slice_get_read m.funcs.items _ (c.args.func - length l.hosts.now) f refl (entry_found m l.hosts.now l.number c.args.func c.args.args.now c.requires.defined c.requires.entry) c.index-function.ensures in
-    let et = slice_get_read m.types.items _ f.type_index t refl (entry_type m l.hosts.now l.number c.args.func c.args.args.now c.requires.defined c.requires.entry f eg) c.index-form.ensures in
-    entry_prepared m l.hosts.now l.number c.args.func c.args.args.now c.requires.defined c.requires.entry f t eg et _ refl (c.len.ensures ∙ t.results.ok.0)
+    let eg = slice_get_read m.funcs.items _ (c.args.func - length l.hosts.now) f refl (entry_found m l.hosts.now l.number l.version c.args.func c.args.args.now c.requires.defined c.requires.entry) c.index-function.ensures in
+    let et = slice_get_read m.types.items _ f.type_index t refl (entry_type m l.hosts.now l.number l.version c.args.func c.args.args.now c.requires.defined c.requires.entry f eg) c.index-form.ensures in
+    entry_prepared m l.hosts.now l.number l.version c.args.func c.args.args.now c.requires.defined c.requires.entry f t eg et _ refl (c.len.ensures ∙ t.results.ok.0)
     (c.in_ok-locals.ensures ∙ ap (λ ts. c.args.args.now ++ map zero_of ts) c.deref.ensures.value)
     (ap items_of c.deref-2.ensures.value ∙ body_numbered m (c.args.func - length l.hosts.now) f eg m.numbered)
 
@@ -24,7 +24,7 @@ returns-clause-place g c =
     let l = c.args.lent.now in
     let m = l.module.now in
     let f = c.index-function.result.now in
-    let eg = slice_get_read m.funcs.items _ (c.args.func - length l.hosts.now) f refl (entry_found m l.hosts.now l.number c.args.func c.args.args.now c.requires.defined c.requires.entry) c.index-function.ensures in
+    let eg = slice_get_read m.funcs.items _ (c.args.func - length l.hosts.now) f refl (entry_found m l.hosts.now l.number l.version c.args.func c.args.args.now c.requires.defined c.requires.entry) c.index-function.ensures in
     record {
       none_open = c.in_ok-with_capacity.ensures.items;
       room = omega (arith, c.in_ok-with_capacity.ensures.capacity);

@@ -4,6 +4,7 @@ use Rattle.sequences.specs.Finding.{read_at}
 use Rattle.wtypes.specs.declared.HostCall.TheVariants.{Get}
 use Rattle.spec_ledger.specs.declared.Step.{Step}
 use Rattle.spec_execution.specs.Reduction.{op_of}
+use Rattle.spec_execution.specs.Levels.{asks_in}
 use Rattle.interp.specs.declared.turns.Status.TheVariants.{Asking}
 use Rattle.interp.specs.Machine.{arity_of, IsMachine}
 use Rattle.interp.specs.Run.{seen}
@@ -30,5 +31,6 @@ returns-clause-kept g c =
       suits = c.requires.call.suits;
       waits = c.requires.call.waits;
       place = c.requires.call.place;
+      entered = c.requires.call.entered ∙ ap asks_in (sym c.reserve.ensures.items);
       room = search (arith, c.reserve.ensures.capacity, c.reserve.ensures.succeeds, c.reserve.ensures.len);
     }

@@ -6,8 +6,8 @@ use Rattle.sequences.specs.Tails.{with_tail}
 use Rattle.interp.specs.Run.{seen}
 use Rattle.interp.proofs.machine.finished.Goals as goal
 
-pub of-requires : goal.of-requires
-of-requires g c =
+pub of-requires-clause-played : goal.of-requires-clause-played
+of-requires-clause-played g c =
     let s = seen c.args.run in
     let m = c.requires.kept.machine in
     let over = subst (IsAt s) c.requires.ended m.at in

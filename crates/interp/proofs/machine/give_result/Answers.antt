@@ -14,6 +14,7 @@ returns-clause-kept g c =
       suits = k.suits;
       waits = k.waits;
       place = k.place;
+      entered = k.entered;
       room = tt;
     }
 

@@ -51,6 +51,7 @@ ask-requires-clause-call g c =
       suits = c.execute.ensures.max ∙ k.suits;
       waits = k.waits;
       place = k.place;
+      entered = k.entered;
     }
 
 pub start_function-requires-clause-call : goal.start_function-requires-clause-call
@@ -64,6 +65,7 @@ start_function-requires-clause-call g c =
       suits = c.execute.ensures.max ∙ k.suits;
       waits = k.waits;
       place = k.place;
+      entered = k.entered;
     }
 
 pub returns-in-Ok-Ran-clause-kept : goal.returns-in-Ok-Ran-clause-kept
@@ -81,6 +83,7 @@ returns-in-Ok-Ran-clause-kept g c =
       suits = ap (λ i. i.memory.max) c.settle_all.ensures.instance ∙ (c.execute.ensures.max ∙ k.suits);
       waits = come.waits;
       place = c.settle_all.ensures.place;
+      entered = k.entered;
       room = k.room;
     }
 
@@ -107,6 +110,7 @@ returns-in-Ok-Fell-clause-kept g c =
       suits = c.execute.ensures.max ∙ k.suits;
       waits = k.waits;
       place = k.place;
+      entered = k.entered;
       room = tt;
     }
 

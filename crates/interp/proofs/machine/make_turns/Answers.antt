@@ -50,6 +50,7 @@ ask-requires-clause-call g c =
       suits = c.execute.ensures.max ∙ k.suits;
       waits = k.waits;
       place = k.place;
+      entered = k.entered;
     }
 
 pub start_function-requires-clause-call : goal.start_function-requires-clause-call
@@ -63,6 +64,7 @@ start_function-requires-clause-call g c =
       suits = c.execute.ensures.max ∙ k.suits;
       waits = k.waits;
       place = k.place;
+      entered = k.entered;
     }
 
 pub turns-preserved : goal.turns-preserved
@@ -81,6 +83,7 @@ turns-preserved g c =
         suits = ap (λ i. i.memory.max) c.settle_all.ensures.instance ∙ (c.execute.ensures.max ∙ k.suits);
         waits = come.waits;
         place = c.settle_all.ensures.place;
+        entered = k.entered;
         room = k.room;
       };
       running = c.turns.invariant.running;
@@ -99,6 +102,7 @@ returns-in-Ok-Fell-clause-kept g c =
       suits = c.execute.ensures.max ∙ k.suits;
       waits = k.waits;
       place = k.place;
+      entered = k.entered;
       room = tt;
     }
 

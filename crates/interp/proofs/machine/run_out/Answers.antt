@@ -13,6 +13,7 @@ returns-clause-kept g c =
       suits = k.suits;
       waits = k.waits;
       place = k.place;
+      entered = k.entered;
       room = tt;
     }
 

@@ -26,6 +26,7 @@ returns-in-Ok-true-clause-kept g c =
       suits = ap (λ i. i.memory.max) (c.settle_all.ensures.instance ∙ c.enter.ensures.instance) ∙ c.requires.call.suits;
       waits = come.waits;
       place = c.settle_all.ensures.place;
+      entered = c.requires.call.entered;
       room = tt;
     }
 
@@ -49,6 +50,7 @@ returns-in-Ok-false-clause-kept g c =
       suits = ap (λ i. i.memory.max) c.enter.ensures.instance ∙ c.requires.call.suits;
       waits = c.requires.call.waits;
       place = c.requires.call.place;
+      entered = c.requires.call.entered;
       room = tt;
     }
 

@@ -17,6 +17,7 @@ start_function-requires-clause-call g c =
       suits = f.begun.suits;
       waits = f.begun.waits;
       place = f.begun.place;
+      entered = f.begun.entered;
     }
 
 pub start_function-requires-clause-defined : goal.start_function-requires-clause-defined
@@ -45,6 +46,7 @@ returns-in-None-clause-kept g c =
       suits = ap (λ i. i.memory.max) c.settle_all.ensures.instance ∙ f.begun.suits;
       waits = come.waits;
       place = c.settle_all.ensures.place;
+      entered = f.begun.entered;
       room = search (f.running);
     }
 

@@ -1,4 +1,4 @@
-use Rattle.std.proofs.Common.{ap, ◌∙◌, ◌-◌, ◌++◌, subst, take}
+use Rattle.std.proofs.Common.{ap, sym, ◌∙◌, ◌-◌, ◌++◌, subst, take}
 use Rattle.interp.specs.Machine.{params_of, value_of_reply}
 use Rattle.interp.specs.Progress.{IsAwaited}
 use Rattle.interp.specs.Run.{seen}
@@ -7,7 +7,9 @@ use Rattle.frames.specs.Views.{view}
 use Rattle.frames.specs.Waiting.{tail_of}
 use Rattle.interp.specs.declared.turns.Status.{Status}
 use Rattle.frames.specs.ViewLaws.{items_nil, last_of}
+use Rattle.spec_execution.specs.Levels.{asks_in}
 use Rattle.interp.proofs.Asking.{machine_answered, has_answered}
+use Rattle.interp.proofs.Counting.{asks_same}
 use Rattle.interp.proofs.machine.take_answer.Goals as goal
 
 pub returns-in-Asking-clause-kept : goal.returns-in-Asking-clause-kept
@@ -25,6 +27,7 @@ returns-in-Asking-clause-kept g c =
       suits = ap (λ i. i.memory.max) c.settle_all.ensures.instance ∙ c.requires.kept.suits;
       waits = come.waits;
       place = c.settle_all.ensures.place;
+      entered = c.requires.kept.entered ∙ (sym (asks_same c.in-Asking.op c.args.reply r.trace.items) ∙ ap asks_in (sym c.record_step.ensures));
       room = tt;
     }
 

@@ -9,6 +9,7 @@ returns-in-Fallen-clause-kept g c = record {
   suits = c.requires.kept.suits;
   waits = c.requires.kept.waits;
   place = c.requires.kept.place;
+  entered = c.requires.kept.entered;
   room = tt;
 }
 

@@ -1,6 +1,7 @@
 use Rattle.std.proofs.Common.{List, ap, ap₂, ◌∙◌, sym, subst}
 use Rattle.spec_ledger.specs.declared.Step.{Step}
 use Rattle.spec_execution.specs.Configuration.{Seq}
+use Rattle.spec_execution.specs.Levels.{asks_in}
 use Rattle.sequences.specs.Meaning.{View}
 use Rattle.operands.specs.Lent.{base_of, contract_of}
 use Rattle.interp.specs.Machine.{Seen, IsMachine}
@@ -28,5 +29,6 @@ returns-clause-kept g c =
       suits = ap (λ m. m.max) c.in_ok-copy_parts.ensures.instance.memory ∙ c.requires.suits;
       waits = same_waits (contract_of r.lent) r.call.now.args r.waiting c.in_ok-copy_waiting.field-0 c.in_ok-copy_waiting.ensures c.requires.waits;
       place = same_place r.waiting c.in_ok-copy_waiting.field-0 c.in_ok-copy_waiting.ensures c.requires.place;
+      entered = c.requires.entered ∙ ap asks_in (sym (c.in_ok-copy_trace.ensures.same ∙ c.deref.ensures.value));
       room = room_for r.status c.in_ok-copy_trace.field-0 c.in_ok-copy_trace.ensures.room;
     }

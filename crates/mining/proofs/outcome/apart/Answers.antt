@@ -1,4 +1,5 @@
 use Rattle.std.proofs.Common.{refl}
+use Rattle.spec_ledger.specs.declared.Version.TheVariants.{Two}
 use Rattle.interp.specs.Lent.{setting_view}
 use Rattle.publish.specs.declared.adopting.MadeRun.{MadeRun}
 use Rattle.mining.proofs.Ties.{places_left, run_at, made_more, committed_made}
@@ -7,13 +8,13 @@ use Rattle.mining.proofs.outcome.apart.Goals as goal
 pub loop-place-preserved-in_default-place : goal.loop-place-preserved-in_default-place
 loop-place-preserved-in_default-place g c =
     record {
-      left = places_left (setting_view c.args.contracts.now) c.args.calls.now c.loop-place.places.items c.pop.new.self.items c.in-Some.place c.in-Some.ensures.items c.loop-place.invariant.left;
+      left = places_left (setting_view Two c.args.contracts.now) c.args.calls.now c.loop-place.places.items c.pop.new.self.items c.in-Some.place c.in-Some.ensures.items c.loop-place.invariant.left;
       made = c.loop-place.invariant.made;
     }
 
 pub loop-place-preserved : goal.loop-place-preserved
 loop-place-preserved g c =
-    let setting = setting_view c.args.contracts.now in
+    let setting = setting_view Two c.args.contracts.now in
     let calls = c.args.calls.now in
     let run = c.in-Some-place.field-0 in
     let is = run_at setting calls c.loop-place.places.items c.pop.new.self.items c.in-Some.place run c.in-Some.ensures.items c.in-Some-place.is c.loop-place.invariant.left in

@@ -1,4 +1,5 @@
 use Rattle.std.proofs.Common.{All, IfSome, length}
+use Rattle.spec_ledger.specs.declared.Version.TheVariants.{Two}
 use Rattle.interp.specs.Lent.{setting_view}
 use Rattle.publish.specs.Adoption.{AreMade}
 use Rattle.mining.specs.Handed.{IsCommitted}
@@ -6,8 +7,8 @@ use Rattle.mining.proofs.outcome.apart.Given as goal
 
 abbrev pub invariant-loop-place : goal.invariant-loop-place
 invariant-loop-place g l = record {
-  left : All (λ place. IfSome place (IsCommitted (setting_view l.contracts) l.calls)) l.places.items;
-  made : AreMade (setting_view l.contracts) l.calls l.runs.items l.touched.items;
+  left : All (λ place. IfSome place (IsCommitted (setting_view Two l.contracts) l.calls)) l.places.items;
+  made : AreMade (setting_view Two l.contracts) l.calls l.runs.items l.touched.items;
 }
 
 abbrev pub decreases-loop-place : goal.decreases-loop-place

@@ -1,12 +1,13 @@
 use Rattle.std.proofs.Common.{◌≡◌, All, IfSome, length}
+use Rattle.spec_ledger.specs.declared.Version.TheVariants.{Two}
 use Rattle.interp.specs.Lent.{setting_view}
 use Rattle.mining.specs.Handed.{AreAllRuns, IsCommitted}
 use Rattle.mining.proofs.outcome.placed.Given as goal
 
 abbrev pub invariant-loop-run : goal.invariant-loop-run
 invariant-loop-run g l = record {
-  left : AreAllRuns (setting_view l.contracts) l.calls l.committed.items;
-  placed : All (λ place. IfSome place (IsCommitted (setting_view l.contracts) l.calls)) l.places.items;
+  left : AreAllRuns (setting_view Two l.contracts) l.calls l.committed.items;
+  placed : All (λ place. IfSome place (IsCommitted (setting_view Two l.contracts) l.calls)) l.places.items;
   long : length l.places.items ≡ l.count;
 }
 

@@ -1,4 +1,5 @@
 use Rattle.std.proofs.Common.{arith, refl, ap}
+use Rattle.spec_ledger.specs.declared.Version.TheVariants.{Two}
 use Rattle.interp.specs.Lent.{setting_view}
 use Rattle.publish.specs.Publication.{Publication}
 use Rattle.mining.proofs.Ties.{made_for, adopted_length}
@@ -7,7 +8,7 @@ use Rattle.mining.proofs.outcome.tie.Goals as goal
 pub take_runs-requires : goal.take_runs-requires
 take_runs-requires g c =
     let opened = c.in_ok-publishing.ensures in
-    made_for (setting_view c.args.contracts.now) c.args.calls.now c.args.runs.now c.args.touched.items c.in_ok-publishing.publishing c.requires.runs (ap (λ (p : Publication). p.setting) opened) (ap (λ (p : Publication). p.calls) opened)
+    made_for (setting_view Two c.args.contracts.now) c.args.calls.now c.args.runs.now c.args.touched.items c.in_ok-publishing.publishing c.requires.runs (ap (λ (p : Publication). p.setting) opened) (ap (λ (p : Publication). p.calls) opened)
 
 pub returns-in-Some-clause-taken : goal.returns-in-Some-clause-taken
 returns-in-Some-clause-taken g c =

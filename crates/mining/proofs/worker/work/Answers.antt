@@ -1,4 +1,5 @@
 use Rattle.std.proofs.Common.{◌≡◌, sym, subst}
+use Rattle.spec_ledger.specs.declared.Version.TheVariants.{Two}
 use Rattle.interp.specs.Lent.{setting_view}
 use Rattle.mining.specs.Handed.{AreAllRuns}
 use Rattle.mining.proofs.worker.work.Goals as goal
@@ -6,7 +7,7 @@ use Rattle.mining.proofs.worker.work.Goals.{else-loop-test, then-loop-test+in_de
 
 pub returns : goal.returns
 returns g c =
-    let setting = setting_view c.args.job.now.contracts.now in
+    let setting = setting_view Two c.args.job.now.contracts.now in
     let calls = c.args.job.now.calls.now in
     elim c.loop-test.branch [
       | else-loop-test w ↦

@@ -1,3 +1,4 @@
+use Rattle.spec_ledger.specs.declared.Version.TheVariants.{Two}
 use Rattle.interp.specs.Lent.{setting_view}
 use Rattle.intake.specs.Intakes.{IsSeatOf}
 use Rattle.mining.specs.Handed.{AreRuns}
@@ -6,5 +7,5 @@ use Rattle.mining.proofs.worker.work.Given as goal
 abbrev pub invariant-loop : goal.invariant-loop
 invariant-loop g l = record {
   seat : IsSeatOf l.job.intake.now l.seat;
-  runs : AreRuns (setting_view l.job.contracts.now) l.job.calls.now l.worked;
+  runs : AreRuns (setting_view Two l.job.contracts.now) l.job.calls.now l.worked;
 }

@@ -4,6 +4,7 @@ use Rattle.std.specs.Option.{IsSome}
 use Rattle.spec_ledger.specs.Book.{GetsReplies}
 use Rattle.spec_execution.specs.Exec.{Executes}
 use Rattle.spec_execution.specs.Run.{ContractCall}
+use Rattle.spec_ledger.specs.declared.Version.TheVariants.{Two}
 use Rattle.interp.specs.Lent.{setting_view}
 use Rattle.serial.specs.Positions.{positions}
 use Rattle.publish.specs.Publication.{Publication, MayFollow, HasTaken}
@@ -23,7 +24,7 @@ returns-in_default-clause-answer g c =
 pub push-requires-clause-known : goal.push-requires-clause-known
 push-requires-clause-known g c =
     let s = c.self.inside in
-    let p : Publication = record { setting = setting_view s.contracts.now; calls = s.calls.now; opening = s.opening.now.cells; fuel = s.fuel; order = s.so_far.order.items; ran = positions s.so_far.receipts.items s.so_far.touched.items; cells = s.cells.cells } in
+    let p : Publication = record { setting = setting_view Two s.contracts.now; calls = s.calls.now; opening = s.opening.now.cells; fuel = s.fuel; order = s.so_far.order.items; ran = positions s.so_far.receipts.items s.so_far.touched.items; cells = s.cells.cells } in
     let b : Beside = record { order = s.so_far.order.items; receipts = s.so_far.receipts.items; touched = s.so_far.touched.items; marks = s.so_far.marks.items; remaining = s.so_far.remaining; used = s.so_far.used; counts = s.cells.unsettled } in
     let follows : MayFollow (with_parts p p.cells b) c.args.call = subst (λ q. MayFollow q c.args.call) (sym c.self.view_is) (c.may_follow.ensures.0 (search rules)) in
     let known = follows.known in let size = c.self.invariant.size in let same = ap length c.reserve.ensures.marks in omega arith
@@ -31,42 +32,42 @@ push-requires-clause-known g c =
 pub push-requires-clause-fits : goal.push-requires-clause-fits
 push-requires-clause-fits g c =
     let s = c.self.inside in
-    let p : Publication = record { setting = setting_view s.contracts.now; calls = s.calls.now; opening = s.opening.now.cells; fuel = s.fuel; order = s.so_far.order.items; ran = positions s.so_far.receipts.items s.so_far.touched.items; cells = s.cells.cells } in
+    let p : Publication = record { setting = setting_view Two s.contracts.now; calls = s.calls.now; opening = s.opening.now.cells; fuel = s.fuel; order = s.so_far.order.items; ran = positions s.so_far.receipts.items s.so_far.touched.items; cells = s.cells.cells } in
     let b : Beside = record { order = s.so_far.order.items; receipts = s.so_far.receipts.items; touched = s.so_far.touched.items; marks = s.so_far.marks.items; remaining = s.so_far.remaining; used = s.so_far.used; counts = s.cells.unsettled } in
     let follows : MayFollow (with_parts p p.cells b) c.args.call = subst (λ q. MayFollow q c.args.call) (sym c.self.view_is) (c.may_follow.ensures.0 (search rules)) in
     let at = ap (λ (q : Publication). slice_get q.calls c.args.call) c.self.view_is ∙ c.requires.call in
     let limit = c.fuel.ensures ∙ ap (λ (k : ContractCall). k.fuel) c.call.ensures in
     let e = c.in-Some.executed in
-    let theirs = MatchOption-at_some _ (λ x. Executes c.args.finished.now.setting c.args.finished.now.call s.cells.cells c.replay.new.cells.cells x.receipt.outcome x.receipt.used x.touched) e c.in-Some.is c.in_ok-executed.ensures.executed in
-    let executed = subst (λ ds. Executes ds c.args.finished.now.call s.cells.cells c.replay.new.cells.cells e.receipt.outcome e.receipt.used e.touched) (c.requires.contracts ∙ sym (ap (λ (q : Publication). q.setting) c.self.view_is)) theirs in
+    let theirs = MatchOption-at_some _ (λ x. Executes c.args.finished.now.setting c.args.finished.now.call s.cells.cells c.replay.new.cells.cells x.receipt x.touched) e c.in-Some.is c.in_ok-executed.ensures.executed in
+    let executed = subst (λ ds. Executes ds c.args.finished.now.call s.cells.cells c.replay.new.cells.cells e.receipt e.touched) (c.requires.contracts ∙ sym (ap (λ (q : Publication). q.setting) c.self.view_is)) theirs in
     let f = fits p b c.args.call c.fuel.result c.args.finished.now.call c.replay.new.cells.cells e.receipt e.touched c.self.invariant at limit follows executed in
     let same = c.reserve.ensures.remaining in omega arith
 
 pub push-requires-clause-used : goal.push-requires-clause-used
 push-requires-clause-used g c =
     let s = c.self.inside in
-    let p : Publication = record { setting = setting_view s.contracts.now; calls = s.calls.now; opening = s.opening.now.cells; fuel = s.fuel; order = s.so_far.order.items; ran = positions s.so_far.receipts.items s.so_far.touched.items; cells = s.cells.cells } in
+    let p : Publication = record { setting = setting_view Two s.contracts.now; calls = s.calls.now; opening = s.opening.now.cells; fuel = s.fuel; order = s.so_far.order.items; ran = positions s.so_far.receipts.items s.so_far.touched.items; cells = s.cells.cells } in
     let b : Beside = record { order = s.so_far.order.items; receipts = s.so_far.receipts.items; touched = s.so_far.touched.items; marks = s.so_far.marks.items; remaining = s.so_far.remaining; used = s.so_far.used; counts = s.cells.unsettled } in
     let follows : MayFollow (with_parts p p.cells b) c.args.call = subst (λ q. MayFollow q c.args.call) (sym c.self.view_is) (c.may_follow.ensures.0 (search rules)) in
     let at = ap (λ (q : Publication). slice_get q.calls c.args.call) c.self.view_is ∙ c.requires.call in
     let limit = c.fuel.ensures ∙ ap (λ (k : ContractCall). k.fuel) c.call.ensures in
     let e = c.in-Some.executed in
-    let theirs = MatchOption-at_some _ (λ x. Executes c.args.finished.now.setting c.args.finished.now.call s.cells.cells c.replay.new.cells.cells x.receipt.outcome x.receipt.used x.touched) e c.in-Some.is c.in_ok-executed.ensures.executed in
-    let executed = subst (λ ds. Executes ds c.args.finished.now.call s.cells.cells c.replay.new.cells.cells e.receipt.outcome e.receipt.used e.touched) (c.requires.contracts ∙ sym (ap (λ (q : Publication). q.setting) c.self.view_is)) theirs in
+    let theirs = MatchOption-at_some _ (λ x. Executes c.args.finished.now.setting c.args.finished.now.call s.cells.cells c.replay.new.cells.cells x.receipt x.touched) e c.in-Some.is c.in_ok-executed.ensures.executed in
+    let executed = subst (λ ds. Executes ds c.args.finished.now.call s.cells.cells c.replay.new.cells.cells e.receipt e.touched) (c.requires.contracts ∙ sym (ap (λ (q : Publication). q.setting) c.self.view_is)) theirs in
     let f = fits_used p b c.args.call c.fuel.result c.args.finished.now.call c.replay.new.cells.cells e.receipt e.touched c.self.invariant at limit follows executed (omega arith) in
     let same = c.reserve.ensures.used in omega arith
 
 pub invariant_of-self-2 : goal.invariant_of-self-2
 invariant_of-self-2 g c =
     let s = c.self.inside in
-    let p : Publication = record { setting = setting_view s.contracts.now; calls = s.calls.now; opening = s.opening.now.cells; fuel = s.fuel; order = s.so_far.order.items; ran = positions s.so_far.receipts.items s.so_far.touched.items; cells = s.cells.cells } in
+    let p : Publication = record { setting = setting_view Two s.contracts.now; calls = s.calls.now; opening = s.opening.now.cells; fuel = s.fuel; order = s.so_far.order.items; ran = positions s.so_far.receipts.items s.so_far.touched.items; cells = s.cells.cells } in
     let b : Beside = record { order = s.so_far.order.items; receipts = s.so_far.receipts.items; touched = s.so_far.touched.items; marks = s.so_far.marks.items; remaining = s.so_far.remaining; used = s.so_far.used; counts = s.cells.unsettled } in
     let follows : MayFollow (with_parts p p.cells b) c.args.call = subst (λ q. MayFollow q c.args.call) (sym c.self.view_is) (c.may_follow.ensures.0 (search rules)) in
     let at = ap (λ (q : Publication). slice_get q.calls c.args.call) c.self.view_is ∙ c.requires.call in
     let limit = c.fuel.ensures ∙ ap (λ (k : ContractCall). k.fuel) c.call.ensures in
     let e = c.in-Some.executed in
-    let theirs = MatchOption-at_some _ (λ x. Executes c.args.finished.now.setting c.args.finished.now.call s.cells.cells c.replay.new.cells.cells x.receipt.outcome x.receipt.used x.touched) e c.in-Some.is c.in_ok-executed.ensures.executed in
-    let executed = subst (λ ds. Executes ds c.args.finished.now.call s.cells.cells c.replay.new.cells.cells e.receipt.outcome e.receipt.used e.touched) (c.requires.contracts ∙ sym (ap (λ (q : Publication). q.setting) c.self.view_is)) theirs in
+    let theirs = MatchOption-at_some _ (λ x. Executes c.args.finished.now.setting c.args.finished.now.call s.cells.cells c.replay.new.cells.cells x.receipt x.touched) e c.in-Some.is c.in_ok-executed.ensures.executed in
+    let executed = subst (λ ds. Executes ds c.args.finished.now.call s.cells.cells c.replay.new.cells.cells e.receipt e.touched) (c.requires.contracts ∙ sym (ap (λ (q : Publication). q.setting) c.self.view_is)) theirs in
     let room = c.reserve.new.self in
     let made = c.reserve.ensures in
     let last = c.push.new.self in
@@ -87,14 +88,14 @@ returns-clause-answer g c =
 pub returns-clause-taken : goal.returns-clause-taken
 returns-clause-taken g c = λ _.
     let s = c.self.inside in
-    let p : Publication = record { setting = setting_view s.contracts.now; calls = s.calls.now; opening = s.opening.now.cells; fuel = s.fuel; order = s.so_far.order.items; ran = positions s.so_far.receipts.items s.so_far.touched.items; cells = s.cells.cells } in
+    let p : Publication = record { setting = setting_view Two s.contracts.now; calls = s.calls.now; opening = s.opening.now.cells; fuel = s.fuel; order = s.so_far.order.items; ran = positions s.so_far.receipts.items s.so_far.touched.items; cells = s.cells.cells } in
     let b : Beside = record { order = s.so_far.order.items; receipts = s.so_far.receipts.items; touched = s.so_far.touched.items; marks = s.so_far.marks.items; remaining = s.so_far.remaining; used = s.so_far.used; counts = s.cells.unsettled } in
     let follows : MayFollow (with_parts p p.cells b) c.args.call = subst (λ q. MayFollow q c.args.call) (sym c.self.view_is) (c.may_follow.ensures.0 (search rules)) in
     let at = ap (λ (q : Publication). slice_get q.calls c.args.call) c.self.view_is ∙ c.requires.call in
     let limit = c.fuel.ensures ∙ ap (λ (k : ContractCall). k.fuel) c.call.ensures in
     let e = c.in-Some.executed in
-    let theirs = MatchOption-at_some _ (λ x. Executes c.args.finished.now.setting c.args.finished.now.call s.cells.cells c.replay.new.cells.cells x.receipt.outcome x.receipt.used x.touched) e c.in-Some.is c.in_ok-executed.ensures.executed in
-    let executed = subst (λ ds. Executes ds c.args.finished.now.call s.cells.cells c.replay.new.cells.cells e.receipt.outcome e.receipt.used e.touched) (c.requires.contracts ∙ sym (ap (λ (q : Publication). q.setting) c.self.view_is)) theirs in
+    let theirs = MatchOption-at_some _ (λ x. Executes c.args.finished.now.setting c.args.finished.now.call s.cells.cells c.replay.new.cells.cells x.receipt x.touched) e c.in-Some.is c.in_ok-executed.ensures.executed in
+    let executed = subst (λ ds. Executes ds c.args.finished.now.call s.cells.cells c.replay.new.cells.cells e.receipt e.touched) (c.requires.contracts ∙ sym (ap (λ (q : Publication). q.setting) c.self.view_is)) theirs in
     let room = c.reserve.new.self in
     let made = c.reserve.ensures in
     let last = c.push.new.self in

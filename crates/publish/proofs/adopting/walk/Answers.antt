@@ -2,6 +2,7 @@ use Rattle.std.proofs.Common.{◌≡◌, ◌+◌, ◌∷◌, ◌++◌, [], ◌<�
 use Rattle.std.specs.FinMap.{empty}
 use Rattle.std.proofs.lemmas.List.{take_more}
 use Rattle.spec_execution.specs.Run.{ContractCall}
+use Rattle.spec_ledger.specs.declared.Version.TheVariants.{Two}
 use Rattle.interp.specs.Lent.{setting_view}
 use Rattle.publish.proofs.Keeping.{Beside, opened, kept_opened}
 use Rattle.publish.proofs.Walking.{as_many_locks, as_many_entries, walked_none, walked_on, is_run_here, known_here, no_room_here, follows_here, fits_next, used_next, all_order, all_ran, all_follow, all_kept}
@@ -18,12 +19,12 @@ loop-place-init g c =
     let s = c.in_ok-so_far.so_far in
     let e = c.in_ok-so_far.ensures in
     let b : Beside = record { order = s.order.items; receipts = s.receipts.items; touched = []; marks = s.marks.items; remaining = s.remaining; used = s.used; counts = empty } in
-    let kept = kept_opened (setting_view c.args._contracts.now) c.args.calls.now c.args._cells.now.cells c.args.fuel b c.args._cells.now.cells c.requires.calls refl e.order e.receipts refl e.marks e.remaining e.used refl in
-    walked_none (setting_view c.args._contracts.now) c.args.calls.now c.args._cells.now.cells c.args.fuel c.args.entries.now c.args.runs.now c.args.touched.items b kept e.order e.receipts c.requires.replies c.requires.runs
+    let kept = kept_opened (setting_view Two c.args._contracts.now) c.args.calls.now c.args._cells.now.cells c.args.fuel b c.args._cells.now.cells c.requires.calls refl e.order e.receipts refl e.marks e.remaining e.used refl in
+    walked_none (setting_view Two c.args._contracts.now) c.args.calls.now c.args._cells.now.cells c.args.fuel c.args.entries.now c.args.runs.now c.args.touched.items b kept e.order e.receipts c.requires.replies c.requires.runs
 
 pub returns-then-not-is_run_of-clause-answer : goal.returns-then-not-is_run_of-clause-answer
 returns-then-not-is_run_of-clause-answer g c =
-    let p = opened (setting_view c.args._contracts.now) c.args.calls.now c.args._cells.now.cells c.args.fuel in
+    let p = opened (setting_view Two c.args._contracts.now) c.args.calls.now c.args._cells.now.cells c.args.fuel in
     let es = c.args.entries.now in
     let rs = c.args.runs.now in
     let ms = c.args.touched.items in
@@ -31,7 +32,7 @@ returns-then-not-is_run_of-clause-answer g c =
     let s = c.loop-place.so_far in
     let b : Beside = record { order = s.order.items; receipts = s.receipts.items; touched = take i ms; marks = s.marks.items; remaining = s.remaining; used = s.used; counts = empty } in
     let even : length es ≡ length rs = omega (arith, c.if-entries-runs.false) in
-    let locked = as_many_locks (setting_view c.args._contracts.now) c.args.calls.now rs ms c.requires.runs in
+    let locked = as_many_locks (setting_view Two c.args._contracts.now) c.args.calls.now rs ms c.requires.runs in
     let e = c.index-entries-place in
     let r = c.index-runs-place in
     let below : i < length rs = omega (arith, c.loop-place-test.true) in
@@ -39,7 +40,7 @@ returns-then-not-is_run_of-clause-answer g c =
 
 pub has_room-requires : goal.has_room-requires
 has_room-requires g c =
-    let p = opened (setting_view c.args._contracts.now) c.args.calls.now c.args._cells.now.cells c.args.fuel in
+    let p = opened (setting_view Two c.args._contracts.now) c.args.calls.now c.args._cells.now.cells c.args.fuel in
     let es = c.args.entries.now in
     let rs = c.args.runs.now in
     let ms = c.args.touched.items in
@@ -47,7 +48,7 @@ has_room-requires g c =
     let s = c.loop-place.so_far in
     let b : Beside = record { order = s.order.items; receipts = s.receipts.items; touched = take i ms; marks = s.marks.items; remaining = s.remaining; used = s.used; counts = empty } in
     let even : length es ≡ length rs = omega (arith, c.if-entries-runs.false) in
-    let locked = as_many_locks (setting_view c.args._contracts.now) c.args.calls.now rs ms c.requires.runs in
+    let locked = as_many_locks (setting_view Two c.args._contracts.now) c.args.calls.now rs ms c.requires.runs in
     let e = c.index-entries-place in
     let r = c.index-runs-place in
     let below : i < length rs = omega (arith, c.loop-place-test.true) in
@@ -55,7 +56,7 @@ has_room-requires g c =
 
 pub returns-then-not-has_room-clause-answer : goal.returns-then-not-has_room-clause-answer
 returns-then-not-has_room-clause-answer g c =
-    let p = opened (setting_view c.args._contracts.now) c.args.calls.now c.args._cells.now.cells c.args.fuel in
+    let p = opened (setting_view Two c.args._contracts.now) c.args.calls.now c.args._cells.now.cells c.args.fuel in
     let es = c.args.entries.now in
     let rs = c.args.runs.now in
     let ms = c.args.touched.items in
@@ -63,7 +64,7 @@ returns-then-not-has_room-clause-answer g c =
     let s = c.loop-place.so_far in
     let b : Beside = record { order = s.order.items; receipts = s.receipts.items; touched = take i ms; marks = s.marks.items; remaining = s.remaining; used = s.used; counts = empty } in
     let even : length es ≡ length rs = omega (arith, c.if-entries-runs.false) in
-    let locked = as_many_locks (setting_view c.args._contracts.now) c.args.calls.now rs ms c.requires.runs in
+    let locked = as_many_locks (setting_view Two c.args._contracts.now) c.args.calls.now rs ms c.requires.runs in
     let e = c.index-entries-place in
     let r = c.index-runs-place in
     let below : i < length rs = omega (arith, c.loop-place-test.true) in
@@ -72,7 +73,7 @@ returns-then-not-has_room-clause-answer g c =
 
 pub note-requires-clause-known : goal.note-requires-clause-known
 note-requires-clause-known g c =
-    let p = opened (setting_view c.args._contracts.now) c.args.calls.now c.args._cells.now.cells c.args.fuel in
+    let p = opened (setting_view Two c.args._contracts.now) c.args.calls.now c.args._cells.now.cells c.args.fuel in
     let es = c.args.entries.now in
     let rs = c.args.runs.now in
     let ms = c.args.touched.items in
@@ -80,7 +81,7 @@ note-requires-clause-known g c =
     let s = c.loop-place.so_far in
     let b : Beside = record { order = s.order.items; receipts = s.receipts.items; touched = take i ms; marks = s.marks.items; remaining = s.remaining; used = s.used; counts = empty } in
     let even : length es ≡ length rs = omega (arith, c.if-entries-runs.false) in
-    let locked = as_many_locks (setting_view c.args._contracts.now) c.args.calls.now rs ms c.requires.runs in
+    let locked = as_many_locks (setting_view Two c.args._contracts.now) c.args.calls.now rs ms c.requires.runs in
     let e = c.index-entries-place in
     let r = c.index-runs-place in
     let below : i < length rs = omega (arith, c.loop-place-test.true) in
@@ -89,7 +90,7 @@ note-requires-clause-known g c =
 
 pub note-requires-clause-fits : goal.note-requires-clause-fits
 note-requires-clause-fits g c =
-    let p = opened (setting_view c.args._contracts.now) c.args.calls.now c.args._cells.now.cells c.args.fuel in
+    let p = opened (setting_view Two c.args._contracts.now) c.args.calls.now c.args._cells.now.cells c.args.fuel in
     let es = c.args.entries.now in
     let rs = c.args.runs.now in
     let ms = c.args.touched.items in
@@ -97,7 +98,7 @@ note-requires-clause-fits g c =
     let s = c.loop-place.so_far in
     let b : Beside = record { order = s.order.items; receipts = s.receipts.items; touched = take i ms; marks = s.marks.items; remaining = s.remaining; used = s.used; counts = empty } in
     let even : length es ≡ length rs = omega (arith, c.if-entries-runs.false) in
-    let locked = as_many_locks (setting_view c.args._contracts.now) c.args.calls.now rs ms c.requires.runs in
+    let locked = as_many_locks (setting_view Two c.args._contracts.now) c.args.calls.now rs ms c.requires.runs in
     let e = c.index-entries-place in
     let r = c.index-runs-place in
     let below : i < length rs = omega (arith, c.loop-place-test.true) in
@@ -109,7 +110,7 @@ note-requires-clause-fits g c =
 
 pub note-requires-clause-used : goal.note-requires-clause-used
 note-requires-clause-used g c =
-    let p = opened (setting_view c.args._contracts.now) c.args.calls.now c.args._cells.now.cells c.args.fuel in
+    let p = opened (setting_view Two c.args._contracts.now) c.args.calls.now c.args._cells.now.cells c.args.fuel in
     let es = c.args.entries.now in
     let rs = c.args.runs.now in
     let ms = c.args.touched.items in
@@ -117,7 +118,7 @@ note-requires-clause-used g c =
     let s = c.loop-place.so_far in
     let b : Beside = record { order = s.order.items; receipts = s.receipts.items; touched = take i ms; marks = s.marks.items; remaining = s.remaining; used = s.used; counts = empty } in
     let even : length es ≡ length rs = omega (arith, c.if-entries-runs.false) in
-    let locked = as_many_locks (setting_view c.args._contracts.now) c.args.calls.now rs ms c.requires.runs in
+    let locked = as_many_locks (setting_view Two c.args._contracts.now) c.args.calls.now rs ms c.requires.runs in
     let e = c.index-entries-place in
     let r = c.index-runs-place in
     let below : i < length rs = omega (arith, c.loop-place-test.true) in
@@ -129,7 +130,7 @@ note-requires-clause-used g c =
 
 pub loop-place-preserved : goal.loop-place-preserved
 loop-place-preserved g c =
-    let p = opened (setting_view c.args._contracts.now) c.args.calls.now c.args._cells.now.cells c.args.fuel in
+    let p = opened (setting_view Two c.args._contracts.now) c.args.calls.now c.args._cells.now.cells c.args.fuel in
     let es = c.args.entries.now in
     let rs = c.args.runs.now in
     let ms = c.args.touched.items in
@@ -137,7 +138,7 @@ loop-place-preserved g c =
     let s = c.loop-place.so_far in
     let b : Beside = record { order = s.order.items; receipts = s.receipts.items; touched = take i ms; marks = s.marks.items; remaining = s.remaining; used = s.used; counts = empty } in
     let even : length es ≡ length rs = omega (arith, c.if-entries-runs.false) in
-    let locked = as_many_locks (setting_view c.args._contracts.now) c.args.calls.now rs ms c.requires.runs in
+    let locked = as_many_locks (setting_view Two c.args._contracts.now) c.args.calls.now rs ms c.requires.runs in
     let e = c.index-entries-place in
     let r = c.index-runs-place in
     let below : i < length rs = omega (arith, c.loop-place-test.true) in
@@ -151,11 +152,11 @@ loop-place-preserved g c =
     let roomy : Beside = record { order = room.order.items; receipts = room.receipts.items; touched = take i ms; marks = room.marks.items; remaining = room.remaining; used = room.used; counts = empty } in
     let after : Beside = record { order = new.order.items; receipts = new.receipts.items; touched = take (i + 1) ms; marks = new.marks.items; remaining = new.remaining; used = new.used; counts = empty } in
     walked_on p es rs ms b i e.result r.result below even locked e.is r.is c.loop-place.invariant c.fuel-limit.result limit follows is c.is_played.ensures roomy after made.order made.receipts refl made.marks made.remaining made.used
-    put.order (put.receipts ∙ (λ k. room.receipts.items ++ record { outcome = c.outcome.ensures k; used = c.used.ensures k } ∷ [])) (take_more ms i empty (omega (arith, below, locked))) put.marks put.remaining (put.used ∙ ap (λ u. room.used + u) c.used.ensures) refl
+    put.order (put.receipts ∙ (λ k. room.receipts.items ++ record { outcome = c.outcome.ensures k; used = c.used.ensures k; asks = c.asks.ensures k } ∷ [])) (take_more ms i empty (omega (arith, below, locked))) put.marks put.remaining (put.used ∙ ap (λ u. room.used + u) c.used.ensures) refl
 
 pub returns-clause-answer : goal.returns-clause-answer
 returns-clause-answer g c =
-    let p = opened (setting_view c.args._contracts.now) c.args.calls.now c.args._cells.now.cells c.args.fuel in
+    let p = opened (setting_view Two c.args._contracts.now) c.args.calls.now c.args._cells.now.cells c.args.fuel in
     let es = c.args.entries.now in
     let rs = c.args.runs.now in
     let ms = c.args.touched.items in
@@ -163,13 +164,13 @@ returns-clause-answer g c =
     let s = c.loop-place.so_far in
     let b : Beside = record { order = s.order.items; receipts = s.receipts.items; touched = take i ms; marks = s.marks.items; remaining = s.remaining; used = s.used; counts = empty } in
     let even : length es ≡ length rs = omega (arith, c.if-entries-runs.false) in
-    let locked = as_many_locks (setting_view c.args._contracts.now) c.args.calls.now rs ms c.requires.runs in
+    let locked = as_many_locks (setting_view Two c.args._contracts.now) c.args.calls.now rs ms c.requires.runs in
     let all : length rs ≤ i = omega (arith, c.loop-place-test.false) in
     (λ _. all_follow p es rs ms b i all even locked refl c.loop-place.invariant, λ _. refl)
 
 pub returns-clause-kept : goal.returns-clause-kept
 returns-clause-kept g c =
-    let p = opened (setting_view c.args._contracts.now) c.args.calls.now c.args._cells.now.cells c.args.fuel in
+    let p = opened (setting_view Two c.args._contracts.now) c.args.calls.now c.args._cells.now.cells c.args.fuel in
     let es = c.args.entries.now in
     let rs = c.args.runs.now in
     let ms = c.args.touched.items in
@@ -177,13 +178,13 @@ returns-clause-kept g c =
     let s = c.loop-place.so_far in
     let b : Beside = record { order = s.order.items; receipts = s.receipts.items; touched = take i ms; marks = s.marks.items; remaining = s.remaining; used = s.used; counts = empty } in
     let even : length es ≡ length rs = omega (arith, c.if-entries-runs.false) in
-    let locked = as_many_locks (setting_view c.args._contracts.now) c.args.calls.now rs ms c.requires.runs in
+    let locked = as_many_locks (setting_view Two c.args._contracts.now) c.args.calls.now rs ms c.requires.runs in
     let all : length rs ≤ i = omega (arith, c.loop-place-test.false) in
     all_kept p es rs ms b i all even locked refl c.loop-place.invariant
 
 pub returns-clause-order : goal.returns-clause-order
 returns-clause-order g c =
-    let p = opened (setting_view c.args._contracts.now) c.args.calls.now c.args._cells.now.cells c.args.fuel in
+    let p = opened (setting_view Two c.args._contracts.now) c.args.calls.now c.args._cells.now.cells c.args.fuel in
     let es = c.args.entries.now in
     let rs = c.args.runs.now in
     let ms = c.args.touched.items in
@@ -191,13 +192,13 @@ returns-clause-order g c =
     let s = c.loop-place.so_far in
     let b : Beside = record { order = s.order.items; receipts = s.receipts.items; touched = take i ms; marks = s.marks.items; remaining = s.remaining; used = s.used; counts = empty } in
     let even : length es ≡ length rs = omega (arith, c.if-entries-runs.false) in
-    let locked = as_many_locks (setting_view c.args._contracts.now) c.args.calls.now rs ms c.requires.runs in
+    let locked = as_many_locks (setting_view Two c.args._contracts.now) c.args.calls.now rs ms c.requires.runs in
     let all : length rs ≤ i = omega (arith, c.loop-place-test.false) in
     all_order p es rs ms b i all even locked refl c.loop-place.invariant
 
 pub returns-clause-ran : goal.returns-clause-ran
 returns-clause-ran g c =
-    let p = opened (setting_view c.args._contracts.now) c.args.calls.now c.args._cells.now.cells c.args.fuel in
+    let p = opened (setting_view Two c.args._contracts.now) c.args.calls.now c.args._cells.now.cells c.args.fuel in
     let es = c.args.entries.now in
     let rs = c.args.runs.now in
     let ms = c.args.touched.items in
@@ -205,6 +206,6 @@ returns-clause-ran g c =
     let s = c.loop-place.so_far in
     let b : Beside = record { order = s.order.items; receipts = s.receipts.items; touched = take i ms; marks = s.marks.items; remaining = s.remaining; used = s.used; counts = empty } in
     let even : length es ≡ length rs = omega (arith, c.if-entries-runs.false) in
-    let locked = as_many_locks (setting_view c.args._contracts.now) c.args.calls.now rs ms c.requires.runs in
+    let locked = as_many_locks (setting_view Two c.args._contracts.now) c.args.calls.now rs ms c.requires.runs in
     let all : length rs ≤ i = omega (arith, c.loop-place-test.false) in
     all_ran p es rs ms b i all even locked refl c.loop-place.invariant

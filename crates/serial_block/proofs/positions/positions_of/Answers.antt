@@ -39,7 +39,7 @@ loop-profile-preserved g c =
     get_or_read profiles (length c.loop-profile.yielded) c.in-Some.profile turn.0 turn.1 [] ∙ (c.in_ok-profiles.ensures.1 (length c.loop-profile.yielded) below ∙ sym (ap (λ k. profile_at all k (get_or all k empty)) even)) in
     let len : length c.push.new.self.items ≡ n + 1 = ap length c.in_ok-push.ensures.items ∙ length_push made c.in_ok-position.position in
     let place : c.len-place.result ≡ n = omega (arith, c.len-place.ensures, c.loop-profile.made.ok.0) in
-    let nothing : Receipt = record { outcome = Returned None; used = 0 } in
+    let nothing : Receipt = record { outcome = Returned None; used = 0; asks = 0 } in
     let is : c.in_ok-position.position ≡ record { call = get_or order n 0; receipt = get_or receipts n nothing; profile = profile_at all n (get_or all n empty) } =
     c.in_ok-position.ensures ∙ (λ k. record { call = get_or order (place k) 0; receipt = get_or receipts (place k) nothing; profile = profile_is k }) in (
       (tt, tt),

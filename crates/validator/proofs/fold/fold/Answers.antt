@@ -32,7 +32,7 @@ loop-position-preserved g c =
     let below = All-get_or (λ n. n < length calls) order i 0 c.loop-position-test.true c.requires.known in
     let at = slice_get-get_or calls number no_call below in
     record {
-      serial = serial_more (setting_view job.contracts.now) calls order i 0 c.args.cells.now.cells c.loop-position.current.cells c.execute_one.new.cells.cells
+      serial = serial_more (setting_view job.version job.contracts.now) calls order i 0 c.args.cells.now.cells c.loop-position.current.cells c.execute_one.new.cells.cells
           c.loop-position.receipts.items c.push.new.self.items c.loop-position.touched.items c.push-in-loop-position.new.self.items done.executed.receipt done.executed.touched (get_or calls number no_call)
           c.loop-position-test.true kept.serial (omega (arith, kept.receipts, kept.touched)) c.in_ok-push.ensures.items c.in_ok-push-2.ensures.items at
           (c.in_ok-done.ensures.executed (get_or calls number no_call) at);

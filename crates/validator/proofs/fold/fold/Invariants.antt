@@ -7,7 +7,7 @@ use Rattle.validator.proofs.fold.fold.Given as goal
 
 abbrev pub invariant-loop-position : goal.invariant-loop-position
 invariant-loop-position g l = record {
-  serial : Serial (setting_view l.job.contracts.now) l.job.calls.now (take l.position l.job.order.now) l.fn.cells.cells (positions l.receipts.items l.touched.items) l.current.cells;
+  serial : Serial (setting_view l.job.version l.job.contracts.now) l.job.calls.now (take l.position l.job.order.now) l.fn.cells.cells (positions l.receipts.items l.touched.items) l.current.cells;
   receipts : length l.receipts.items ≡ l.position;
   touched : length l.touched.items ≡ l.position;
   settled : l.current.unsettled ≡ finite.empty;

@@ -5,8 +5,8 @@ use Rattle.validator.proofs.workers.take_in.Given as goal
 
 abbrev pub invariant-loop-part : goal.invariant-loop-part
 invariant-loop-part g l = record {
-  runs : AreFound (setting_view l.job.contracts.now) l.job.calls.now l.runs.items;
-  part : ArePartsMade (setting_view l.job.contracts.now) l.job.calls.now l.parts.items;
+  runs : AreFound (setting_view l.job.version l.job.contracts.now) l.job.calls.now l.runs.items;
+  part : ArePartsMade (setting_view l.job.version l.job.contracts.now) l.job.calls.now l.parts.items;
   size : length l.runs.items ≡ length l.fn.runs.items;
 }
 

@@ -5,8 +5,8 @@ use Rattle.validator.proofs.workers.take_part.Given as goal
 
 abbrev pub invariant-loop-made : goal.invariant-loop-made
 invariant-loop-made g l = record {
-  runs : AreFound (setting_view l.job.contracts.now) l.job.calls.now l.runs.items;
-  part : AreMade (setting_view l.job.contracts.now) l.job.calls.now l.part.items;
+  runs : AreFound (setting_view l.job.version l.job.contracts.now) l.job.calls.now l.runs.items;
+  part : AreMade (setting_view l.job.version l.job.contracts.now) l.job.calls.now l.part.items;
   size : length l.runs.items ≡ length l.fn.runs.items;
 }
 

@@ -7,7 +7,7 @@ use Rattle.validator.proofs.workers.work_on.Goals.{in-Some+in_ok-push, in_defaul
 
 pub returns : goal.returns
 returns g c =
-    let setting = setting_view c.args.job.now.contracts.now in
+    let setting = setting_view c.args.job.now.version c.args.job.now.contracts.now in
     let calls = c.args.job.now.calls.now in
     elim c.match-run.branch [
       | in-Some+in_ok-push w ↦

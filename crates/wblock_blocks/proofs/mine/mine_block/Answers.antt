@@ -19,6 +19,7 @@ returns-in-Ok-done-clause-answers g c = λ t.
       block = mined.block;
       next = world_view mined.world;
       headline = subst (λ calls. Headline world calls c.args.task.fuel mined.block (world_view mined.world)) c.deref.ensures.value c.in-Ok.ensures.headline;
+      version = c.in-Ok.ensures.version;
       left = mined.left.items;
       is_left = subst (λ calls. IsLeft calls (order_of mined.block) mined.left.items) c.deref.ensures.value c.in-Ok.ensures.left;
       done = c.in-Ok-done.ensures;

@@ -3,6 +3,7 @@ use Rattle.interp.specs.Lent.{contract_view}
 use Rattle.wblock_commands.specs.Runs.{numbers_from, told_of}
 use Rattle.wblock_commands.proofs.runs.run_calls.Goals as goal
 use Rattle.std.proofs.Common.{subst, sym, ap, arith, ◌∙◌}
+use Rattle.spec_ledger.specs.declared.Version.TheVariants.{Two}
 use Rattle.interp.specs.Lent.{setting_view}
 use Rattle.wblock_commands.proofs.Numbers.{numbers_below, numbers_count, shown}
 
@@ -16,4 +17,4 @@ lines_of-requires c = let o : c.as_slice-2.result.now ≡ numbers_from 0 c.args.
 
 -- src/runs.rt:55:1
 pub returns : goal.returns
-returns c = let o : c.as_slice-2.result.now ≡ numbers_from 0 c.args.calls.now = c.as_slice-2.ensures.value ∙ c.in_ok-order.ensures in shown (contract_view c.args.contract) c.args.calls.now _ _ _ _ _ _ _ (ap setting_view c.as_slice.ensures) o c.new.ensures.cells c.in-Ok.ensures.serial c.in-Ok.ensures.receipts c.in-Ok.ensures.touched (c.in_ok-text.ensures ∙ ap told_of c.as_slice-3.ensures.value)
+returns c = let o : c.as_slice-2.result.now ≡ numbers_from 0 c.args.calls.now = c.as_slice-2.ensures.value ∙ c.in_ok-order.ensures in shown (contract_view c.args.contract) c.args.calls.now _ _ _ _ _ _ _ (ap (setting_view Two) c.as_slice.ensures) o c.new.ensures.cells c.in-Ok.ensures.serial c.in-Ok.ensures.receipts c.in-Ok.ensures.touched (c.in_ok-text.ensures ∙ ap told_of c.as_slice-3.ensures.value)

@@ -3,4 +3,4 @@ use Rattle.interp.specs.Played.{IsPlayed}
 use Rattle.interp.proofs.finished.Finished.is_played.Goals as goal
 
 pub returns : goal.returns
-returns g c = subst IsPlayed c.self.view_is c.self.invariant
+returns g c = subst IsPlayed c.self.view_is c.self.invariant.0

@@ -6,7 +6,7 @@ use Rattle.spec_execution.specs.Levels.{RunsWith, refused}
 use Rattle.interp.specs.Lent.{setting_view}
 use Rattle.interp.proofs.finished.Finished.rejected.Goals as goal
 
-pub of-requires : goal.of-requires
-of-requires g c =
-    subst (λ (trace : List Step). RunsWith (setting_view c.args.contracts.now) c.args.call.now trace (Rejected c.code.result) 0) (sym c.new.ensures.items)
-    (refused c.code.result (c.in-Err.ensures.refused ∙ ap Refused (sym c.code.ensures)))
+pub of-requires-clause-played : goal.of-requires-clause-played
+of-requires-clause-played g c =
+    subst (λ (trace : List Step). RunsWith (setting_view c.args.version c.args.contracts.now) c.args.call.now trace (Rejected c.code.result) 0) (sym c.new.ensures.items)
+    (refused c.code.result (c.in-Err.ensures.refused c.args.version ∙ ap Refused (sym c.code.ensures)))

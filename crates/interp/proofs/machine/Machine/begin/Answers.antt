@@ -4,6 +4,7 @@ use Rattle.module_tree.specs.Modules.{module_view}
 use Rattle.spec_typing.specs.Linking.{IsLinked}
 use Rattle.spec_execution.specs.Configuration.{Contract, End, Invoke, arguments, fresh}
 use Rattle.spec_execution.specs.Run.{opening, Opens}
+use Rattle.spec_execution.specs.Levels.{asks_in}
 use Rattle.instance.specs.States.{IsFresh}
 use Rattle.frames.specs.declared.parts.Entry.{Entry}
 use Rattle.interp.specs.Lent.{setting_view}
@@ -22,31 +23,32 @@ pub prepare-requires-clause-entry : goal.prepare-requires-clause-entry
 prepare-requires-clause-entry g c =
     let m = c.module-tree.result.now in
     let hosts = c.hosts.result.now in
-    let open_is = contract_same c.contract.result c.args.call.now.contract m hosts c.args.deployed.now c.args.deployed.now c.contract.ensures c.module-tree.ensures c.hosts.ensures refl in
-    subst (λ (vs : List Value). IsEntry (at_number c.contract.result m hosts) c.args.func vs) (sym c.args-2.ensures.args)
-    (subst (λ (x : Contract). IsEntry x c.args.func c.args.call.now.args) (sym open_is.same) (opened_entry (setting_view c.args.contracts.now) c.args.call.now _ c.args.func c.requires.opens))
+    let open_is = contract_same c.args.version c.contract.result c.args.call.now.contract m hosts c.args.deployed.now c.args.deployed.now c.contract.ensures c.module-tree.ensures c.hosts.ensures refl in
+    subst (λ (vs : List Value). IsEntry (at_number c.args.version c.contract.result m hosts) c.args.func vs) (sym c.args-2.ensures.args)
+    (subst (λ (x : Contract). IsEntry x c.args.func c.args.call.now.args) (sym open_is.same) (opened_entry (setting_view c.args.version c.args.contracts.now) c.args.call.now _ c.args.func c.requires.opens))
 
 pub start_run-requires : goal.start_run-requires
 start_run-requires g c =
     let m = c.module-tree.result.now in
-    let made : IsFresh c.in_ok-instance.instance (module_view m) = subst (λ t. IsFresh c.in_ok-instance.instance (module_view t)) (sym c.module-tree.ensures) c.in_ok-instance.ensures in
+    let made : IsFresh c.args.version c.in_ok-instance.instance (module_view m) = subst (λ t. IsFresh c.args.version c.in_ok-instance.instance (module_view t)) (sym c.module-tree.ensures) c.in_ok-instance.ensures in
     let hosts = c.hosts.result.now in
-    let k : Contract = at_number c.contract.result m hosts in
-    let open_is = contract_same c.contract.result c.args.call.now.contract m hosts c.args.deployed.now c.args.deployed.now c.contract.ensures c.module-tree.ensures c.hosts.ensures refl in
-    let opens : opening (setting_view c.args.contracts.now) c.args.call.now ≡ Opens k c.args.func = c.requires.opens ∙ ap (λ x. Opens x c.args.func) (sym open_is.same) in
+    let k : Contract = at_number c.args.version c.contract.result m hosts in
+    let open_is = contract_same c.args.version c.contract.result c.args.call.now.contract m hosts c.args.deployed.now c.args.deployed.now c.contract.ensures c.module-tree.ensures c.hosts.ensures refl in
+    let opens : opening (setting_view c.args.version c.args.contracts.now) c.args.call.now ≡ Opens k c.args.func = c.requires.opens ∙ ap (λ x. Opens x c.args.func) (sym open_is.same) in
     let linked = subst (λ (x : Contract). ∥ IsLinked x.deployed.tree x.deployed.hosts ∥₁) (sym open_is.same) c.args.deployed.now.linked in
     record {
       first = record {
         begun = record {
           opens = opens;
-          safe = safe_of (setting_view c.args.contracts.now) c.args.call.now k c.args.func linked c.deployed_calls_are_safe.ensures opens;
+          safe = safe_of (setting_view c.args.version c.args.contracts.now) c.args.call.now k c.args.func linked c.deployed_calls_are_safe.ensures opens;
           suits = made.max;
           waits = subst (λ (vs : List Value). IsPrepared k vs c.in_ok-entry.entry) c.args-2.ensures.args c.in_ok-entry.ensures.prepared;
           place = c.in_ok-entry.ensures.place;
+          entered = ap asks_in (sym c.new.ensures.items);
         };
         counted = record { count = ap (λ es. frames (opens_of es) 0) (sym c.new-2.ensures.items); few = omega arith; code = tt; each = subst (λ (es : List (Entry g.row.A.Denot)). EachNumbered es) (sym c.new-2.ensures.items) tt };
         view =
-            ap (λ x. mk x (opens_of c.new-2.result.items) c.new-3.result.items c.new-4.result.items []) (based_fresh (module_view m) c.in_ok-instance.instance made)
+            ap (λ x. mk x (opens_of c.new-2.result.items) c.new-3.result.items c.new-4.result.items []) (based_fresh c.args.version (module_view m) c.in_ok-instance.instance made)
             ∙ ap (λ (es : List Open). mk (fresh (module_view m)) es c.new-3.result.items c.new-4.result.items []) (ap opens_of c.new-2.ensures.items)
             ∙ ap₂ (λ (vs ls : List Value). mk (fresh (module_view m)) [] vs ls []) c.new-3.ensures.items c.new-4.ensures.items;
         tail = ap (λ f. arguments c.args.call.now.args (Invoke f End)) c.in_ok-entry.ensures.same;

@@ -8,7 +8,7 @@ use Rattle.records.proofs.position.Position.new.Goals as goal
 pub invariant_of-result : goal.invariant_of-result
 invariant_of-result g c = record {
   call = omega arith;
-  receipt = record { used = c.has_bytes.ensures.used; outcome = c.has_bytes.ensures.outcome.0 (search rules) };
+  receipt = record { used = c.has_bytes.ensures.used; asks = c.has_bytes.ensures.asks; outcome = c.has_bytes.ensures.outcome.0 (search rules) };
   count = search rules;
   entries = subst (λ (es : List Entry). AllByRecursion IsEntry es) c.entries.ensures c.note_entries.ensures;
   rising = rising_from c.neighbours_decide.ensures c.args.profile c.hold.ensures;

@@ -1,0 +1,6 @@
+pub mod Chains
+pub mod Counting
+pub mod Figures
+pub mod Hottest
+pub mod Outcomes
+pub mod Turns

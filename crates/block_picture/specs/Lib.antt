@@ -1,0 +1,7 @@
+pub mod Boxes
+pub mod Edges
+pub mod Heads
+pub mod Lines
+pub mod Pictures
+pub mod Seats
+pub mod Words

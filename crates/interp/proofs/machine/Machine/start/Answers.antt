@@ -1,6 +1,0 @@
-use Rattle.interp.specs.Lent.{setting_view}
-use Rattle.interp.specs.Starting.{wrong_in}
-use Rattle.interp.proofs.machine.Machine.start.Goals as goal
-
-pub returns-in-Err-clause-place : goal.returns-in-Err-clause-place
-returns-in-Err-clause-place g c = c.refusal_of.ensures.place (wrong_in (setting_view c.args.contracts.now) c.args.call.now) c.in-Err.ensures.place

@@ -1,0 +1,390 @@
+// Scripts of two calls over a book in 1, 2 and 16 shards, which answers as a book of one piece.
+use crate::books::{Act, Answer, COUNTS, Came, RETURNED, Script, TRAPPED};
+use crate::whole::played;
+use boost::book::{BeginRefusal, CommitRefusal, LeaveRefusal, OpRefusal};
+use spec_ledger::{Kind, Op, Place, Reply, Step};
+use std::test::Fail;
+
+const ONE: Place = Place {
+    contract: 0,
+    key: 1,
+};
+
+const TWO: Place = Place {
+    contract: 0,
+    key: 2,
+};
+
+const THREE: Place = Place {
+    contract: 0,
+    key: 3,
+};
+
+const FOUR: Place = Place {
+    contract: 0,
+    key: 4,
+};
+
+const SEVEN: Place = Place {
+    contract: 0,
+    key: 7,
+};
+
+const EIGHT: Place = Place {
+    contract: 0,
+    key: 8,
+};
+
+const BEGUN: Answer = Answer::Begin(Ok(0));
+
+const BEGUN_AGAIN: Answer = Answer::Begin(Ok(1));
+
+const DONE: Answer = Answer::Op(Ok(Reply::Nothing));
+
+const WAITS: Answer = Answer::Op(Err(OpRefusal::Conflict));
+
+const ENTERED: Answer = Answer::Enter(Ok(()));
+
+const LEFT: Answer = Answer::Leave(Ok(()));
+
+const NOT_ENTERED: Answer = Answer::Leave(Err(LeaveRefusal::NotEntered));
+
+const FIRST: Answer = Answer::Commit(Ok(0));
+
+const SECOND: Answer = Answer::Commit(Ok(1));
+
+const DIFFERS: Answer = Answer::Commit(Err(CommitRefusal::Differs));
+
+const ADDED_2: Step = Step::Did(Op::Add(SEVEN, 2), Reply::Nothing);
+
+const ADDED_5: Step = Step::Did(Op::Add(SEVEN, 5), Reply::Nothing);
+
+const ADDED_8: Step = Step::Did(Op::Add(SEVEN, 8), Reply::Nothing);
+
+const TOTAL_OF_100: Step = Step::Did(Op::Total(SEVEN), Reply::I64(100));
+
+/// Two calls that add to one counter, of which the second is committed first.
+const TWO_BUMPS: Script = Script {
+    opening: &[(Kind::Counter, 7, 3)],
+    rows: &[
+        (0, Act::Begin, BEGUN),
+        (1, Act::Begin, BEGUN),
+        (0, Act::Op(Op::Add(SEVEN, 5)), DONE),
+        (1, Act::Op(Op::Add(SEVEN, 8)), DONE),
+        (1, Act::Commit(&[ADDED_8], RETURNED), FIRST),
+        (0, Act::Commit(&[ADDED_5], RETURNED), SECOND),
+    ],
+    cells: &[(Kind::Counter, 7, Some(16))],
+    entries: 2,
+};
+
+/// A call that fails and one that does not, which add to one counter at once and put a cell of their own. What the failed one changed is taken back.
+const FAIL_AND_BUMP: Script = Script {
+    opening: &[(Kind::Map, 1, 10)],
+    rows: &[
+        (0, Act::Begin, BEGUN),
+        (1, Act::Begin, BEGUN),
+        (0, Act::Op(Op::Add(SEVEN, 5)), DONE),
+        (0, Act::Op(Op::Put(ONE, 9)), DONE),
+        (1, Act::Op(Op::Add(SEVEN, 8)), DONE),
+        (1, Act::Op(Op::Put(TWO, 4)), DONE),
+        (
+            0,
+            Act::Commit(
+                &[ADDED_5, Step::Did(Op::Put(ONE, 9), Reply::Nothing)],
+                TRAPPED,
+            ),
+            FIRST,
+        ),
+        (
+            1,
+            Act::Commit(
+                &[ADDED_8, Step::Did(Op::Put(TWO, 4), Reply::Nothing)],
+                RETURNED,
+            ),
+            SECOND,
+        ),
+    ],
+    cells: &[
+        (Kind::Counter, 7, Some(8)),
+        (Kind::Map, 1, Some(10)),
+        (Kind::Map, 2, Some(4)),
+    ],
+    entries: 2,
+};
+
+/// A total that is refused while another call adds, and each refusal of the book.
+const REFUSED_TOTAL: Script = Script {
+    opening: &[(Kind::Counter, 7, 100)],
+    rows: &[
+        (0, Act::Begin, BEGUN),
+        (0, Act::Begin, Answer::Begin(Err(BeginRefusal::Live))),
+        (2, Act::Begin, Answer::Begin(Err(BeginRefusal::NoSuchCall))),
+        (0, Act::Op(Op::Add(SEVEN, 5)), DONE),
+        (1, Act::Begin, BEGUN),
+        (1, Act::Op(Op::Total(SEVEN)), WAITS),
+        (0, Act::Undo, Answer::Undone),
+        (
+            1,
+            Act::Op(Op::Total(SEVEN)),
+            Answer::Op(Ok(Reply::I64(100))),
+        ),
+        // too few steps, and too many
+        (1, Act::Commit(&[], RETURNED), DIFFERS),
+        (
+            1,
+            Act::Commit(
+                &[TOTAL_OF_100, Step::Did(Op::Get(EIGHT), Reply::I64(0))],
+                RETURNED,
+            ),
+            DIFFERS,
+        ),
+        (
+            1,
+            Act::CommitElsewhere(&[TOTAL_OF_100], RETURNED),
+            Answer::Commit(Err(CommitRefusal::Stale)),
+        ),
+        (1, Act::Commit(&[TOTAL_OF_100], RETURNED), FIRST),
+        (1, Act::Begin, Answer::Begin(Err(BeginRefusal::Committed))),
+        (0, Act::Begin, BEGUN_AGAIN),
+        (0, Act::Undo, Answer::Undone),
+    ],
+    cells: &[(Kind::Counter, 7, Some(100))],
+    entries: 1,
+};
+
+/// Two calls that move a number to the other's place: each is refused the put, and both are undone and run one after another.
+const TWO_MOVERS: Script = Script {
+    opening: &[(Kind::Map, 1, 10), (Kind::Map, 2, 20)],
+    rows: &[
+        (0, Act::Begin, BEGUN),
+        (1, Act::Begin, BEGUN),
+        (0, Act::Op(Op::Get(ONE)), Answer::Op(Ok(Reply::I64(10)))),
+        (1, Act::Op(Op::Get(TWO)), Answer::Op(Ok(Reply::I64(20)))),
+        (0, Act::Op(Op::Put(TWO, 10)), WAITS),
+        (1, Act::Op(Op::Put(ONE, 20)), WAITS),
+        (0, Act::Undo, Answer::Undone),
+        (1, Act::Undo, Answer::Undone),
+        (0, Act::Begin, BEGUN_AGAIN),
+        (0, Act::Op(Op::Get(ONE)), Answer::Op(Ok(Reply::I64(10)))),
+        (0, Act::Op(Op::Put(TWO, 10)), DONE),
+        (
+            0,
+            Act::Commit(
+                &[
+                    Step::Did(Op::Get(ONE), Reply::I64(10)),
+                    Step::Did(Op::Put(TWO, 10), Reply::Nothing),
+                ],
+                RETURNED,
+            ),
+            FIRST,
+        ),
+        (1, Act::Begin, BEGUN_AGAIN),
+        (1, Act::Op(Op::Get(TWO)), Answer::Op(Ok(Reply::I64(10)))),
+        (1, Act::Op(Op::Put(ONE, 10)), DONE),
+        (
+            1,
+            Act::Commit(
+                &[
+                    Step::Did(Op::Get(TWO), Reply::I64(10)),
+                    Step::Did(Op::Put(ONE, 10), Reply::Nothing),
+                ],
+                RETURNED,
+            ),
+            SECOND,
+        ),
+    ],
+    cells: &[(Kind::Map, 1, Some(10)), (Kind::Map, 2, Some(10))],
+    entries: 2,
+};
+
+/// What call 0 did in the rows of levels.
+const OF_LEVELS: [Step; 12] = [
+    ADDED_5,
+    Step::Opened,
+    ADDED_2,
+    Step::Did(Op::Put(ONE, 9), Reply::Nothing),
+    Step::Opened,
+    Step::Did(Op::Put(TWO, 4), Reply::Nothing),
+    Step::Dropped,
+    Step::Did(Op::Get(TWO), Reply::I64(20)),
+    Step::Opened,
+    Step::Did(Op::Add(SEVEN, 32), Reply::Nothing),
+    Step::Kept,
+    Step::Kept,
+];
+
+/// And call 1.
+const OF_OTHER_LEVELS: [Step; 8] = [
+    ADDED_8,
+    Step::Did(Op::Add(SEVEN, 16), Reply::Nothing),
+    Step::Opened,
+    Step::Did(Op::Put(FOUR, 6), Reply::Nothing),
+    Step::Opened,
+    Step::Did(Op::Add(SEVEN, 64), Reply::Nothing),
+    Step::Kept,
+    Step::Dropped,
+];
+
+/// Levels of two calls.
+const LEVELS: Script = Script {
+    opening: &[(Kind::Counter, 7, 3), (Kind::Map, 2, 20)],
+    rows: &[
+        (0, Act::Begin, BEGUN),
+        (1, Act::Begin, BEGUN),
+        (0, Act::Leave(true), NOT_ENTERED),
+        (0, Act::Leave(false), NOT_ENTERED),
+        (1, Act::Op(Op::Add(SEVEN, 8)), DONE),
+        (0, Act::Op(Op::Add(SEVEN, 5)), DONE),
+        (0, Act::Enter, ENTERED),
+        (0, Act::Op(Op::Add(SEVEN, 2)), DONE),
+        // a shard that is first touched after a mark, where there are 16
+        (0, Act::Op(Op::Put(ONE, 9)), DONE),
+        (0, Act::Enter, ENTERED),
+        // one that is first touched between two marks
+        (0, Act::Op(Op::Put(TWO, 4)), DONE),
+        (1, Act::Op(Op::Add(SEVEN, 16)), DONE),
+        (0, Act::Leave(false), LEFT),
+        (0, Act::Op(Op::Get(TWO)), Answer::Op(Ok(Reply::I64(20)))),
+        // a dropped level holds its locks
+        (1, Act::Op(Op::Get(TWO)), WAITS),
+        (0, Act::Enter, ENTERED),
+        (0, Act::Op(Op::Add(SEVEN, 32)), DONE),
+        (0, Act::Leave(true), LEFT),
+        (0, Act::Leave(true), LEFT),
+        (0, Act::Leave(true), NOT_ENTERED),
+        (1, Act::Enter, ENTERED),
+        (1, Act::Op(Op::Put(FOUR, 6)), DONE),
+        (1, Act::Enter, ENTERED),
+        (1, Act::Op(Op::Add(SEVEN, 64)), DONE),
+        (1, Act::Leave(true), LEFT),
+        (1, Act::Leave(false), LEFT),
+        (1, Act::Commit(&OF_OTHER_LEVELS, RETURNED), FIRST),
+        (0, Act::Commit(&OF_LEVELS, RETURNED), SECOND),
+    ],
+    cells: &[
+        (Kind::Counter, 7, Some(66)),
+        (Kind::Map, 1, Some(9)),
+        (Kind::Map, 2, Some(20)),
+        (Kind::Map, 4, None),
+    ],
+    entries: 2,
+};
+
+/// The same, of which the call committed last fails.
+const FAILED_LEVELS: Script = Script {
+    opening: &[(Kind::Counter, 7, 3), (Kind::Map, 2, 20)],
+    rows: &[
+        (0, Act::Begin, BEGUN),
+        (1, Act::Begin, BEGUN),
+        (0, Act::Leave(true), NOT_ENTERED),
+        (0, Act::Leave(false), NOT_ENTERED),
+        (1, Act::Op(Op::Add(SEVEN, 8)), DONE),
+        (0, Act::Op(Op::Add(SEVEN, 5)), DONE),
+        (0, Act::Enter, ENTERED),
+        (0, Act::Op(Op::Add(SEVEN, 2)), DONE),
+        // a shard that is first touched after a mark, where there are 16
+        (0, Act::Op(Op::Put(ONE, 9)), DONE),
+        (0, Act::Enter, ENTERED),
+        // one that is first touched between two marks
+        (0, Act::Op(Op::Put(TWO, 4)), DONE),
+        (1, Act::Op(Op::Add(SEVEN, 16)), DONE),
+        (0, Act::Leave(false), LEFT),
+        (0, Act::Op(Op::Get(TWO)), Answer::Op(Ok(Reply::I64(20)))),
+        // a dropped level holds its locks
+        (1, Act::Op(Op::Get(TWO)), WAITS),
+        (0, Act::Enter, ENTERED),
+        (0, Act::Op(Op::Add(SEVEN, 32)), DONE),
+        (0, Act::Leave(true), LEFT),
+        (0, Act::Leave(true), LEFT),
+        (0, Act::Leave(true), NOT_ENTERED),
+        (1, Act::Enter, ENTERED),
+        (1, Act::Op(Op::Put(FOUR, 6)), DONE),
+        (1, Act::Enter, ENTERED),
+        (1, Act::Op(Op::Add(SEVEN, 64)), DONE),
+        (1, Act::Leave(true), LEFT),
+        (1, Act::Leave(false), LEFT),
+        (1, Act::Commit(&OF_OTHER_LEVELS, RETURNED), FIRST),
+        (0, Act::Commit(&OF_LEVELS, TRAPPED), SECOND),
+    ],
+    cells: &[
+        (Kind::Counter, 7, Some(27)),
+        (Kind::Map, 1, None),
+        (Kind::Map, 2, Some(20)),
+        (Kind::Map, 4, None),
+    ],
+    entries: 2,
+};
+
+/// Two calls with levels, one of which fails.
+pub(crate) const GROWTHS: Script = Script {
+    opening: &[(Kind::Map, 1, 10), (Kind::Counter, 7, 3)],
+    rows: &[
+        (0, Act::Begin, BEGUN),
+        (0, Act::Op(Op::Add(SEVEN, 5)), DONE),
+        (0, Act::Enter, ENTERED),
+        (0, Act::Op(Op::Get(ONE)), Answer::Op(Ok(Reply::I64(10)))),
+        (0, Act::Op(Op::Put(TWO, 9)), DONE),
+        (0, Act::Enter, ENTERED),
+        (0, Act::Op(Op::Put(FOUR, 6)), DONE),
+        (0, Act::Leave(false), LEFT),
+        (0, Act::Leave(true), LEFT),
+        (1, Act::Begin, BEGUN),
+        (1, Act::Op(Op::Add(SEVEN, 8)), DONE),
+        (1, Act::Op(Op::Put(THREE, 4)), DONE),
+        (
+            1,
+            Act::Commit(
+                &[ADDED_8, Step::Did(Op::Put(THREE, 4), Reply::Nothing)],
+                TRAPPED,
+            ),
+            FIRST,
+        ),
+        (
+            0,
+            Act::Commit(
+                &[
+                    ADDED_5,
+                    Step::Opened,
+                    Step::Did(Op::Get(ONE), Reply::I64(10)),
+                    Step::Did(Op::Put(TWO, 9), Reply::Nothing),
+                    Step::Opened,
+                    Step::Did(Op::Put(FOUR, 6), Reply::Nothing),
+                    Step::Dropped,
+                    Step::Kept,
+                ],
+                RETURNED,
+            ),
+            SECOND,
+        ),
+    ],
+    cells: &[
+        (Kind::Counter, 7, Some(8)),
+        (Kind::Map, 2, Some(9)),
+        (Kind::Map, 3, None),
+        (Kind::Map, 4, None),
+    ],
+    entries: 2,
+};
+
+/// Each with what it is called.
+const SCRIPTS: [(&'static str, Script); 7] = [
+    ("two bumps", TWO_BUMPS),
+    ("a call that fails and a bump", FAIL_AND_BUMP),
+    ("a total that waits", REFUSED_TOTAL),
+    ("two movers", TWO_MOVERS),
+    ("levels", LEVELS),
+    ("levels of a call that fails", FAILED_LEVELS),
+    ("growths", GROWTHS),
+];
+
+#[test]
+fn each_script_is_that_of_a_book_of_one_piece(rt: HostRuntime) -> Result<(), Fail> {
+    for (name, script) in &SCRIPTS {
+        for shards in &COUNTS {
+            let came = played(&rt, rt.alloc(), *shards, script);
+            assert!(rt; came == Came::AsSaid, "{name}, {shards} shards: {came:?}");
+        }
+    }
+    Ok(())
+}

@@ -1,0 +1,4 @@
+mod AtIndex
+mod Counting
+mod Lines
+mod Places

@@ -1,0 +1,111 @@
+//! The command `text MODULE TEXT`: a text that names a module.
+
+ghost use Rattle.std.specs.Prelude.{◌≡◌, IsTrue, IfOk, IfErr, OnOk, string_bytes};
+ghost use Rattle.wblock_line.specs.Answers.{CountsFault, IsOfFile};
+ghost use Rattle.wblock_line.specs.Modules.{StopsAt};
+ghost use Rattle.wblock_modules.specs.Texts.{IsFound, IsDone, IsAnswer, WritesText, unwritten_line};
+
+use module_text::{TextRefusal, text_of};
+use std::alloc::{AllocError, Global};
+use wblock_io::Files;
+use wblock_line::{Answer, Fault, Stop, Write, read_file, read_valid};
+
+/// What a valid module comes to.
+#[derive(Drop)]
+enum Found {
+    /// This text names it.
+    Text(String),
+    /// Its text would be too long.
+    TooLong,
+    /// What was written does not name it.
+    Unwritten,
+}
+
+/// The text of the module of these bytes, where it is valid.
+fn find_text(alloc: Global, bytes: &[u8]) -> Result<Found, Stop>
+    ensures found { IfOk result (IsFound bytes.now) }
+    ensures refused { IfErr result (StopsAt bytes.now) }
+{
+    let valid = read_valid(alloc, alloc, bytes)?;
+    match text_of(alloc, valid.module()) {
+        Ok(text) => Ok(Found::Text(text)),
+        Err(TextRefusal::TooLong) => Ok(Found::TooLong),
+        Err(TextRefusal::Unwritten) => Ok(Found::Unwritten),
+        Err(TextRefusal::NoMemory) => Err(Stop::NoMemory),
+    }
+}
+
+/// The line `refused text N`, and this sentence.
+fn unwritten_text(alloc: Global, number: u8, why: &str) -> Result<(String, String), AllocError>
+    ensures { IfOk result (λ told. string_bytes told.0 ≡ unwritten_line number) }
+{
+    let line = format!(in alloc; "refused text {number}\n")?;
+    let why = why.to_string(alloc)?;
+    Ok((line, why))
+}
+
+/// The answer of a text, which is to be written to a file.
+fn done<'a>(alloc: Global, target: &'a str, text: String) -> Result<Answer<'a>, AllocError>
+    ensures { IfOk result (λ a. IsDone target.entry.now (string_bytes text) a) }
+{
+    let bytes = text.into_bytes();
+    let count = bytes.len();
+    let line = format!(in alloc; "text {count} bytes\n")?;
+    let mut writes = Vec::new(alloc);
+    writes.push(Write {
+        name: target,
+        bytes,
+    })?;
+    Ok(Answer::Done(writes, line))
+}
+
+/// The text of the module of these bytes, or why it is refused.
+fn answer_or_refuse<'a>(
+    alloc: Global,
+    target: &'a str,
+    bytes: &[u8],
+) -> Result<Answer<'a>, AllocError>
+    ensures { IfOk result (IsAnswer bytes.now target.entry.now) }
+{
+    match find_text(alloc, bytes) {
+        Ok(Found::Text(text)) => done(alloc, target, text),
+        Ok(Found::TooLong) => {
+            let (line, why) = unwritten_text(
+                alloc,
+                1,
+                "the module's text would have more than 1048576 bytes, the most that `asm` takes",
+            )?;
+            Ok(Answer::Refused(line, why))
+        }
+        Ok(Found::Unwritten) => {
+            let (line, why) = unwritten_text(alloc, 2, "no text was found that names the module")?;
+            Ok(Answer::Refused(line, why))
+        }
+        Err(Stop::Refused(refusal)) => {
+            let (line, why) = refusal.told(alloc, bytes)?;
+            Ok(Answer::Refused(line, why))
+        }
+        Err(Stop::NoMemory) => Err(AllocError),
+    }
+}
+
+/// What `text` comes to: a text that names the module of a file is to be written to the file `target`, where the module is valid; or why it is refused. No
+/// file is written yet.
+pub fn write_text<'a, F: Files>(
+    alloc: Global,
+    files: &mut F,
+    source: &'a str,
+    target: &'a str,
+) -> Result<Answer<'a>, Fault<'a>>
+    ensures answers { IfOk result (λ a. IsTrue F.tells → WritesText (F.holds files.old) source.entry.now target.entry.now a) }
+    ensures kept { IsTrue F.tells → F.holds files.new ≡ F.holds files.old }
+    ensures calm { OnOk result (F.failures files.new ≡ F.failures files.old) }
+    ensures counted { IfErr result (λ f. CountsFault f (F.failures files.old) (F.failures files.new)) }
+    ensures named { IfErr result (IsOfFile (λ name. name ≡ source.entry.now)) }
+{
+    let bytes = read_file(alloc, files, source)?;
+    match answer_or_refuse(alloc, target, bytes.as_slice()) {
+        Ok(answer) => Ok(answer),
+        Err(AllocError) => Err(Fault::NoMemory),
+    }
+}
