@@ -31,7 +31,7 @@ speed-up at most -
 ";
 
 /// A read of a counter, then a trap and an addition side by side, and a call that was not started, of the calls `CALLS`.
-const FOUR: [u8; 303] = [
+pub(crate) const FOUR: [u8; 303] = [
     87, 66, 76, 75, 2, 0, 0, 0, 1, 1, 1, 1, 1, 1, 1, 1, 1, 1, 1, 1, 1, 1, 1, 1, 1, 1, 1, 1, 1, 1,
     1, 1, 1, 1, 1, 1, 1, 1, 1, 1, 61, 8, 53, 59, 18, 28, 23, 92, 218, 95, 82, 50, 202, 83, 104,
     114, 143, 22, 243, 105, 52, 31, 205, 16, 152, 229, 246, 13, 92, 82, 31, 81, 4, 0, 0, 0, 1, 0,
@@ -46,7 +46,7 @@ const FOUR: [u8; 303] = [
 ];
 
 /// Its text.
-const FOUR_TEXT: &str = "\
+pub(crate) const FOUR_TEXT: &str = "\
 version 2
 before 0101010101010101010101010101010101010101010101010101010101010101
 calls 3d08353b121c175cda5f5232ca5368728f16f369341fcd1098e5f60d5c521f51
@@ -67,7 +67,7 @@ rejected 6 1
 ";
 
 /// Its text with its calls.
-const FOUR_CALLED: &str = "\
+pub(crate) const FOUR_CALLED: &str = "\
 version 2
 before 0101010101010101010101010101010101010101010101010101010101010101
 calls 3d08353b121c175cda5f5232ca5368728f16f369341fcd1098e5f60d5c521f51
@@ -164,7 +164,7 @@ returned 3
 ";
 
 /// A forged block, of which the second position names a fifth call of the four.
-const FAR: [u8; 160] = [
+pub(crate) const FAR: [u8; 160] = [
     87, 66, 76, 75, 2, 0, 0, 0, 1, 1, 1, 1, 1, 1, 1, 1, 1, 1, 1, 1, 1, 1, 1, 1, 1, 1, 1, 1, 1, 1,
     1, 1, 1, 1, 1, 1, 1, 1, 1, 1, 61, 8, 53, 59, 18, 28, 23, 92, 218, 95, 82, 50, 202, 83, 104,
     114, 143, 22, 243, 105, 52, 31, 205, 16, 152, 229, 246, 13, 92, 82, 31, 81, 2, 0, 0, 0, 0, 0,
@@ -174,7 +174,7 @@ const FAR: [u8; 160] = [
 ];
 
 /// The calls of `FOUR`.
-const CALLS: &str = "\
+pub(crate) const CALLS: &str = "\
 0 100 bump i64:7 i64:5
 0 50 total i64:7
 1 9 put i32:-2 i64:-9
@@ -221,9 +221,9 @@ const ROWS: [Row; 9] = [
 ];
 
 /// Whether a block is shown, what is printed, and why not.
-type Told = (bool, String, String);
+pub(crate) type Told = (bool, String, String);
 
-fn told(alloc: Global, answer: Answer) -> Told {
+pub(crate) fn told(alloc: Global, answer: Answer) -> Told {
     match answer {
         Answer::Done(_, text) => (true, text, String::new(alloc)),
         Answer::Refused(line, why) => (false, line, why),

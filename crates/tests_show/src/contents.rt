@@ -46,16 +46,16 @@ data 0
 ";
 
 /// Before the bytes of the first module, those of a world of it and three cells.
-const WORLD_HEAD: &[u8] = b"WBWD\x01\x00\x00\x00\x01\x00\x00\x00R\x00\x00\x00";
+pub(crate) const WORLD_HEAD: &[u8] = b"WBWD\x01\x00\x00\x00\x01\x00\x00\x00R\x00\x00\x00";
 
 /// And behind them: two cells of the maps, and one of the counters.
-const WORLD_CELLS: &[u8] =
+pub(crate) const WORLD_CELLS: &[u8] =
     b"\x02\x00\x00\x00\x00\x00\x00\x00\x00\x00\x00\x00\x01\x00\x00\x00\x00\x00\x00\x00\x07\x00\x00\x00\x00\
     \x00\x00\x00\x03\x00\x00\x00\xff\xff\xff\xff\xff\xff\xff\xff\x00\x00\x00\x00\x00\x00\x00\x00\x01\x00\
     \x00\x00\x00\x00\x00\x00\x00\x00\x00\x00\x09\x00\x00\x00\x00\x00\x00\x00\x02\x00\x00\x00\x00\x00\x00\
     \x00";
 
-const WORLD_TEXT: &str = "world 1 contracts 3 cells
+pub(crate) const WORLD_TEXT: &str = "world 1 contracts 3 cells
 digest adafd99a936010bb270b404d65c7410fd4f129d21c1d8ba3f65ee769e21e014a
 contract 0 82 bytes
 import 0 \"boost\".\"add\" func (param i64 i64)
@@ -91,7 +91,7 @@ fn told<'a>(alloc: Global, contents: Contents<'a>) -> Result<String, AllocError>
 }
 
 /// The bytes of lists, each behind the other.
-fn joined(alloc: Global, parts: &[&[u8]]) -> Result<Vec<u8>, AllocError> {
+pub(crate) fn joined(alloc: Global, parts: &[&[u8]]) -> Result<Vec<u8>, AllocError> {
     let mut bytes = Vec::new(alloc);
     for part in parts {
         bytes.extend_from_slice(part)?;

@@ -1,7 +1,11 @@
-//! Tests of what is shown of files. There is no code here.
+//! Tests of what is shown of files, and of pictures of blocks. There is no code here.
 #![tactic(auto)]
 
 #[cfg(test)]
 mod blocks;
 #[cfg(test)]
 mod contents;
+#[cfg(test)]
+mod named;
+#[cfg(test)]
+mod pictures;

@@ -2,6 +2,8 @@
 #![tactic(auto)]
 
 #[cfg(test)]
+mod book_events;
+#[cfg(test)]
 mod books;
 #[cfg(test)]
 mod cells;

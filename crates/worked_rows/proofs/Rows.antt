@@ -130,7 +130,7 @@ keeps_executes cells = record { trace = puts_and_deletes 5; run = keeps_run; ask
 counter_empty : let cells : Cells = empty in get cells (lock_of (Add nine 5)) ≡ None
 counter_empty = get-empty lock_cmp (lock_of (Add nine 5))
 
-first_executes : Executes (only counts) (on_key_nine 5) empty (after (adds_and_reads 5) empty) (alone_with (returned 5) 5) (touched (adds_and_reads 5))
+pub first_executes : Executes (only counts) (on_key_nine 5) empty (after (adds_and_reads 5) empty) (alone_with (returned 5) 5) (touched (adds_and_reads 5))
 first_executes = record { trace = adds_and_reads 5; run = counts_to_5; asks = refl; replies = counts_replies empty None 5 counter_empty refl; later_is = refl; locks_are = refl }
 
 abbrev after_one : Cells

@@ -65,6 +65,7 @@ pub fn a_call_that_keeps()
 /// Two calls, one after another: the second reads what the first left.
 pub fn calls_one_after_another()
     ensures runs { Serial (only counts) (on_key_nine 5 ∷ on_key_nine 5 ∷ []) (0 ∷ 1 ∷ []) empty (counted 5 ∷ counted 10 ∷ []) (after (adds_and_reads 10) (after (adds_and_reads 5) empty)) }
+    ensures first { Executes (only counts) (on_key_nine 5) empty (after (adds_and_reads 5) empty) (alone_with (returned 5) 5) (touched (adds_and_reads 5)) }
     ensures no_other_total { (last : Cells) → ¬ (Serial (only counts) (on_key_nine 5 ∷ on_key_nine 5 ∷ []) (0 ∷ 1 ∷ []) empty (counted 5 ∷ counted 5 ∷ []) last) }
     ensures no_fewer_calls { (last : Cells) → ¬ (Serial (only counts) (on_key_nine 5 ∷ on_key_nine 5 ∷ []) (0 ∷ 1 ∷ []) empty (counted 5 ∷ []) last) }
 {

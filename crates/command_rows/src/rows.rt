@@ -1,0 +1,198 @@
+//! Lines of words over files in memory, as rows of plain data.
+
+ghost use Rattle.std.specs.Prelude.{◌≡◌};
+
+use codec::{Failures, MemorySink};
+use pace::NoPace;
+use std::alloc::{AllocError, Global};
+use std::str::from_utf8;
+use std::sync::Wait;
+use std::thread::Threads;
+use wblock_commands::run_line;
+use wblock_io::MemoryFiles;
+use wblock_line::Status;
+
+/// Bytes, so many times one behind another.
+pub type Part<'a> = (usize, &'a [u8]);
+
+/// A file: its name, and its bytes in parts.
+pub type File<'a> = (&'a str, &'a [Part<'a>]);
+
+/// What stands in a file or is put on a stream.
+#[derive(Clone, Copy)]
+pub enum Wanted<'a> {
+    /// These bytes.
+    Text(&'a [u8]),
+    /// The bytes of these parts.
+    All(&'a [Part<'a>]),
+    /// These bytes and others behind them.
+    Front(&'a [u8]),
+    /// A beginning of the bytes of these parts that is not all.
+    Cut(&'a [Part<'a>]),
+    /// What is wrong with the words.
+    Usage,
+    /// A text that ends with a newline and has this part.
+    Part(&'a str),
+    /// This line, with its newline.
+    Line(&'a str),
+    /// There is no such file.
+    Absent,
+}
+
+/// A line of words, and what it comes to.
+#[derive(Clone, Copy)]
+pub struct Line<'a> {
+    /// The words, with single spaces between them; none where this is empty.
+    pub words: &'a str,
+    /// The files before.
+    pub files: &'a [File<'a>],
+    /// After how many calls of the files one fails.
+    pub file_fails: Option<u64>,
+    /// After how many calls of the standard output one fails.
+    pub out_fails: Option<u64>,
+    /// After how many calls of the standard error one fails.
+    pub err_fails: Option<u64>,
+    /// How the line ends.
+    pub status: Status,
+    /// What stands on the standard output.
+    pub out: Wanted<'a>,
+    /// What stands on the standard error.
+    pub err: Wanted<'a>,
+    /// What some of the files hold after it.
+    pub after: &'a [(&'a str, Wanted<'a>)],
+}
+
+/// What a line came to.
+#[derive(Drop)]
+struct Run {
+    status: Status,
+    out: MemorySink,
+    err: MemorySink,
+    files: MemoryFiles,
+}
+
+/// No bytes.
+pub const NOTHING: Wanted = Wanted::Text(b"");
+
+/// The bytes of these parts.
+pub fn joined(alloc: Global, parts: &[Part]) -> Result<Vec<u8>, AllocError> {
+    let mut bytes = Vec::new(alloc);
+    for (times, part) in parts {
+        for _ in 0..*times {
+            bytes.extend_from_slice(*part)?;
+        }
+    }
+    Ok(bytes)
+}
+
+/// The failure after so many calls, or none.
+pub fn failing(after: Option<u64>) -> Failures
+    ensures { result ≡ 0 }
+{
+    match after {
+        Some(calls) => Failures::after(calls),
+        None => Failures::none(),
+    }
+}
+
+/// Files in memory that take at most so many bytes at a time.
+pub fn holding(
+    alloc: Global,
+    piece: usize,
+    rows: &[File],
+    fails: Option<u64>,
+) -> Result<MemoryFiles, AllocError> {
+    let mut files = MemoryFiles::new(alloc, piece, failing(fails));
+    for (name, parts) in rows {
+        files.hold(*name, &joined(alloc, *parts)?)?;
+    }
+    Ok(files)
+}
+
+/// The words between single spaces.
+pub fn words_of<'a>(alloc: Global, line: &'a str) -> Result<Vec<&'a str>, AllocError> {
+    if line.is_empty() {
+        return Ok(Vec::new(alloc));
+    }
+    line.split(' ').collect(alloc)
+}
+
+/// Whether these bytes are the wanted ones.
+fn fits(alloc: Global, bytes: &[u8], wanted: Wanted) -> Result<bool, AllocError> {
+    match wanted {
+        Wanted::Text(text) => Ok(text == bytes),
+        Wanted::All(parts) => Ok(joined(alloc, parts)?.as_slice() == bytes),
+        Wanted::Front(front) => Ok(bytes.starts_with(front)),
+        Wanted::Cut(parts) => {
+            let whole = joined(alloc, parts)?;
+            Ok(whole.starts_with(bytes) && bytes.len() < whole.len())
+        }
+        Wanted::Usage => match from_utf8(bytes) {
+            Ok(text) => Ok(text.starts_with("error: ") || text.starts_with("usage: ")),
+            Err(_) => Ok(false),
+        },
+        Wanted::Part(part) => match from_utf8(bytes) {
+            Ok(text) => Ok(text.ends_with('\n') && text.contains(part)),
+            Err(_) => Ok(false),
+        },
+        Wanted::Line(line) => Ok(bytes.strip_suffix(b"\n") == Some(line.as_bytes())),
+        Wanted::Absent => Ok(false),
+    }
+}
+
+/// Whether a file holds what is wanted.
+pub fn holds(
+    alloc: Global,
+    files: &MemoryFiles,
+    name: &str,
+    wanted: Wanted,
+) -> Result<bool, AllocError> {
+    match files.bytes_of(alloc, name)? {
+        Some(bytes) => fits(alloc, &bytes, wanted),
+        None => Ok(matches!(wanted, Wanted::Absent)),
+    }
+}
+
+/// The run of a line.
+fn run_row<R: Threads + Wait + Sync>(rt: &R, alloc: Global, row: &Line) -> Result<Run, AllocError> {
+    let words = words_of(alloc, row.words)?;
+    let mut files = holding(alloc, 100, row.files, row.file_fails)?;
+    let mut out = MemorySink::new(alloc, 3, failing(row.out_fails));
+    let mut err = MemorySink::new(alloc, 3, failing(row.err_fails));
+    let status = run_line(rt, alloc, &words, &mut files, &mut out, &mut err, &NoPace);
+    Ok(Run {
+        status,
+        out,
+        err,
+        files,
+    })
+}
+
+/// What of a run is not as its row says: the status, a stream or the first such file; or None.
+fn difference<'a>(alloc: Global, run: &Run, row: &Line<'a>) -> Result<Option<&'a str>, AllocError> {
+    if run.status != row.status {
+        return Ok(Some("the status"));
+    }
+    if !fits(alloc, run.out.bytes(), row.out)? {
+        return Ok(Some("standard output"));
+    }
+    if !fits(alloc, run.err.bytes(), row.err)? {
+        return Ok(Some("standard error"));
+    }
+    for (name, wanted) in row.after {
+        if !holds(alloc, &run.files, *name, *wanted)? {
+            return Ok(Some(*name));
+        }
+    }
+    Ok(None)
+}
+
+/// What does not come out as a row says, or None where all does.
+pub fn unlike<'a, R: Threads + Wait + Sync>(
+    rt: &R,
+    alloc: Global,
+    row: &Line<'a>,
+) -> Result<Option<&'a str>, AllocError> {
+    let run = run_row(rt, alloc, row)?;
+    difference(alloc, &run, row)
+}

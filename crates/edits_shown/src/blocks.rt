@@ -1,0 +1,71 @@
+//! A block as text, as a picture, and up to one of its calls.
+
+ghost use Rattle.std.specs.Prelude.{◌≡◌, ◌≤◌, IsTrue, IfOk, IfErr, OnOk, MatchOption, length, string_bytes};
+ghost use Rattle.world.specs.Views.{world_view};
+ghost use Rattle.block_judge.specs.Judging.{IfRejected};
+ghost use Rattle.block_picture.specs.Pictures.{picture};
+ghost use Rattle.block_prefix.specs.Meeting.{IsVerdictAtLeast, Meets, IsAbsent};
+ghost use Rattle.wblock_line.specs.Answers.{CountsFault, IsOfFile};
+ghost use Rattle.wblock_show.specs.Lines.{calls_of};
+ghost use Rattle.wblock_show.specs.Named.{IsNextNamed, ShowsNamed};
+ghost use Rattle.wblock_show.specs.Shows.{HasFew, Shows};
+
+use block_judge::Unfit;
+use block_picture::Scene;
+use block_prefix::Met;
+use call::Call;
+use std::alloc::{Allocator, Global};
+use wblock_io::Files;
+use wblock_line::{Answer, Fault};
+use wblock_show::Showing;
+use world::World;
+use wtypes::NoMemory;
+
+/// As [`wblock_show::show_block`].
+pub fn show_block<'a>(
+    alloc: Global,
+    bytes: &[u8],
+    calls: Option<&[Call]>,
+) -> Result<Answer<'a>, NoMemory>
+    requires { HasFew (calls_of calls) }
+    ensures { IfOk result (Shows bytes.now (calls_of calls.entry)) }
+{
+    wblock_show::show_block(alloc, bytes, calls)
+}
+
+/// As [`wblock_show::show_named`].
+pub fn show_named<'a, F: Files>(
+    alloc: Global,
+    files: &mut F,
+    task: Showing<'a>,
+) -> Result<Answer<'a>, Fault<'a>>
+    ensures answers { IfOk result (λ a. IsTrue F.tells → ShowsNamed (F.holds files.old) task.entry a) }
+    ensures kept { IsTrue F.tells → F.holds files.new ≡ F.holds files.old }
+    ensures calm { OnOk result (F.failures files.new ≡ F.failures files.old) }
+    ensures counted { IfErr result (λ f. CountsFault f (F.failures files.old) (F.failures files.new)) }
+    ensures next { IfErr result (IsOfFile (λ name. IsTrue F.tells → IsNextNamed (F.holds files.old) task.entry name)) }
+{
+    wblock_show::show_named(alloc, files, task)
+}
+
+/// As [`block_picture::picture_of`].
+pub fn picture_of(alloc: Global, scene: &Scene<'_>) -> Result<String, NoMemory>
+    ensures { IfOk result (λ text. string_bytes text ≡ picture scene.now) }
+{
+    block_picture::picture_of(alloc, scene)
+}
+
+/// As [`block_prefix::met_by`].
+pub fn met_by<A: Allocator + Copy>(
+    alloc: A,
+    world: &World<A>,
+    calls: &[Call],
+    bytes: &[u8],
+    number: u32,
+) -> Result<Option<Met<A>>, Unfit>
+    requires { length calls.now ≤ 65535 }
+    ensures rejected { IfErr result (λ unfit. IfRejected unfit (IsVerdictAtLeast (world_view world.now) calls.now bytes.now)) }
+    ensures met { IfOk result (λ found. MatchOption found (IsAbsent (world_view world.now) calls.now bytes.now number) (λ met. Meets (world_view world.now) calls.now bytes.now number met.version met.cells.cells)) }
+{
+    block_prefix::met_by(alloc, world, calls, bytes, number)
+}

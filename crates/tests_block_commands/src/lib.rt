@@ -1,0 +1,7 @@
+//! Tests of the commands that mine and validate, over files in memory, at each fault in turn. There is no code here.
+#![tactic(auto)]
+
+#[cfg(test)]
+mod block_lines;
+#[cfg(test)]
+mod paces;

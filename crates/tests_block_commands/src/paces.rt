@@ -1,0 +1,182 @@
+//! That the numbers of workers and of tries that a line asks for reach the threads that run its calls.
+
+use codec::{Failures, MemorySink};
+use command_rows::{File, WORLD, holding, words_of};
+use pace::{Pace, Step};
+use std::alloc::Global;
+use std::sync::Wait;
+use std::sync::atomic::{AtomicBool, AtomicU64, Ordering};
+use std::test::Fail;
+use std::thread::{self, Threads};
+use wblock_commands::run_line;
+use wblock_io::MemoryFiles;
+use wblock_line::Status;
+
+/// How often a held thread looks, where what it waits for comes.
+const LOOKS: u32 = 1_000_000;
+
+/// How often it then looks for one more, which must not come.
+const FEW_LOOKS: u32 = 20_000;
+
+/// Counts what comes: as many as are wanted, and one more where it comes.
+#[derive(Drop)]
+struct Count {
+    wanted: u64,
+    come: AtomicU64,
+    over: AtomicBool,
+}
+
+impl Count {
+    /// Nothing has come.
+    fn of(wanted: u64) -> Count {
+        Count {
+            wanted,
+            come: AtomicU64::new(0),
+            over: AtomicBool::new(false),
+        }
+    }
+
+    /// One more has come.
+    fn tell(&self) {
+        self.come.fetch_add(1, Ordering::SeqCst);
+    }
+
+    fn look(&self, count: u64, looks: u32) {
+        for _ in 0..looks {
+            if self.come.load(Ordering::SeqCst) >= count || self.over.load(Ordering::SeqCst) {
+                return;
+            }
+            thread::yield_now();
+        }
+    }
+
+    /// Holds the thread until as many have come as are wanted, and then a little longer.
+    fn hold(&self) {
+        self.look(self.wanted, LOOKS);
+        self.look(self.wanted.saturating_add(1), FEW_LOOKS);
+        self.over.store(true, Ordering::SeqCst);
+    }
+
+    /// Whether a thread was held, and no other is to be held.
+    fn is_over(&self) -> bool {
+        self.over.load(Ordering::SeqCst)
+    }
+
+    /// How many have come.
+    fn total(&self) -> u64 {
+        self.come.load(Ordering::SeqCst)
+    }
+}
+
+/// Holds each thread at its first attempt until as many are held as are wanted.
+#[derive(Drop)]
+struct Gather(Count);
+
+impl Pace for Gather {
+    fn at(&self, step: Step) {
+        if matches!(step, Step::Attempt { nth: 0, .. }) && !self.0.is_over() {
+            self.0.tell();
+            self.0.hold();
+        }
+    }
+}
+
+/// Holds call 0 before its second operation until call 1 has acted, and call 1 at its commit until call 0 was refused as often as is wanted.
+#[derive(Drop)]
+struct Clash {
+    acted: Count,
+    refused: Count,
+}
+
+impl Pace for Clash {
+    fn at(&self, step: Step) {
+        match step {
+            Step::Op { call: 0, n: 1 } => self.acted.look(1, LOOKS),
+            Step::Commit { call: 1 } => {
+                self.acted.tell();
+                self.refused.hold();
+            }
+            Step::Refused { .. } => self.refused.tell(),
+            _ => {}
+        }
+    }
+}
+
+/// The world of the example contract, and sixty calls that commute.
+const SIXTY: [File; 2] = [("w", &WORLD), ("c", &[(60, b"0 100 bump i64:7 i64:1\n")])];
+
+/// Lines that run one after another over the same files, and how many threads each gathers.
+const WORKERS: [(&str, u64); 7] = [
+    ("mine w c b n --fuel=6000 --workers=1", 1),
+    ("mine w c b n --fuel=6000 --workers=3", 3),
+    ("mine w c b n --fuel=6000", 4),
+    ("validate w c b --fuel=6000 --workers=1", 1),
+    ("validate w c b --fuel=6000 --workers=3", 3),
+    ("validate w c b --fuel=6000", 4),
+    ("validate w c b --fuel=6000 --workers=6", 6),
+];
+
+/// How a line ends over the files, at this pace.
+fn status_of<R: Threads + Wait + Sync, P: Pace>(
+    rt: &R,
+    alloc: Global,
+    line: &str,
+    files: &mut MemoryFiles,
+    pace: &P,
+) -> Result<Status, Fail> {
+    let words = words_of(alloc, line)?;
+    let mut out = MemorySink::new(alloc, 1_000, Failures::none());
+    let mut err = MemorySink::new(alloc, 1_000, Failures::none());
+    Ok(run_line(rt, alloc, &words, files, &mut out, &mut err, pace))
+}
+
+#[test]
+fn as_many_workers_run_as_are_asked_for(rt: HostRuntime) -> Result<(), Fail> {
+    let alloc = rt.alloc();
+    let mut files = holding(alloc, 1_000, &SIXTY, None)?;
+    for (line, workers) in WORKERS {
+        let pace = Gather(Count::of(workers));
+        let status = status_of(&rt, alloc, line, &mut files, &pace)?;
+        assert_eq!(rt; (status, pace.0.total()), (Status::Done, workers), "{line}");
+    }
+    Ok(())
+}
+
+/// The world of the example contract, a call that adds to a counter and gives its total, and one that adds to it.
+const CLASHING: [File; 2] = [
+    ("w", &WORLD),
+    (
+        "c",
+        &[
+            (1, b"0 100 both i64:7 i64:1\n"),
+            (1, b"0 100 bump i64:7 i64:2\n"),
+        ],
+    ),
+];
+
+/// Lines, and how often each tries the first call in vain.
+const TRIES: [(&str, u64); 4] = [
+    ("mine w c b n --fuel=200 --workers=2 --tries=1", 1),
+    ("mine w c b n --fuel=200 --workers=2", 3),
+    ("mine w c b n --fuel=200 --workers=2 --tries=5", 5),
+    ("mine w c b n --fuel=200 --workers=2 --tries=16", 16),
+];
+
+#[test]
+fn a_call_is_tried_as_often_as_is_asked_for(rt: HostRuntime) -> Result<(), Fail> {
+    let alloc = rt.alloc();
+    let mut files = holding(alloc, 1_000, &CLASHING, None)?;
+    for (line, tries) in TRIES {
+        let pace = Clash {
+            acted: Count::of(1),
+            refused: Count::of(tries),
+        };
+        let status = status_of(&rt, alloc, line, &mut files, &pace)?;
+        assert_eq!(rt;
+            (status, pace.refused.total()),
+            (Status::Done, tries),
+            "{line}"
+        );
+    }
+    Ok(())
+}

@@ -1,0 +1,4 @@
+pub mod Digests
+pub mod Waves
+pub mod Shared
+pub mod Judged

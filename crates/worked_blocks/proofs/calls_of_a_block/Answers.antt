@@ -1,0 +1,19 @@
+use Rattle.worked_blocks.proofs.Judged.{first, malformed, no_other_cells, no_other_version, no_third, not_absent, not_malformed, second, third}
+use Rattle.worked_blocks.proofs.calls_of_a_block.Goals as goal
+
+pub returns : goal.returns
+returns c =
+    let one = c.one_block_a_spelling.ensures.one in
+    let once = c.one_serial_run.ensures.one in
+    let run = c.calls_one_after_another.ensures.first in
+    record {
+      first = first;
+      second = second run;
+      third = third;
+      malformed = malformed;
+      no_other_cells = no_other_cells one once run;
+      no_other_version = no_other_version one;
+      no_third = no_third one;
+      not_absent = not_absent one;
+      not_malformed = not_malformed;
+    }
