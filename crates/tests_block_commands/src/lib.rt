@@ -1,7 +1,9 @@
-//! Tests of the commands that mine and validate, over files in memory, at each fault in turn. There is no code here.
+//! Tests of the commands that mine, validate and show, over files in memory, at each fault in turn. There is no code here.
 #![tactic(auto)]
 
 #[cfg(test)]
 mod block_lines;
 #[cfg(test)]
 mod paces;
+#[cfg(test)]
+mod show_lines;

@@ -126,7 +126,7 @@ fn nothing_is_overwritten_by_a_slip(rt: HostRuntime) -> Result<(), Fail> {
 }
 
 /// Lines that ask to be told of the program, and a part of what is printed.
-const TOLD: [(&str, &str); 11] = [
+const TOLD: [(&str, &str); 12] = [
     ("--help", "Usage: wblock <COMMAND>"),
     ("-h", "Usage: wblock <COMMAND>"),
     ("asm -h", "Usage: wblock asm <TEXT> <MODULE>"),
@@ -140,6 +140,7 @@ const TOLD: [(&str, &str); 11] = [
     ("mine -h", "--quiet"),
     ("debug --help", "bytes:FROM:N"),
     ("text -h", "Usage: wblock text <MODULE> <TEXT>"),
+    ("show --help", "--calls <CALLS>"),
     ("--version", "wblock 0.1.0\n"),
 ];
 

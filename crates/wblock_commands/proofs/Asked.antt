@@ -2,22 +2,24 @@
 use Rattle.std.proofs.Common.{◌≡◌, ℕ, List, [], ◌∷◌, Option, codes}
 use Rattle.wblock_line.specs.Words.{Line}
 use Rattle.wblock_commands.specs.declared.command.Command.{Command}
-use Rattle.wblock_commands.specs.declared.command.Command.TheVariants.{Stored, Help, Version, Asm, Text, Check, Deploy, Mine, Validate, Debug}
-use Rattle.wblock_commands.specs.Words.{AsksStored, AsksAsm, AsksText, AsksCheck, AsksDeploy, AsksNoTask, AsksHelp, IsTold, IsLineOf, texts}
+use Rattle.wblock_commands.specs.declared.command.Command.TheVariants.{Stored, Help, Version, Asm, Text, Check, Deploy, Mine, Validate, Debug, Show}
+use Rattle.wblock_show.specs.declared.file.Showing.{Showing}
+use Rattle.wblock_commands.specs.Words.{AsksStored, AsksAsm, AsksText, AsksCheck, AsksDeploy, AsksShow, AsksNoTask, AsksHelp, IsTold, IsLineOf, texts}
 
 pub nothing_asked : (l : Line) → ¬ AsksStored l → ((text target : List ℕ) → ¬ AsksAsm l text target) → ((source target : List ℕ) → ¬ AsksText l source target)
     → ((target : List ℕ) (heap : Option ℕ) → ¬ AsksCheck l target heap) → ((world : List ℕ) (modules : List (List ℕ)) → ¬ AsksDeploy l world modules)
-    → AsksNoTask l → (c : Command) → IsLineOf l c → ⊥
-nothing_asked l s a w k d t Stored x = s x
-nothing_asked l s a w k d t (Help words) x = x
-nothing_asked l s a w k d t Version x = x
-nothing_asked l s a w k d t (Asm text target) x = a text.now target.now x
-nothing_asked l s a w k d t (Text source target) x = w source.now target.now x
-nothing_asked l s a w k d t (Check target heap) x = k target.now heap x
-nothing_asked l s a w k d t (Deploy world modules) x = d world.now (texts modules.now) x
-nothing_asked l s a w k d t (Mine task) x = t.mining task x
-nothing_asked l s a w k d t (Validate task) x = t.validation task x
-nothing_asked l s a w k d t (Debug task) x = t.debugging task x
+    → ((s : Showing) → ¬ AsksShow l s) → AsksNoTask l → (c : Command) → IsLineOf l c → ⊥
+nothing_asked l s a w k d h t Stored x = s x
+nothing_asked l s a w k d h t (Help words) x = x
+nothing_asked l s a w k d h t Version x = x
+nothing_asked l s a w k d h t (Asm text target) x = a text.now target.now x
+nothing_asked l s a w k d h t (Text source target) x = w source.now target.now x
+nothing_asked l s a w k d h t (Check target heap) x = k target.now heap x
+nothing_asked l s a w k d h t (Deploy world modules) x = d world.now (texts modules.now) x
+nothing_asked l s a w k d h t (Mine task) x = t.mining task x
+nothing_asked l s a w k d h t (Validate task) x = t.validation task x
+nothing_asked l s a w k d h t (Debug task) x = t.debugging task x
+nothing_asked l s a w k d h t (Show task) x = h task x
 
 pub nothing_told : (words : List (List ℕ)) → ¬ AsksHelp words → ¬ (words ≡ codes "--version" ∷ []) → (c : Command) → IsTold words c → ⊥
 nothing_told words h v Stored x = x
@@ -30,3 +32,4 @@ nothing_told words h v (Deploy world modules) x = x
 nothing_told words h v (Mine task) x = x
 nothing_told words h v (Validate task) x = x
 nothing_told words h v (Debug task) x = x
+nothing_told words h v (Show task) x = x

@@ -14,8 +14,9 @@ use Rattle.wblock_blocks.specs.Inputs.{IsNextInput}
 use Rattle.wblock_blocks.specs.Mines.{Mines}
 use Rattle.wblock_blocks.specs.Validates.{Validates, IsNextFile}
 use Rattle.wblock_debug.specs.Debugs.{Debugs, IsNotListed, IsNextRead}
+use Rattle.wblock_show.specs.Named.{ShowsNamed, IsNextNamed}
 use Rattle.wblock_commands.specs.declared.command.Command.{Command}
-use Rattle.wblock_commands.specs.declared.command.Command.TheVariants.{Stored, Help, Version, Asm, Text, Check, Deploy, Mine, Validate, Debug}
+use Rattle.wblock_commands.specs.declared.command.Command.TheVariants.{Stored, Help, Version, Asm, Text, Check, Deploy, Mine, Validate, Debug, Show}
 use Rattle.wblock_commands.specs.Lines.{EndsLine}
 use Rattle.wblock_commands.specs.Words.{texts}
 
@@ -36,6 +37,7 @@ Answers (Deploy world modules) holds answer = Deploys holds world.now (texts mod
 Answers (Mine task) holds answer = Mines holds task answer
 Answers (Validate task) holds answer = Validates holds task answer
 Answers (Debug task) holds answer = Debugs holds task answer
+Answers (Show task) holds answer = ShowsNamed holds task answer
 
 -- a call is asked for by its number
 abbrev pub AsksCall : Command → Type 0
@@ -72,6 +74,7 @@ Reads (Deploy world modules) holds name = IsNextModule holds (texts modules.now)
 Reads (Mine task) holds name = IsNextInput holds task.world.now task.calls.now name
 Reads (Validate task) holds name = IsNextFile holds task name
 Reads (Debug task) holds name = IsNextRead holds task name
+Reads (Show task) holds name = IsNextNamed holds task name
 
 -- nothing was written or printed
 pub record IsKept (old new : Holding) (before after : List ℕ) : Type 0 where

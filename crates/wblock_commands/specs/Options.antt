@@ -40,6 +40,10 @@ abbrev pub IsNameOrNone : List (List ℕ) → Option (Bor (List ℕ)) → Type 0
 IsNameOrNone values (Some name) = values ≡ name.now ∷ []
 IsNameOrNone values None = values ≡ []
 
+-- `--calls CALLS`, or no file
+abbrev pub AsksCalls : List Choice → Option (Bor (List ℕ)) → Type 0
+AsksCalls options calls = IsNameOrNone (values_in (codes "--calls") options) calls
+
 -- `--next NEXT`, or no file
 abbrev pub AsksNext : List Choice → Option (Bor (List ℕ)) → Type 0
 AsksNext options next = IsNameOrNone (values_in (codes "--next") options) next
@@ -50,3 +54,6 @@ HasOnlyMining options = length options ≡ count_of (codes "--fuel") options + c
 
 abbrev pub HasOnlyValidation : List Choice → Type 0
 HasOnlyValidation options = length options ≡ count_of (codes "--fuel") options + count_of (codes "--workers") options + count_of (codes "--next") options
+
+abbrev pub HasOnlyShowing : List Choice → Type 0
+HasOnlyShowing options = length options ≡ count_of (codes "--calls") options

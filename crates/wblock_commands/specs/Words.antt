@@ -3,12 +3,13 @@ use Rattle.std.specs.Prelude.{◌≡◌, ◌≢◌, ℕ, ◌<◌, ◌≤◌, ◌
 use Rattle.std.specs.Borrow.{Bor}
 use Rattle.wblock_line.specs.Words.{Line, Choice, split}
 use Rattle.wblock_commands.specs.declared.command.Command.{Command}
-use Rattle.wblock_commands.specs.declared.command.Command.TheVariants.{Stored, Help, Version, Asm, Text, Check, Deploy, Mine, Validate, Debug}
-use Rattle.wblock_commands.specs.Options.{AsksFuel, AsksWorkers, AsksTries, AsksNext, HasOnlyMining, HasOnlyValidation}
+use Rattle.wblock_commands.specs.declared.command.Command.TheVariants.{Stored, Help, Version, Asm, Text, Check, Deploy, Mine, Validate, Debug, Show}
+use Rattle.wblock_commands.specs.Options.{AsksFuel, AsksWorkers, AsksTries, AsksNext, AsksCalls, HasOnlyMining, HasOnlyValidation, HasOnlyShowing}
 use Rattle.wblock_debug.specs.Asks.{AsksDebug}
 use Rattle.wblock_debug.specs.declared.asked.Debugging.{Debugging}
 use Rattle.wblock_blocks.specs.declared.mine.Mining.{Mining}
 use Rattle.wblock_blocks.specs.declared.validate.Validation.{Validation}
+use Rattle.wblock_show.specs.declared.file.Showing.{Showing}
 
 abbrev pub texts : List (Bor (List ℕ)) → List (List ℕ)
 texts words = map (λ w. w.now) words
@@ -99,6 +100,12 @@ pub record AsksValidate (line : Line) (v : Validation) : Type 0 where
   pub spells : SpellsValidate line v
   pub apart : NextIsApart v
 
+-- `show FILE [--calls CALLS]`
+pub record AsksShow (line : Line) (s : Showing) : Type 0 where
+  pub words : line.words ≡ codes "show" ∷ s.file.now ∷ []
+  pub calls : AsksCalls line.options s.calls
+  pub only : HasOnlyShowing line.options
+
 -- the line asks for no command over a world and calls
 pub record AsksNoTask (line : Line) : Type 0 where
   pub mining : (m : Mining) → ¬ AsksMine line m
@@ -116,6 +123,7 @@ IsLineOf line (Deploy world modules) = AsksDeploy line world.now (texts modules.
 IsLineOf line (Mine task) = AsksMine line task
 IsLineOf line (Validate task) = AsksValidate line task
 IsLineOf line (Debug task) = AsksDebug line task
+IsLineOf line (Show task) = AsksShow line task
 
 -- `--help` or `-h` stands among the words
 abbrev pub AsksHelp : List (List ℕ) → Type 0
@@ -143,3 +151,4 @@ HasFew (Deploy world modules) = length modules.now ≤ 1024
 HasFew (Mine task) = ((1 ≤ task.workers) × (task.workers ≤ 64)) × ((1 ≤ task.tries) × (task.tries ≤ 16))
 HasFew (Validate task) = (1 ≤ task.workers) × (task.workers ≤ 64)
 HasFew (Debug task) = Unit {0}
+HasFew (Show task) = Unit {0}

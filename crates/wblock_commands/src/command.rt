@@ -2,19 +2,22 @@
 
 ghost use Rattle.std.specs.Prelude.{◌≡◌, ◌≢◌, ◌≤◌, ◌↔◌, ℕ, List, [], ◌∷◌, Option, IfOk, IfSome, IsTrue, MatchOption, codes, decimal};
 ghost use Rattle.wblock_line.specs.Words.{line_of};
-ghost use Rattle.wblock_commands.specs.Words.{AsksStored, AsksAsm, AsksText, AsksHeap, IsSize, AsksCheck, AsksDeploy, AsksMine, AsksValidate, CountsValidate, SpellsValidate, AsksNoTask, IsLineOf, IsApart, KeepsInputs, NextIsApart, AsksHelp, IsTold, HasFew, texts, choices};
+ghost use Rattle.wblock_commands.specs.Words.{AsksStored, AsksAsm, AsksText, AsksShow, AsksHeap, IsSize, AsksCheck, AsksDeploy, AsksMine, AsksValidate, CountsValidate, SpellsValidate, AsksNoTask, IsLineOf, IsApart, KeepsInputs, NextIsApart, AsksHelp, IsTold, HasFew, texts, choices};
 ghost use Rattle.wblock_commands.specs.declared.command.Command.{Command as Asked};
 ghost use Rattle.wblock_blocks.specs.declared.mine.Mining.{Mining as TheMining};
 ghost use Rattle.wblock_blocks.specs.declared.validate.Validation.{Validation as TheValidation};
+ghost use Rattle.wblock_show.specs.declared.file.Showing.{Showing as TheShowing};
 
 use crate::declared::HEAP;
 use crate::options::{
-    fuel_in, has_only_mining, has_only_validation, next_in, number_within, tries_in, workers_in,
+    calls_in, fuel_in, has_only_mining, has_only_showing, has_only_validation, next_in,
+    number_within, tries_in, workers_in,
 };
 use std::alloc::{AllocError, Global};
 use wblock_blocks::{Mining, Validation};
 use wblock_debug::{Debugging, debugging_of};
 use wblock_line::Line;
+use wblock_show::Showing;
 
 /// A command with its words.
 #[derive(Debug, Drop)]
@@ -39,6 +42,8 @@ pub enum Command<'l, 'w> {
     Validate(Validation<'w>),
     /// `debug WORLD CALLS CALL CMD... [--block BLOCK]`: a call that runs alone, or in a block, turn by turn.
     Debug(Debugging<'w>),
+    /// `show FILE [--calls CALLS]`: what is in a module, a world or a block.
+    Show(Showing<'w>),
 }
 
 /// Whether a line has neither words nor options.
@@ -132,6 +137,26 @@ fn text_of<'w>(words: &[&'w str], options: &[(&str, &str)]) -> Option<(&'w str, 
         return None;
     }
     Some((words[1], words[2]))
+}
+
+/// What `show` is asked for.
+fn showing_of<'w>(
+    alloc: Global,
+    words: &[&'w str],
+    options: &[(&'w str, &'w str)],
+) -> Result<Option<Showing<'w>>, AllocError>
+    ensures { IfOk result (λ found. MatchOption found ((s : TheShowing) → ¬ AsksShow (record { words = texts words.now; options = choices options.now }) s) (AsksShow (record { words = texts words.now; options = choices options.now }))) }
+{
+    if words.len() != 2 || !is_word(words[0], "show") || !has_only_showing(options) {
+        return Ok(None);
+    }
+    match calls_in(alloc, options)? {
+        Some(calls) => Ok(Some(Showing {
+            file: words[1],
+            calls,
+        })),
+        None => Ok(None),
+    }
 }
 
 /// The world and the modules of `deploy`.
@@ -312,6 +337,9 @@ pub fn command_of<'l, 'w>(
     }
     if let Some((world, modules)) = deploy_of(words, options) {
         return Ok(Some(Command::Deploy(world, modules)));
+    }
+    if let Some(task) = showing_of(alloc, words, options)? {
+        return Ok(Some(Command::Show(task)));
     }
     match task_of(alloc, line)? {
         Some(task) => Ok(Some(task)),

@@ -116,6 +116,14 @@ pub(crate) const BLOCK: FileOption = FileOption {
     help: "The file of a block: the call runs over the cells that it meets in it; if not given, it runs alone over WORLD",
 };
 
+/// The file of the calls of a block that is shown.
+pub(crate) const CALLS: FileOption = FileOption {
+    word: "--calls",
+    name: "calls",
+    value: "CALLS",
+    help: "The file of the block's calls, in text: each position is shown with its call",
+};
+
 /// The file of the world after a block that is accepted.
 pub(crate) const NEXT: FileOption = FileOption {
     word: "--next",

@@ -20,6 +20,7 @@ use wblock_debug::debug_world;
 use wblock_io::Files;
 use wblock_line::{Answer, Fault, Status, carry_out, split_words, tell_fault};
 use wblock_modules::{assemble_file, check_module, deploy_modules, write_text};
+use wblock_show::show_named;
 
 /// What a command comes to, or None where a call is asked for that is not there. No file is written yet.
 fn answer_of<'l, 'w, R: Threads + Wait + Sync, F: Files, P: Pace>(
@@ -47,6 +48,7 @@ fn answer_of<'l, 'w, R: Threads + Wait + Sync, F: Files, P: Pace>(
         Command::Deploy(world, modules) => deploy_modules(alloc, files, world, modules)?,
         Command::Mine(task) => mine_block(rt, alloc, files, task, pace)?,
         Command::Validate(task) => validate_block(rt, alloc, files, task, pace)?,
+        Command::Show(task) => return Ok(Some(show_named(alloc, files, task)?)),
         Command::Debug(task) => return debug_world(alloc, files, &task),
     };
     Ok(Some(answer))

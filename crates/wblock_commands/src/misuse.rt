@@ -1,6 +1,6 @@
 //! What is wrong with words that the command line's reader takes and that ask for nothing, for people.
 
-use crate::declared::{BLOCK, NEXT};
+use crate::declared::{BLOCK, CALLS, NEXT};
 use calls_text::number_of;
 use std::alloc::{AllocError, Global};
 use wblock_debug::command_of;
@@ -107,7 +107,7 @@ fn names_misuse(
 
 /// Whether the value of the option of this name is a file's name.
 fn names_file(name: &str) -> bool {
-    name == BLOCK.word || name == NEXT.word
+    name == BLOCK.word || name == CALLS.word || name == NEXT.word
 }
 
 /// `usage`, and what is wrong with words that the command line's reader takes.

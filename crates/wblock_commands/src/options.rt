@@ -2,10 +2,10 @@
 
 ghost use Rattle.std.specs.Borrow.{Bor};
 ghost use Rattle.std.specs.Prelude.{◌≡◌, ◌≢◌, ◌≤◌, ◌<◌, ◌+◌, ◌^◌, ◌↔◌, ℕ, List, Option, IfOk, IsTrue, MatchOption, decimal, length};
-ghost use Rattle.wblock_commands.specs.Options.{values_in, IsNumber, IsNumberOr, IsNameOrNone, count_of, AsksFuel, AsksWorkers, AsksTries, AsksNext, HasOnlyMining, HasOnlyValidation};
+ghost use Rattle.wblock_commands.specs.Options.{values_in, IsNumber, IsNumberOr, IsNameOrNone, count_of, AsksFuel, AsksWorkers, AsksTries, AsksNext, AsksCalls, HasOnlyMining, HasOnlyValidation, HasOnlyShowing};
 ghost use Rattle.wblock_commands.specs.Words.{texts, choices};
 
-use crate::declared::{FUEL, NEXT, TRIES, USUAL_TRIES, USUAL_WORKERS, WORKERS};
+use crate::declared::{CALLS, FUEL, NEXT, TRIES, USUAL_TRIES, USUAL_WORKERS, WORKERS};
 use calls_text::number_of;
 use std::alloc::{AllocError, Global};
 
@@ -142,6 +142,17 @@ pub(crate) fn next_in<'w>(
     Ok(only_name(values.as_slice()))
 }
 
+/// The file that options name for the calls of a block, if any; or None where they name several.
+pub(crate) fn calls_in<'w>(
+    alloc: Global,
+    options: &[(&'w str, &'w str)],
+) -> Result<Option<Option<&'w str>>, AllocError>
+    ensures { IfOk result (λ found. MatchOption found ((calls : Option (Bor (List ℕ))) → ¬ AsksCalls (choices options.now) calls) (AsksCalls (choices options.now))) }
+{
+    let values = values_of(alloc, options, CALLS.word)?;
+    Ok(only_name(values.as_slice()))
+}
+
 /// How many options have this name.
 fn count_of(options: &[(&str, &str)], name: &str) -> usize
     ensures count { result ≡ count_of name.now (choices options.now) }
@@ -174,4 +185,11 @@ pub(crate) fn has_only_validation(options: &[(&str, &str)]) -> bool
     let workers = count_of(options, WORKERS.word);
     let next = count_of(options, NEXT.word);
     options.len() == fuel + workers + next
+}
+
+/// Whether all are options of `show`.
+pub(crate) fn has_only_showing(options: &[(&str, &str)]) -> bool
+    ensures { IsTrue result ↔ HasOnlyShowing (choices options.now) }
+{
+    options.len() == count_of(options, CALLS.word)
 }

@@ -5,7 +5,7 @@ ghost use Rattle.wblock_commands.specs.Lines.{EndsLine};
 ghost use Rattle.wblock_commands.specs.Does.{TellsText};
 
 use crate::declared::{
-    BLOCK, FUEL, FileOption, HEAP, NEXT, NumberOption, QUIET, Switch, TRIES, WORKERS,
+    BLOCK, CALLS, FUEL, FileOption, HEAP, NEXT, NumberOption, QUIET, Switch, TRIES, WORKERS,
 };
 use crate::misuse::misuse_text;
 use clap::builder::ValueParser;
@@ -155,6 +155,17 @@ fn debug<'a>(alloc: Global) -> Result<Command<'a>, AllocError> {
         .arg(file(alloc, BLOCK))
 }
 
+fn show<'a>(alloc: Global) -> Result<Command<'a>, AllocError> {
+    Command::new(alloc, "show")
+        .about("Shows what is in a module, a world or a block")
+        .arg(required(
+            alloc,
+            "FILE",
+            "The file of the module, the world or the block",
+        ))?
+        .arg(file(alloc, CALLS))
+}
+
 fn program<'a>(alloc: Global) -> Result<Command<'a>, AllocError> {
     Command::new(alloc, "wblock")
         .no_binary_name(true)
@@ -174,7 +185,8 @@ fn program<'a>(alloc: Global) -> Result<Command<'a>, AllocError> {
         .subcommand(deploy(alloc)?)?
         .subcommand(mine(alloc)?)?
         .subcommand(validate(alloc)?)?
-        .subcommand(debug(alloc)?)
+        .subcommand(debug(alloc)?)?
+        .subcommand(show(alloc)?)
 }
 
 /// What the command line's reader says of these words; what is wrong by the program's own reading where it does not refuse them.
@@ -213,6 +225,8 @@ const VALIDATE: [&str; 2] = ["validate", "--help"];
 
 const DEBUG: [&str; 2] = ["debug", "--help"];
 
+const SHOW: [&str; 2] = ["show", "--help"];
+
 const VERSION: [&str; 1] = ["--version"];
 
 /// The words that ask for help on what these words begin with.
@@ -228,6 +242,7 @@ fn topic_of(words: &[&str]) -> &'static [&'static str] {
         "mine" => MINE.as_slice(),
         "validate" => VALIDATE.as_slice(),
         "debug" => DEBUG.as_slice(),
+        "show" => SHOW.as_slice(),
         _ => HELP.as_slice(),
     }
 }

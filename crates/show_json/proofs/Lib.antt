@@ -1,0 +1,3 @@
+mod Flat
+mod FlatBlocks
+mod Listed

@@ -1,0 +1,5 @@
+//! Tests of what is told of files as JSON. There is no code here.
+#![tactic(auto)]
+
+#[cfg(test)]
+mod blocks;
