@@ -34,7 +34,7 @@ data 0
 /// The file that is shown, the calls that are named with it, and what is shown.
 type Row<'a> = (&'a str, Option<&'a str>, Shown<'a>);
 
-const ROWS: [Row; 16] = [
+const ROWS: [Row; 15] = [
     ("block", None, Shown::Text(FOUR_TEXT)),
     ("block", Some("calls"), Shown::Text(FOUR_CALLED)),
     ("world", None, Shown::Text(WORLD_TEXT)),
@@ -60,15 +60,7 @@ const ROWS: [Row; 16] = [
         Some("broken"),
         Shown::Refused(
             "refused calls 1 2\n",
-            "calls, line 2, column 4: the last line is not ended",
-        ),
-    ),
-    (
-        "cut",
-        None,
-        Shown::Refused(
-            "refused block 1 187\n",
-            "block, byte 187, position 2: its receipt is cut off",
+            "calls, line 2, column 4: the line ends too early; a line is CONTRACT FUEL ENTRY ARG..",
         ),
     ),
     // calls are of a block alone
@@ -123,7 +115,6 @@ fn files_of(alloc: Global) -> Result<MemoryFiles, Fail> {
     let world = joined(alloc, &[WORLD_HEAD, &FIRST_MODULE, WORLD_CELLS])?;
     files.hold("block", &FOUR)?;
     files.hold("forged", &FAR)?;
-    files.hold("cut", &FOUR[..200])?;
     files.hold("world", world.as_slice())?;
     files.hold("module", &FIRST_MODULE)?;
     files.hold("calls", CALLS.as_bytes())?;
