@@ -1,5 +1,6 @@
 -- The counts of all positions, with one position's changes put in or taken out.
-use Rattle.std.proofs.Common.{◌≡◌, ℕ, zero, suc, ◌<◌, List, [], ◌∷◌, ◌++◌, length, get_or, set, replicate, refl, sym, ◌∙◌, ap, subst, arith}
+use Rattle.std.proofs.Common.{◌≡◌, ℕ, zero, suc, ◌<◌, List, [], ◌∷◌, ◌++◌, length, take, drop, get_or, set, replicate, refl, sym, ◌∙◌, ap, subst, arith}
+use Rattle.std.proofs.lemmas.List.{take-append-drop}
 use Rattle.std.specs.FinMap as finite
 use Rattle.spec_ledger.specs.declared.Inverse.{Inverse}
 use Rattle.storage.specs.Counts.{Counts, opened, opened_all, closed_all, AreUnsettled, AreCounts}
@@ -29,6 +30,10 @@ pub counts_push : (ps : List (List Inverse)) (p : ℕ) (js : List Inverse) (i : 
 counts_push ps p js i m lt at =
     counts_put ps p (js ++ i ∷ []) m lt ∙ opened_all-push js i (counts_of (set ps p []) m) ∙ ap (opened i) (sym (counts_out ps p js m lt at))
 
+opened_all-append : (is js : List Inverse) (m : Counts) → opened_all (is ++ js) m ≡ opened_all js (opened_all is m)
+opened_all-append [] js m = refl
+opened_all-append (i ∷ is) js m = opened_all-append is js (opened i m)
+
 -- one position's changes may be closed, and what is left are the others
 module _ (ps : List (List Inverse)) (p : ℕ) (js : List Inverse) (counts : Counts) (is : counts ≡ counts_of ps finite.empty) (lt : p < length ps) (at : js ≡ get_or ps p js) where
   abbrev others : Counts
@@ -42,6 +47,13 @@ module _ (ps : List (List Inverse)) (p : ℕ) (js : List Inverse) (counts : Coun
 
   pub ended : closed_all js counts ≡ counts_of (set ps p []) finite.empty
   ended = ap (closed_all js) (is ∙ counts_out ps p js finite.empty lt at) ∙ closed_all-opened_all js others are
+
+  -- the last of them are closed, and the first ones are left
+  pub taken_back : (n : ℕ) → closed_all (drop n js) counts ≡ counts_of (set ps p (take n js)) finite.empty
+  taken_back n =
+      ap (closed_all (drop n js)) (is ∙ counts_out ps p js finite.empty lt at ∙ ap (λ x. opened_all x others) (sym (take-append-drop n js)) ∙ opened_all-append (take n js) (drop n js) others)
+      ∙ closed_all-opened_all (drop n js) (opened_all (take n js) others) (AreCounts-opened_all (take n js) others are)
+      ∙ sym (counts_put ps p (take n js) finite.empty lt)
 
 -- no changes at all
 pub counts_none : (n : ℕ) (m : Counts) → counts_of (replicate n []) m ≡ m

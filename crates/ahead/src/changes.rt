@@ -1,12 +1,13 @@
 // What one position did.
-ghost use Rattle.std.specs.Prelude.{◌≡◌, [], ◌∷◌, ◌++◌, IfOk, OnErr, OnOk};
+ghost use Rattle.std.specs.Prelude.{◌≡◌, [], ◌∷◌, ◌++◌, IfOk, OnErr, OnOk, drop, length, take};
+ghost use Rattle.spec_ledger.specs.Book.{back_all};
 ghost use Rattle.spec_ledger.specs.Cells.{cells_after, inverse_to, reply_to};
-ghost use Rattle.storage.specs.Counts.{opened};
+ghost use Rattle.storage.specs.Counts.{AreUnsettled, closed_all, opened};
 
 use spec_ledger::{Inverse, NoMemory, Op, Reply};
 use std::alloc::Allocator;
 use std::marker::Model;
-use storage::Cells;
+use storage::{Cells, take_back_to};
 
 /// The inverses of operations, first to last. Contracts see their list.
 #[derive(Drop)]
@@ -52,6 +53,26 @@ impl<A: Allocator + Copy> Changes<A> {
             Err(_) => unreachable!(),
         }
         Ok(reply)
+    }
+
+    /// How many operations these are of.
+    pub(crate) fn count(&self) -> usize
+        ensures { result ≡ length self.now }
+    {
+        self.inverses.len()
+    }
+
+    /// Takes changes back, last first, until only those of the first so many operations are left. It takes no memory.
+    pub(crate) fn take_back_to(&mut self, cells: &mut Cells<A>, mark: usize)
+        requires { AreUnsettled self.old cells.old.unsettled }
+        ensures inverses { self.new ≡ take mark self.old }
+        ensures cells { cells.new.cells ≡ back_all (drop mark self.old) cells.old.cells }
+        ensures unsettled { cells.new.unsettled ≡ closed_all (drop mark self.old) cells.old.unsettled }
+    {
+        if mark >= self.inverses.len() {
+            return;
+        }
+        take_back_to(cells, &mut self.inverses, mark);
     }
 
     /// The inverses.

@@ -5,7 +5,7 @@ mod changes;
 
 ghost use Rattle.std.specs.Prelude.{◌≡◌, ◌≤◌, [], IfNone, IfOk, IfSome, OnErr, length, replicate};
 ghost use Rattle.spec_ledger.specs.Cells.{reply_to};
-ghost use Rattle.ahead.specs.Changing.{acted, ended};
+ghost use Rattle.ahead.specs.Changing.{acted, back_to, done_at, ended};
 
 use crate::changes::Changes;
 use spec_ledger::{NoMemory, Op, Reply};
@@ -85,6 +85,26 @@ impl<A: Allocator + Copy> Ahead<A> {
         }
         let reply = self.inverses[position].act(&mut self.cells, op)?;
         Ok(Some(reply))
+    }
+
+    /// How many operations of a position may be taken back. 0 where there is no such position.
+    pub fn count(&self, position: usize) -> usize
+        ensures { result ≡ length (done_at self.now position) }
+    {
+        if position >= self.inverses.len() {
+            return 0;
+        }
+        self.inverses[position].count()
+    }
+
+    /// Takes back what a position did, last first, until only its first so many operations are left. This takes no memory.
+    pub fn take_back_to(&mut self, position: usize, mark: usize)
+        ensures { self.new ≡ back_to self.old position mark }
+    {
+        if position >= self.inverses.len() {
+            return;
+        }
+        self.inverses[position].take_back_to(&mut self.cells, mark);
     }
 
     /// Ends what a position did: it stands, or is taken back, last first. This takes no memory.

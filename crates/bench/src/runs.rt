@@ -16,6 +16,8 @@ pub fn run_to_end<'a, A: Allocator + Copy>(mut machine: Machine<'a, A>) -> Optio
     'turns: loop {
         match machine.next() {
             Turn::Stepped => {}
+            Turn::Enter => {}
+            Turn::Leave(_) => {}
             Turn::Host(_) => return None,
             Turn::NoMemory => return None,
             Turn::Done(_) => break,

@@ -4,3 +4,4 @@ pub mod Figures
 pub mod Hottest
 pub mod Outcomes
 pub mod Turns
+pub mod Words

@@ -1,11 +1,8 @@
 //! The figures of a block.
 
 ghost use Rattle.std.specs.Prelude.{◌≡◌, ◌<◌, ◌≤◌, ◌^◌, ◌↔◌, ◌+◌, ℕ, IfOk, IfSome, IsSome, length, slice_index, sum, replicate};
-ghost use Rattle.spec_block.specs.Worlds.{profiles_of};
 ghost use Rattle.block_figures.specs.Chains.{fuels_of, lists_of, AreForward, AreHeaviest, AreHeavy, IsGreatest};
-ghost use Rattle.block_figures.specs.Figures.{AreChains};
-ghost use Rattle.block_figures.specs.Hottest.{AreHottest};
-ghost use Rattle.block_figures.specs.Outcomes.{all_kinds, counts_among};
+ghost use Rattle.block_figures.specs.Figures.{AreChains, AreFigures};
 
 use crate::hottest::{SharedLock, hottest_of};
 use crate::outcomes::{OutcomeCount, outcomes_of};
@@ -157,12 +154,8 @@ fn chains_of(
 ///
 /// The allocator refused memory.
 pub fn figures_of(alloc: Global, block: &Block) -> Result<Figures, NoMemory>
-    ensures forward { IfOk result (λ f. IsSome f.chains ↔ AreForward (profiles_of block.now)) }
-    ensures chains { IfOk result (λ f. IfSome f.chains (AreChains (profiles_of block.now) (fuels_of block.now.positions))) }
-    ensures total { IfOk result (λ f. f.total_fuel ≡ sum (fuels_of block.now.positions)) }
+    ensures figures { IfOk result (AreFigures block.now) }
     ensures small { IfOk result (λ f. f.total_fuel < 2 ^ 80) }
-    ensures hottest { IfOk result (λ f. AreHottest (profiles_of block.now) f.hottest.items) }
-    ensures outcomes { IfOk result (λ f. f.outcomes.items ≡ counts_among all_kinds block.now.positions) }
 {
     block.hold();
     let fuels = fuels(alloc, block.positions())?;

@@ -8,7 +8,9 @@ mod hottest;
 mod lock_turn;
 mod outcomes;
 mod sums;
+mod words;
 
 pub use figures::{Chains, Figures, figures_of};
 pub use hottest::{MOST_HOTTEST, SharedLock};
 pub use outcomes::{OutcomeCount, OutcomeKind};
+pub use words::{hundredth_of, number_of_version, word_of_kind, word_of_mode};

@@ -1,3 +1,5 @@
 pub mod Adding
 pub mod Parts
 pub mod Printed
+pub mod Rising
+pub mod Scenes

@@ -1,6 +1,6 @@
 -- What stands above the boxes.
 use Rattle.std.specs.Prelude.{ℕ, ◌+◌, ◌*◌, Bool, true, false, List, [], ◌∷◌, ◌++◌, codes, decimal, max}
-use Rattle.spec_ledger.specs.declared.Lock.{Lock}
+use Rattle.block_figures.specs.declared.hottest.SharedLock.{SharedLock}
 use Rattle.block_picture.specs.declared.head.Told.{Told}
 use Rattle.block_picture.specs.declared.head.TheConstants.{STYLE, LEGEND}
 use Rattle.block_picture.specs.declared.seat.TheConstants.{COLUMN, ROW}
@@ -28,14 +28,14 @@ drawn_text told =
     ++ codes "; a box of full width used " ++ decimal told.greatest ++ codes " fuel</text>" ++ 10 ∷ []
 
 -- how many positions hold a lock
-abbrev pub hot_text : ℕ → Lock → ℕ → List ℕ
-hot_text number lock holders =
-    codes "<text x=\"24\" y=\"" ++ decimal (92 + 16 * number) ++ codes "\">hot: " ++ lock_text lock ++ codes ", in " ++ decimal holders ++ codes " positions</text>" ++ 10 ∷ []
+abbrev pub hot_text : ℕ → SharedLock → List ℕ
+hot_text number hot =
+    codes "<text x=\"24\" y=\"" ++ decimal (92 + 16 * number) ++ codes "\">hot: " ++ lock_text hot.lock ++ codes ", in " ++ decimal hot.positions ++ codes " positions</text>" ++ 10 ∷ []
 
-abbrev pub hot_texts : ℕ → List (Lock × ℕ) → List ℕ
+abbrev pub hot_texts : ℕ → List SharedLock → List ℕ
 hot_texts number [] = []
-hot_texts number (h ∷ hs) = hot_text number h.0 h.1 ++ hot_texts (number + 1) hs
+hot_texts number (h ∷ hs) = hot_text number h ++ hot_texts (number + 1) hs
 
 -- all of it, where the boxes begin so far below the top
-unfoldable pub head : Told → List (Lock × ℕ) → ℕ → List ℕ
+unfoldable pub head : Told → List SharedLock → ℕ → List ℕ
 head told hottest top = size_text told top ++ STYLE.now ++ summary told ++ LEGEND.now ++ drawn_text told ++ hot_texts 0 hottest

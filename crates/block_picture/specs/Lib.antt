@@ -1,4 +1,5 @@
 pub mod Boxes
+pub mod Drawings
 pub mod Edges
 pub mod Heads
 pub mod Lines

@@ -1,6 +1,6 @@
 -- The whole picture.
 use Rattle.std.specs.Prelude.{ℕ, ◌+◌, ◌*◌, nat_lt, ◌||◌, List, [], ◌∷◌, ◌++◌, codes, decimal, length, take, min}
-use Rattle.spec_ledger.specs.declared.Lock.{Lock}
+use Rattle.block_figures.specs.declared.hottest.SharedLock.{SharedLock}
 use Rattle.spec_block.specs.Worlds.{Position}
 use Rattle.block_picture.specs.declared.edge.Edge.{Edge}
 use Rattle.block_picture.specs.declared.scene.Scene.{Scene}
@@ -26,7 +26,7 @@ drawn_seats scene = seats (greatest_fuel (drawn_positions scene)) [] (drawn_posi
 abbrev pub drawn_edges : Scene → List Edge
 drawn_edges scene = take MOST_LINES scene.edges.now
 
-abbrev pub hot_locks : Scene → List (Lock × ℕ)
+abbrev pub hot_locks : Scene → List SharedLock
 hot_locks scene = take MOST_HOTTEST scene.hottest.now
 
 -- what is told above the boxes

@@ -1,7 +1,5 @@
 -- Locks and outcomes in words.
 use Rattle.std.specs.Prelude.{ℕ, zero, suc, ◌-◌, List, [], ◌∷◌, ◌++◌, codes, decimal, length, take}
-use Rattle.std.specs.Int.{w64, cast_signed}
-use Rattle.std.specs.Fmt.{signed_decimal}
 use Rattle.spec_ledger.specs.declared.Kind.{Kind}
 use Rattle.spec_ledger.specs.declared.Kind.TheVariants.{Map, Counter}
 use Rattle.spec_ledger.specs.declared.Lock.{Lock}
@@ -25,7 +23,7 @@ kind_word Counter = codes "counter "
 
 -- `map C:K` or `counter C:K`
 abbrev pub lock_text : Lock → List ℕ
-lock_text lock = kind_word lock.kind ++ decimal lock.contract ++ codes ":" ++ signed_decimal (cast_signed w64 lock.key)
+lock_text lock = kind_word lock.kind ++ decimal lock.contract ++ codes ":" ++ decimal lock.key
 
 abbrev pub mode_word : Mode → List ℕ
 mode_word Read = codes "read"

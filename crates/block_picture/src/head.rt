@@ -5,7 +5,7 @@ ghost use Rattle.block_picture.specs.Heads.{size_text, summary, more_word, drawn
 
 use crate::seat::{COLUMN, ROW};
 use crate::words::lock_text_of;
-use spec_ledger::Lock;
+use block_figures::SharedLock;
 use std::alloc::{AllocError, Global};
 
 /// How the parts of a picture look, on a screen, light or dark, and in print.
@@ -82,24 +82,25 @@ fn drawn_text_of(alloc: Global, told: Told) -> Result<String, AllocError>
 }
 
 /// The line of one of the hottest locks.
-fn hot_text_of(alloc: Global, number: u64, lock: Lock, holders: u32) -> Result<String, AllocError>
+fn hot_text_of(alloc: Global, number: u64, hot: SharedLock) -> Result<String, AllocError>
     requires { number ≤ 5 }
-    ensures { IfOk result (λ text. string_bytes text ≡ hot_text number lock holders) }
+    ensures { IfOk result (λ text. string_bytes text ≡ hot_text number hot) }
 {
     let y = 92 + 16 * number;
-    let lock = lock_text_of(alloc, lock)?;
+    let lock = lock_text_of(alloc, hot.lock)?;
+    let holders = hot.positions;
     format!(in alloc; "<text x=\"24\" y=\"{y}\">hot: {lock}, in {holders} positions</text>\n")
 }
 
 /// A line for each of the hottest locks.
-fn hot_texts_of(alloc: Global, hottest: &[(Lock, u32)]) -> Result<String, AllocError>
+fn hot_texts_of(alloc: Global, hottest: &[SharedLock]) -> Result<String, AllocError>
     requires { length hottest.now ≤ 5 }
     ensures { IfOk result (λ text. string_bytes text ≡ hot_texts 0 hottest.now) }
 {
     let mut text = String::new(alloc);
     let mut number: u64 = 0;
     for hot in hottest {
-        let line = hot_text_of(alloc, number, hot.0, hot.1)?;
+        let line = hot_text_of(alloc, number, *hot)?;
         text.push_str(line.as_str())?;
         number += 1;
     }
@@ -111,7 +112,7 @@ fn hot_texts_of(alloc: Global, hottest: &[(Lock, u32)]) -> Result<String, AllocE
 pub(crate) fn head_of(
     alloc: Global,
     told: Told,
-    hottest: &[(Lock, u32)],
+    hottest: &[SharedLock],
     top: u64,
 ) -> Result<String, AllocError>
     requires columns { told.columns ≤ 2 ^ 32 }

@@ -2,6 +2,7 @@
 #![tactic(auto)]
 
 mod boxes;
+mod drawing;
 mod edge;
 mod extent;
 mod first;
@@ -12,8 +13,10 @@ mod picture;
 mod scene;
 mod seat;
 mod shown;
+mod turns;
 mod words;
 
+pub use drawing::draw_block;
 pub use edge::Edge;
 pub use gather::{Edges, edges_of};
 pub use picture::picture_of;

@@ -2,7 +2,7 @@
 
 use crate::Edge;
 use block::Position;
-use spec_ledger::Lock;
+use block_figures::SharedLock;
 
 /// The most positions that have a box: the first of the block.
 pub const MOST_BOXES: usize = 2_000;
@@ -27,6 +27,6 @@ pub struct Scene<'a> {
     pub edges: &'a [Edge],
     /// Whether the graph has more edges than these.
     pub more_edges: bool,
-    /// The locks that most positions hold, with how many hold each, the hottest first.
-    pub hottest: &'a [(Lock, u32)],
+    /// The locks that the most positions hold, with how many hold each, the hottest first.
+    pub hottest: &'a [SharedLock],
 }

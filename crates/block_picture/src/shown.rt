@@ -10,7 +10,7 @@ use crate::head::Told;
 use crate::scene::{MOST_BOXES, MOST_HOTTEST, MOST_LINES, Scene};
 use crate::seat::{Seat, greatest_fuel_of, seats_of};
 use block::Position;
-use spec_ledger::Lock;
+use block_figures::SharedLock;
 use std::alloc::Global;
 use wtypes::NoMemory;
 
@@ -52,7 +52,7 @@ pub(crate) fn edges_shown<'a>(scene: &Scene<'a>) -> &'a [Edge]
 }
 
 /// The hottest locks that are told.
-pub(crate) fn hot_shown<'a>(scene: &Scene<'a>) -> &'a [(Lock, u32)]
+pub(crate) fn hot_shown<'a>(scene: &Scene<'a>) -> &'a [SharedLock]
     ensures is { result.now ≡ hot_locks scene.now }
     ensures few { length result.now ≤ 5 }
 {

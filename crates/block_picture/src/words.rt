@@ -34,7 +34,7 @@ pub(crate) fn lock_text_of(alloc: Global, lock: Lock) -> Result<String, AllocErr
     ensures { IfOk result (λ text. string_bytes text ≡ lock_text lock) }
 {
     let contract = lock.contract;
-    let key = lock.key.cast_signed();
+    let key = lock.key;
     let kind = kind_word_of(lock.kind);
     format!(in alloc; "{kind}{contract}:{key}")
 }

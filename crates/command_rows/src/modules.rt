@@ -1,7 +1,7 @@
 //! Modules, worlds and blocks in parts of bytes.
 
 use crate::rows::{File, Part};
-use samples::{EXAMPLE, FIRST_MODULE};
+use samples::{ASKING, EXAMPLE, FIRST_MODULE};
 
 /// The head of a module.
 pub const HEADER: [u8; 8] = [0x00, 0x61, 0x73, 0x6d, 0x01, 0x00, 0x00, 0x00];
@@ -164,6 +164,13 @@ const COUNTER_OF_7: &[u8] = b"\x01\0\0\0\0\0\0\0\0\0\0\0\x07\0\0\0\0\0\0\0";
 pub const WORLD_OF_FIRST: [Part; 3] = [
     (1, b"WBWD\x01\0\0\0\x01\0\0\0\x52\0\0\0"),
     (1, &FIRST_MODULE),
+    (16, b"\0"),
+];
+
+/// The world of the contract that asks itself, with no cells.
+pub const WORLD_OF_ASKING: [Part; 3] = [
+    (1, b"WBWD\x01\0\0\0\x01\0\0\0\xab\0\0\0"),
+    (1, &ASKING),
     (16, b"\0"),
 ];
 

@@ -1,7 +1,8 @@
 -- What a session keeps.
 use Rattle.std.proofs.Common.{◌≡◌, ◌≢◌, ℕ, ◌+◌, ◌-◌, ◌<◌, ◌≤◌, true, false, true≢false, List, [], refl, sym, ap, ap₂, ◌∙◌, subst, arith, Option, Some, None, inl, inr, slice_index_or}
-use Rattle.std.specs.Prelude.{◌⊎◌, ◌==◌, IsSome, All, length}
+use Rattle.std.specs.Prelude.{◌⊎◌, ◌==◌, IsSome, All, length, if◌then◌else◌}
 use Rattle.std.proofs.lemmas.Bool.Decides.{eqb_tells}
+use Rattle.spec_ledger.specs.declared.Inverse.{Inverse}
 use Rattle.spec_ledger.specs.declared.Outcome.{Outcome}
 use Rattle.spec_ledger.specs.declared.Step.{Step}
 use Rattle.spec_ledger.specs.Cells.{Cells}
@@ -12,22 +13,27 @@ use Rattle.spec_execution.specs.Levels.{Levels}
 use Rattle.spec_execution.specs.Turns.{shown, place_of}
 use Rattle.spec_execution.specs.Turning.{Turned, opened, turned, IsState}
 use Rattle.interp.specs.Progress.{Progress}
-use Rattle.interp.specs.Shown.{ending, ending_of, place_shown}
+use Rattle.interp.specs.Shown.{ending, ending_of}
 use Rattle.debugger.specs.declared.cursor.Cursor.{Cursor}
 use Rattle.debugger.specs.declared.kept.Kept.{Kept}
 use Rattle.debugger.specs.Breaks.{is_set_at}
-use Rattle.debugger.specs.Cursors.{HasTurned, IsAt, IsSameRun, IsCopy}
+use Rattle.debugger.specs.Cursors.{HasTurned, HasAnswered, IsAt, IsSameRun, IsCopy}
 use Rattle.debugger.specs.Keeping.{IsOfRun, AreSpaced, last_turns, AreKept, next_turns, IsKept, seen_at, HasNoBreakBetween}
-use Rattle.debugger.specs.Sight.{Sight, IsSight, sight_of, place_at}
+use Rattle.debugger.specs.Sight.{Sight, IsSight, sight_of, ending_at, break_place_at, break_place_shown}
 use Rattle.debugger.specs.Commands as commands
 use Rattle.debugger.proofs.States.{one_state, IsOnTheWay, earlier}
-use Rattle.debugger.proofs.Turning.{is_sight}
+use Rattle.debugger.proofs.Turning.{is_sight, ending_is, place_is}
 
 pub at_copy : {A : Type 0} (c d : Cursor A) → IsAt c → IsCopy c d → IsAt d
-at_copy c d h k =
-    subst (λ (p : Progress). HasTurned p d.start.now.cells d.cells.cells) (sym k.machine)
-    (subst (λ (s : Store). HasTurned c.machine s.cells d.cells.cells) (sym k.start)
-    (subst (λ (x : Cells). HasTurned c.machine c.start.now.cells x) (sym k.cells) h))
+at_copy c d h k = record {
+  turns = subst HasTurned (sym k.machine) h.turns;
+  cells =
+      subst (λ (p : Progress). HasAnswered p.trace d.start.now.cells d.cells.cells d.undo.inverses.items d.undo.marks.items) (sym k.machine)
+      (subst (λ (s : Store). HasAnswered c.machine.trace s.cells d.cells.cells d.undo.inverses.items d.undo.marks.items) (sym k.start)
+      (subst (λ (x : Cells). HasAnswered c.machine.trace c.start.now.cells x d.undo.inverses.items d.undo.marks.items) (sym k.cells)
+      (subst (λ (is : List Inverse). HasAnswered c.machine.trace c.start.now.cells c.cells.cells is d.undo.marks.items) (sym k.inverses)
+      (subst (λ (ms : List ℕ). HasAnswered c.machine.trace c.start.now.cells c.cells.cells c.undo.inverses.items ms) (sym k.marks) h.cells))));
+}
 
 pub run_copy : {A : Type 0} (c d : Cursor A) → IsCopy c d → IsSameRun c d
 run_copy c d k = record {
@@ -53,7 +59,7 @@ within setting start limit k t x (opened y marks f r) = omega arith
 within setting start limit k t x (turned n front steps y z w lt turn) = omega (arith, lt)
 
 pub at_within : {A : Type 0} (c : Cursor A) → IsAt c → c.machine.used ≤ c.machine.call.fuel
-at_within c h = within _ _ _ _ _ _ h.turned
+at_within c h = within _ _ _ _ _ _ h.turns.turned
 
 -- ---- two states of one run
 
@@ -67,7 +73,7 @@ module _ {A : Type 0} (c : Cursor A) (h : IsAt c) (setting : Setting) (call : Co
       (subst (λ (n : ℕ). IsState setting call cells n x) same_turns state)))
 
   pub same_config : x ≡ c.machine.config
-  same_config = one_state c.machine.setting c.machine.call c.start.now.cells c.machine.used x c.machine.config there (is_sight c.machine c.start.now.cells c.cells.cells [] h).state
+  same_config = one_state c.machine.setting c.machine.call c.start.now.cells c.machine.used x c.machine.config there (is_sight c.machine c.start.now.cells [] h.turns h.cells.replies).state
 
 -- turns that stop before a state that was reached do not stop at an end
 no_end : (o : Option Outcome) → o ≡ None → IsSome o → ⊥
@@ -78,10 +84,11 @@ module _ {A : Type 0} (here cursor : Cursor A) (h : IsAt here) (k : IsAt cursor)
   goes_on_before : cursor.machine.used < here.machine.used → ending cursor.machine ≡ None
   goes_on_before below =
       let e : IsOnTheWay here.machine.setting here.machine.call here.start.now.cells cursor.machine.used =
-      earlier here.machine.setting here.machine.call here.start.now.cells here.machine.used cursor.machine.used here.machine.config (is_sight here.machine here.start.now.cells here.cells.cells [] h).state below in
+      earlier here.machine.setting here.machine.call here.start.now.cells here.machine.used cursor.machine.used here.machine.config (is_sight here.machine here.start.now.cells [] h.turns h.cells.replies).state below in
       let config_is : e.config ≡ cursor.machine.config =
       same_config cursor k here.machine.setting here.machine.call here.start.now.cells cursor.machine.used e.config e.state (sym run.call.setting) (sym run.call.call) (ap (λ s. s.cells) (sym run.start)) refl in
-      ap₂ (λ (ds : Setting) (l : ContractCall). ending_of ds l.fuel cursor.machine.used cursor.machine.config) run.call.setting run.call.call
+      ending_is cursor.machine k.turns.goes_on
+      ∙ ap₂ (λ (ds : Setting) (l : ContractCall). ending_of ds l.fuel cursor.machine.used cursor.machine.config) run.call.setting run.call.call
       ∙ ap (ending_of here.machine.setting here.machine.call.fuel cursor.machine.used) (sym config_is) ∙ e.goes_on
 
   pub reaches : (n : ℕ) → cursor.machine.used ≤ n → n ≤ here.machine.used → (cursor.machine.used ≡ n) ⊎ IsSome (ending cursor.machine) → cursor.machine.used ≡ n
@@ -94,21 +101,25 @@ module _ {A : Type 0} (here cursor : Cursor A) (h : IsAt here) (k : IsAt cursor)
 
 -- ---- a state with as many turns has the same place
 
+abbrev break_place_of : Levels → ContractCall → (turns : ℕ) → Option (ℕ × ℕ)
+break_place_of x call turns = if x.inner.contract.number == call.contract then place_of (shown x.inner.contract call.fuel turns x.inner.config) else None
+
 module _ {A : Type 0} (c d : Cursor A) (k : IsAt d) (run : IsSameRun c d) (u : Sight) (is : IsSight u) (same : commands.IsSameRun (seen_at c) u) where
-  pub same_place : u.turns ≡ d.machine.used → place_at u ≡ place_shown d.machine
+  pub same_place : u.turns ≡ d.machine.used → break_place_at u ≡ break_place_shown d.machine
   same_place turns =
       let config_is : u.config ≡ d.machine.config =
       same_config d k u.setting u.call u.cells u.turns u.config is.state (same.setting ∙ sym run.call.setting) (same.call ∙ sym run.call.call) (same.cells ∙ ap (λ s. s.cells) (sym run.start)) turns in
-      ap (λ (l : ContractCall). place_of (shown u.config.inner.contract l.fuel u.turns u.config.inner.config)) (same.call ∙ sym run.call.call)
-      ∙ ap₂ (λ (n : ℕ) (x : Levels). place_of (shown x.inner.contract d.machine.call.fuel n x.inner.config)) turns config_is
+      ap (λ (l : ContractCall). break_place_of u.config l u.turns) (same.call ∙ sym run.call.call)
+      ∙ ap₂ (λ (n : ℕ) (x : Levels). break_place_of x d.machine.call n) turns config_is
+      ∙ ap (λ (o : Option (ℕ × ℕ)). if d.machine.config.inner.contract.number == d.machine.call.contract then o else None) (sym (place_is d.machine k.turns.goes_on))
 
 -- one turn more, at whose end there is no break
-pub no_break_more : {A : Type 0} (breaks : List (ℕ × ℕ)) (c e : Cursor A) (m n : ℕ) → IsOfRun c e → e.machine.used ≡ n + 1 → is_set_at breaks (place_shown e.machine) ≡ false
-    → ((u : Sight) → IsSight u → commands.IsSameRun (seen_at c) u → m < u.turns → u.turns ≤ n → is_set_at breaks (place_at u) ≡ false)
-    → (u : Sight) → IsSight u → commands.IsSameRun (seen_at c) u → m < u.turns → u.turns ≤ e.machine.used → is_set_at breaks (place_at u) ≡ false
+pub no_break_more : {A : Type 0} (breaks : List (ℕ × ℕ)) (c e : Cursor A) (m n : ℕ) → IsOfRun c e → e.machine.used ≡ n + 1 → is_set_at breaks (break_place_shown e.machine) ≡ false
+    → ((u : Sight) → IsSight u → commands.IsSameRun (seen_at c) u → m < u.turns → u.turns ≤ n → is_set_at breaks (break_place_at u) ≡ false)
+    → (u : Sight) → IsSight u → commands.IsSameRun (seen_at c) u → m < u.turns → u.turns ≤ e.machine.used → is_set_at breaks (break_place_at u) ≡ false
 no_break_more breaks c e m n k used none so_far u is same above below = by_test (eqb_tells u.turns e.machine.used)
   where
-    by_test : ((u.turns == e.machine.used) ≡ true) × (u.turns ≡ e.machine.used) ⊎ ((u.turns == e.machine.used) ≡ false) × (u.turns ≢ e.machine.used) → is_set_at breaks (place_at u) ≡ false
+    by_test : ((u.turns == e.machine.used) ≡ true) × (u.turns ≡ e.machine.used) ⊎ ((u.turns == e.machine.used) ≡ false) × (u.turns ≢ e.machine.used) → is_set_at breaks (break_place_at u) ≡ false
     by_test (inl t) = ap (is_set_at breaks) (same_place c e k.at k.same u is same t.1) ∙ none
     by_test (inr t) = so_far u is same above (let apart = t.1 in omega (arith, used, below, apart))
 
@@ -177,9 +188,18 @@ kept_first {A = A} origin here others h none k no_others last distance = record 
 
 -- ---- on to a break
 
-module _ {A : Type 0} (here start end : Cursor A) (breaks set : List (ℕ × ℕ)) (set_is : set ≡ breaks) (k : IsCopy here start) (run : IsSameRun here end)
+-- a break holds in a state where its machine says so
+seen_break : {A : Type 0} (c : Cursor A) (breaks : List (ℕ × ℕ)) → IsAt c → break_place_at (sight_of c.machine c.start.now.cells breaks) ≡ break_place_shown c.machine
+seen_break c breaks at = ap (λ (o : Option (ℕ × ℕ)). if c.machine.config.inner.contract.number == c.machine.call.contract then o else None) (sym (place_is c.machine at.turns.goes_on))
+
+-- the end of a run is seen as its machine shows it
+pub seen_end : {A : Type 0} (P : Type 0) (c : Cursor A) (breaks : List (ℕ × ℕ)) → IsAt c → P ⊎ IsSome (ending c.machine) → P ⊎ IsSome (ending_at (sight_of c.machine c.start.now.cells breaks))
+seen_end P c breaks at (inl h) = inl h
+seen_end P c breaks at (inr h) = inr (subst (λ (o : Option Outcome). IsSome o) (ending_is c.machine at.turns.goes_on) h)
+
+module _ {A : Type 0} (here start end : Cursor A) (at_here : IsAt here) (at_end : IsAt end) (breaks set : List (ℕ × ℕ)) (set_is : set ≡ breaks) (k : IsCopy here start) (run : IsSameRun here end)
     (moves : (start.machine.used < end.machine.used) ⊎ (IsSome (ending start.machine) × (end ≡ start)))
-    (stops : (is_set_at set (place_shown end.machine) ≡ true) ⊎ IsSome (ending end.machine)) (least : HasNoBreakBetween set here start.machine.used end.machine.used) where
+    (stops : (is_set_at set (break_place_shown end.machine) ≡ true) ⊎ IsSome (ending end.machine)) (least : HasNoBreakBetween set here start.machine.used end.machine.used) where
   no_less : (start.machine.used < end.machine.used) ⊎ (IsSome (ending start.machine) × (end ≡ start)) → start.machine.used ≤ end.machine.used
   no_less (inl h) = omega (arith, h)
   no_less (inr h) = omega (arith, ap (λ x. x.machine.used) h.1)
@@ -191,9 +211,9 @@ module _ {A : Type 0} (here start end : Cursor A) (breaks set : List (ℕ × ℕ
       record {
         same = record { run = record { setting = run.call.setting; call = run.call.call; contract = run.call.contract; cells = ap (λ s. s.cells) run.start }; breaks = refl };
         turns = omega (arith, first, before_is, after_is, no_less moves);
-        moves = has_moved moves first;
-        stops = stops_at stops;
-        least = λ u is same above below. ap (λ bs. is_set_at bs (place_at u)) (sym set_is)
+        moves = seen_end _ here breaks at_here (has_moved moves first);
+        stops = seen_end _ end breaks at_end (stops_at stops);
+        least = λ u is same above below. ap (λ bs. is_set_at bs (break_place_at u)) (sym set_is)
             ∙ least u is (record { setting = same.setting; call = same.call; contract = same.contract; cells = same.cells }) (omega (arith, first, above)) below;
       }
     where
@@ -201,6 +221,6 @@ module _ {A : Type 0} (here start end : Cursor A) (breaks set : List (ℕ × ℕ
       has_moved (inl h) first = inl (omega (arith, h, first, before_is, after_is))
       has_moved (inr h) first = inr (subst (λ (p : Progress). IsSome (ending p)) k.machine h.0)
 
-      stops_at : (is_set_at set (place_shown end.machine) ≡ true) ⊎ IsSome (ending end.machine) → (is_set_at breaks (place_shown end.machine) ≡ true) ⊎ IsSome (ending end.machine)
-      stops_at (inl h) = inl (ap (λ bs. is_set_at bs (place_shown end.machine)) (sym set_is) ∙ h)
+      stops_at : (is_set_at set (break_place_shown end.machine) ≡ true) ⊎ IsSome (ending end.machine) → commands.IsAtBreak breaks (sight_of end.machine end.start.now.cells breaks) ⊎ IsSome (ending end.machine)
+      stops_at (inl h) = inl (ap (is_set_at breaks) (seen_break end breaks at_end) ∙ ap (λ bs. is_set_at bs (break_place_shown end.machine)) (sym set_is) ∙ h)
       stops_at (inr h) = inr h

@@ -5,9 +5,8 @@ use Rattle.debugger.specs.declared.session.Refusal.TheVariants.{BeforeStart, NoS
 use Rattle.spec_ledger.specs.Cells.{Cells}
 use Rattle.spec_execution.specs.Configuration.{Setting}
 use Rattle.spec_execution.specs.Run.{ContractCall}
-use Rattle.spec_execution.specs.Turns.{state_of}
 use Rattle.debugger.specs.Breaks.{is_set_at, with_break, without_break, instr_there}
-use Rattle.debugger.specs.Sight.{Sight, IsSight, ending_at, place_at}
+use Rattle.debugger.specs.Sight.{Sight, IsSight, ending_at, break_place_at, memory_at}
 
 -- the number of each refusal
 abbrev pub code_of : Refusal → ℕ
@@ -52,9 +51,9 @@ pub record HasGoneBack (s : Sight) (n : ℕ) (t : Sight) : Type 0 where
 abbrev pub AreFew : (fuel again : ℕ) → Type 0
 AreFew fuel again = (again < 1024) ⊎ (32 * again ≤ fuel)
 
--- a state has a break at its place
+-- a state has a break at its place, in a level that runs the contract that is called
 abbrev pub IsAtBreak : List (ℕ × ℕ) → Sight → Type 0
-IsAtBreak breaks s = is_set_at breaks (place_at s) ≡ true
+IsAtBreak breaks s = is_set_at breaks (break_place_at s) ≡ true
 
 -- on to the least later state that has a break at its place, or to the end; at the end it stays
 pub record HasContinued (s : Sight) (made : ℕ) (t : Sight) : Type 0 where
@@ -62,7 +61,7 @@ pub record HasContinued (s : Sight) (made : ℕ) (t : Sight) : Type 0 where
   pub turns : t.turns ≡ s.turns + made
   pub moves : (0 < made) ⊎ IsSome (ending_at s)
   pub stops : IsAtBreak s.breaks t ⊎ IsSome (ending_at t)
-  pub least : (u : Sight) → IsSight u → IsSameRun s u → s.turns < u.turns → u.turns < t.turns → is_set_at s.breaks (place_at u) ≡ false
+  pub least : (u : Sight) → IsSight u → IsSameRun s u → s.turns < u.turns → u.turns < t.turns → is_set_at s.breaks (break_place_at u) ≡ false
 
 -- what a command answers and what it leaves; a refusal leaves all as it was
 abbrev pub Steps : Sight → ℕ → Result ℕ Refusal → Sight → Type 0
@@ -89,6 +88,6 @@ Clears s p (Err r) t = (r ≡ NoSuchPlace) × (instr_there s.contract.deployed.t
 
 -- the bytes, exactly where all of them lie in memory
 abbrev pub Reads : {A : Type 0} → Sight → (from count : ℕ) → Result (Vec ℕ A) Refusal → Type 0
-Reads s from count (Ok bytes) = (from + count ≤ length (state_of s.config.inner.config).memory) × (bytes.items ≡ take count (drop from (state_of s.config.inner.config).memory))
-Reads s from count (Err OutOfRange) = length (state_of s.config.inner.config).memory < from + count
-Reads s from count (Err r) = (r ≡ NoMemory) × (from + count ≤ length (state_of s.config.inner.config).memory)
+Reads s from count (Ok bytes) = (from + count ≤ length (memory_at s)) × (bytes.items ≡ take count (drop from (memory_at s)))
+Reads s from count (Err OutOfRange) = length (memory_at s) < from + count
+Reads s from count (Err r) = (r ≡ NoMemory) × (from + count ≤ length (memory_at s))

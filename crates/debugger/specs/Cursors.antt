@@ -1,24 +1,54 @@
 -- What a call that is run turn by turn keeps.
-use Rattle.std.specs.Prelude.{◌≡◌}
-use Rattle.spec_ledger.specs.Cells.{Cells}
-use Rattle.spec_ledger.specs.Book.{after, GetsReplies}
+use Rattle.std.specs.Prelude.{◌≡◌, ℕ, ◌+◌, ◌<◌, List, [], ◌++◌}
+use Rattle.spec_ledger.specs.declared.Inverse.{Inverse}
+use Rattle.spec_ledger.specs.declared.Step.{Step}
+use Rattle.spec_ledger.specs.Cells.{Cells, cells_after}
+use Rattle.spec_ledger.specs.Book.{unmarked, folded, GetsReplies}
 use Rattle.spec_execution.specs.Configuration.{Setting}
 use Rattle.spec_execution.specs.Run.{ContractCall, opening, Opens}
-use Rattle.spec_execution.specs.Levels.{first_level}
-use Rattle.spec_execution.specs.Turning.{Turned}
-use Rattle.interp.specs.Progress.{Progress, GoesOn, IsSameCall}
+use Rattle.spec_execution.specs.Levels.{Levels, On, move, first_level}
+use Rattle.spec_execution.specs.Turning.{FreeMoves, IsAnswered, Turned}
+use Rattle.interp.specs.Progress.{Progress, GoesOn, Pauses, IsSameCall}
 use Rattle.debugger.specs.declared.cursor.Cursor.{Cursor}
+use Rattle.debugger.specs.Undoing.{AreNoted}
 
--- a machine after so many turns as fuel is used, over cells that answered its operations and are now these
-pub record HasTurned (p : Progress) (start now : Cells) : Type 0 where
+-- Cells that answered the operations of a trace, from these at the start on, and what takes its open levels back: they are those that stand.
+pub record HasAnswered (trace : List Step) (start now : Cells) (inverses : List Inverse) (marks : List ℕ) : Type 0 where
+  pub replies : GetsReplies trace start
+  pub noted : AreNoted inverses marks now (folded cells_after trace (unmarked start))
+
+-- a machine after so many turns as fuel is used
+pub record HasTurned (p : Progress) : Type 0 where
   pub opens : opening p.setting p.call ≡ Opens p.contract p.func
   pub turned : Turned p.setting (first_level p.contract p.func p.call.args) p.call.fuel p.used p.trace p.config
-  pub replies : GetsReplies p.trace start
-  pub now_is : now ≡ after p.trace start
   pub goes_on : GoesOn p.status
 
-abbrev pub IsAt : {A : Type 0} → Cursor A → Type 0
-IsAt c = HasTurned c.machine c.start.now.cells c.cells.cells
+abbrev pub AreCellsOf : {A : Type 0} → Cursor A → Type 0
+AreCellsOf c = HasAnswered c.machine.trace c.start.now.cells c.cells.cells c.undo.inverses.items c.undo.marks.items
+
+pub record IsAt {A : Type 0} (c : Cursor A) : Type 0 where
+  pub turns : HasTurned c.machine
+  pub cells : AreCellsOf c
+
+-- In a turn that began with the first: its charged move is made, and the host's reply to it if any, and free ones, up to where an instruction is to come, the run has ended, or a level is left.
+pub record HasBegun (p q : Progress) : Type 0 where
+  pub same : IsSameCall p q
+  pub below : p.used < p.call.fuel
+  pub used : q.used ≡ p.used + 1
+  pub charged : Levels
+  pub one : move p.setting p.config ≡ On 1 [] charged
+  pub reply : List Step
+  pub replied : Levels
+  pub answer : IsAnswered p.setting charged reply replied
+  pub marks : List Step
+  pub free : FreeMoves p.setting replied marks q.config
+  pub trace : q.trace ≡ p.trace ++ (reply ++ marks)
+  pub pauses : Pauses q.setting q.config
+  pub goes_on : GoesOn q.status
+
+pub record IsInTurn {A : Type 0} (p : Progress) (c : Cursor A) : Type 0 where
+  pub begun : HasBegun p c.machine
+  pub cells : AreCellsOf c
 
 -- the same call over the same cells
 pub record IsSameRun {A : Type 0} (c d : Cursor A) : Type 0 where
@@ -28,6 +58,8 @@ pub record IsSameRun {A : Type 0} (c d : Cursor A) : Type 0 where
 pub record IsCopy {A : Type 0} (c d : Cursor A) : Type 0 where
   pub machine : d.machine ≡ c.machine
   pub cells : d.cells.cells ≡ c.cells.cells
+  pub inverses : d.undo.inverses.items ≡ c.undo.inverses.items
+  pub marks : d.undo.marks.items ≡ c.undo.marks.items
   pub start : d.start.now ≡ c.start.now
 
 -- the call before its first turn

@@ -1,5 +1,6 @@
 pub mod Sight
 pub mod Breaks
 pub mod Commands
+pub mod Undoing
 pub mod Cursors
 pub mod Keeping

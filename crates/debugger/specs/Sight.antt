@@ -1,20 +1,22 @@
 -- What a debugger's session shows.
-use Rattle.std.specs.Prelude.{◌≡◌, ℕ, List, Option, refl}
+use Rattle.std.specs.Prelude.{◌≡◌, ℕ, ◌==◌, List, Option, Some, None, if◌then◌else◌, length, refl}
 use Rattle.std.specs.Coded.{Coded, code_by, coded×, coded_ℕ, coded_list}
 use Rattle.wtypes.specs.declared.Value.{Value}
+use Rattle.spec_ledger.specs.contracts.Step as step
 use Rattle.spec_ledger.specs.declared.Outcome.{Outcome}
+use Rattle.spec_ledger.specs.declared.Step.{Step}
 use Rattle.spec_ledger.specs.Cells.{Cells}
 use Rattle.spec_ledger.specs.Codes.{coded_cells}
-use Rattle.spec_execution.specs.Configuration.{Setting, Contract, Config}
+use Rattle.spec_execution.specs.Configuration.{Setting, Contract, State, Config}
 use Rattle.spec_execution.specs.Run.{ContractCall, opening, Opens}
-use Rattle.spec_execution.specs.Levels.{Levels}
+use Rattle.spec_execution.specs.Levels.{Level, Levels, asks_in}
 use Rattle.spec_execution.specs.Turns.{shown, state_of, stack_of, locals_of, place_of}
 use Rattle.spec_execution.specs.Turning.{IsState}
 use Rattle.interp.specs.Codes.{coded_setting, coded_contract, coded_levels, coded_call}
 use Rattle.interp.specs.Progress.{Progress}
-use Rattle.interp.specs.Shown.{ending_of, unless_ended}
+use Rattle.interp.specs.Shown.{ending_of, unless_ended, place_shown, outermost}
 
--- a call alone over cells, how many of its turns were made, and the configuration that it has come to; and the breaks
+-- a call alone over cells, how many of its turns were made, with which steps, and the configuration that it has come to; and the breaks
 pub record Sight : Type 0 where
   pub setting : Setting
   pub call : ContractCall
@@ -23,26 +25,29 @@ pub record Sight : Type 0 where
   -- the cells at the start
   pub cells : Cells
   pub turns : ℕ
+  -- the operations with their replies, and the marks of levels
+  pub trace : List Step
   pub config : Levels
   pub breaks : List (ℕ × ℕ)
 
 abbrev pub coded_sight : Coded Sight
 coded_sight =
-    code_by (Setting × (ContractCall × (Contract × (Cells × (ℕ × (Levels × List (ℕ × ℕ)))))))
-    (coded× coded_setting (coded× coded_call (coded× coded_contract (coded× coded_cells (coded× coded_ℕ (coded× coded_levels (coded_list (coded× coded_ℕ coded_ℕ))))))))
-    (λ s. (s.setting, (s.call, (s.contract, (s.cells, (s.turns, (s.config, s.breaks)))))))
-    (λ p. record { setting = p.0; call = p.1.0; contract = p.1.1.0; cells = p.1.1.1.0; turns = p.1.1.1.1.0; config = p.1.1.1.1.1.0; breaks = p.1.1.1.1.1.1 }) (λ _. refl)
+    code_by (Setting × (ContractCall × (Contract × (Cells × (ℕ × (List Step × (Levels × List (ℕ × ℕ))))))))
+    (coded× coded_setting (coded× coded_call (coded× coded_contract (coded× coded_cells (coded× coded_ℕ (coded× (coded_list step.the_row.coded) (coded× coded_levels (coded_list (coded× coded_ℕ coded_ℕ)))))))))
+    (λ s. (s.setting, (s.call, (s.contract, (s.cells, (s.turns, (s.trace, (s.config, s.breaks))))))))
+    (λ p. record { setting = p.0; call = p.1.0; contract = p.1.1.0; cells = p.1.1.1.0; turns = p.1.1.1.1.0; trace = p.1.1.1.1.1.0; config = p.1.1.1.1.1.1.0; breaks = p.1.1.1.1.1.1.1 }) (λ _. refl)
 
--- the state after so many turns, of the contract that the call opens with
+-- the state after so many turns with these steps, of the contract that the call opens with
 pub record IsSight (s : Sight) : Type 0 where
   pub func : ℕ
   pub opens : opening s.setting s.call ≡ Opens s.contract func
   pub state : IsState s.setting s.call s.cells s.turns s.config
+  pub trace_is : state.trace ≡ s.trace
 
 abbrev pub sight_of : Progress → Cells → List (ℕ × ℕ) → Sight
-sight_of p start breaks = record { setting = p.setting; call = p.call; contract = p.contract; cells = start; turns = p.used; config = p.config; breaks = breaks }
+sight_of p start breaks = record { setting = p.setting; call = p.call; contract = p.contract; cells = start; turns = p.used; trace = p.trace; config = p.config; breaks = breaks }
 
--- ---- what is read off the state: off its innermost level
+-- ---- what is read off the state
 
 -- how the run has ended, if it has
 abbrev pub ending_at : Sight → Option Outcome
@@ -56,6 +61,25 @@ config_at s = shown s.config.inner.contract s.call.fuel s.turns s.config.inner.c
 abbrev pub place_at : Sight → Option (ℕ × ℕ)
 place_at s = place_of (config_at s)
 
+-- the number of the contract that the innermost level runs, and how many levels are around it
+abbrev pub contract_at : Sight → ℕ
+contract_at s = s.config.inner.contract.number
+
+abbrev pub level_at : Sight → ℕ
+level_at s = length s.config.outer
+
+-- how many levels were entered
+abbrev pub asks_at : Sight → ℕ
+asks_at s = asks_in s.trace
+
+-- where a break may hold: at the place, in a level that runs the contract that is called
+abbrev pub break_place_at : Sight → Option (ℕ × ℕ)
+break_place_at s = if contract_at s == s.call.contract then place_at s else None
+
+-- the same of a machine
+abbrev pub break_place_shown : Progress → Option (ℕ × ℕ)
+break_place_shown p = if p.config.inner.contract.number == p.call.contract then place_shown p else None
+
 -- the values of the innermost frame, bottom first; after the end the returned value, if there is one
 abbrev pub stack_at : Sight → List Value
 stack_at s = stack_of (config_at s)
@@ -64,5 +88,20 @@ stack_at s = stack_of (config_at s)
 abbrev pub locals_at : Sight → List Value
 locals_at s = unless_ended (ending_at s) (locals_of s.config.inner.config)
 
+-- whose globals and memory are shown: the innermost level; after the end the outer one
+abbrev pub level_shown : Option Outcome → Levels → Level
+level_shown None c = c.inner
+level_shown (Some o) c = outermost c
+
+abbrev pub instance_at : Sight → State
+instance_at s = state_of (level_shown (ending_at s) s.config).config
+
 abbrev pub globals_at : Sight → List Value
-globals_at s = (state_of s.config.inner.config).globals
+globals_at s = (instance_at s).globals
+
+abbrev pub memory_at : Sight → List ℕ
+memory_at s = (instance_at s).memory
+
+-- the same of a machine that goes on
+abbrev pub memory_shown : Progress → List ℕ
+memory_shown p = (state_of (level_shown (ending_of p.setting p.call.fuel p.used p.config) p.config).config).memory

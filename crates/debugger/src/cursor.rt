@@ -1,19 +1,19 @@
 // A call that runs alone over cells, after some of its turns.
 ghost use Rattle.std.specs.Prelude.{◌≡◌, ◌+◌, ◌<◌, ◌≤◌, ◌⊎◌, Ok, true, false, None, IsSome, IfOk, IfErr, OnOk};
-ghost use Rattle.spec_execution.specs.Run.{IsReply, opening};
-ghost use Rattle.spec_ledger.specs.Cells.{cells_after, reply_to};
+ghost use Rattle.spec_execution.specs.Run.{opening};
 ghost use Rattle.interp.specs.Lent.{setting_view};
-ghost use Rattle.interp.specs.Progress.{IsSameCall};
+ghost use Rattle.interp.specs.Progress.{Progress, GoesOn, IsLeftNext, depth_of};
 ghost use Rattle.interp.specs.Shown.{ending};
 ghost use Rattle.interp.specs.Starting.{IsRefusedFor, HasPlace, wrong_in};
-ghost use Rattle.debugger.specs.Cursors.{IsAt, IsOpened, IsSameRun, IsCopy};
+ghost use Rattle.debugger.specs.Cursors.{IsAt, IsOpened, IsSameRun, IsCopy, IsInTurn};
 
 use crate::Contract;
+use crate::undo::{Undo, act, copy_undo, enter, leave, nothing_noted};
 use call::Call;
 use interp::machine::Machine;
 use interp::start::StartRefusal;
 use interp::turns::Turn;
-use spec_ledger::{NoMemory, Op, Reply, Version};
+use spec_ledger::{NoMemory, Version};
 use std::alloc::Allocator;
 use storage::Cells;
 
@@ -22,8 +22,10 @@ use storage::Cells;
 pub struct Cursor<'a, A: Allocator + Copy> {
     /// Its machine.
     pub machine: Machine<'a, A>,
-    /// The cells, after the operations that it has asked for.
+    /// The cells, after the operations that it has asked for, but for those of levels that were dropped.
     pub cells: Cells<A>,
+    /// What takes the open levels back.
+    pub undo: Undo<A>,
     /// The cells at the start.
     pub start: &'a Cells<A>,
 }
@@ -50,6 +52,7 @@ pub fn open<'a, A: Allocator + Copy>(
         Ok(cells) => Ok(Cursor {
             machine,
             cells,
+            undo: nothing_noted(alloc),
             start,
         }),
         Err(NoMemory) => Err(StartRefusal::NoMemory),
@@ -70,19 +73,62 @@ pub fn copy<'a, A: Allocator + Copy>(
     Ok(Cursor {
         machine: cursor.machine.copy()?,
         cells: cursor.cells.copy(alloc)?,
+        undo: copy_undo(alloc, &cursor.undo)?,
         start: cursor.start,
     })
 }
 
-// Does an operation on the cells.
-fn reply_of<A: Allocator + Copy>(cells: &mut Cells<A>, op: Op) -> Result<Reply, NoMemory>
-    ensures reply { IfOk result (λ reply. reply ≡ reply_to op cells.old.cells) }
-    ensures is_reply { IfOk result (λ reply. IsReply op reply) }
-    ensures cells { OnOk result (cells.new.cells ≡ cells_after op cells.old.cells) }
+// Makes the charged reduction of a turn, and the free ones up to the next level that is left.
+fn begin_turn<'a, A: Allocator + Copy>(cursor: &mut Cursor<'a, A>) -> Result<(), NoMemory>
+    requires at { IsAt cursor.old }
+    requires goes_on { ending cursor.old.machine ≡ None }
+    ensures turn { OnOk result (IsInTurn cursor.old.machine cursor.new) }
+    ensures start { OnOk result (cursor.new.start.now ≡ cursor.old.start.now) }
 {
-    let (reply, inverse) = cells.apply(op)?;
-    cells.settle(inverse);
-    Ok(reply)
+    match cursor.machine.next() {
+        Turn::Stepped => Ok(()),
+        Turn::Host(op) => {
+            let reply = act(&mut cursor.cells, &mut cursor.undo, op)?;
+            cursor.machine.answer(reply);
+            Ok(())
+        }
+        Turn::Enter => enter(&mut cursor.undo),
+        Turn::NoMemory => Err(NoMemory),
+        Turn::Leave(_) => unreachable!(),
+        Turn::Done(_) => unreachable!(),
+    }
+}
+
+// Leaves the innermost level, which is left next.
+fn leave_level<'a, A: Allocator + Copy>(cursor: &mut Cursor<'a, A>) -> Result<(), NoMemory>
+    requires goes_on { GoesOn cursor.old.machine.status }
+    requires left { IsLeftNext cursor.old.machine }
+    ensures turn { OnOk result ((first : Progress) → IsInTurn first cursor.old → IsInTurn first cursor.new) }
+    ensures start { OnOk result (cursor.new.start.now ≡ cursor.old.start.now) }
+    ensures goes_on { OnOk result (GoesOn cursor.new.machine.status) }
+    ensures less { OnOk result (depth_of cursor.old.machine ≡ depth_of cursor.new.machine + 1) }
+{
+    match cursor.machine.next() {
+        Turn::Leave(keep) => leave(&mut cursor.cells, &mut cursor.undo, keep),
+        Turn::NoMemory => Err(NoMemory),
+        Turn::Stepped => unreachable!(),
+        Turn::Host(_) => unreachable!(),
+        Turn::Enter => unreachable!(),
+        Turn::Done(_) => unreachable!(),
+    }
+}
+
+// Goes on with a turn to its end, over the levels that are left in it.
+fn end_turn<'a, A: Allocator + Copy>(cursor: &mut Cursor<'a, A>) -> Result<(), NoMemory>
+    requires { GoesOn cursor.old.machine.status }
+    ensures turn { OnOk result ((first : Progress) → IsInTurn first cursor.old → IsInTurn first cursor.new) }
+    ensures start { OnOk result (cursor.new.start.now ≡ cursor.old.start.now) }
+    ensures whole { OnOk result (¬ IsLeftNext cursor.new.machine) }
+{
+    while cursor.machine.is_leaving() {
+        leave_level(cursor)?;
+    }
+    Ok(())
 }
 
 /// Makes a turn, unless the run has ended. Answers whether it made one.
@@ -100,16 +146,9 @@ pub fn make_turn<'a, A: Allocator + Copy>(cursor: &mut Cursor<'a, A>) -> Result<
     if cursor.machine.ending().is_some() {
         return Ok(false);
     }
-    match cursor.machine.next() {
-        Turn::Stepped => Ok(true),
-        Turn::Host(op) => {
-            let reply = reply_of(&mut cursor.cells, op)?;
-            cursor.machine.answer(reply);
-            Ok(true)
-        }
-        Turn::NoMemory => Err(NoMemory),
-        Turn::Done(_) => unreachable!(),
-    }
+    begin_turn(cursor)?;
+    end_turn(cursor)?;
+    Ok(true)
 }
 
 /// Makes so many turns, or as many as there are, and answers how many.

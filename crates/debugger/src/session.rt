@@ -1,9 +1,10 @@
 // A debugger's session.
 ghost use Rattle.std.specs.Prelude.{◌≡◌, ◌+◌, ◌<◌, ◌≤◌, ◌⊎◌, IsSome, IsTrue, ◌↔◌, IfOk, OnOk, true};
 ghost use Rattle.interp.specs.Progress.{IsSameCall};
-ghost use Rattle.interp.specs.Shown.{ending, place_shown};
+ghost use Rattle.interp.specs.Shown.{ending, AreReadOf};
 ghost use Rattle.debugger.specs.Breaks.{is_set_at, instr_there};
 ghost use Rattle.debugger.specs.Cursors.{IsAt, IsSameRun};
+ghost use Rattle.debugger.specs.Sight.{break_place_shown, memory_shown};
 ghost use Rattle.debugger.specs.Keeping.{IsOfRun, AreKept, next_turns, IsEarlier, HasNoBreakBetween};
 
 use crate::Contract;
@@ -67,8 +68,8 @@ impl From<NoMemory> for Refusal {
 
 /// A call that runs alone over cells, at one of its states. Contracts see the call, the number of turns that were made, and the
 /// configuration after them, which the type keeps to be that state. Beside the first state and the present one it holds copies of at
-/// most 64 others, each with the memory, the cells and the trace of its time, so that few turns are made again to go back: fewer
-/// than 1,024, or at most a 32nd of the call's fuel.
+/// most 64 others, each with the levels, the cells and the trace of its time, so that few turns are made again to go back: fewer
+/// than 1,024, or at most a 32nd of the call's fuel. Breaks hold in each level that runs the contract that is called.
 #[derive(Drop)]
 pub struct Session<'a, A: Allocator + Copy> {
     alloc: A,
@@ -112,14 +113,33 @@ fn state_after<'a, A: Allocator + Copy>(
     Ok((cursor, again))
 }
 
-// Whether a break is set at the place of the instruction to come.
+// Whether a break is set at the place of the instruction to come, in a level that runs the contract that is called.
 fn is_at_break<'a, A: Allocator + Copy>(cursor: &Cursor<'a, A>, breaks: &[(u32, u32)]) -> bool
     requires { IsAt cursor.now }
-    ensures { result ≡ is_set_at breaks.now (place_shown cursor.now.machine) }
+    ensures { result ≡ is_set_at breaks.now (break_place_shown cursor.now.machine) }
 {
+    if cursor.machine.contract() != cursor.machine.called() {
+        return false;
+    }
     match cursor.machine.place() {
         Some(place) => has_break(breaks, place),
         None => false,
+    }
+}
+
+// So many bytes from an address on of the memory that is shown: that of the innermost level, after the end that of the outer one.
+fn bytes_shown<'a, A: Allocator + Copy>(
+    cursor: &Cursor<'a, A>,
+    from: u64,
+    count: u64,
+) -> Result<Vec<u8, A>, BytesRefusal>
+    requires { IsAt cursor.now }
+    ensures { AreReadOf (memory_shown cursor.now.machine) from count result }
+{
+    if cursor.machine.ending().is_some() {
+        cursor.machine.outer_bytes(from, count)
+    } else {
+        cursor.machine.bytes(from, count)
     }
 }
 
@@ -170,7 +190,7 @@ fn go_on<'a, A: Allocator + Copy>(
     requires reached { cursor.old.machine.used < next_turns kept.old }
     ensures cursor { OnOk result (IsOfRun here.now cursor.new) }
     ensures moves { OnOk result ((cursor.old.machine.used < cursor.new.machine.used) ⊎ (IsSome (ending cursor.old.machine) × (cursor.new ≡ cursor.old))) }
-    ensures stops { OnOk result ((is_set_at breaks.now (place_shown cursor.new.machine) ≡ true) ⊎ IsSome (ending cursor.new.machine)) }
+    ensures stops { OnOk result ((is_set_at breaks.now (break_place_shown cursor.new.machine) ≡ true) ⊎ IsSome (ending cursor.new.machine)) }
     ensures least { OnOk result (HasNoBreakBetween breaks.now here.now cursor.old.machine.used cursor.new.machine.used) }
     ensures kept { AreKept here.now kept.new }
     ensures reached { OnOk result (cursor.new.machine.used < next_turns kept.new) }
@@ -189,7 +209,7 @@ impl<'a, A: Allocator + Copy> Session<'a, A> {
     ghost use Rattle.spec_execution.specs.Run.{opening};
     ghost use Rattle.interp.specs.Lent.{setting_view};
     ghost use Rattle.interp.specs.Starting.{IsRefusedFor, HasPlace, wrong_in};
-    ghost use Rattle.debugger.specs.Sight.{IsSight, ending_at, place_at, stack_at, locals_at, globals_at};
+    ghost use Rattle.debugger.specs.Sight.{IsSight, ending_at, place_at, contract_at, level_at, asks_at, stack_at, locals_at, globals_at};
     ghost use Rattle.debugger.specs.Commands.{IsOpened, Steps, GoesBack, Continues, Breaks, Clears, Reads};
 
     /// A session of the call alone over these cells by the rules of this version, before its first turn.
@@ -277,8 +297,8 @@ impl<'a, A: Allocator + Copy> Session<'a, A> {
         Ok(made)
     }
 
-    /// Sets a break at the instruction of this ordinal in the body of this function. Imported functions are counted, and
-    /// have no body.
+    /// Sets a break at the instruction of this ordinal in the body of this function of the contract that is called. Imported
+    /// functions are counted, and have no body.
     ///
     /// # Errors
     ///
@@ -330,11 +350,32 @@ impl<'a, A: Allocator + Copy> Session<'a, A> {
         self.here.machine.ending()
     }
 
-    /// The number of the function and the ordinal of the instruction to come. None after the end.
+    /// The number of the function and the ordinal of the instruction to come, in the innermost level. None after the end.
     pub fn place(&self) -> Option<(u32, u32)>
         ensures { result ≡ place_at self.now }
     {
         self.here.machine.place()
+    }
+
+    /// The number of the contract that the innermost level runs.
+    pub fn contract(&self) -> u32
+        ensures { result ≡ contract_at self.now }
+    {
+        self.here.machine.contract()
+    }
+
+    /// How many levels are around the innermost one, which is 0 where no contract was asked.
+    pub fn level(&self) -> usize
+        ensures { result ≡ level_at self.now }
+    {
+        self.here.machine.level()
+    }
+
+    /// How many levels were entered.
+    pub fn asks(&self) -> u32
+        ensures { result ≡ asks_at self.now }
+    {
+        self.here.machine.entered()
     }
 
     /// The values of the innermost frame, bottom first. After the end they are the returned value, if there is one.
@@ -351,14 +392,19 @@ impl<'a, A: Allocator + Copy> Session<'a, A> {
         self.here.machine.locals()
     }
 
-    /// The globals. After the end they are as they stood.
+    /// The globals of the innermost level. After the end they are those of the outer level, as they stood.
     pub fn globals(&self) -> &[Value]
         ensures { result.now ≡ globals_at self.now }
     {
-        self.here.machine.globals()
+        if self.here.machine.ending().is_some() {
+            self.here.machine.outer_globals()
+        } else {
+            self.here.machine.globals()
+        }
     }
 
-    /// So many bytes of memory from an address on. After the end they are as they stood.
+    /// So many bytes of the innermost level's memory from an address on. After the end they are those of the outer level, as
+    /// they stood.
     ///
     /// # Errors
     ///
@@ -366,7 +412,7 @@ impl<'a, A: Allocator + Copy> Session<'a, A> {
     pub fn bytes(&self, from: u64, count: u64) -> Result<Vec<u8, A>, Refusal>
         ensures { Reads self.now from count result }
     {
-        match self.here.machine.bytes(from, count) {
+        match bytes_shown(&self.here, from, count) {
             Ok(bytes) => Ok(bytes),
             Err(BytesRefusal::OutOfRange) => Err(Refusal::OutOfRange),
             Err(BytesRefusal::NoMemory) => Err(Refusal::NoMemory),

@@ -2,8 +2,9 @@
 
 ghost use Rattle.std.specs.Prelude.{◌≡◌, ◌≤◌, ◌↔◌, Some, IfOk, IfErr, IsSome, IfSome, length, string_bytes, string_len, vec_len};
 ghost use Rattle.spec_ledger.specs.declared.Version.{Version};
+ghost use Rattle.spec_execution.specs.Levels.{asked};
 ghost use Rattle.spec_execution.specs.Run.{by_contract, Opens, Refused};
-ghost use Rattle.opening.specs.Views.{deployed_view, contract_of, code_of, HasPlace, wrong_of};
+ghost use Rattle.opening.specs.Views.{deployed_view, contract_of, setting_of, code_of, HasPlace, wrong_of};
 
 use call::Call;
 use link::deployed::Deployed;
@@ -49,4 +50,17 @@ pub fn entry_of<A: Allocator>(contract: &Deployed<A>, call: &Call) -> Result<u32
     ensures place { IfErr result (λ r. HasPlace (wrong_of call.now (deployed_view contract.now)) r) }
 {
     opening::entry_of(contract, call)
+}
+
+/// As [`opening::asked_entry`].
+pub fn asked_entry<'a, A: Allocator>(
+    contracts: &'a [Deployed<A>],
+    level: usize,
+    number: u32,
+    export: u32,
+) -> Result<(&'a Deployed<A>, u32), u8>
+    ensures opens { IfOk result (λ entry. (version : Version) → asked (setting_of version contracts.now) level number export ≡ Opens (contract_of version number entry.0.now) entry.1) }
+    ensures refused { IfErr result (λ status. (version : Version) → asked (setting_of version contracts.now) level number export ≡ Refused status) }
+{
+    opening::asked_entry(contracts, level, number, export)
 }

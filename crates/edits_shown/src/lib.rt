@@ -4,5 +4,6 @@
 pub mod blocks;
 pub mod contents;
 pub mod figures;
+pub mod json;
 pub mod modules;
 pub mod words;

@@ -1,4 +1,4 @@
-pub mod Alone
+pub mod Among
 pub mod Turning
 pub mod Asking
 pub mod Going
@@ -9,4 +9,13 @@ pub mod Outlook
 pub mod Copying
 pub mod Wanting
 pub mod Stepping
+pub mod Around
+pub mod Leaving
 pub mod Counting
+pub mod Wishing
+pub mod Pushing
+mod LeftNext
+pub mod Outermost
+pub mod OuterLevel
+pub mod Fresh
+pub mod Telling

@@ -6,29 +6,31 @@ use Rattle.wtypes.specs.declared.Value.{Value}
 use Rattle.spec_ledger.specs.declared.Op.{Op}
 use Rattle.spec_ledger.specs.declared.Reply.{Reply}
 use Rattle.spec_ledger.specs.declared.Step.{Step}
+use Rattle.spec_ledger.specs.declared.Step.TheVariants.{Kept, Dropped}
+use Rattle.wtypes.specs.declared.TrapCode.{TrapCode}
 use Rattle.spec_ledger.specs.declared.Outcome.{Outcome}
 use Rattle.spec_ledger.specs.declared.Outcome.TheVariants.{Returned, Trapped, OutOfFuel, Rejected}
 use Rattle.spec_execution.specs.Configuration as c
 use Rattle.spec_execution.specs.Configuration.{Setting, Contract, Seq, End, State, Config, Running}
 use Rattle.spec_execution.specs.Reduction.{reduce, Wish, Of, Ask, Answer, Next, Goes, Traps, Asks, Branches, Returns, Ended, Stuck}
 use Rattle.spec_execution.specs.Run.{next, IsCharged, result_of, Opening, Refused, Opens}
-use Rattle.spec_execution.specs.Levels.{Level, Levels, Move, On, Host, Over, Nowhere, alone, asked, entering, by_next, move, IsChargedMove, Ends, over, exhausted}
-use Rattle.spec_execution.proofs.Lifting.{charged_lifted}
+use Rattle.spec_execution.specs.Levels.{Level, Levels, Move, On, Host, Over, Nowhere, asked, entering, returned, fallen, back_to, back_by, trap_status, signed_of, no_answer, by_next, by_config, move, IsChargedMove, Ends, over, exhausted, IsRun}
+use Rattle.spec_execution.proofs.Lifting.{at, among, charged_lifted}
 use Rattle.spec_execution.specs.Turns.{is_to_come, state_of, stack_in, locals_in, place_in, place_of, stack_of, locals_of}
 use Rattle.interp.specs.declared.turns.Status.{Status}
 use Rattle.interp.specs.declared.turns.Status.TheVariants as status
 use Rattle.sequences.specs.Meaning.{Item, View, config, calling, invoking, sequence, state, listed, height, IsOrdered}
 use Rattle.sequences.specs.Branches.{in_call}
 use Rattle.sequences.specs.Plain.{onto}
-use Rattle.interp.specs.Machine.{Seen, on, progress, config_at, IsAt, IsLive, IsWaiting, IsOver, IsMachine}
-use Rattle.interp.specs.Shown.{ending, ending_of, ending_by, is_out, leaves_stack, unless_ended, stack_shown, locals_shown, place_shown, IsShown}
+use Rattle.interp.specs.Machine.{Seen, on, first_of, levels, progress, IsAt, IsLive, IsWaiting, IsOver, IsMachine}
+use Rattle.interp.specs.Shown.{ending, ending_by, state_alone, shown_at, is_out, leaves_stack, unless_ended, stack_shown, locals_shown, place_shown, is_fallen, IsShown}
 use Rattle.frames.specs.Innermost.{function_in}
 use Rattle.sequences.specs.Charging.{height-le}
 use Rattle.sequences.specs.Rest.{is_charged, is_ended}
 use Rattle.sequences.specs.Tails.{joined, with_tail, joined_next}
 use Rattle.sequences.specs.Joining.{joined_end, charged_joined, reduce_joined}
 use Rattle.interp.proofs.Showing.{stack_whole, locals_whole, place_whole, call-le, Stops, IsHidden, hidden_end, hidden_stop, stops_whole}
-use Rattle.interp.proofs.Turning.{live_of, fine, end_values}
+use Rattle.interp.proofs.Turning.{innermost, live_of, fine, end_values, end_values_of}
 
 -- ---- one step, in or out of fuel
 
@@ -53,10 +55,6 @@ pick_out : (b : Bool) (x y : Config) → is_out (if b then Some OutOfFuel else N
 pick_out true x y h = refl
 pick_out false x y h = absurd (true≢false (sym h))
 
-and_false : (b : Bool) → (b && false) ≡ false
-and_false true = refl
-and_false false = refl
-
 picked : (b : Bool) → leaves_stack (if b then Some OutOfFuel else None) ≡ false → is_out (if b then Some OutOfFuel else None) ≡ true
 picked true h = refl
 picked false h = absurd (true≢false h)
@@ -65,19 +63,55 @@ not_out : (b : Bool) (n : ℕ) → (if b then Some OutOfFuel else None) ≡ Some
 not_out true n e = cc
 not_out false n e = cc
 
--- what stands alone, by what it does next
-module _ (setting : Setting) (l : Level) (st : State) (b : Bool) where
+and_false : (b : Bool) → (b && false) ≡ false
+and_false true = refl
+and_false false = refl
+
+-- a level that is left is no end
+back_by_in : (b : Bool) (l : Level) (outer : List Level) (st : State) (status : ℕ) (answer : ℤ) (mark : Step) (n : Next) → ending_by b (back_by l outer st status answer mark n) ≡ None
+back_by_in b l outer st status answer mark (Asks (Ask n e v) go) = ap (λ (t : Bool). if t then Some OutOfFuel else None) (and_false b)
+back_by_in b l outer st status answer mark (Asks (Of op) go) = refl
+back_by_in b l outer st status answer mark (Asks Answer go) = refl
+back_by_in b l outer st status answer mark (Goes charge s q) = refl
+back_by_in b l outer st status answer mark (Traps charge t) = refl
+back_by_in b l outer st status answer mark (Branches charge k vs) = refl
+back_by_in b l outer st status answer mark (Returns charge vs) = refl
+back_by_in b l outer st status answer mark (Ended vs) = refl
+back_by_in b l outer st status answer mark Stuck = refl
+
+back_to_in : (b : Bool) (l : Level) (outer : List Level) (status : ℕ) (answer : ℤ) (mark : Step) (x : Config) → ending_by b (back_to l outer status answer mark x) ≡ None
+back_to_in b l outer status answer mark (Running s q) = back_by_in b l outer s status answer mark (next l.contract s q)
+back_to_in b l outer status answer mark (c.Trap s t) = refl
+
+left_in : (b : Bool) (vs : List Value) (l : Level) (outer : List Level) → ending_by b (returned vs (l ∷ outer)) ≡ None
+left_in b [] l outer = refl
+left_in b (v ∷ []) l outer = back_to_in b l outer 0 (signed_of v) Kept l.config
+left_in b (v ∷ w ∷ vs) l outer = refl
+
+pub fallen_in : (b : Bool) (t : TrapCode) (l : Level) (outer : List Level) → ending_by b (fallen t (l ∷ outer)) ≡ None
+fallen_in b t l outer = back_to_in b l outer (trap_status t) no_answer Dropped l.config
+
+-- a level at its end is not out of fuel, leaves its stack, and is not refused
+returned_is : (b : Bool) (vs : List Value) (outer : List Level) → (ending_by b (returned vs outer) ≡ Some (Returned (result_of vs))) ⊎ (ending_by b (returned vs outer) ≡ None)
+returned_is b vs [] = inl refl
+returned_is b vs (l ∷ outer) = inr (left_in b vs l outer)
+
+by_end : (P : Option Outcome → Type 0) (b : Bool) (vs : List Value) (outer : List Level) → P (Some (Returned (result_of vs))) → P None → P (ending_by b (returned vs outer))
+by_end P b vs outer some none = elim (returned_is b vs outer) [ inl e ↦ subst P (sym e) some | inr e ↦ subst P (sym e) none ]
+
+-- the innermost level, by what it does next
+module _ (setting : Setting) (l : Level) (outer : List Level) (st : State) (b : Bool) where
   -- a level that is entered, or not, is no end
-  entering_in : (go : Reply → Seq) (v : ℤ) (o : Opening) → ending_by b (entering l [] st go v o) ≡ None
+  entering_in : (go : Reply → Seq) (v : ℤ) (o : Opening) → ending_by b (entering l outer st go v o) ≡ None
   entering_in go v (Opens k f) = ap (λ (t : Bool). if t then Some OutOfFuel else None) (and_false b)
   entering_in go v (Refused status) = ap (λ (t : Bool). if t then Some OutOfFuel else None) (and_false b)
 
-  asks_in : (w : Wish) (go : Reply → Seq) → (ending_by b (by_next setting l [] st (Asks w go)) ≡ None)
+  asks_in : (w : Wish) (go : Reply → Seq) → (ending_by b (by_next setting l outer st (Asks w go)) ≡ None)
   asks_in (Of op) go = refl
-  asks_in (Ask n e v) go = entering_in go v (asked setting 0 n e)
+  asks_in (Ask n e v) go = entering_in go v (asked setting (length outer) n e)
   asks_in Answer go = ap (λ (t : Bool). if t then Some OutOfFuel else None) (and_false b)
 
-  in_fuel_by : (n : Next) (x y : Config) → is_out (ending_by b (by_next setting l [] st n)) ≡ false → (if b && is_to_come n then x else y) ≡ y
+  in_fuel_by : (n : Next) (x y : Config) → is_out (ending_by b (by_next setting l outer st n)) ≡ false → (if b && is_to_come n then x else y) ≡ y
   in_fuel_by (Ended vs) x y h = ap (λ (t : Bool). if t then x else y) (and_false b)
   in_fuel_by (Goes charge s q) x y h = pick_in (b && (charge == 1)) x y h
   in_fuel_by (Traps charge t) x y h = pick_in (b && (charge == 1)) x y h
@@ -86,8 +120,8 @@ module _ (setting : Setting) (l : Level) (st : State) (b : Bool) where
   in_fuel_by (Returns charge vs) x y h = ap (λ (t : Bool). if t then x else y) (and_false b)
   in_fuel_by Stuck x y h = ap (λ (t : Bool). if t then x else y) (and_false b)
 
-  out_of_fuel_by : (n : Next) (x y : Config) → is_out (ending_by b (by_next setting l [] st n)) ≡ true → (if b && is_to_come n then x else y) ≡ x
-  out_of_fuel_by (Ended vs) x y h = absurd (true≢false (sym h))
+  out_of_fuel_by : (n : Next) (x y : Config) → is_out (ending_by b (by_next setting l outer st n)) ≡ true → (if b && is_to_come n then x else y) ≡ x
+  out_of_fuel_by (Ended vs) x y h = absurd (by_end (λ (o : Option Outcome). is_out o ≡ true → ⊥) b vs outer (λ g. true≢false (sym g)) (λ g. true≢false (sym g)) h)
   out_of_fuel_by (Goes charge s q) x y h = pick_out (b && (charge == 1)) x y h
   out_of_fuel_by (Traps charge t) x y h = pick_out (b && (charge == 1)) x y h
   out_of_fuel_by (Asks w go) x y h = absurd (true≢false (sym h ∙ ap is_out (asks_in w go)))
@@ -96,8 +130,8 @@ module _ (setting : Setting) (l : Level) (st : State) (b : Bool) where
   out_of_fuel_by Stuck x y h = absurd (true≢false (sym h))
 
   -- a run that goes on or is out of fuel, and leaves no stack, is out of fuel
-  no_stack_out_by : (n : Next) → leaves_stack (ending_by b (by_next setting l [] st n)) ≡ false → is_out (ending_by b (by_next setting l [] st n)) ≡ true
-  no_stack_out_by (Ended vs) h = absurd (true≢false h)
+  no_stack_out_by : (n : Next) → leaves_stack (ending_by b (by_next setting l outer st n)) ≡ false → is_out (ending_by b (by_next setting l outer st n)) ≡ true
+  no_stack_out_by (Ended vs) h = absurd (by_end (λ (o : Option Outcome). leaves_stack o ≡ false → ⊥) b vs outer true≢false true≢false h)
   no_stack_out_by (Goes charge s q) h = picked (b && (charge == 1)) h
   no_stack_out_by (Traps charge t) h = picked (b && (charge == 1)) h
   no_stack_out_by (Asks w go) h = absurd (true≢false (sym (ap leaves_stack (asks_in w go)) ∙ h))
@@ -105,29 +139,15 @@ module _ (setting : Setting) (l : Level) (st : State) (b : Bool) where
   no_stack_out_by (Returns charge vs) h = absurd (true≢false h)
   no_stack_out_by Stuck h = absurd (true≢false h)
 
-  no_rejection_by : (n : Next) (k : ℕ) → ending_by b (by_next setting l [] st n) ≡ Some (Rejected k) → ⊥
-  no_rejection_by (Ended vs) k e = cc
-  no_rejection_by (Goes charge s q) k e = not_out (b && (charge == 1)) k e
-  no_rejection_by (Traps charge t) k e = not_out (b && (charge == 1)) k e
-  no_rejection_by (Asks w go) k e = let no : None ≡ Some (Rejected k) = sym (asks_in w go) ∙ e in cc
-  no_rejection_by (Branches charge m vs) k e = cc
-  no_rejection_by (Returns charge vs) k e = cc
-  no_rejection_by Stuck k e = cc
+module _ (setting : Setting) (l : Level) (outer : List Level) (st : State) (q : Seq) (b : Bool) where
+  in_fuel : (x y : Config) → is_out (ending_by b (move setting (among l outer (Running st q)))) ≡ false → (if b && is_to_come (next l.contract st q) then x else y) ≡ y
+  in_fuel x y h = in_fuel_by setting (at l (Running st q)) outer st b (next l.contract st q) x y h
 
-module _ (setting : Setting) (k : Contract) (st : State) (q : Seq) (b : Bool) where
-  in_fuel : (x y : Config) → is_out (ending_by b (move setting (alone k (Running st q)))) ≡ false → (if b && is_to_come (next k st q) then x else y) ≡ y
-  in_fuel x y h = in_fuel_by setting (alone k (Running st q)).inner st b (next k st q) x y h
+  out_of_fuel : (x y : Config) → is_out (ending_by b (move setting (among l outer (Running st q)))) ≡ true → (if b && is_to_come (next l.contract st q) then x else y) ≡ x
+  out_of_fuel x y h = out_of_fuel_by setting (at l (Running st q)) outer st b (next l.contract st q) x y h
 
-  out_of_fuel : (x y : Config) → is_out (ending_by b (move setting (alone k (Running st q)))) ≡ true → (if b && is_to_come (next k st q) then x else y) ≡ x
-  out_of_fuel x y h = out_of_fuel_by setting (alone k (Running st q)).inner st b (next k st q) x y h
-
-  no_stack_out : leaves_stack (ending_by b (move setting (alone k (Running st q)))) ≡ false → is_out (ending_by b (move setting (alone k (Running st q)))) ≡ true
-  no_stack_out h = no_stack_out_by setting (alone k (Running st q)).inner st b (next k st q) h
-
--- a call that has opened is not refused
-no_rejection : (setting : Setting) (k : Contract) (limit used : ℕ) (x : Config) (n : ℕ) → ending_of setting limit used (alone k x) ≡ Some (Rejected n) → ⊥
-no_rejection setting k limit used (Running s q) n e = no_rejection_by setting (alone k (Running s q)).inner s (used == limit) (next k s q) n e
-no_rejection setting k limit used (c.Trap s t) n e = cc
+  no_stack_out : leaves_stack (ending_by b (move setting (among l outer (Running st q)))) ≡ false → is_out (ending_by b (move setting (among l outer (Running st q)))) ≡ true
+  no_stack_out h = no_stack_out_by setting (at l (Running st q)) outer st b (next l.contract st q) h
 
 stack_in_fuel : (o : Option Outcome) → leaves_stack o ≡ true → is_out o ≡ false
 stack_in_fuel None h = refl
@@ -143,9 +163,20 @@ no_items [] e = refl
 no_items (x ∷ xs) e = absurd (true≢false (sym e ∙ ne_eqb (length (x ∷ xs)) 0 (λ q. omega (arith, q))))
 
 module _ (s : Seen) (m : IsMachine s) (running : s.status ≡ status.Running) where
-  pub ends_returned : s.view.code ≡ [] → ending (progress s) ≡ Some (Returned (result_of (onto s.view.stack [])))
-  ends_returned none_left = subst (λ (x : Status). ending (progress (on s x)) ≡ Some (Returned (result_of (onto s.view.stack [])))) (sym running)
-      (ap (λ n. ending_by (s.used == s.call.fuel) (by_next s.setting (alone s.contract (with_tail s.tail (config s.view))).inner [] (state s.view) n)) (end_values s m running none_left))
+  at_end : s.view.code ≡ [] → ending (progress (on s status.Running)) ≡ ending_by (s.used == s.call.fuel) (returned (onto s.view.stack []) s.outer)
+  at_end none_left = ap (λ n. ending_by (s.used == s.call.fuel) (by_next s.setting (levels s (with_tail s.tail (config s.view))).inner s.outer (state s.view) n)) (end_values s m running none_left)
+
+  pub ends_returned : s.view.code ≡ [] → s.outer ≡ [] → ending (progress s) ≡ Some (Returned (result_of (onto s.view.stack [])))
+  ends_returned none_left outermost = subst (λ (x : Status). ending (progress (on s x)) ≡ Some (Returned (result_of (onto s.view.stack [])))) (sym running)
+      (at_end none_left ∙ ap (λ (ls : List Level). ending_by (s.used == s.call.fuel) (returned (onto s.view.stack []) ls)) outermost)
+
+  -- a level that is left next
+  pub ends_level : s.view.code ≡ [] → (s.outer ≡ [] → ⊥) → ending (progress s) ≡ None
+  ends_level none_left around = subst (λ (x : Status). ending (progress (on s x)) ≡ None) (sym running) (at_end none_left ∙ by_outer s.outer around)
+    where
+      by_outer : (ls : List Level) → (ls ≡ [] → ⊥) → ending_by (s.used == s.call.fuel) (returned (onto s.view.stack []) ls) ≡ None
+      by_outer [] h = absurd (h refl)
+      by_outer (l ∷ ls) h = left_in (s.used == s.call.fuel) (onto s.view.stack []) l ls
 
   charged : s.view.code ≢ [] → IsCharged (next s.contract (state s.view) (joined (sequence s.view) s.tail))
   charged some_left = charged_joined s.tail s.contract (state s.view) (sequence s.view) (by_code s.view.code refl)
@@ -154,34 +185,98 @@ module _ (s : Seen) (m : IsMachine s) (running : s.status ≡ status.Running) wh
       by_code [] e = absurd (some_left e)
       by_code (i ∷ is) e = is_charged s.contract s.view i is (fine s m running) e
 
-  charged_move : s.view.code ≢ [] → IsChargedMove (move s.setting (alone s.contract (with_tail s.tail (config s.view))))
-  charged_move some_left = charged_lifted s.setting (alone s.contract (with_tail s.tail (config s.view))).inner [] (state s.view) (joined (sequence s.view) s.tail) (charged some_left)
+  pub charged_move : s.view.code ≢ [] → IsChargedMove (move s.setting (levels s (with_tail s.tail (config s.view))))
+  charged_move some_left = charged_lifted s.setting (innermost s) s.outer (state s.view) (joined (sequence s.view) s.tail) (charged some_left)
 
   pub ends_exhausted : s.view.code ≢ [] → s.used ≡ s.call.fuel → ending (progress s) ≡ Some OutOfFuel
   ends_exhausted some_left full = subst (λ (x : Status). ending (progress (on s x)) ≡ Some OutOfFuel) (sym running)
-      (ap (λ b. ending_by b (move s.setting (alone s.contract (with_tail s.tail (config s.view))))) (eq-eqb s.used s.call.fuel full) ∙ charged_out _ (charged_move some_left))
+      (ap (λ b. ending_by b (move s.setting (levels s (with_tail s.tail (config s.view))))) (eq-eqb s.used s.call.fuel full) ∙ charged_out _ (charged_move some_left))
 
   pub goes_on : s.view.code ≢ [] → (s.used ≡ s.call.fuel → ⊥) → ending (progress s) ≡ None
   goes_on some_left left = subst (λ (x : Status). ending (progress (on s x)) ≡ None) (sym running)
-      (ap (λ b. ending_by b (move s.setting (alone s.contract (with_tail s.tail (config s.view))))) (ne_eqb s.used s.call.fuel left) ∙ charged_in _ (charged_move some_left))
+      (ap (λ b. ending_by b (move s.setting (levels s (with_tail s.tail (config s.view))))) (ne_eqb s.used s.call.fuel left) ∙ charged_in _ (charged_move some_left))
 
 -- after the end
 over_of : (s : Seen) → IsMachine s → (o : Outcome) → s.status ≡ status.Ended o → IsOver s o
 over_of s m o e = subst (IsAt s) e m.at
 
-pub ended_by : (setting : Setting) (limit used : ℕ) (x : Levels) (o : Outcome) (marks : List Step) → Ends setting limit used x o marks → ending_of setting limit used x ≡ Some o
-ended_by setting limit used x o marks (over n y out e) = ap (ending_by (n == limit)) e
-ended_by setting limit used x o marks (exhausted y h) = ap (λ b. ending_by b (move setting y)) (eq-eqb limit limit refl) ∙ charged_out (move setting y) h
+pub tells_end : (s : Seen) → (o : Outcome) → s.status ≡ status.Ended o → ending (progress s) ≡ Some o
+tells_end s o e = subst (λ (x : Status). ending (progress (on s x)) ≡ Some o) (sym e) refl
 
-pub tells_end : (s : Seen) → IsMachine s → (o : Outcome) → s.status ≡ status.Ended o → ending (progress s) ≡ Some o
-tells_end s m o e = subst (λ (x : Status). ending (progress (on s x)) ≡ Some o) (sym e) (ended_by s.setting s.call.fuel s.used _ o [] (over_of s m o e).ends)
+-- a level that trapped
+pub tells_fall : (s : Seen) (t : TrapCode) → s.status ≡ status.Fallen t → s.outer ≡ [] → ending (progress s) ≡ Some (Trapped t)
+tells_fall s t e outermost = subst (λ (x : Status). ending (progress (on s x)) ≡ Some (Trapped t)) (sym e) (ap (λ (ls : List Level). ending_by (s.used == s.call.fuel) (fallen t ls)) outermost)
+
+pub falls_on : (s : Seen) (t : TrapCode) → s.status ≡ status.Fallen t → (s.outer ≡ [] → ⊥) → ending (progress s) ≡ None
+falls_on s t e around = subst (λ (x : Status). ending (progress (on s x)) ≡ None) (sym e) (by_outer s.outer around)
+  where
+    by_outer : (ls : List Level) → (ls ≡ [] → ⊥) → ending_by (s.used == s.call.fuel) (fallen t ls) ≡ None
+    by_outer [] h = absurd (h refl)
+    by_outer (l ∷ ls) h = fallen_in (s.used == s.call.fuel) t l ls
+
+-- a run never ends as a call that is refused
+module _ (n : ℕ) where
+  not_back_by : (l : Level) (outer : List Level) (st : State) (status : ℕ) (answer : ℤ) (mark : Step) (x : Next) → back_by l outer st status answer mark x ≡ Over (Rejected n) → ⊥
+  not_back_by l outer st status answer mark (Asks (Ask k e v) go) h = cc
+  not_back_by l outer st status answer mark (Asks (Of op) go) h = cc
+  not_back_by l outer st status answer mark (Asks Answer go) h = cc
+  not_back_by l outer st status answer mark (Goes charge s q) h = cc
+  not_back_by l outer st status answer mark (Traps charge t) h = cc
+  not_back_by l outer st status answer mark (Branches charge k vs) h = cc
+  not_back_by l outer st status answer mark (Returns charge vs) h = cc
+  not_back_by l outer st status answer mark (Ended vs) h = cc
+  not_back_by l outer st status answer mark Stuck h = cc
+
+  not_back_to : (l : Level) (outer : List Level) (status : ℕ) (answer : ℤ) (mark : Step) (x : Config) → back_to l outer status answer mark x ≡ Over (Rejected n) → ⊥
+  not_back_to l outer status answer mark (Running s q) h = not_back_by l outer s status answer mark (next l.contract s q) h
+  not_back_to l outer status answer mark (c.Trap s t) h = cc
+
+  not_returned : (vs : List Value) (outer : List Level) → returned vs outer ≡ Over (Rejected n) → ⊥
+  not_returned vs [] h = cc
+  not_returned [] (l ∷ outer) h = cc
+  not_returned (v ∷ []) (l ∷ outer) h = not_back_to l outer 0 (signed_of v) Kept l.config h
+  not_returned (v ∷ w ∷ vs) (l ∷ outer) h = cc
+
+  not_fallen : (t : TrapCode) (outer : List Level) → fallen t outer ≡ Over (Rejected n) → ⊥
+  not_fallen t [] h = cc
+  not_fallen t (l ∷ outer) h = not_back_to l outer (trap_status t) no_answer Dropped l.config h
+
+  not_entering : (l : Level) (outer : List Level) (st : State) (go : Reply → Seq) (v : ℤ) (o : Opening) → entering l outer st go v o ≡ Over (Rejected n) → ⊥
+  not_entering l outer st go v (Opens k f) h = cc
+  not_entering l outer st go v (Refused status) h = cc
+
+  not_next : (setting : Setting) (l : Level) (outer : List Level) (st : State) (x : Next) → by_next setting l outer st x ≡ Over (Rejected n) → ⊥
+  not_next setting l outer st (Goes charge s q) h = cc
+  not_next setting l outer st (Traps charge t) h = cc
+  not_next setting l outer st (Asks (Of op) go) h = cc
+  not_next setting l outer st (Asks (Ask k e v) go) h = not_entering l outer st go v (asked setting (length outer) k e) h
+  not_next setting l outer st (Asks Answer go) h = cc
+  not_next setting l outer st (Branches charge k vs) h = cc
+  not_next setting l outer st (Returns charge vs) h = cc
+  not_next setting l outer st (Ended vs) h = not_returned vs outer h
+  not_next setting l outer st Stuck h = cc
+
+  not_config : (setting : Setting) (l : Level) (outer : List Level) (x : Config) → by_config setting l outer x ≡ Over (Rejected n) → ⊥
+  not_config setting l outer (Running st q) h = not_next setting l outer st (next l.contract st q) h
+  not_config setting l outer (c.Trap st t) h = not_fallen t outer h
+
+-- a run has not ended that was refused, since its call has opened
+no_rejection : (s : Seen) → IsMachine s → (n : ℕ) → s.status ≡ status.Ended (Rejected n) → ⊥
+no_rejection s m n e = by_run (over_of s m (Rejected n) e).run
+  where
+    no_end : (setting : Setting) (limit used : ℕ) (a : Levels) (o : Outcome) (marks : List Step) → o ≡ Rejected n → Ends setting limit used a o marks → ⊥
+    no_end setting limit used a o marks is (over u x out h) = not_config n setting x.inner x.outer x.inner.config (h ∙ ap Over is)
+    no_end setting limit used a o marks is (exhausted x h) = let no : OutOfFuel ≡ Rejected n = is in cc
+
+    by_run : IsRun s.setting (first_of s) s.call.fuel s.trace (Rejected n) s.used → ⊥
+    by_run run = no_end s.setting s.call.fuel s.used run.last (Rejected n) run.marks refl run.ends
 
 -- while the host is asked
 pub asks_on : (s : Seen) → IsMachine s → (op : Op) → s.status ≡ status.Asking op → ending (progress s) ≡ None
 asks_on s m op asking =
     let waiting : IsWaiting s op = subst (IsAt s) asking m.at in
     subst (λ (x : Status). ending (progress (on s x)) ≡ None) (sym asking)
-    (ap (λ n. ending_by (s.used == s.call.fuel) (by_next s.setting (alone s.contract (with_tail s.tail (calling s.view s.asked))).inner [] (state s.view) n)) (reduce_joined s.tail s.contract 0 (state s.view) [] (invoking s.view s.asked) ∙ ap (joined_next s.tail (λ ws. reduce s.contract 0 (state s.view) ws s.tail)) waiting.asks))
+    (ap (λ n. ending_by (s.used == s.call.fuel) (by_next s.setting (levels s (with_tail s.tail (calling s.view s.asked))).inner s.outer (state s.view) n)) (reduce_joined s.tail s.contract 0 (state s.view) [] (invoking s.view s.asked) ∙ ap (joined_next s.tail (λ ws. reduce s.contract 0 (state s.view) ws s.tail)) waiting.asks))
 
 -- ---- what is shown
 
@@ -204,21 +299,38 @@ running_hidden s live = by_code s.view.code refl
 asking_hidden : (s : Seen) → IsHidden s.tail (invoking s.view s.asked)
 asking_hidden s = hidden_stop s.tail (invoking s.view s.asked) (stops_whole s.view.entries s.view.stack s.view.locals (c.Invoke s.asked (listed s.view.code End)) tt)
 
-pub shows_locals : (s : Seen) → IsMachine s → (x : Status) → s.status ≡ x → IsShown x → None ≡ ending (progress (on s x)) → s.view.locals ≡ locals_shown (progress (on s x))
-shows_locals s m status.Running is o e =
+pub shows_locals : (s : Seen) → IsMachine s → (x : Status) → s.status ≡ x → IsShown x → is_fallen x ≡ false → None ≡ ending (progress (on s x)) → s.view.locals ≡ locals_shown (progress (on s x))
+shows_locals s m status.Running is o goes e =
     sym (ap (λ r. unless_ended r (locals_of (with_tail s.tail (config s.view)))) (sym e)
     ∙ (running_hidden s (live_of s m is)).locals (state s.view).locals
     ∙ locals_whole s.view.entries s.view.stack s.view.locals (listed s.view.code End) ∙ locals_listed s.view.code s.view.locals)
-shows_locals s m (status.Asking op) is o e =
+shows_locals s m (status.Asking op) is o goes e =
     sym (ap (λ r. unless_ended r (locals_of (with_tail s.tail (calling s.view s.asked)))) (sym e)
     ∙ (asking_hidden s).locals (state s.view).locals
     ∙ locals_whole s.view.entries s.view.stack s.view.locals (c.Invoke s.asked (listed s.view.code End)))
-shows_locals s m (status.Fallen t) is o e = absurd (let no : None ≡ Some (Trapped t) = e in cc)
-shows_locals s m (status.Ended r) is o e = absurd (let no : None ≡ Some r = e ∙ subst (λ (x : Status). ending (progress (on s x)) ≡ Some r) is (tells_end s m r is) in cc)
-shows_locals s m status.NoMemory is o e = absurd o
+shows_locals s m (status.Fallen t) is o goes e = absurd (true≢false goes)
+shows_locals s m status.Closing is o goes e = absurd (let no : None ≡ Some OutOfFuel = e in cc)
+shows_locals s m (status.Ended r) is o goes e = absurd (let no : None ≡ Some r = e in cc)
+shows_locals s m status.NoMemory is o goes e = absurd o
 
 pub shows_none : (s : Seen) (r : Outcome) → Some r ≡ ending (progress s) → [] ≡ locals_shown (progress s)
 shows_none s r e = ap (λ o. unless_ended o (locals_of (progress s).config.inner.config)) e
+
+-- a level that trapped has no locals
+pub shows_trap : (s : Seen) → is_fallen s.status ≡ true → [] ≡ locals_shown (progress s)
+shows_trap s fell = by_status s.status fell
+  where
+    no_locals : (o : Option Outcome) → [] ≡ unless_ended o []
+    no_locals None = refl
+    no_locals (Some r) = refl
+
+    by_status : (x : Status) → is_fallen x ≡ true → [] ≡ locals_shown (progress (on s x))
+    by_status (status.Fallen t) h = no_locals (ending (progress (on s (status.Fallen t))))
+    by_status status.Running h = absurd (true≢false (sym h))
+    by_status (status.Asking op) h = absurd (true≢false (sym h))
+    by_status status.Closing h = absurd (true≢false (sym h))
+    by_status (status.Ended o) h = absurd (true≢false (sym h))
+    by_status status.NoMemory h = absurd (true≢false (sym h))
 
 call_within : (s : Seen) → IsOrdered s.view → height (in_call s.view.entries) ≤ length s.view.stack
 call_within s o = omega (arith, call-le s.view.entries (length s.view.stack) o.stands, height-le s.view.entries (length s.view.stack) o.stands)
@@ -233,7 +345,7 @@ module _ (s : Seen) (m : IsMachine s) where
   running_stack : s.status ≡ status.Running → is_out (ending (progress s)) ≡ false → drop (height (in_call s.view.entries)) s.view.stack ≡ stack_shown (progress s)
   running_stack e left =
       subst (λ (x : Status). is_out (ending (progress (on s x))) ≡ false → drop (height (in_call s.view.entries)) s.view.stack ≡ stack_shown (progress (on s x))) (sym e)
-      (λ h. sym (ap stack_of (in_fuel s.setting s.contract (state s.view) (joined (sequence s.view) s.tail) (s.used == s.call.fuel) _ _ h)
+      (λ h. sym (ap stack_of (in_fuel s.setting (innermost s) s.outer (state s.view) (joined (sequence s.view) s.tail) (s.used == s.call.fuel) _ _ h)
       ∙ (running_hidden s (live_of s m e)).stack []
       ∙ stack_whole s.view.entries s.view.stack s.view.locals (listed s.view.code End) (live_of s m e).ordered.stands
       ∙ stack_listed s.view.code _)) left
@@ -242,21 +354,22 @@ module _ (s : Seen) (m : IsMachine s) where
   asking_stack op e left =
       let waiting : IsWaiting s op = subst (IsAt s) e m.at in
       subst (λ (x : Status). is_out (ending (progress (on s x))) ≡ false → drop (height (in_call s.view.entries)) s.view.stack ≡ stack_shown (progress (on s x))) (sym e)
-      (λ h. sym (ap stack_of (in_fuel s.setting s.contract (state s.view) (joined (invoking s.view s.asked) s.tail) (s.used == s.call.fuel) _ _ h)
+      (λ h. sym (ap stack_of (in_fuel s.setting (innermost s) s.outer (state s.view) (joined (invoking s.view s.asked) s.tail) (s.used == s.call.fuel) _ _ h)
       ∙ (asking_hidden s).stack []
       ∙ stack_whole s.view.entries s.view.stack s.view.locals (c.Invoke s.asked (listed s.view.code End)) waiting.ordered.stands)) left
 
   returned_live : (r : Option Value) → s.status ≡ status.Ended (Returned r) → IsLive s
   returned_live r e = (over_of s m (Returned r) e).at_end.0
 
-  -- a run that has returned is not out of fuel
-  returned_in : (r : Option Value) → s.status ≡ status.Ended (Returned r) → is_out (ending (progress (on s (status.Ended (Returned r))))) ≡ false
-  returned_in r e = ap is_out (subst (λ (x : Status). ending (progress (on s x)) ≡ Some (Returned r)) e (tells_end s m (Returned r) e))
+  -- a run that has returned is shown as it is
+  returned_shown : (r : Option Value) → s.status ≡ status.Ended (Returned r) → shown_at (progress (on s (status.Ended (Returned r)))) (status.Ended (Returned r)) ≡ with_tail s.tail (config s.view)
+  returned_shown r e = ap (λ (n : Next). if (s.used == s.call.fuel) && is_to_come n then state_alone (with_tail s.tail (config s.view)) else with_tail s.tail (config s.view)) (end_values_of s (returned_live r e) (over_of s m (Returned r) e).at_end.1)
+      ∙ ap (λ (b : Bool). if b then state_alone (with_tail s.tail (config s.view)) else with_tail s.tail (config s.view)) (and_false (s.used == s.call.fuel))
 
   returned_stack : (r : Option Value) → s.status ≡ status.Ended (Returned r) → drop (height (in_call s.view.entries)) s.view.stack ≡ stack_shown (progress s)
   returned_stack r e =
       subst (λ (x : Status). drop (height (in_call s.view.entries)) s.view.stack ≡ stack_shown (progress (on s x))) (sym e)
-      (sym (ap stack_of (in_fuel s.setting s.contract (state s.view) (joined (sequence s.view) s.tail) (s.used == s.call.fuel) _ _ (returned_in r e))
+      (sym (ap stack_of (returned_shown r e)
       ∙ (running_hidden s (returned_live r e)).stack []
       ∙ stack_whole s.view.entries s.view.stack s.view.locals (listed s.view.code End) (returned_live r e).ordered.stands
       ∙ stack_listed s.view.code _))
@@ -275,9 +388,6 @@ module _ (s : Seen) (m : IsMachine s) where
   left_stack (inr (inl a)) left = asking_stack a.0 a.1 left
   left_stack (inr (inr r)) left = returned_stack r.0 r.1
 
-  out_at_end : s.status ≡ status.Ended OutOfFuel → is_out (ending (progress (on s (status.Ended OutOfFuel)))) ≡ true
-  out_at_end e = ap is_out (subst (λ (x : Status). ending (progress (on s x)) ≡ Some OutOfFuel) e (tells_end s m OutOfFuel e))
-
   -- after another end than a return nothing stands on the stack, and after each end there is no place
   pub ended_stack : (o : Outcome) → s.status ≡ status.Ended o → ((r : Option Value) → o ≡ Returned r → ⊥) → [] ≡ stack_shown (progress s)
   ended_stack o e other = subst (λ (x : Status). [] ≡ stack_shown (progress (on s x))) (sym e) (by_outcome o e other)
@@ -285,26 +395,26 @@ module _ (s : Seen) (m : IsMachine s) where
       by_outcome : (o : Outcome) → s.status ≡ status.Ended o → ((r : Option Value) → o ≡ Returned r → ⊥) → [] ≡ stack_shown (progress (on s (status.Ended o)))
       by_outcome (Returned r) e other = absurd (other r refl)
       by_outcome (Trapped t) e other = refl
-      by_outcome OutOfFuel e other = sym (ap stack_of (out_of_fuel s.setting s.contract (state s.view) (joined (sequence s.view) s.tail) (s.used == s.call.fuel) _ _ (out_at_end e)))
-      by_outcome (Rejected n) e other = absurd (no_rejection s.setting s.contract s.call.fuel s.used (with_tail s.tail (config s.view)) n (ended_by s.setting s.call.fuel s.used (alone s.contract (with_tail s.tail (config s.view))) (Rejected n) [] (over_of s m (Rejected n) e).ends))
+      by_outcome OutOfFuel e other = refl
+      by_outcome (Rejected n) e other = absurd (no_rejection s m n e)
 
   pub ended_place : (o : Outcome) → s.status ≡ status.Ended o → None ≡ place_shown (progress s)
   ended_place o e = subst (λ (x : Status). None ≡ place_shown (progress (on s x))) (sym e) (by_outcome o e)
     where
       by_outcome : (o : Outcome) → s.status ≡ status.Ended o → None ≡ place_shown (progress (on s (status.Ended o)))
       by_outcome (Returned r) e =
-          sym (ap place_of (in_fuel s.setting s.contract (state s.view) (joined (sequence s.view) s.tail) (s.used == s.call.fuel) _ _ (returned_in r e))
+          sym (ap place_of (returned_shown r e)
           ∙ (running_hidden s (returned_live r e)).place None
           ∙ place_whole s.view.entries s.view.stack s.view.locals (listed s.view.code End)
           ∙ ap (λ (is : List Item). place_in (function_in (in_call s.view.entries)) (listed is End)) (over_of s m (Returned r) e).at_end.1)
       by_outcome (Trapped t) e = refl
-      by_outcome OutOfFuel e = sym (ap place_of (out_of_fuel s.setting s.contract (state s.view) (joined (sequence s.view) s.tail) (s.used == s.call.fuel) _ _ (out_at_end e)))
-      by_outcome (Rejected n) e = absurd (no_rejection s.setting s.contract s.call.fuel s.used (with_tail s.tail (config s.view)) n (ended_by s.setting s.call.fuel s.used (alone s.contract (with_tail s.tail (config s.view))) (Rejected n) [] (over_of s m (Rejected n) e).ends))
+      by_outcome OutOfFuel e = refl
+      by_outcome (Rejected n) e = absurd (no_rejection s m n e)
 
   pub running_place : s.status ≡ status.Running → is_out (ending (progress s)) ≡ false → place_in (function_in (in_call s.view.entries)) (listed s.view.code End) ≡ place_shown (progress s)
   running_place e left =
       subst (λ (x : Status). is_out (ending (progress (on s x))) ≡ false → place_in (function_in (in_call s.view.entries)) (listed s.view.code End) ≡ place_shown (progress (on s x))) (sym e)
-      (λ h. sym (ap place_of (in_fuel s.setting s.contract (state s.view) (joined (sequence s.view) s.tail) (s.used == s.call.fuel) _ _ h)
+      (λ h. sym (ap place_of (in_fuel s.setting (innermost s) s.outer (state s.view) (joined (sequence s.view) s.tail) (s.used == s.call.fuel) _ _ h)
       ∙ (running_hidden s (live_of s m e)).place None
       ∙ place_whole s.view.entries s.view.stack s.view.locals (listed s.view.code End))) left
 
@@ -314,53 +424,57 @@ module _ (s : Seen) (m : IsMachine s) where
       by_status : (y : Status) → IsShown y → s.status ≡ y → (y ≡ status.Running → is_out (ending (progress s)) ≡ true) → None ≡ place_shown (progress (on s y))
       by_status status.Running o e out =
           let h : is_out (ending (progress (on s status.Running))) ≡ true = subst (λ (z : Status). is_out (ending (progress (on s z))) ≡ true) e (out refl) in
-          sym (ap place_of (out_of_fuel s.setting s.contract (state s.view) (joined (sequence s.view) s.tail) (s.used == s.call.fuel) _ _ h))
+          sym (ap place_of (out_of_fuel s.setting (innermost s) s.outer (state s.view) (joined (sequence s.view) s.tail) (s.used == s.call.fuel) _ _ h))
       by_status (status.Asking op) o e out =
-          sym (ap place_of (in_fuel s.setting s.contract (state s.view) (joined (invoking s.view s.asked) s.tail) (s.used == s.call.fuel) _ _
+          sym (ap place_of (in_fuel s.setting (innermost s) s.outer (state s.view) (joined (invoking s.view s.asked) s.tail) (s.used == s.call.fuel) _ _
           (ap is_out (subst (λ (z : Status). ending (progress (on s z)) ≡ None) e (asks_on s m op e))))
           ∙ (asking_hidden s).place None
           ∙ place_whole s.view.entries s.view.stack s.view.locals (c.Invoke s.asked (listed s.view.code End)))
       by_status (status.Fallen t) o e out = refl
+      by_status status.Closing o e out = refl
       by_status (status.Ended r) o e out = subst (λ (y : Status). None ≡ place_shown (progress (on s y))) e (ended_place r e)
       by_status status.NoMemory o e out = absurd o
 
   -- the status, where a stack is left
-  pub stack_left : (x : Status) → IsShown x → s.status ≡ x → leaves_stack (ending (progress s)) ≡ true → IsLeft
-  stack_left x o e h = by_status x o e (subst (λ (y : Status). leaves_stack (ending (progress (on s y))) ≡ true) e h)
+  pub stack_left : (x : Status) → IsShown x → is_fallen x ≡ false → s.status ≡ x → leaves_stack (ending (progress s)) ≡ true → IsLeft
+  stack_left x o goes e h = by_status x o goes e (subst (λ (y : Status). leaves_stack (ending (progress (on s y))) ≡ true) e h)
     where
-      by_end : (r : Outcome) → s.status ≡ status.Ended r → leaves_stack (Some r) ≡ true → IsLeft
-      by_end (Returned r) e h = inr (inr (r, e))
-      by_end (Trapped t) e h = absurd (true≢false (sym h))
-      by_end OutOfFuel e h = absurd (true≢false (sym h))
-      by_end (Rejected n) e h = absurd (true≢false (sym h))
+      by_end_of : (r : Outcome) → s.status ≡ status.Ended r → leaves_stack (Some r) ≡ true → IsLeft
+      by_end_of (Returned r) e h = inr (inr (r, e))
+      by_end_of (Trapped t) e h = absurd (true≢false (sym h))
+      by_end_of OutOfFuel e h = absurd (true≢false (sym h))
+      by_end_of (Rejected n) e h = absurd (true≢false (sym h))
 
-      by_status : (y : Status) → IsShown y → s.status ≡ y → leaves_stack (ending (progress (on s y))) ≡ true → IsLeft
-      by_status status.Running o e h = inl e
-      by_status (status.Asking op) o e h = inr (inl (op, e))
-      by_status (status.Fallen t) o e h = absurd (true≢false (sym h))
-      by_status (status.Ended r) o e h = by_end r e (sym (ap leaves_stack (subst (λ (y : Status). ending (progress (on s y)) ≡ Some r) e (tells_end s m r e))) ∙ h)
-      by_status status.NoMemory o e h = absurd o
+      by_status : (y : Status) → IsShown y → is_fallen y ≡ false → s.status ≡ y → leaves_stack (ending (progress (on s y))) ≡ true → IsLeft
+      by_status status.Running o goes e h = inl e
+      by_status (status.Asking op) o goes e h = inr (inl (op, e))
+      by_status (status.Fallen t) o goes e h = absurd (true≢false goes)
+      by_status status.Closing o goes e h = absurd (true≢false (sym h))
+      by_status (status.Ended r) o goes e h = by_end_of r e h
+      by_status status.NoMemory o goes e h = absurd o
 
-  pub shows_stack : (x : Status) → IsShown x → s.status ≡ x → leaves_stack (ending (progress s)) ≡ true → drop (height (in_call s.view.entries)) s.view.stack ≡ stack_shown (progress s)
-  shows_stack x o e h = left_stack (stack_left x o e h) (stack_in_fuel (ending (progress s)) h)
+  pub shows_stack : (x : Status) → IsShown x → is_fallen x ≡ false → s.status ≡ x → leaves_stack (ending (progress s)) ≡ true → drop (height (in_call s.view.entries)) s.view.stack ≡ stack_shown (progress s)
+  shows_stack x o goes e h = left_stack (stack_left x o goes e h) (stack_in_fuel (ending (progress s)) h)
+
+  -- a level that trapped has no stack
+  pub shows_trapped : is_fallen s.status ≡ true → [] ≡ stack_shown (progress s)
+  shows_trapped fell = by_status s.status fell
+    where
+      by_status : (x : Status) → is_fallen x ≡ true → [] ≡ stack_shown (progress (on s x))
+      by_status (status.Fallen t) h = refl
+      by_status status.Running h = absurd (true≢false (sym h))
+      by_status (status.Asking op) h = absurd (true≢false (sym h))
+      by_status status.Closing h = absurd (true≢false (sym h))
+      by_status (status.Ended o) h = absurd (true≢false (sym h))
+      by_status status.NoMemory h = absurd (true≢false (sym h))
 
   pub shows_no_stack : (x : Status) → IsShown x → s.status ≡ x → leaves_stack (ending (progress s)) ≡ false → [] ≡ stack_shown (progress s)
   shows_no_stack x o e h = subst (λ (y : Status). [] ≡ stack_shown (progress (on s y))) (sym e) (by_status x o e (subst (λ (y : Status). leaves_stack (ending (progress (on s y))) ≡ false) e h))
     where
       by_status : (y : Status) → IsShown y → s.status ≡ y → leaves_stack (ending (progress (on s y))) ≡ false → [] ≡ stack_shown (progress (on s y))
-      by_status status.Running o e h = sym (ap stack_of (out_of_fuel s.setting s.contract (state s.view) (joined (sequence s.view) s.tail) (s.used == s.call.fuel) _ _ (no_stack_out s.setting s.contract (state s.view) (joined (sequence s.view) s.tail) (s.used == s.call.fuel) h)))
-      by_status (status.Asking op) o e h = sym (ap stack_of (out_of_fuel s.setting s.contract (state s.view) (joined (invoking s.view s.asked) s.tail) (s.used == s.call.fuel) _ _ (no_stack_out s.setting s.contract (state s.view) (joined (invoking s.view s.asked) s.tail) (s.used == s.call.fuel) h)))
+      by_status status.Running o e h = sym (ap stack_of (out_of_fuel s.setting (innermost s) s.outer (state s.view) (joined (sequence s.view) s.tail) (s.used == s.call.fuel) _ _ (no_stack_out s.setting (innermost s) s.outer (state s.view) (joined (sequence s.view) s.tail) (s.used == s.call.fuel) h)))
+      by_status (status.Asking op) o e h = sym (ap stack_of (out_of_fuel s.setting (innermost s) s.outer (state s.view) (joined (invoking s.view s.asked) s.tail) (s.used == s.call.fuel) _ _ (no_stack_out s.setting (innermost s) s.outer (state s.view) (joined (invoking s.view s.asked) s.tail) (s.used == s.call.fuel) h)))
       by_status (status.Fallen t) o e h = refl
-      by_status (status.Ended r) o e h = subst (λ (y : Status). [] ≡ stack_shown (progress (on s y))) e (ended_stack r e (λ v q. absurd (true≢false (sym (ap leaves_stack (subst (λ (y : Status). ending (progress (on s y)) ≡ Some r) e (tells_end s m r e) ∙ ap Some q)) ∙ h))))
+      by_status status.Closing o e h = refl
+      by_status (status.Ended r) o e h = subst (λ (y : Status). [] ≡ stack_shown (progress (on s y))) e (ended_stack r e (λ v q. absurd (true≢false (sym (ap leaves_stack (ap Some q)) ∙ h))))
       by_status status.NoMemory o e h = absurd o
-
--- the state, whatever the status
-pub state_at : (v : View) (tail : Seq) (f : ℕ) (x : Status) → state_of (with_tail tail (config_at v f x)) ≡ state v
-state_at v tail f status.Running = refl
-state_at v tail f (status.Fallen t) = refl
-state_at v tail f (status.Asking op) = refl
-state_at v tail f (status.Ended (Returned r)) = refl
-state_at v tail f (status.Ended (Trapped t)) = refl
-state_at v tail f (status.Ended OutOfFuel) = refl
-state_at v tail f (status.Ended (Rejected n)) = refl
-state_at v tail f status.NoMemory = refl

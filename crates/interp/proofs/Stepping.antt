@@ -12,6 +12,7 @@ pub free_of : (x : Status) → GoesOn x → IsFree x
 free_of status.Running h = tt
 free_of (status.Fallen t) h = tt
 free_of (status.Asking op) h = absurd h
+free_of status.Closing h = absurd h
 free_of (status.Ended o) h = absurd h
 free_of status.NoMemory h = absurd h
 
@@ -27,6 +28,7 @@ within_of s m g = by s.status m.at g
     by status.Running live g = live.within
     by (status.Fallen t) fallen g = fallen.within
     by (status.Asking op) at g = absurd g
+    by status.Closing at g = absurd g
     by (status.Ended o) at g = absurd g
     by status.NoMemory at g = absurd g
 

@@ -3,6 +3,7 @@ pub mod Played
 pub mod Progress
 pub mod Going
 pub mod Machine
+pub mod Asked
 pub mod Lent
 pub mod Run
 pub mod Starting

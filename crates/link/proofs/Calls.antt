@@ -6,7 +6,7 @@ use Rattle.std.proofs.lemmas.Slice.Eq.{bytes_eq-Decides}
 use Rattle.std.proofs.lemmas.List.Elements.{All-head, All-tail}
 use Rattle.wtypes.specs.declared.ValType.{ValType}
 use Rattle.wtypes.specs.declared.HostCall.{HostCall}
-use Rattle.wtypes.specs.declared.HostCall.TheVariants.{Get, Has, Put, Del, Add, Total}
+use Rattle.wtypes.specs.declared.HostCall.TheVariants.{Get, Has, Put, Del, Add, Total, Ask, Answer}
 use Rattle.spec_syntax.specs.Syntax.{FuncType, Name, Import, ImportDesc, ImportFunc, ImportTable, ImportMemory, ImportGlobal, Module}
 use Rattle.spec_syntax.specs.Profile.{host_module, host_name, host_type}
 use Rattle.spec_typing.specs.Principal.{same_type}
@@ -72,7 +72,7 @@ picked n call c rest k e = at (bytes_eq n (host_name call)) refl e
     at false is e = k e
 
 named_is : (n : Name) (c : HostCall) → named n ≡ Some c → n ≡ host_name c
-named_is n c e = picked n Get c _ (λ e. picked n Has c _ (λ e. picked n Put c _ (λ e. picked n Del c _ (λ e. picked n Add c _ (λ e. picked n Total c _ (λ e. absurd (cc)) e) e) e) e) e) e
+named_is n c e = picked n Get c _ (λ e. picked n Has c _ (λ e. picked n Put c _ (λ e. picked n Del c _ (λ e. picked n Add c _ (λ e. picked n Total c _ (λ e. picked n Ask c _ (λ e. picked n Answer c _ (λ e. absurd (cc)) e) e) e) e) e) e) e) e
 
 named_self : (c : HostCall) → named (host_name c) ≡ Some c
 named_self Get = refl
@@ -81,6 +81,8 @@ named_self Put = refl
 named_self Del = refl
 named_self Add = refl
 named_self Total = refl
+named_self Ask = refl
+named_self Answer = refl
 
 function_is : (desc : ImportDesc) → is_function desc ≡ true → (index : ℕ) × (desc ≡ ImportFunc index)
 function_is (ImportFunc index) e = (index, refl)

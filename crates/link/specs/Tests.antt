@@ -3,7 +3,7 @@ use Rattle.std.specs.Prelude.{ℕ, ◌+◌, ◌*◌, ◌≤◌, Bool, true, fals
 use Rattle.std.specs.Str.{bytes_eq}
 use Rattle.wtypes.specs.declared.ValType.{ValType}
 use Rattle.wtypes.specs.declared.HostCall.{HostCall}
-use Rattle.wtypes.specs.declared.HostCall.TheVariants.{Get, Has, Put, Del, Add, Total}
+use Rattle.wtypes.specs.declared.HostCall.TheVariants.{Get, Has, Put, Del, Add, Total, Ask, Answer}
 use Rattle.spec_syntax.specs.Syntax.{FuncType, Limits, Name, Import, ImportDesc, ImportFunc, ImportTable, ImportMemory, ImportGlobal, Element, DataSegment, Module}
 use Rattle.spec_syntax.specs.Profile.{page_size, page_limit, element_limit, host_module, host_name, host_type}
 use Rattle.spec_typing.specs.Principal.{same_type}
@@ -33,7 +33,9 @@ named n =
     (pick (bytes_eq n (host_name Put)) Put
     (pick (bytes_eq n (host_name Del)) Del
     (pick (bytes_eq n (host_name Add)) Add
-    (pick (bytes_eq n (host_name Total)) Total None)))))
+    (pick (bytes_eq n (host_name Total)) Total
+    (pick (bytes_eq n (host_name Ask)) Ask
+    (pick (bytes_eq n (host_name Answer)) Answer None)))))))
 
 abbrev pub same_types : List ValType → List ValType → Bool
 same_types [] [] = true

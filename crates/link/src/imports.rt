@@ -33,6 +33,12 @@ fn named(name: &str) -> Option<HostCall>
     if name == "total" {
         return Some(HostCall::Total);
     }
+    if name == "ask" {
+        return Some(HostCall::Ask);
+    }
+    if name == "answer" {
+        return Some(HostCall::Answer);
+    }
     None
 }
 
@@ -98,6 +104,12 @@ fn is_type<A: Allocator>(call: HostCall, own: &FuncType<A>) -> bool
         HostCall::Del => is_of(own, &[ValType::I64], &[ValType::I32]),
         HostCall::Add => is_of(own, &[ValType::I64, ValType::I64], &[]),
         HostCall::Total => is_of(own, &[ValType::I64], &[ValType::I64]),
+        HostCall::Ask => is_of(
+            own,
+            &[ValType::I32, ValType::I32, ValType::I64],
+            &[ValType::I32],
+        ),
+        HostCall::Answer => is_of(own, &[], &[ValType::I64]),
     }
 }
 

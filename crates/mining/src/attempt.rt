@@ -10,7 +10,7 @@ ghost use Rattle.turn_loop.specs.Going.{MayGoOn, IsEnded};
 ghost use Rattle.mining.specs.Handed.{IsRunOf, IsCommitted};
 
 use crate::brake::Brake;
-use boost::book::{BeginRefusal, CommitRefusal, OpRefusal, Run};
+use boost::book::{BeginRefusal, CommitRefusal, EnterRefusal, OpRefusal, Run};
 use call::Call;
 use intake::Intake;
 use interp::finished::Finished;
@@ -24,7 +24,7 @@ use shards::{NoGate, Shards, Ticket};
 use spec_ledger::{NoMemory, Op, Reply, Version};
 use std::alloc::Allocator;
 use std::sync::Wait;
-use turn_loop::next_op;
+use turn_loop::{Wish, next_wish};
 
 /// What the workers share.
 #[derive(Drop)]
@@ -112,7 +112,34 @@ fn ask<A: Allocator + Copy, R: Wait, P: Pace>(
     }
 }
 
-/// Goes on to the next operation, and asks the book for it. Answers whether there was one.
+/// Enters a level in the book.
+fn enter<A: Allocator + Copy, R: Wait, P: Pace>(
+    rt: &R,
+    job: &Job<'_, '_, A, P>,
+    ticket: &mut Ticket<A>,
+) -> Result<(), Stop> {
+    match job.book.enter(rt, ticket) {
+        Ok(()) => Ok(()),
+        Err(EnterRefusal::NoMemory) => Err(Stop::NoMemory),
+        Err(EnterRefusal::Stale) => Err(Stop::Refused),
+    }
+}
+
+/// Leaves the innermost level in the book: what was done in it stands, or is taken back.
+fn leave<A: Allocator + Copy, R: Wait, P: Pace>(
+    rt: &R,
+    job: &Job<'_, '_, A, P>,
+    ticket: &mut Ticket<A>,
+    keep: bool,
+) -> Result<(), Stop> {
+    match job.book.leave(rt, ticket, keep) {
+        Ok(()) => Ok(()),
+        Err(_) => Err(Stop::Refused),
+    }
+}
+
+/// Goes on to the next operation, or to the next level that is entered or left, and asks the book for it. Answers whether there was one. The pace
+/// is told of operations alone.
 fn ask_next<'a, A: Allocator + Copy, R: Wait, P: Pace>(
     rt: &R,
     job: &Job<'_, 'a, A, P>,
@@ -129,11 +156,19 @@ fn ask_next<'a, A: Allocator + Copy, R: Wait, P: Pace>(
     ensures ended { result ≡ Ok false → IsEnded machine.new.status }
     ensures asked { OnOk result (asked.new ≤ machine.new.used) }
 {
-    match next_op(machine) {
-        Ok(Some(op)) => {
+    match next_wish(machine) {
+        Ok(Some(Wish::Do(op))) => {
             let reply = ask(rt, job, ticket, call, *asked, op)?;
             machine.answer(reply);
             *asked += 1;
+            Ok(true)
+        }
+        Ok(Some(Wish::Enter)) => {
+            enter(rt, job, ticket)?;
+            Ok(true)
+        }
+        Ok(Some(Wish::Leave(keep))) => {
+            leave(rt, job, ticket, keep)?;
             Ok(true)
         }
         Ok(None) => Ok(false),

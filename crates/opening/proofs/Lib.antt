@@ -1,1 +1,3 @@
+mod Asking
+pub mod Entering
 mod Finding

@@ -1,5 +1,5 @@
 -- What a deployed module stands for, and the numbers of refusals.
-use Rattle.std.specs.Prelude.{◌≡◌, ℕ, List, Option, Some, None}
+use Rattle.std.specs.Prelude.{◌≡◌, ℕ, List, Option, Some, None, map}
 use Rattle.wtypes.specs.declared.Value.{Value}
 use Rattle.spec_ledger.specs.declared.Version.{Version}
 use Rattle.link.specs.declared.deployed.Deployed.{Deployed}
@@ -7,7 +7,7 @@ use Rattle.link.specs.Parts.{tree_of, hosts_of}
 use Rattle.module_tree.specs.Modules.{module_view}
 use Rattle.spec_execution.specs.Configuration as spec
 use Rattle.spec_syntax.specs.Syntax.{ExportDesc, ExportFunc}
-use Rattle.spec_execution.specs.Configuration.{Contract, Function, Defined, function_at}
+use Rattle.spec_execution.specs.Configuration.{Setting, Contract, Function, Defined, function_at}
 use Rattle.spec_execution.specs.Run.{ContractCall, Opening, Opens, Refused, by_function, exported, wrong_argument}
 use Rattle.opening.specs.declared.Refusal.{Refusal}
 use Rattle.opening.specs.declared.Refusal.TheVariants.{NoExport, NotFunction, ArgCount, ArgType, NoContract}
@@ -18,6 +18,10 @@ deployed_view d = record { tree = module_view (tree_of d); hosts = hosts_of d }
 -- a deployed module as the contract of this number, by the rules of this version
 abbrev pub contract_of : {A : Type 0} → Version → ℕ → Deployed A → Contract
 contract_of version number d = record { number = number; deployed = deployed_view d; version = version }
+
+-- what calls run over, with these contracts and this version
+abbrev pub setting_of : {A : Type 0} → Version → List (Deployed A) → Setting
+setting_of version ds = record { contracts = map deployed_view ds; version = version }
 
 abbrev pub code_of : Refusal → ℕ
 code_of NoExport = 1

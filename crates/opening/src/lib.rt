@@ -1,12 +1,16 @@
-// Whether a call starts, and with which function of its contract.
+// Whether a call starts, and with which function of its contract; and whether a level is entered, and with which function.
 #![tactic(auto)]
 
-ghost use Rattle.std.specs.Prelude.{◌≡◌, ◌+◌, ◌<◌, ◌≤◌, map, length, slice_get, Some, None, IfOk, IfErr, IfSome, IfNone, option_map, string_bytes, MatchOption};
+ghost use Rattle.std.specs.Prelude.{◌≡◌, ◌+◌, ◌<◌, ◌≤◌, map, length, slice_get, [], ◌∷◌, Some, None, IfOk, IfErr, IfSome, IfNone, option_map, string_bytes, MatchOption};
+ghost use Rattle.spec_execution.specs.Levels.{asked};
+ghost use Rattle.spec_execution.specs.Reduction.{same_types};
 ghost use Rattle.spec_execution.specs.Run.{by_contract, Opens, Refused, exported, wrong_argument};
+ghost use Rattle.wtypes.specs.declared.ValType.TheVariants.{I64};
+ghost use Rattle.spec_ledger.specs.declared.Version.{Version};
 ghost use Rattle.module_tree.specs.ModuleView.{export_view, export_desc_view};
 ghost use Rattle.spec_numeric.specs.Operators.{same_type, type_of};
-ghost use Rattle.spec_ledger.specs.declared.Version.{Version};
-ghost use Rattle.opening.specs.Views.{deployed_view, contract_of, code_of, Enters, HasPlace, wrong_for, wrong_of};
+ghost use Rattle.opening.specs.Asked as spec;
+ghost use Rattle.opening.specs.Views.{deployed_view, contract_of, setting_of, code_of, Enters, HasPlace, wrong_for, wrong_of};
 ghost use Rattle.spec_execution.specs.Configuration.{function_at};
 
 use call::Call;
@@ -139,4 +143,76 @@ fn check_args<A: Allocator>(
         Some(i) => Err(Refusal::ArgType(i as u32)),
         None => Ok(()),
     }
+}
+
+// The call is level 0. At this level nothing may be asked.
+const LEVEL_LIMIT: usize = 4;
+
+/// The contract that an `ask` at this level is for, and the number of the function that its export of this place is, imports counted first. An
+/// export is asked for by its place in the list, counted from 0, so nothing is looked for.
+///
+/// # Errors
+///
+/// The status, which no version changes: 11 where the level is the last one, whatever is asked for. Else 10: there is no such contract or no such
+/// export, or the export is no function of the module's own from one number of 64 bits to one.
+pub fn asked_entry<'a, A: Allocator>(
+    contracts: &'a [Deployed<A>],
+    level: usize,
+    number: u32,
+    export: u32,
+) -> Result<(&'a Deployed<A>, u32), u8>
+    ensures opens { IfOk result (λ entry. (version : Version) → asked (setting_of version contracts.now) level number export ≡ Opens (contract_of version number entry.0.now) entry.1) }
+    ensures refused { IfErr result (λ status. (version : Version) → asked (setting_of version contracts.now) level number export ≡ Refused status) }
+{
+    if level >= LEVEL_LIMIT {
+        return Err(11);
+    }
+    let Some(contract) = contracts.get(number as usize) else {
+        return Err(10);
+    };
+    match asked_function(contract, export) {
+        Some(func) => Ok((contract, func)),
+        None => Err(10),
+    }
+}
+
+// The function that an export of this contract is, where it may be asked for.
+fn asked_function<A: Allocator>(contract: &Deployed<A>, export: u32) -> Option<u32>
+    ensures { result ≡ spec.asked_function (deployed_view contract.now) (spec.export_at (deployed_view contract.now) export) }
+{
+    match contract.module().exports.get(export as usize)?.desc {
+        ExportDesc::Func(func) => {
+            if is_asked(contract, func) {
+                Some(func)
+            } else {
+                None
+            }
+        }
+        ExportDesc::Table(_) | ExportDesc::Memory(_) | ExportDesc::Global(_) => None,
+    }
+}
+
+// The function is the module's own, and of the type that is asked for.
+fn is_asked<A: Allocator>(contract: &Deployed<A>, func: u32) -> bool
+    ensures { result ≡ spec.is_asked (function_at (deployed_view contract.now) func) }
+{
+    let imports = contract.hosts().len();
+    let module = contract.module();
+    let Some(own) = (func as usize).checked_sub(imports) else {
+        return false;
+    };
+    let Some(function) = module.funcs.get(own) else {
+        return false;
+    };
+    let Some(form) = module.types.get(function.type_index as usize) else {
+        return false;
+    };
+    is_one(&form.params) && is_one(&form.results)
+}
+
+// One number of 64 bits.
+fn is_one(types: &[ValType]) -> bool
+    ensures { result ≡ same_types types.now (I64 ∷ []) }
+{
+    types.len() == 1 && matches!(types[0], ValType::I64)
 }

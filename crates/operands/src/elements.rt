@@ -63,6 +63,12 @@ fn is_type_of_host<A: Allocator + Copy>(form: &FuncType<A>, host: HostCall) -> b
         HostCall::Del => is_of(form, &[ValType::I64], &[ValType::I32]),
         HostCall::Add => is_of(form, &[ValType::I64, ValType::I64], &[]),
         HostCall::Total => is_of(form, &[ValType::I64], &[ValType::I64]),
+        HostCall::Ask => is_of(
+            form,
+            &[ValType::I32, ValType::I32, ValType::I64],
+            &[ValType::I32],
+        ),
+        HostCall::Answer => is_of(form, &[], &[ValType::I64]),
     }
 }
 

@@ -5,4 +5,4 @@ mod contracts;
 mod modules;
 
 pub use contracts::{Unfit, call, deployed, example, first, typed};
-pub use modules::{EXAMPLE, FIRST_MODULE};
+pub use modules::{ASKING, EXAMPLE, FIRST_MODULE, PROBING};

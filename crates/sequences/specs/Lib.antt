@@ -11,5 +11,6 @@ pub mod Topmost
 pub mod Rest
 pub mod Leaving
 pub mod Calling
+pub mod Hosting
 pub mod Branching
 pub mod Joining

@@ -11,11 +11,7 @@ use Rattle.spec_ledger.proofs.Traces.{after-push, GetsReplies-push, standing-pus
 use Rattle.storage.specs.Counts.{Store, opened}
 use Rattle.storage.specs.Counts.{opened_all}
 use Rattle.storage.proofs.Counted.{opened_all-push}
-use Rattle.interp.specs.declared.turns.Status.{Status}
-use Rattle.interp.specs.declared.turns.Status.TheVariants as status
-use Rattle.interp.specs.Progress.{Progress, HasReplied, HasAnswered, AnsweredAt, GoesOn, IsFree}
-use Rattle.turn_loop.specs.Going.{HasComeTo}
-use Rattle.serial.specs.Playing.{AreDone, IsOnItsWay}
+use Rattle.serial.specs.Playing.{AreDone}
 
 pub done_none : (start : Store) → AreDone start [] start []
 done_none start = record { replies = tt; cells = refl; inverses_are = refl; unsettled = refl }
@@ -34,21 +30,3 @@ module _ (start now next : Store) (t u : List Step) (is js : List Inverse) (op :
     unsettled = unsettled ∙ ap (opened (inverse_to op now.cells)) d.unsettled
         ∙ sym (ap (λ x. opened_all x start.unsettled) inverses ∙ opened_all-push is (inverse_to op now.cells) start.unsettled);
   }
-
--- an operation that the run asked for
-pub asked_more : (start now next : Store) (p q s : Progress) (is js : List Inverse) (op : Op) (r : Reply) → HasComeTo p op q → HasAnswered q r s → r ≡ reply_to op now.cells → next.cells ≡ cells_after op now.cells
-    → next.unsettled ≡ opened (inverse_to op now.cells) now.unsettled → js ≡ is ++ inverse_to op now.cells ∷ [] → IsOnItsWay start p now is → IsOnItsWay start s next js
-asked_more start now next p q s is js op r asks answers reply cells unsettled inverses d =
-    let replied : HasReplied q op r s = subst (λ x. AnsweredAt q r s x) asks.asking answers in
-    done_more start now next p.trace s.trace is js op r d (replied.trace ∙ ap (λ t. t ++ Did op r ∷ []) asks.trace) reply cells unsettled inverses
-
--- a run that starts is not waiting for a reply
-pub free_first : (x : Status) → GoesOn x → IsFree x
-free_first status.Running h = tt
-free_first (status.Fallen t) h = tt
-free_first (status.Asking op) h = absurd h
-free_first (status.Ended o) h = absurd h
-free_first status.NoMemory h = absurd h
-
-pub done_same : (start now next : Store) (t : List Step) (is js : List Inverse) → AreDone start t now is → next ≡ now → js ≡ is → AreDone start t next js
-done_same start now next t is js d n j = subst (λ x. AreDone start t x js) (sym n) (subst (AreDone start t now) (sym j) d)

@@ -1,5 +1,7 @@
 pub mod Replies
 pub mod Doing
+pub mod Levels
+pub mod Meeting
 pub mod Ending
 pub mod Limits
 pub mod Modes

@@ -1,7 +1,9 @@
 -- How far a call has come over cells that answer its operations.
-use Rattle.std.specs.Prelude.{◌≡◌, List}
+use Rattle.std.specs.Prelude.{◌≡◌, ℕ, List, length, map, reverse}
+use Rattle.std.specs.FinMap.{empty}
 use Rattle.spec_ledger.specs.declared.Inverse.{Inverse}
-use Rattle.spec_ledger.specs.Book.{after, standing, GetsReplies, inverses_of}
+use Rattle.spec_ledger.specs.Cells.{AreCells}
+use Rattle.spec_ledger.specs.Book.{after, standing, standing_at, GetsReplies, inverses_of}
 use Rattle.storage.specs.Counts.{Store}
 use Rattle.storage.specs.Counts.{opened_all}
 use Rattle.spec_execution.specs.Configuration.{Setting}
@@ -22,8 +24,21 @@ pub record AreSomeDone (start now : Store) (inverses : List Inverse) : Type 0 wh
   pub trace : List Step
   pub done : AreDone start trace now inverses
 
-abbrev pub IsOnItsWay : Store → Progress → Store → List Inverse → Type 0
-IsOnItsWay start p now inverses = AreDone start p.trace now inverses
+-- The same, over cells in which nothing was unsettled. The marks are how many inverses there were where each open level was entered, the innermost last.
+pub record AreDoneInLevels (start : Store) (trace : List Step) (now : Store) (inverses : List Inverse) (marks : List ℕ) : Type 0 where
+  pub settled : start.unsettled ≡ empty
+  pub are : AreCells start.cells
+  pub done : AreDone start trace now inverses
+  pub marks_are : reverse marks ≡ map length (standing_at trace).marks
+
+-- some steps were done, which have these inverses and marks
+pub record MayBeLeft (now : Store) (inverses : List Inverse) (marks : List ℕ) : Type 0 where
+  pub start : Store
+  pub trace : List Step
+  pub done : AreDoneInLevels start trace now inverses marks
+
+abbrev pub IsOnItsWay : Store → Progress → Store → List Inverse → List ℕ → Type 0
+IsOnItsWay start p now inverses marks = AreDoneInLevels start p.trace now inverses marks
 
 -- the run of a call over lent contracts, whose operations were done on these cells
 pub record IsPlayedOver (setting : Setting) (call : ContractCall) (start : Store) (f : Played) (now : Store) (inverses : List Inverse) : Type 0 where

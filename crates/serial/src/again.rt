@@ -4,10 +4,10 @@ ghost use Rattle.std.specs.FinMap as finite;
 ghost use Rattle.spec_ledger.specs.Book.{GetsReplies};
 ghost use Rattle.serial.specs.Playing.{AreDone, AreSomeDone};
 
-use crate::playing::act;
+use crate::steps::{act, leave};
 use spec_ledger::{Inverse, NoMemory, Reply, Step};
 use std::alloc::Allocator;
-use storage::{Cells, take_back_to};
+use storage::Cells;
 
 fn is_same(a: Reply, b: Reply) -> bool
     ensures { IsTrue result ↔ (a ≡ b) }
@@ -41,14 +41,8 @@ pub(crate) fn act_again<A: Allocator + Copy>(
                 }
             }
             Step::Opened => marks.push(inverses.len())?,
-            Step::Kept => {
-                let _ = marks.pop();
-            }
-            Step::Dropped => {
-                if let Some(mark) = marks.pop() {
-                    take_back_to(cells, inverses, mark);
-                }
-            }
+            Step::Kept => leave(cells, inverses, &mut marks, true),
+            Step::Dropped => leave(cells, inverses, &mut marks, false),
         }
     }
     Ok(true)

@@ -5,6 +5,7 @@
 mod again;
 mod locks;
 mod playing;
+mod steps;
 
 ghost use Rattle.std.specs.Prelude.{◌≡◌, ◌<◌, ◌↔◌, IfOk, OnErr, IfSome, IfNone, IsSome, length};
 ghost use Rattle.std.specs.List.{All};

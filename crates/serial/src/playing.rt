@@ -1,70 +1,65 @@
 // A call that runs over cells, which answer its operations.
-ghost use Rattle.std.specs.Prelude.{◌≡◌, ◌+◌, ◌≤◌, ◌∷◌, ◌++◌, [], Ok, true, false, IfOk, OnOk, OnErr};
+ghost use Rattle.std.specs.Prelude.{◌≡◌, [], Ok, true, false, IfOk, OnOk, OnErr};
 ghost use Rattle.std.specs.FinMap as finite;
-ghost use Rattle.spec_execution.specs.Run.{IsReply, opening};
-ghost use Rattle.spec_ledger.specs.Cells.{cells_after, inverse_to, reply_to};
-ghost use Rattle.storage.specs.Counts.{Store, opened};
+ghost use Rattle.spec_execution.specs.Run.{opening};
+ghost use Rattle.storage.specs.Counts.{Store};
 ghost use Rattle.interp.specs.Lent.{setting_view};
 ghost use Rattle.interp.specs.Starting.{IsOpened, IsRejection};
 ghost use Rattle.interp.specs.Progress.{IsFree, IsSameCall};
 ghost use Rattle.turn_loop.specs.Going.{MayGoOn, IsEnded};
-ghost use Rattle.serial.specs.Playing.{IsOnItsWay, IsPlayedOver, AreDone, AreSomeDone};
+ghost use Rattle.serial.specs.Playing.{IsOnItsWay, IsPlayedOver, AreDone, AreSomeDone, MayBeLeft};
 
+use crate::steps::{act, leave};
 use call::Call;
 use interp::finished::Finished;
 use interp::machine::Machine;
 use interp::start::StartRefusal;
 use link::deployed::Deployed as Contract;
-use spec_ledger::{Inverse, NoMemory, Op, Reply, Version};
+use spec_ledger::{Inverse, NoMemory, Version};
 use std::alloc::Allocator;
 use storage::{Cells, end_all};
-use turn_loop::next_op;
+use turn_loop::{Wish, next_wish};
 
-/// Does an operation, and keeps its inverse. Where memory is refused all is as it was.
-pub(crate) fn act<A: Allocator + Copy>(
-    cells: &mut Cells<A>,
-    inverses: &mut Vec<Inverse, A>,
-    op: Op,
-) -> Result<Reply, NoMemory>
-    ensures reply { IfOk result (λ reply. reply ≡ reply_to op cells.old.cells) }
-    ensures is_reply { IfOk result (λ reply. IsReply op reply) }
-    ensures cells { OnOk result (cells.new.cells ≡ cells_after op cells.old.cells) }
-    ensures unsettled { OnOk result (cells.new.unsettled ≡ opened (inverse_to op cells.old.cells) cells.old.unsettled) }
-    ensures inverses { OnOk result (inverses.new.items ≡ inverses.old.items ++ inverse_to op cells.old.cells ∷ []) }
-    ensures err { OnErr result (cells.new ≡ cells.old) }
-    ensures err_inverses { OnErr result (inverses.new.items ≡ inverses.old.items) }
-{
-    cells.hold();
-    inverses.reserve(1)?;
-    let (reply, inverse) = cells.apply(op)?;
-    inverses.push_reserved(inverse);
-    Ok(reply)
-}
-
-/// Goes on to the next operation, and does it. Answers whether there was one.
+/// Goes on to the next operation, or to the next level that is entered or left, and does it. Answers whether there was one. How many inverses there were
+/// where each open level was entered is noted by the marks, the innermost last.
 fn do_next<'a, A: Allocator + Copy>(
     machine: &mut Machine<'a, A>,
     cells: &mut Cells<A>,
     inverses: &mut Vec<Inverse, A>,
+    marks: &mut Vec<usize, A>,
 ) -> Result<bool, NoMemory>
-    requires { IsFree machine.old.status }
+    requires free { IsFree machine.old.status }
+    requires done { MayBeLeft cells.old inverses.old.items marks.old.items }
     ensures same { OnOk result (IsSameCall machine.old machine.new) }
-    ensures way { OnOk result ((start : Store) → IsOnItsWay start machine.old cells.old inverses.old.items → IsOnItsWay start machine.new cells.new inverses.new.items) }
+    ensures way { OnOk result ((start : Store) → IsOnItsWay start machine.old cells.old inverses.old.items marks.old.items → IsOnItsWay start machine.new cells.new inverses.new.items marks.new.items) }
     ensures goes_on { result ≡ Ok true → MayGoOn machine.old machine.new }
     ensures ended { result ≡ Ok false → IsEnded machine.new.status }
     ensures err { OnErr result (cells.new ≡ cells.old) }
     ensures err_inverses { OnErr result (inverses.new.items ≡ inverses.old.items) }
 {
-    let Some(op) = next_op(machine)? else {
+    let Some(wish) = next_wish(machine)? else {
         return Ok(false);
     };
-    let reply = act(cells, inverses, op)?;
-    machine.answer(reply);
-    Ok(true)
+    match wish {
+        Wish::Do(op) => {
+            let reply = act(cells, inverses, op)?;
+            machine.answer(reply);
+            Ok(true)
+        }
+        Wish::Enter => {
+            marks.push(inverses.len())?;
+            Ok(true)
+        }
+        Wish::Leave(keep) => {
+            leave(cells, inverses, marks, keep);
+            Ok(true)
+        }
+    }
 }
 
 /// Runs a call to its end.
 fn run_on<'a, A: Allocator + Copy>(
+    alloc: A,
     machine: &mut Machine<'a, A>,
     cells: &mut Cells<A>,
     inverses: &mut Vec<Inverse, A>,
@@ -72,12 +67,15 @@ fn run_on<'a, A: Allocator + Copy>(
     requires free { IsFree machine.old.status }
     requires first { machine.old.trace ≡ [] }
     requires none { inverses.old.items ≡ [] }
+    requires settled { cells.old.unsettled ≡ finite.empty }
     ensures same { OnOk result (IsSameCall machine.old machine.new) }
     ensures ended { OnOk result (IsEnded machine.new.status) }
     ensures done { OnOk result (AreDone cells.old machine.new.trace cells.new inverses.new.items) }
     ensures err { OnErr result (AreSomeDone cells.old cells.new inverses.new.items) }
 {
-    'operations: while do_next(machine, cells, inverses)? {}
+    cells.hold();
+    let mut marks = Vec::new(alloc);
+    'operations: while do_next(machine, cells, inverses, &mut marks)? {}
     Ok(())
 }
 
@@ -95,7 +93,7 @@ fn run<'a, A: Allocator + Copy>(
 {
     cells.hold();
     let mut inverses = Vec::new(alloc);
-    let Ok(()) = run_on(&mut machine, cells, &mut inverses) else {
+    let Ok(()) = run_on(alloc, &mut machine, cells, &mut inverses) else {
         end_all(cells, inverses, false);
         return Err(NoMemory);
     };

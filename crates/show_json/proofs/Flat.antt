@@ -1,6 +1,5 @@
 -- What has no float, and how many arrays and objects stand within one another.
-use Rattle.std.proofs.Common.{◌≡◌, ℕ, ◌+◌, ◌<◌, ◌≤◌, List, [], ◌∷◌, map, Bool, false, ◌||◌, Ordering, Less, Equal, Greater, refl, arith}
-use Rattle.std.proofs.Math.Nat.{le-max_left, le-max_right}
+use Rattle.std.proofs.Common.{◌≡◌, ℕ, ◌+◌, ◌<◌, ◌≤◌, List, [], ◌∷◌, map, Option, None, Some, Bool, false, ◌||◌, Ordering, Less, Equal, Greater, refl, arith}
 use Rattle.std.proofs.lemmas.Bool.{or_parts}
 use Rattle.std.specs.Ordering.{nat_cmp, match_ordering}
 use Rattle.std.specs.Cmp.Lexicographic.{slice_cmp}
@@ -8,7 +7,7 @@ use Rattle.std.specs.List.{AllByRecursion}
 use Rattle.serde_json.specs.Data.{Data, boolean, null, string, Items, Members, no_members, member, items_depth, members_depth, put}
 use Rattle.serde_json.specs.View.{items_of}
 use Rattle.serde_json.specs.Written.{items_have_float, members_have_float}
-use Rattle.show_json.specs.Json.{IsFlat, array_of, large, numbered, object_of, small, with_members}
+use Rattle.show_json.specs.Json.{IsFlat, array_of, numbered, object_of, maybe, small, with_members}
 
 neither : (a b : Bool) → a ≡ false → b ≡ false → (a || b) ≡ false
 neither a b p q = rw (p, q)
@@ -84,3 +83,7 @@ small_flat n x = record { no_float = refl; flat = omega arith }
 
 pub deeper : (n m : ℕ) (d : Data) → n ≤ m → IsFlat n d → IsFlat m d
 deeper n m d le h = record { no_float = h.no_float; flat = omega (arith, h.flat, le) }
+
+pub maybe_flat : {X : Type 0} (n : ℕ) (f : X → Data) (o : Option X) → ((x : X) → IsFlat n (f x)) → IsFlat n (maybe f o)
+maybe_flat n f None each = null_flat n
+maybe_flat n f (Some x) each = each x

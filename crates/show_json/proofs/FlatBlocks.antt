@@ -7,6 +7,7 @@ use Rattle.spec_ledger.specs.declared.Entry.{Entry}
 use Rattle.spec_ledger.specs.declared.Outcome.{Outcome}
 use Rattle.spec_ledger.specs.declared.Outcome.TheVariants as outcome
 use Rattle.spec_block.specs.Worlds.{Block, Call, Position}
+use Rattle.block_figures.specs.Words.{kind_word, mode_word}
 use Rattle.block_figures.specs.declared.figures.Chains.{Chains}
 use Rattle.block_figures.specs.declared.figures.Figures.{Figures}
 use Rattle.block_figures.specs.declared.hottest.SharedLock.{SharedLock}
@@ -15,8 +16,8 @@ use Rattle.block_figures.specs.declared.outcomes.OutcomeKind.{OutcomeKind}
 use Rattle.block_figures.specs.declared.outcomes.OutcomeKind.TheVariants.{Returned, Trapped, OutOfFuel, Rejected}
 use Rattle.serde_json.specs.Data.{Data, null, string}
 use Rattle.show_json.specs.Json.{IsFlat, array_of, hex_data, large, numbered, object_of, small}
-use Rattle.show_json.specs.Blocks.{block_data, call_data, called_data, chain_data, code_data, count_data, entry_data, figures_data, kind_of, kind_word, longest_data, maybe_call_data, mode_word, outcome_word, position_data, returned_data, shared_data, speed_up_data, typed_data, value_data, wave_data, waves_data}
-use Rattle.show_json.proofs.Flat.{array_flat, deeper, map_flat, null_flat, numbered_flat, object_flat, small_flat, string_flat}
+use Rattle.show_json.specs.Blocks.{block_data, call_data, called_data, chain_data, code_data, count_data, entry_data, figures_data, kind_of, longest_data, outcome_word, position_data, returned_data, shared_data, speed_up_data, typed_data, value_data, wave_data, waves_data}
+use Rattle.show_json.proofs.Flat.{array_flat, deeper, map_flat, maybe_flat, null_flat, numbered_flat, object_flat, small_flat, string_flat}
 
 typed_flat : (type digits : List ℕ) → IsFlat 1 (typed_data type digits)
 unfolding typed_data
@@ -37,13 +38,9 @@ call_flat c =
     let members : List (List ℕ × Data) = (codes "contract", small c.contract) ∷ (codes "entry", string c.entry) ∷ (codes "args", array_of (map value_data c.args)) ∷ [] in
     object_flat 2 3 members (omega arith) (small_flat 2 _, (string_flat 2 _, (args_flat c.args, tt)))
 
-maybe_call_flat : (c : Option Call) → IsFlat 3 (maybe_call_data c)
-maybe_call_flat None = null_flat 3
-maybe_call_flat (Some c) = call_flat c
-
 called_flat : (calls : Option (List Call)) (n : ℕ) → IsFlat 3 (called_data calls n)
 called_flat None n = null_flat 3
-called_flat (Some calls) n = maybe_call_flat (slice_get calls n)
+called_flat (Some calls) n = maybe_flat 3 call_data (slice_get calls n) call_flat
 
 code_flat : (n : ℕ) (kind : OutcomeKind) → IsFlat n (code_data kind)
 code_flat n Returned = null_flat n

@@ -1,3 +1,7 @@
+mod AtIndex
 mod Flat
 mod FlatBlocks
+mod FlatModules
 mod Listed
+mod Places
+mod Steps

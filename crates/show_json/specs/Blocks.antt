@@ -1,30 +1,24 @@
 -- A block as JSON, with its figures.
-use Rattle.std.specs.Prelude.{◌≡◌, ◌↔◌, ◌==◌, ℕ, ◌*◌, ◌/◌, ◌%◌, Option, Some, None, IfSome, IsSome, List, [], ◌∷◌, ◌++◌, if◌then◌else◌, codes, decimal, map, slice_get, slice_index, sum}
+use Rattle.std.specs.Prelude.{◌==◌, ℕ, ◌*◌, ◌/◌, Option, Some, None, List, [], ◌∷◌, if◌then◌else◌, codes, map, slice_get, slice_index}
 use Rattle.std.specs.Borrow.{Bor}
 use Rattle.std.specs.Fmt.{signed_decimal}
 use Rattle.serde_json.specs.Data.{Data, null, string}
 use Rattle.wtypes.specs.declared.Value.{Value}
 use Rattle.wtypes.specs.declared.Value.TheVariants.{I32, I64}
-use Rattle.spec_ledger.specs.declared.Kind.{Kind}
-use Rattle.spec_ledger.specs.declared.Kind.TheVariants.{Map, Counter}
-use Rattle.spec_ledger.specs.declared.Mode.{Mode}
-use Rattle.spec_ledger.specs.declared.Mode.TheVariants.{Read, Add, Excl}
 use Rattle.spec_ledger.specs.declared.Entry.{Entry}
 use Rattle.spec_ledger.specs.declared.Outcome.{Outcome}
 use Rattle.spec_ledger.specs.declared.Outcome.TheVariants as outcome
-use Rattle.spec_block.specs.Worlds.{Block, Call, Position, profiles_of}
+use Rattle.spec_block.specs.Worlds.{Block, Call, Position}
 use Rattle.spec_block.specs.Bytes.{trap_code, version_code}
-use Rattle.block_figures.specs.Chains.{AreForward, fuels_of}
-use Rattle.block_figures.specs.Figures.{AreChains}
-use Rattle.block_figures.specs.Hottest.{AreHottest}
-use Rattle.block_figures.specs.Outcomes.{all_kinds, counts_among}
+use Rattle.block_figures.specs.Figures.{AreFigures}
+use Rattle.block_figures.specs.Words.{hundredth, kind_word, mode_word}
 use Rattle.block_figures.specs.declared.figures.Chains.{Chains}
 use Rattle.block_figures.specs.declared.figures.Figures.{Figures}
 use Rattle.block_figures.specs.declared.hottest.SharedLock.{SharedLock}
 use Rattle.block_figures.specs.declared.outcomes.OutcomeCount.{OutcomeCount}
 use Rattle.block_figures.specs.declared.outcomes.OutcomeKind.{OutcomeKind}
 use Rattle.block_figures.specs.declared.outcomes.OutcomeKind.TheVariants.{Returned, Trapped, OutOfFuel, Rejected}
-use Rattle.show_json.specs.Json.{IsJson, array_of, hex_data, large, numbered, object_of, small}
+use Rattle.show_json.specs.Json.{IsJson, array_of, hex_data, large, maybe, numbered, object_of, small}
 
 -- ---- calls
 
@@ -44,11 +38,6 @@ call_data c =
     ∷ (codes "args", array_of (map value_data c.args))
     ∷ [])
 
--- the call, if there is one
-abbrev pub maybe_call_data : Option Call → Data
-maybe_call_data None = null
-maybe_call_data (Some c) = call_data c
-
 -- the calls, where they are known
 abbrev pub calls_of : Option (Bor (List Call)) → Option (List Call)
 calls_of None = None
@@ -57,7 +46,7 @@ calls_of (Some calls) = Some calls.now
 -- the call of this number, where the calls are known
 abbrev pub called_data : Option (List Call) → ℕ → Data
 called_data None n = null
-called_data (Some calls) n = maybe_call_data (slice_get calls n)
+called_data (Some calls) n = maybe call_data (slice_get calls n)
 
 -- ---- outcomes
 
@@ -90,15 +79,6 @@ returned_data outcome.OutOfFuel = null
 returned_data (outcome.Rejected code) = null
 
 -- ---- locks
-
-abbrev pub kind_word : Kind → List ℕ
-kind_word Map = codes "map"
-kind_word Counter = codes "counter"
-
-abbrev pub mode_word : Mode → List ℕ
-mode_word Read = codes "read"
-mode_word Add = codes "add"
-mode_word Excl = codes "excl"
 
 unfoldable pub entry_data : Entry → Data
 entry_data e =
@@ -143,10 +123,6 @@ longest_data c = object_of ((codes "positions", small c.wave_count) ∷ (codes "
 abbrev pub chain_data : Option Chains → Data
 chain_data None = null
 chain_data (Some c) = longest_data c
-
--- a hundredth of a number, with two decimals
-abbrev pub hundredth : ℕ → List ℕ
-hundredth n = decimal (n / 100) ++ codes "." ++ decimal (n / 10 % 10) ++ decimal (n % 10)
 
 -- one number by another, with two decimals, rounded down
 abbrev pub ratio_data : ℕ → ℕ → Data
@@ -200,14 +176,6 @@ block_data b calls f =
     ∷ (codes "positions", array_of (numbered (position_data calls f.chains) 0 b.positions))
     ∷ (codes "figures", figures_data f)
     ∷ [])
-
--- the figures of a block
-pub record AreFigures (b : Block) (f : Figures) : Type 0 where
-  pub forward : IsSome f.chains ↔ AreForward (profiles_of b)
-  pub chains : IfSome f.chains (AreChains (profiles_of b) (fuels_of b.positions))
-  pub total : f.total_fuel ≡ sum (fuels_of b.positions)
-  pub hottest : AreHottest (profiles_of b) f.hottest.items
-  pub outcomes : f.outcomes.items ≡ counts_among all_kinds b.positions
 
 -- the text of a block with its figures
 pub record IsBlockJson (b : Block) (calls : Option (List Call)) (text : List ℕ) : Type 0 where

@@ -1,7 +1,7 @@
 -- Values of JSON, and their text.
-use Rattle.std.specs.Prelude.{◌≡◌, ℕ, ◌+◌, ◌≤◌, Option, Some, List, [], ◌∷◌, decimal, false}
+use Rattle.std.specs.Prelude.{◌≡◌, ℕ, ◌+◌, ◌≤◌, Option, Some, None, List, [], ◌∷◌, decimal, false}
 use Rattle.hex.specs.Hex.{encode_lower}
-use Rattle.serde_json.specs.Data.{Data, string, number, unsigned, array, object, Members, no_members, put, depth}
+use Rattle.serde_json.specs.Data.{Data, null, string, number, unsigned, array, object, Members, no_members, put, depth}
 use Rattle.serde_json.specs.Read.{read}
 use Rattle.serde_json.specs.View.{items_of}
 use Rattle.serde_json.specs.Written.{compact_text, has_float}
@@ -20,6 +20,11 @@ hex_data bytes = string (encode_lower bytes)
 
 abbrev pub array_of : List Data → Data
 array_of values = array (items_of values)
+
+-- the value of what there is
+abbrev pub maybe : {X : Type 0} → (X → Data) → Option X → Data
+maybe value None = null
+maybe value (Some x) = value x
 
 -- the members after each of these was put among them
 abbrev pub with_members : List (List ℕ × Data) → Members → Members

@@ -1,2 +1,4 @@
 pub mod Blocks
 pub mod Json
+pub mod Modules
+pub mod Worlds

@@ -1,18 +1,20 @@
 //! A block as JSON, with its figures.
 
-ghost use Rattle.std.specs.Prelude.{◌≡◌, ◌≤◌, ◌<◌, ◌^◌, ◌%◌, ◌/◌, ◌∷◌, IfOk, length, map, slice_get, string_bytes};
-ghost use Rattle.serde_json.specs.Data.{null};
+ghost use Rattle.std.specs.Prelude.{◌≡◌, ◌≤◌, ◌<◌, ◌^◌, IfOk, length, map, slice_get, string_bytes};
 ghost use Rattle.serde_json.specs.View.{view};
-ghost use Rattle.spec_block.specs.Bytes.{version_code};
-ghost use Rattle.show_json.specs.Json.{array_of, numbered};
-ghost use Rattle.show_json.specs.Blocks.{block_data, call_data, called_data, calls_of, chain_data, code_data, count_data, entry_data, figures_data, hundredth, kind_of as kind_in, kind_word, longest_data, maybe_call_data, mode_word, outcome_word, position_data, ratio_data, returned_data, shared_data, speed_up_data, typed_data, value_data, wave_data, waves_data, AreFigures, IsBlockJson};
+ghost use Rattle.block_figures.specs.Figures.{AreFigures};
+ghost use Rattle.show_json.specs.Json.{array_of, maybe, numbered};
+ghost use Rattle.show_json.specs.Blocks.{block_data, call_data, called_data, calls_of, chain_data, code_data, count_data, entry_data, figures_data, kind_of as kind_in, longest_data, outcome_word, position_data, ratio_data, returned_data, shared_data, speed_up_data, typed_data, value_data, wave_data, waves_data, IsBlockJson};
 
-use crate::values::{digest_of, large_of, text_of};
+use crate::values::{digest_of, large_of, null, text_of};
 use block::{Block, Position};
-use block_figures::{Chains, Figures, OutcomeCount, OutcomeKind, SharedLock, figures_of};
+use block_figures::{
+    Chains, Figures, OutcomeCount, OutcomeKind, SharedLock, figures_of, hundredth_of,
+    number_of_version, word_of_kind, word_of_mode,
+};
 use call::Call;
 use serde_json::{Value as Json, json};
-use spec_ledger::{Entry, Kind, Mode, Outcome, Version};
+use spec_ledger::{Entry, Outcome};
 use std::alloc::{AllocError, Global};
 use wtypes::{NoMemory, Value};
 
@@ -55,15 +57,9 @@ fn call_of(alloc: Global, call: &Call) -> Result<Json, AllocError>
     json!(in alloc; {"contract": contract, "entry": entry, "args": args})
 }
 
-fn null() -> Json
-    ensures { view result ≡ null }
-{
-    Json::Null
-}
-
 /// The call of a number, if there is one.
 fn listed_of(alloc: Global, calls: &[Call], number: u32) -> Result<Json, AllocError>
-    ensures { IfOk result (λ v. view v ≡ maybe_call_data (slice_get calls.now number)) }
+    ensures { IfOk result (λ v. view v ≡ maybe call_data (slice_get calls.now number)) }
 {
     match calls.get(number as usize) {
         None => Ok(null()),
@@ -128,25 +124,6 @@ fn returned_of(alloc: Global, outcome: Outcome) -> Result<Json, AllocError>
 }
 
 // ---- locks
-
-fn word_of_kind(kind: Kind) -> &'static str
-    ensures { result.now ≡ kind_word kind }
-{
-    match kind {
-        Kind::Map => "map",
-        Kind::Counter => "counter",
-    }
-}
-
-fn word_of_mode(mode: Mode) -> &'static str
-    ensures { result.now ≡ mode_word mode }
-{
-    match mode {
-        Mode::Read => "read",
-        Mode::Add => "add",
-        Mode::Excl => "excl",
-    }
-}
 
 /// A lock of a position, with its mode and its turn.
 #[tactic(auto, unfolding(crate::specs::Blocks::entry_data))]
@@ -270,16 +247,6 @@ fn chain_of(alloc: Global, chains: &Option<Chains>) -> Result<Json, AllocError>
     }
 }
 
-fn hundredth_of(alloc: Global, number: u128) -> Result<String, AllocError>
-    ensures { IfOk result (λ text. string_bytes text ≡ hundredth number) }
-{
-    let whole = number / 100;
-    let tenths = number / 10 % 10;
-    let hundredths = number % 10;
-    let text = format!(in alloc; "{whole}.{tenths}{hundredths}")?;
-    Ok(text)
-}
-
 /// One number by another, with two decimals.
 fn ratio_of(alloc: Global, total: u128, part: u128) -> Result<Json, AllocError>
     requires { total < 2 ^ 80 }
@@ -369,16 +336,6 @@ fn figures_data_of(alloc: Global, figures: &Figures) -> Result<Json, AllocError>
 
 // ---- blocks
 
-/// The number of a version.
-fn number_of(version: Version) -> u32
-    ensures { result ≡ version_code version }
-{
-    match version {
-        Version::One => 1,
-        Version::Two => 2,
-    }
-}
-
 #[tactic(auto, unfolding(crate::specs::Blocks::block_data))]
 fn block_of(
     alloc: Global,
@@ -390,7 +347,7 @@ fn block_of(
     ensures { IfOk result (λ v. view v ≡ block_data block.now (calls_of calls.entry) figures.now) }
 {
     block.hold();
-    let version = number_of(block.version());
+    let version = number_of_version(block.version());
     let before = digest_of(alloc, block.before())?;
     let called = digest_of(alloc, block.calls())?;
     let after = digest_of(alloc, block.after())?;
@@ -409,7 +366,7 @@ fn block_of(
     })
 }
 
-/// The figures of a block, and a bound on their sum of fuel.
+/// The figures of a block, and a bound on their sum of fuel. Memory that was refused is told as the other functions tell it.
 fn bounded_figures(alloc: Global, block: &Block) -> Result<Figures, AllocError>
     ensures figures { IfOk result (AreFigures block.now) }
     ensures small { IfOk result (λ f. f.total_fuel < 2 ^ 80) }

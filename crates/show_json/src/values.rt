@@ -1,11 +1,19 @@
 //! Values of JSON, and their text.
 
 ghost use Rattle.std.specs.Prelude.{◌≡◌, IfOk, string_bytes};
+ghost use Rattle.serde_json.specs.Data.{null};
 ghost use Rattle.serde_json.specs.View.{view};
 ghost use Rattle.show_json.specs.Json.{hex_data, large, IsFlat, IsJson};
 
 use serde_json::Value;
 use std::alloc::{AllocError, Global};
+
+/// What there is not.
+pub(crate) fn null() -> Value
+    ensures { view result ≡ null }
+{
+    Value::Null
+}
 
 /// A number that may take more than 32 bits, as the string of its decimal digits.
 pub(crate) fn large_of(alloc: Global, number: u128) -> Result<Value, AllocError>

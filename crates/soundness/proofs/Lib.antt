@@ -2,7 +2,10 @@ pub mod Executing
 pub mod Functions
 pub mod Reducing
 pub mod Starting
+pub mod Opened
+pub mod Levels
 pub mod Weighing
+pub mod Descending
 pub mod Running
 pub mod Once
 pub mod Coming

@@ -9,16 +9,16 @@ use Rattle.wtypes.specs.declared.HostCall.{HostCall}
 use Rattle.wtypes.specs.declared.HostCall.TheVariants as host
 use Rattle.spec_syntax.specs.Profile.{host_type, frame_limit}
 use Rattle.spec_syntax.specs.Syntax.{Instrs, nothing, seq, FuncType, Func}
-use Rattle.spec_ledger.specs.declared.Place.{Place}
 use Rattle.spec_ledger.specs.declared.Reply.{Reply}
+use Rattle.spec_ledger.specs.declared.Reply.TheVariants as reply
 use Rattle.spec_numeric.specs.Operators.{type_of}
 use Rattle.spec_typing.specs.Typing.{Typed, of}
 use Rattle.spec_typing.specs.Modules.{result_of}
 use Rattle.spec_typing.specs.Linking.{IsLinked}
 use Rattle.spec_typing.specs.Laws.{IsFramed}
 use Rattle.spec_execution.specs.Configuration.{Contract, Function, Hosted, Defined, function_at, function_type, Seq, End, Val, Code, Free, Label, Frame, Invoke, code, values, State}
-use Rattle.spec_execution.specs.Reduction.{Next, Goes, Traps, Asks, Branches, Returns, Ended, Stuck, with_values, arity, zero_of, asks, op_of, replied, invoke, in_label, in_frame, reduce}
-use Rattle.spec_execution.specs.Run.{IsReply, to_get, to_has, to_put, to_del, to_add, to_total}
+use Rattle.spec_execution.specs.Reduction.{Next, Goes, Traps, Asks, Branches, Returns, Ended, Stuck, with_values, arity, zero_of, wish_of, replied, invoke, in_label, in_frame, reduce}
+use Rattle.spec_execution.specs.Run.{IsAnswer, to_get, to_has, to_put, to_del, to_add, to_total}
 use Rattle.soundness.specs.Typed.{types, Scope, inside_label, inside_frame, context_in, StateTyped, SeqTyped, NextTyped}
 use Rattle.soundness.specs.Laws.{StepsAreTyped}
 use Rattle.soundness.proofs.Executing.{under, from_is, code_typed, Kept, kept, goes, either, by_some, one}
@@ -82,7 +82,7 @@ module _ (c : Contract) (s : Scope) (to : List ValType) where
       SeqTyped c.deployed s rest (of result ++ types vs) to → NextTyped c.deployed (inside_label target s) (of result) x → Kept c s to (in_label state n at k vs rest x)
   one_label state n at k vs rest target result (Goes charge state' inside) st a f t h g = goes c s to charge state' vs (Label n at k inside rest) (types vs) g.0 refl (target, result, a, f, t, g.1, h)
   one_label state n at k vs rest target result (Traps charge code) st a f t h g = kept c s to tt
-  one_label state n at k vs rest target result (Asks o go) st a f t h g = kept c s to (g.0, λ r is. under c.deployed s vs (Label n at k (go r) rest) [] to (target, result, a, f, t, g.1 r is, from_is c.deployed s rest _ _ to (ap (λ ts. of result ++ ts) (append-nil (types vs))) h))
+  one_label state n at k vs rest target result (Asks o go) st a f t h g = kept c s to (λ r is. under c.deployed s vs (Label n at k (go r) rest) [] to (target, result, a, f, t, g r is, from_is c.deployed s rest _ _ to (ap (λ ts. of result ++ ts) (append-nil (types vs))) h))
   one_label state n at k vs rest target result (Branches charge zero ws) st a f t h (other, below, is, e) =
       let same : target ≡ other = (let i : Some target ≡ Some other = is in cc) in
       by_values (of target) below n ws _ (a ∙ length_of target) (e ∙ ap (λ r. of r ++ below) (sym same)) (λ top left e0 e1. puts charge state vs top (code at k rest) (types vs) (of target) st refl e0
@@ -98,25 +98,26 @@ module _ (c : Contract) (s : Scope) (to : List ValType) where
       goes c s to charge _ vs (Frame func n state'.locals inside rest) (types vs) (record { locals_are = st.locals_are; globals_are = l.globals_are; elements = l.elements }) refl
       (result, a, subst (λ ts. SeqTyped c.deployed (inside_frame ts result) inside [] (of result)) (sym l.locals_are) g, h)
   one_frame state func n locals vs rest result (Traps charge code) st a h g = kept c s to tt
-  one_frame state func n locals vs rest result (Asks o go) st a h g = kept c s to (g.0, λ r is. under c.deployed s vs (Frame func n locals (go r) rest) [] to (result, a, g.1 r is, from_is c.deployed s rest _ _ to (ap (λ ts. of result ++ ts) (append-nil (types vs))) h))
+  one_frame state func n locals vs rest result (Asks o go) st a h g = kept c s to (λ r is. under c.deployed s vs (Frame func n locals (go r) rest) [] to (result, a, g r is, from_is c.deployed s rest _ _ to (ap (λ ts. of result ++ ts) (append-nil (types vs))) h))
   one_frame state func n locals vs rest result (Branches charge l ws) st a h (other, below, is, e) = absurd (cc)
   one_frame state func n locals vs rest result (Returns charge ws) st a h (below, f, e) =
       by_values (of result) below n ws _ (a ∙ length_of result) e (λ top left e0 e1. puts charge state vs top rest (types vs) (of result) st refl e0 h)
   one_frame state func n locals vs rest result (Ended ws) st a h g = puts 0 state vs ws rest (types vs) (of result) st refl g h
   one_frame state func n locals vs rest result Stuck st a h g = absurd g
 
-  one_reply : (h : HostCall) (p : Place) (x : ℕ) (r : Reply) (rest : Seq) (below : List ValType) → IsReply (asks h p x) r → SeqTyped c.deployed s rest (reverse (host_type h).results ++ below) to → SeqTyped c.deployed s (replied r rest) below to
-  one_reply host.Get p x r rest below (to_get q y fits) g = g
-  one_reply host.Has p x r rest below (to_has q y fits) g = g
-  one_reply host.Put p x r rest below (to_put q y) g = g
-  one_reply host.Del p x r rest below (to_del q y fits) g = g
-  one_reply host.Add p x r rest below (to_add q y) g = g
-  one_reply host.Total p x r rest below (to_total q y fits) g = g
-
-  by_arguments : (h : HostCall) (args : List Value) (r : Reply) (rest : Seq) (below : List ValType) → IsReply (op_of c.number h args) r → SeqTyped c.deployed s rest (reverse (host_type h).results ++ below) to → SeqTyped c.deployed s (replied r rest) below to
-  by_arguments h [] r rest below is g = one_reply h _ _ r rest below is g
-  by_arguments h (k ∷ []) r rest below is g = one_reply h _ _ r rest below is g
-  by_arguments h (k ∷ v ∷ vs) r rest below is g = one_reply h _ _ r rest below is g
+  one_reply : (h : HostCall) (args : List Value) (r : Reply) (rest : Seq) (below : List ValType) → IsAnswer (wish_of c.number h args) r → SeqTyped c.deployed s rest (reverse (host_type h).results ++ below) to → SeqTyped c.deployed s (replied r rest) below to
+  one_reply host.Get args r rest below (to_get q y fits) g = g
+  one_reply host.Has args r rest below (to_has q y fits) g = g
+  one_reply host.Put args r rest below (to_put q y) g = g
+  one_reply host.Del args r rest below (to_del q y fits) g = g
+  one_reply host.Add args r rest below (to_add q y) g = g
+  one_reply host.Total args r rest below (to_total q y fits) g = g
+  one_reply host.Ask args (reply.I32 x) rest below is g = g
+  one_reply host.Ask args reply.Nothing rest below is g = absurd is
+  one_reply host.Ask args (reply.I64 x) rest below is g = absurd is
+  one_reply host.Answer args (reply.I64 x) rest below is g = g
+  one_reply host.Answer args reply.Nothing rest below is g = absurd is
+  one_reply host.Answer args (reply.I32 x) rest below is g = absurd is
 
 module _ (c : Contract) (linked : IsLinked c.deployed.tree c.deployed.hosts) where
   entered : (t : FuncType) (g : Func) (locals : List Value) → IsBody c.deployed linked t g → types locals ≡ t.params ++ g.locals →
@@ -134,7 +135,7 @@ module _ (c : Contract) (linked : IsLinked c.deployed.tree c.deployed.hosts) whe
   one_invoke : (s : Scope) (to : List ValType) (frames : ℕ) (state : State) (f : ℕ) (g : Function) (top vs : List Value) (rest : Seq) (below : List ValType) → StateTyped c.deployed s.locals state → function_at c.deployed f ≡ Some g →
       types top ≡ reverse (function_type g).params → types vs ≡ below → SeqTyped c.deployed s rest (reverse (function_type g).results ++ below) to → Kept c s to (invoke c frames state f g (reverse top) vs rest)
   one_invoke s to frames state f (Hosted h) top vs rest below st e p q g =
-      kept c s to (tt, λ r is. under c.deployed s vs (replied r rest) [] to (by_arguments c s to h (reverse top) r rest (types vs ++ []) is (from_is c.deployed s rest _ _ to (ap (λ ts. reverse (host_type h).results ++ ts) (append-nil (types vs) ∙ q)) g)))
+      kept c s to (λ r is. under c.deployed s vs (replied r rest) [] to (one_reply c s to h (reverse top) r rest (types vs ++ []) is (from_is c.deployed s rest _ _ to (ap (λ ts. reverse (host_type h).results ++ ts) (append-nil (types vs) ∙ q)) g)))
   one_invoke s to frames state f (Defined t g) top vs rest below st e p q h =
       let is = body_of c.deployed linked f t g e in
       let locals : types (reverse top ++ map zero_of g.locals) ≡ t.params ++ g.locals = types_append (reverse top) (map zero_of g.locals) ∙ ap₂ (λ xs ys. xs ++ ys) (types_reverse top ∙ ap reverse p ∙ reverse-reverse t.params) (types_zeros g.locals) in

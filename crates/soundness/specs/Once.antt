@@ -3,15 +3,10 @@ use Rattle.std.specs.Prelude.{◌≡◌, ℕ, ◌<◌, List, length, All}
 use Rattle.spec_ledger.specs.declared.Receipt.{Receipt}
 use Rattle.spec_ledger.specs.Cells.{Cells}
 use Rattle.spec_ledger.specs.Modes.{Modes}
-use Rattle.spec_typing.specs.Linking.{IsLinked}
-use Rattle.spec_execution.specs.Configuration.{Setting, Deployed}
+use Rattle.spec_execution.specs.Configuration.{Setting}
 use Rattle.spec_execution.specs.Run.{ContractCall}
 use Rattle.spec_execution.specs.Exec.{Executes}
 use Rattle.spec_execution.specs.Serial.{Ran, Serial}
-
--- each contract is linked
-abbrev pub AreLinked : List Deployed → Type 0
-AreLinked contracts = All (λ d. IsLinked d.tree d.hosts) contracts
 
 -- each number is that of a call
 abbrev pub AreNumbersOf : List ContractCall → List ℕ → Type 0

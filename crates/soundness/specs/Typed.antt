@@ -1,15 +1,18 @@
 -- Typing of configurations (Core Specification, Appendix, Soundness). A stack is the list of its types, the top first.
-use Rattle.std.specs.Prelude.{◌≡◌, ℕ, Bool, true, false, List, [], ◌∷◌, ◌++◌, map, reverse, Option, Some, None, slice_get, All, IfSome}
+use Rattle.std.specs.Prelude.{◌≡◌, ℕ, ℤ, Bool, true, false, List, [], ◌∷◌, ◌++◌, map, reverse, Option, Some, None, slice_get, All, IfSome}
 use Rattle.wtypes.specs.declared.ValType.{ValType}
+use Rattle.wtypes.specs.declared.ValType.TheVariants.{I64}
 use Rattle.wtypes.specs.declared.Value.{Value}
 use Rattle.spec_syntax.specs.Syntax.{Module}
 use Rattle.spec_ledger.specs.declared.Reply.{Reply}
 use Rattle.spec_numeric.specs.Operators.{type_of}
 use Rattle.spec_typing.specs.Typing.{Context, InstrTyped, Typed, of}
 use Rattle.spec_typing.specs.Modules.{spaces_of, type_at, globals}
-use Rattle.spec_execution.specs.Configuration.{Deployed, Function, function_at, function_type, Seq, End, Val, Code, Free, Label, Frame, Invoke, State}
-use Rattle.spec_execution.specs.Reduction.{Next, Goes, Traps, Asks, Branches, Returns, Ended, Stuck, arity}
-use Rattle.spec_execution.specs.Run.{IsAnswer, IsOperation}
+use Rattle.spec_typing.specs.Linking.{IsLinked}
+use Rattle.spec_execution.specs.Configuration.{Deployed, Function, function_at, function_type, Seq, End, Val, Code, Free, Label, Frame, Invoke, State, Config, Running, Trap}
+use Rattle.spec_execution.specs.Reduction.{Ask, Next, Goes, Traps, Asks, Branches, Returns, Ended, Stuck, arity}
+use Rattle.spec_execution.specs.Run.{IsAnswer, next}
+use Rattle.spec_execution.specs.Levels.{Level, Levels}
 
 abbrev pub types : List Value → List ValType
 types vs = map type_of vs
@@ -70,13 +73,48 @@ SeqTyped d s (Frame f n locals inside rest) from to =
 SeqTyped d s (Invoke f rest) from to =
     (g : Function) × (below : List ValType) × (function_at d f ≡ Some g) × (from ≡ reverse (function_type g).params ++ below) × SeqTyped d s rest (reverse (function_type g).results ++ below) to
 
--- What a typed sequence does next: it goes on typed, asks for an operation, traps, ends with values of these types, or leaves a label or function that is there.
+-- What a typed sequence does next: it goes on typed, also by each answer of the host, traps, ends with values of these types, or leaves a label or function that is there.
 abbrev pub NextTyped : Deployed → Scope → List ValType → Next → Type 0
 NextTyped d s to (Goes charge state seq) = StateTyped d s.locals state × SeqTyped d s seq [] to
 NextTyped d s to (Traps charge code) = Unit {0}
-NextTyped d s to (Asks w go) = IsOperation w × ((r : Reply) → IsAnswer w r → SeqTyped d s (go r) [] to)
+NextTyped d s to (Asks w go) = (r : Reply) → IsAnswer w r → SeqTyped d s (go r) [] to
 NextTyped d s to (Branches charge l vs) =
     (target : Option ValType) × (below : List ValType) × (slice_get s.labels l ≡ Some target) × (types vs ≡ of target ++ below)
 NextTyped d s to (Returns charge vs) = (below : List ValType) × (s.in_function ≡ true) × (types vs ≡ of s.result ++ below)
 NextTyped d s to (Ended vs) = types vs ≡ to
 NextTyped d s to Stuck = ⊥
+
+-- ---- levels
+
+-- a configuration of a deployed module that is to leave values of these types, the top first
+abbrev pub ConfigTyped : Deployed → List ValType → Config → Type 0
+ConfigTyped d to (Running state seq) = StateTyped d [] state × SeqTyped d outermost seq [] to
+ConfigTyped d to (Trap state code) = Unit {0}
+
+pub record LevelTyped (l : Level) (to : List ValType) : Type 0 where
+  pub linked : IsLinked l.contract.deployed.tree l.contract.deployed.hosts
+  pub config : ConfigTyped l.contract.deployed to l.config
+
+-- it stands at an `ask`, and waits for the level that it has asked for
+pub record IsWaiting (l : Level) : Type 0 where
+  pub state : State
+  pub seq : Seq
+  pub number : ℕ
+  pub export : ℕ
+  pub argument : ℤ
+  pub go : Reply → Seq
+  pub config_is : l.config ≡ Running state seq
+  pub asks : next l.contract state seq ≡ Asks (Ask number export argument) go
+
+-- what a level leaves, with these levels around it: what was asked for, or the results of the call
+abbrev pub leaves : List Level → List ValType → List ValType
+leaves [] results = results
+leaves (l ∷ outer) results = I64 ∷ []
+
+abbrev pub AllWait : List Level → List ValType → Type 0
+AllWait [] results = Unit {0}
+AllWait (l ∷ outer) results = LevelTyped l (leaves outer results) × IsWaiting l × AllWait outer results
+
+-- each level is typed, and all but the innermost one wait
+abbrev pub LevelsTyped : List ValType → Levels → Type 0
+LevelsTyped results a = LevelTyped a.inner (leaves a.outer results) × AllWait a.outer results

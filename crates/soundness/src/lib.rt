@@ -7,23 +7,22 @@ ghost use Rattle.spec_ledger.specs.Cells.{Cells};
 ghost use Rattle.spec_execution.specs.Configuration.{Setting};
 ghost use Rattle.spec_execution.specs.Run.{ContractCall};
 ghost use Rattle.soundness.specs.Coming.{PlacesAreOfWhatComes};
-ghost use Rattle.soundness.specs.Once.{AreLinked, AreNumbersOf, ExecutesOnce, RunsSerially};
-ghost use Rattle.soundness.specs.Laws.{DeployedCallsAreSafe, DeployedCallsAreTyped, DeployedCallsStandAlone, ResultsAreTyped, StepsAreTyped};
+ghost use Rattle.soundness.specs.Once.{AreNumbersOf, ExecutesOnce, RunsSerially};
+ghost use Rattle.soundness.specs.Laws.{AreLinked, DeployedCallsAreSafe, DeployedCallsAreTyped, ResultsAreTyped, StepsAreTyped};
 
 /// A typed configuration of a linked module is never stuck, and what it reduces to is typed.
 pub fn steps_are_typed()
     ensures { StepsAreTyped }
 {}
 
-/// No configuration that a call of a linked module reaches is stuck.
+/// No configuration that a call of linked contracts reaches is stuck, at whatever level.
 pub fn deployed_calls_are_safe()
     ensures { DeployedCallsAreSafe }
 {}
 
-/// Each configuration that a call of a linked module reaches is one level, which is typed, and the values that it ends with are of the entry's
-/// result types.
+/// Each level of a configuration that a call of linked contracts reaches is typed, all but the innermost one wait, and the values that the call ends
+/// with are of the entry's result types.
 pub fn deployed_calls_are_typed()
-    ensures alone { DeployedCallsStandAlone }
     ensures reached { DeployedCallsAreTyped }
     ensures results { ResultsAreTyped }
 {}

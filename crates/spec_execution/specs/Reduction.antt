@@ -1,7 +1,8 @@
 -- The reduction of configurations (Core 4.4, Instructions). The headings are the standard's sections. "Own" marks what this product adds: the
--- charge, which is 1 for an instruction of the code and 0 else; the operations that an import asks of the host; and two limits, 1,024 pages
+-- charge, which is 1 for an instruction of the code and 0 else; what an import asks of the host; and two limits, 1,024 pages
 -- (`page_limit`; in version 1 `old_page_limit`) and 256 frames (`frame_limit`).
-use Rattle.std.specs.Prelude.{ℕ, ℤ, zero, suc, ◌+◌, ◌-◌, ◌*◌, ◌/◌, ◌^◌, min, max, Bool, true, false, ◌&&◌, ◌==◌, nat_lt, nat_le, if◌then◌else◌, List, [], ◌∷◌, ◌++◌, length, map, take, drop, reverse, replicate, Option, Some, None, Result, Ok, Err, slice_get, slice_set, unwrap_or}
+use Rattle.std.specs.Int.{cast_signed, w64}
+use Rattle.std.specs.Prelude.{ℕ, ℤ, zero, suc, ◌+◌, ◌-◌, ◌*◌, ◌/◌, ◌%◌, ◌^◌, min, max, Bool, true, false, ◌&&◌, ◌==◌, nat_lt, nat_le, if◌then◌else◌, List, [], ◌∷◌, ◌++◌, length, map, take, drop, reverse, replicate, Option, Some, None, Result, Ok, Err, slice_get, slice_set, unwrap_or, option_map}
 use Rattle.wtypes.specs.declared.ValType.{ValType}
 use Rattle.wtypes.specs.declared.ValType.TheVariants.{I32}
 use Rattle.wtypes.specs.declared.Value.{Value}
@@ -28,7 +29,7 @@ use Rattle.spec_numeric.specs.Memory.{load, store}
 use Rattle.spec_execution.specs.Configuration.{Contract, Function, Hosted, Defined, function_at, function_type, Seq, End, Val, Code, Free, Label, Frame, Invoke, code, values, State}
 
 -- What a call of an import asks of the host: an operation on storage; a run of an export of a contract, with this argument; or the answer to the
--- last of these. No host call of today asks for the second or the third.
+-- last of these.
 pub data Wish : Type 0 where
   Of : Op → Wish
   Ask : (contract export : ℕ) (argument : ℤ) → Wish
@@ -140,24 +141,28 @@ indirect c charge s t (Some (Some f)) vs rest =
 
 -- ---- own: the host's functions
 
--- the operation that an import asks for, by its first argument and its second one
-abbrev pub asks : HostCall → Place → ℕ → Op
-asks host.Get p x = op.Get p
-asks host.Has p x = op.Has p
-asks host.Put p x = op.Put p x
-asks host.Del p x = op.Del p
-asks host.Add p x = op.Add p x
-asks host.Total p x = op.Total p
+-- the bits of the argument at this place, the first being 0
+abbrev pub number_at : List Value → ℕ → ℕ
+number_at args i = unwrap_or (option_map bits_of (slice_get args i)) 0
 
--- the key is the first argument; the second one counts where there is one
-abbrev pub op_of : ℕ → HostCall → List Value → Op
-op_of contract h [] = asks h (record { contract = contract; key = 0 }) 0
-op_of contract h (k ∷ []) = asks h (record { contract = contract; key = bits_of k }) 0
-op_of contract h (k ∷ v ∷ vs) = asks h (record { contract = contract; key = bits_of k }) (bits_of v)
+-- its low 32 bits
+abbrev pub word_at : List Value → ℕ → ℕ
+word_at args i = number_at args i % 2 ^ 32
 
--- what an import asks of the host
+-- the cell that the first argument names
+abbrev pub place_of_key : ℕ → List Value → Place
+place_of_key contract args = record { contract = contract; key = number_at args 0 }
+
+-- what an import asks of the host, which a contract calls with these arguments
 abbrev pub wish_of : ℕ → HostCall → List Value → Wish
-wish_of contract h args = Of (op_of contract h args)
+wish_of contract host.Get args = Of (op.Get (place_of_key contract args))
+wish_of contract host.Has args = Of (op.Has (place_of_key contract args))
+wish_of contract host.Put args = Of (op.Put (place_of_key contract args) (number_at args 1))
+wish_of contract host.Del args = Of (op.Del (place_of_key contract args))
+wish_of contract host.Add args = Of (op.Add (place_of_key contract args) (number_at args 1))
+wish_of contract host.Total args = Of (op.Total (place_of_key contract args))
+wish_of contract host.Ask args = Ask (word_at args 0) (word_at args 1) (cast_signed w64 (number_at args 2))
+wish_of contract host.Answer args = Answer
 
 -- the value that the host's reply puts on the stack, if any
 abbrev pub replied : Reply → Seq → Seq
@@ -172,7 +177,7 @@ abbrev pub zero_of : ValType → Value
 zero_of t = value_of t 0
 
 -- Invocation: function number f is invoked with these arguments, the first one first, with so many frames around.
--- Own: a host's function asks for an operation; in the innermost of `frame_limit` frames an invocation traps.
+-- Own: a host's function asks the host; in the innermost of `frame_limit` frames an invocation traps.
 abbrev pub invoke : Contract → ℕ → State → ℕ → Function → List Value → List Value → Seq → Next
 invoke c frames s f (Hosted h) args vs rest = Asks (wish_of c.number h args) (λ r. values vs (replied r rest))
 invoke c frames s f (Defined t g) args vs rest =

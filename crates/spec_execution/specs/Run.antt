@@ -56,11 +56,6 @@ IsAnswer (Ask n e x) _ = ⊥
 IsAnswer Answer (reply.I64 x) = Unit {0}
 IsAnswer Answer _ = ⊥
 
--- the wish is an operation on storage, as that of each host call of today
-abbrev pub IsOperation : Wish → Type 0
-IsOperation (Of op) = Unit {0}
-IsOperation _ = ⊥
-
 -- the value of a result
 abbrev pub result_of : List Value → Option Value
 result_of [] = None

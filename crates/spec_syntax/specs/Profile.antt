@@ -2,7 +2,7 @@
 use Rattle.std.specs.Prelude.{ℕ, [], ◌∷◌, codes}
 use Rattle.wtypes.specs.declared.ValType.TheVariants.{I32, I64}
 use Rattle.wtypes.specs.declared.HostCall.{HostCall}
-use Rattle.wtypes.specs.declared.HostCall.TheVariants.{Get, Has, Put, Del, Add, Total}
+use Rattle.wtypes.specs.declared.HostCall.TheVariants.{Get, Has, Put, Del, Add, Total, Ask, Answer}
 use Rattle.spec_syntax.specs.Syntax.{FuncType, Name}
 
 -- ---- Limits of a module, with the number that a refusal gives
@@ -57,8 +57,10 @@ host_name Put = codes "put"
 host_name Del = codes "del"
 host_name Add = codes "add"
 host_name Total = codes "total"
+host_name Ask = codes "ask"
+host_name Answer = codes "answer"
 
--- the key comes first
+-- of the six on cells the key comes first; `ask` takes the contract, the place of the export in its list, and the argument
 abbrev pub host_type : HostCall → FuncType
 host_type Get = record { params = I64 ∷ []; results = I64 ∷ [] }
 host_type Has = record { params = I64 ∷ []; results = I32 ∷ [] }
@@ -66,3 +68,5 @@ host_type Put = record { params = I64 ∷ I64 ∷ []; results = [] }
 host_type Del = record { params = I64 ∷ []; results = I32 ∷ [] }
 host_type Add = record { params = I64 ∷ I64 ∷ []; results = [] }
 host_type Total = record { params = I64 ∷ []; results = I64 ∷ [] }
+host_type Ask = record { params = I32 ∷ I32 ∷ I64 ∷ []; results = I32 ∷ [] }
+host_type Answer = record { params = []; results = I64 ∷ [] }

@@ -3,8 +3,8 @@
 use command_rows::Wanted::{self, Absent, All, Cut, Front, Part as Holds, Text};
 use command_rows::{
     BUMP, BUMP_OF_2, FIRST_AND_LAST, FIRST_AND_LAST_OF_2, File, LEFT, LEFT_OF_2, Line, NO_CALLS,
-    NO_CALLS_OF_2, NOTHING, Part, TWO, TWO_OF_2, WITHOUT_LAST, WORLD, WORLD_OF_FIRST,
-    WORLD_OF_MANY, WORLD_WITH_2, WORLD_WITH_5, unlike,
+    NO_CALLS_OF_2, NOTHING, Part, TWO, TWO_OF_2, WITHOUT_LAST, WORLD, WORLD_OF_ASKING,
+    WORLD_OF_FIRST, WORLD_OF_MANY, WORLD_WITH_2, WORLD_WITH_5, unlike,
 };
 use std::alloc::Global;
 use std::process::Abort;
@@ -215,6 +215,38 @@ const RECEIPTS: [(&str, &str); 8] = [
     ("0 100 run i32:7\n", "0 call 0 rejected 4 fuel 0\nfuel 0\n"),
 ];
 
+/// Calls of the contract that asks itself, and the lines of their block up to its digests.
+const RECEIPTS_OF_LEVELS: [(&str, &str); 7] = [
+    (
+        "0 100 try i32:0 i64:7\n",
+        "0 call 0 returned i64:7 fuel 13 asks 1\nfuel 13\n",
+    ),
+    (
+        "0 100 try i32:1 i64:7\n",
+        "0 call 0 returned i64:0 fuel 13 asks 1\nfuel 13\n",
+    ),
+    (
+        "0 100 try i32:2 i64:7\n",
+        "0 call 0 returned i64:0 fuel 9\nfuel 9\n",
+    ),
+    (
+        "0 100 try i32:9 i64:7\n",
+        "0 call 0 returned i64:0 fuel 9\nfuel 9\n",
+    ),
+    (
+        "0 25 deep i64:7\n",
+        "0 call 0 returned i64:0 fuel 25 asks 4\nfuel 25\n",
+    ),
+    (
+        "0 24 deep i64:7\n",
+        "0 call 0 out-of-fuel fuel 24 asks 4\nfuel 24\n",
+    ),
+    (
+        "0 10 deep i64:7\n",
+        "0 call 0 out-of-fuel fuel 10 asks 2\nfuel 10\n",
+    ),
+];
+
 #[test]
 fn prints_the_rows(rt: HostRuntime) -> Result<(), Fail> {
     let alloc = rt.alloc();
@@ -222,6 +254,25 @@ fn prints_the_rows(rt: HostRuntime) -> Result<(), Fail> {
         let front = format!(in alloc; "{lines}before ")?;
         let calls: [Part; 1] = [(1, calls.as_bytes())];
         let files: [File; 2] = [("w", &WORLD_OF_FIRST), ("c", &calls)];
+        let words = "mine w c b n --fuel=200 --workers=1";
+        comes_to(
+            &rt,
+            alloc,
+            (words, &files, Front(front.as_bytes()), &[]),
+            Done,
+            NOTHING,
+        )?;
+    }
+    Ok(())
+}
+
+#[test]
+fn prints_the_levels(rt: HostRuntime) -> Result<(), Fail> {
+    let alloc = rt.alloc();
+    for (calls, lines) in RECEIPTS_OF_LEVELS {
+        let front = format!(in alloc; "{lines}before ")?;
+        let calls: [Part; 1] = [(1, calls.as_bytes())];
+        let files: [File; 2] = [("w", &WORLD_OF_ASKING), ("c", &calls)];
         let words = "mine w c b n --fuel=200 --workers=1";
         comes_to(
             &rt,

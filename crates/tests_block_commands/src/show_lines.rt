@@ -43,6 +43,18 @@ speed-up at most 1.00
 returned 1
 ";
 
+/// The module as JSON.
+const MODULE_JSON: &[u8] =
+    b"{\"bytes\":8,\"data\":0,\"elements\":0,\"exports\":[],\"functions\":[],\"globals\":[],\"imports\":[],\"kind\":\"module\",\"memories\":[],\"start\":null,\"tables\":[]}\n";
+
+/// The world as JSON.
+const WORLD_JSON: &[u8] =
+    b"{\"cells\":{\"counters\":[],\"maps\":[]},\"contracts\":[],\"digest\":\"3501fd3d755c8a700815fa70d3873fc96bbf2e8f6dc790a82ddde95aa75a07c4\",\"kind\":\"world\"}\n";
+
+/// The block as JSON.
+const BLOCK_JSON: &[u8] =
+    b"{\"after\":\"771327414d62d43fc9ac4f25b2072caf6a5f630b2a3fde2819bf8f990bd82d69\",\"before\":\"ddc5e3d488f3844cdf731c6e2fcdb213a1eea2313f8fc0baf8aaafed8b7d0b92\",\"calls\":\"a8a35b41354dbd2c577ff182442012dc4c4916391d0b4e93a54326892d3293fb\",\"figures\":{\"chain\":{\"fuel\":\"3\",\"positions\":1},\"outcomes\":[{\"code\":null,\"outcome\":\"returned\",\"positions\":1}],\"shared\":[],\"speed_up\":\"1.00\",\"total_fuel\":\"3\",\"waves\":1},\"fuel\":\"3\",\"kind\":\"block\",\"positions\":[{\"asks\":0,\"call\":0,\"called\":null,\"code\":null,\"fuel\":\"3\",\"locks\":[{\"contract\":0,\"key\":\"7\",\"kind\":\"counter\",\"mode\":\"add\",\"turn\":0}],\"outcome\":\"returned\",\"position\":0,\"value\":null,\"wave\":0}],\"version\":1}\n";
+
 /// The files that the rows name.
 const FILES: [File; 6] = [
     ("m", &[(1, &HEADER)]),
@@ -62,7 +74,7 @@ const CALM: Fails = (None, None);
 /// A line, which calls fail, how the line ends, what it prints and what is said.
 type Row<'a> = (&'a str, Fails, Status, Wanted<'a>, Wanted<'a>);
 
-const ROWS: [Row; 16] = [
+const ROWS: [Row; 38] = [
     ("show m", CALM, Done, Text(MODULE), NOTHING),
     ("show w", CALM, Done, Text(WORLD), NOTHING),
     ("show b", CALM, Done, Text(BLOCK), NOTHING),
@@ -109,6 +121,111 @@ const ROWS: [Row; 16] = [
         Wanted::Usage,
     ),
     ("show b --workers 2", CALM, Misused, NOTHING, Wanted::Usage),
+    // only a block is drawn, alone, and to a file of another name
+    (
+        "show w --svg p",
+        CALM,
+        Refused,
+        Is("refused show 2"),
+        Holds("show: the file is a world, and only a block is drawn"),
+    ),
+    (
+        "show m --svg p",
+        CALM,
+        Refused,
+        Is("refused show 2"),
+        Holds("show: the file is a module, and only a block is drawn"),
+    ),
+    (
+        "show t --svg p",
+        CALM,
+        Refused,
+        Is("refused show 1"),
+        Holds("show: the file is a module in text; write the module by `asm`"),
+    ),
+    ("show x --svg p", CALM, NotReached, NOTHING, Is("file x")),
+    (
+        "show b --svg b",
+        CALM,
+        Misused,
+        NOTHING,
+        Is("usage: FILE and PICTURE are both `b`: PICTURE would take its place; name another file"),
+    ),
+    (
+        "show b --svg p --calls c",
+        CALM,
+        Misused,
+        NOTHING,
+        Is("usage: a picture is drawn without the calls: leave `--calls` or `--svg` out"),
+    ),
+    (
+        "show b --svg p --svg q",
+        CALM,
+        Misused,
+        NOTHING,
+        Wanted::Usage,
+    ),
+    ("show b --svg", CALM, Misused, NOTHING, Wanted::Usage),
+    // the same as JSON, wherever the word stands; refusals are the same lines
+    ("show m --json", CALM, Done, Text(MODULE_JSON), NOTHING),
+    ("show --json w", CALM, Done, Text(WORLD_JSON), NOTHING),
+    ("--json show b", CALM, Done, Text(BLOCK_JSON), NOTHING),
+    (
+        "show b --json --calls c",
+        CALM,
+        Done,
+        Holds(
+            "\"called\":{\"args\":[{\"type\":\"i64\",\"value\":\"7\"},{\"type\":\"i64\",\"value\":\"5\"}],\"contract\":0,\"entry\":\"bump\"}",
+        ),
+        NOTHING,
+    ),
+    (
+        "show b --calls d --json",
+        CALM,
+        Refused,
+        Is("refused calls 3"),
+        Holds("calls:"),
+    ),
+    (
+        "show t --json",
+        CALM,
+        Refused,
+        Is("refused show 1"),
+        Holds("show: the file is a module in text; write the module by `asm`"),
+    ),
+    ("show x --json", CALM, NotReached, NOTHING, Is("file x")),
+    (
+        "show b --json",
+        (None, Some(0)),
+        NotReached,
+        NOTHING,
+        Is("file stdout"),
+    ),
+    // one form at a time; the word has no value
+    (
+        "show b --json --svg p",
+        CALM,
+        Misused,
+        NOTHING,
+        Is("usage: a file is shown in one form: leave `--json` or `--svg` out"),
+    ),
+    ("show b --json=1", CALM, Misused, NOTHING, Wanted::Usage),
+    (
+        "show b --json --json",
+        CALM,
+        Misused,
+        NOTHING,
+        Wanted::Usage,
+    ),
+    ("show --json", CALM, Misused, NOTHING, Wanted::Usage),
+    ("check m --json", CALM, Misused, NOTHING, Wanted::Usage),
+    (
+        "mine --json w c b n --fuel 1",
+        CALM,
+        Misused,
+        NOTHING,
+        Wanted::Usage,
+    ),
 ];
 
 /// A line comes to what its row says, and leaves the files as they were.
@@ -119,7 +236,11 @@ fn comes_to<R: Abort + Threads + Wait + Sync>(
 ) -> Result<(), Fail> {
     let (words, fails, status, out, err) = *row;
     let (file_fails, out_fails) = fails;
-    let after: [(&str, Wanted); 2] = [("m", Text(&HEADER)), ("b", Text(&BUMP))];
+    let after: [(&str, Wanted); 3] = [
+        ("m", Text(&HEADER)),
+        ("b", Text(&BUMP)),
+        ("p", Wanted::Absent),
+    ];
     let line = Line {
         words,
         files: &FILES,
@@ -139,6 +260,99 @@ fn comes_to<R: Abort + Threads + Wait + Sync>(
 fn shows_what_is_in_files(rt: HostRuntime) -> Result<(), Fail> {
     for row in ROWS {
         comes_to(&rt, rt.alloc(), &row)?;
+    }
+    Ok(())
+}
+
+/// How the picture of the block of `bump(7,5)` begins.
+const PICTURE: &[u8] =
+    b"<svg xmlns=\"http://www.w3.org/2000/svg\" width=\"720\" height=\"164\" viewBox=\"0 0 720 164\">\n<style>";
+
+/// A line that draws that block, which calls fail, how it ends, what it prints and says, and what stands in the file of the picture.
+type Drawing<'a> = (&'a str, Fails, Status, Wanted<'a>, Wanted<'a>, Wanted<'a>);
+
+const DRAWINGS: [Drawing; 6] = [
+    (
+        "show b --svg p",
+        CALM,
+        Done,
+        Is("picture 1837 bytes"),
+        NOTHING,
+        Wanted::Front(PICTURE),
+    ),
+    (
+        "show --svg=p b",
+        CALM,
+        Done,
+        Is("picture 1837 bytes"),
+        NOTHING,
+        Wanted::Front(PICTURE),
+    ),
+    // the block is not read
+    (
+        "show b --svg p",
+        (Some(0), None),
+        NotReached,
+        NOTHING,
+        Is("file b"),
+        Wanted::Absent,
+    ),
+    // the picture is not written, or not whole
+    (
+        "show b --svg p",
+        (Some(2), None),
+        NotReached,
+        NOTHING,
+        Is("file p"),
+        Text(b""),
+    ),
+    (
+        "show b --svg p",
+        (Some(4), None),
+        NotReached,
+        NOTHING,
+        Is("file p"),
+        Wanted::Front(PICTURE),
+    ),
+    // it is written, and not told
+    (
+        "show b --svg p",
+        (None, Some(0)),
+        NotReached,
+        NOTHING,
+        Is("file stdout"),
+        Wanted::Front(PICTURE),
+    ),
+];
+
+/// A line comes to what its row says, and leaves the block as it was.
+fn draws<R: Abort + Threads + Wait + Sync>(
+    rt: &R,
+    alloc: Global,
+    row: &Drawing,
+) -> Result<(), Fail> {
+    let (words, fails, status, out, err, picture) = *row;
+    let (file_fails, out_fails) = fails;
+    let after: [(&str, Wanted); 2] = [("b", Text(&BUMP)), ("p", picture)];
+    let line = Line {
+        words,
+        files: &FILES,
+        file_fails,
+        out_fails,
+        err_fails: None,
+        status,
+        out,
+        err,
+        after: &after,
+    };
+    assert_eq!(rt; unlike(rt, alloc, &line)?, None, "{words}");
+    Ok(())
+}
+
+#[test]
+fn draws_a_block(rt: HostRuntime) -> Result<(), Fail> {
+    for row in DRAWINGS {
+        draws(&rt, rt.alloc(), &row)?;
     }
     Ok(())
 }

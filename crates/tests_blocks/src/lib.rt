@@ -6,6 +6,8 @@ mod adopted;
 #[cfg(test)]
 mod judged_blocks;
 #[cfg(test)]
+mod levels;
+#[cfg(test)]
 mod marks;
 #[cfg(test)]
 mod orders_of_blocks;

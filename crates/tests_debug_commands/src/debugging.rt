@@ -3,7 +3,7 @@
 use command_rows::Wanted::{self, Part as Holds, Text};
 use command_rows::{
     BUMP_OF_2, FIRST_AND_LAST_OF_2, File, Line, NOTHING, OPENED, OPENED_OF_2, Part, TWO_OF_2,
-    WITHOUT_LAST, WORLD, WORLD_OF_DOOR, WORLD_OF_LOOP, WORLD_OF_WRITER, unlike,
+    WITHOUT_LAST, WORLD, WORLD_OF_ASKING, WORLD_OF_DOOR, WORLD_OF_LOOP, WORLD_OF_WRITER, unlike,
 };
 use std::alloc::Global;
 use std::process::Abort;
@@ -42,7 +42,7 @@ fn comes_to<R: Abort + Threads + Wait + Sync>(
 }
 
 /// Sessions whose commands are all done.
-const ALL_DONE: [Session; 5] = [
+const ALL_DONE: [Session; 7] = [
     // back over host calls and stores
     (
         "debug w c 0 step:4 stack back:2 cont",
@@ -68,6 +68,19 @@ const ALL_DONE: [Session; 5] = [
         &WORLD,
         &[(1, b"0 100 fail i64:7 i64:5\n")],
         b"4 done trapped 1 fuel 4\n",
+    ),
+    // into a level and back out of it
+    (
+        "debug w c 0 step:4 back:1 stack",
+        &WORLD_OF_ASKING,
+        &[(1, b"0 100 deep i64:7\n")],
+        b"4 at 6 0 in 0 level 1\n3 at 6 3\nstack i32:0 i32:3 i64:7\n",
+    ),
+    (
+        "debug w c 0 break:6:4 cont step:1 cont clear:6:4 cont",
+        &WORLD_OF_ASKING,
+        &[(1, b"0 100 deep i64:7\n")],
+        b"ok\n20 at 6 4 in 0 level 4\n21 at 6 4 in 0 level 3\n22 at 6 4 in 0 level 2\nok\n25 done returned i64:0 fuel 25 asks 4\n",
     ),
     // the call of another number
     (

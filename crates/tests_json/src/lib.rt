@@ -3,3 +3,7 @@
 
 #[cfg(test)]
 mod blocks;
+#[cfg(test)]
+mod modules;
+#[cfg(test)]
+mod worlds;

@@ -38,13 +38,15 @@ fn reply_to(op: Op) -> Reply
 }
 
 // Makes a turn, with the reply of the host where it was asked.
-fn make_turn<'a, A: Allocator + Copy>(machine: &mut Machine<'a, A>) -> Turn
+pub(crate) fn make_turn<'a, A: Allocator + Copy>(machine: &mut Machine<'a, A>) -> Turn
     requires { IsFree machine.old.status }
     ensures { IsFree machine.new.status }
 {
     let turn = machine.next();
     match turn {
         Turn::Stepped => {}
+        Turn::Enter => {}
+        Turn::Leave(_) => {}
         Turn::Host(op) => machine.answer(reply_to(op)),
         Turn::NoMemory => {}
         Turn::Done(_) => {}
@@ -60,6 +62,8 @@ fn turn_on<'a, A: Allocator + Copy>(machine: &mut Machine<'a, A>) -> Turn
     let turn = machine.turn_on();
     match turn {
         Turn::Stepped => {}
+        Turn::Enter => {}
+        Turn::Leave(_) => {}
         Turn::Host(op) => machine.answer(reply_to(op)),
         Turn::NoMemory => {}
         Turn::Done(_) => {}
@@ -92,7 +96,7 @@ fn play<'a>(machine: &mut Machine<'a, Global>)
     }
 }
 
-fn run<'a>(
+pub(crate) fn run<'a>(
     alloc: Global,
     contracts: &'a [Deployed<Global>],
     call: &'a Call,
@@ -416,7 +420,7 @@ fn turns(rt: HostRuntime) -> Result<(), Fail> {
     Ok(())
 }
 
-fn started<'a>(
+pub(crate) fn started<'a>(
     alloc: Global,
     contracts: &'a [Deployed<Global>],
     call: &'a Call,

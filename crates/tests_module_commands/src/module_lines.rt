@@ -126,7 +126,7 @@ fn nothing_is_overwritten_by_a_slip(rt: HostRuntime) -> Result<(), Fail> {
 }
 
 /// Lines that ask to be told of the program, and a part of what is printed.
-const TOLD: [(&str, &str); 12] = [
+const TOLD: [(&str, &str); 13] = [
     ("--help", "Usage: wblock <COMMAND>"),
     ("-h", "Usage: wblock <COMMAND>"),
     ("asm -h", "Usage: wblock asm <TEXT> <MODULE>"),
@@ -141,6 +141,7 @@ const TOLD: [(&str, &str); 12] = [
     ("debug --help", "bytes:FROM:N"),
     ("text -h", "Usage: wblock text <MODULE> <TEXT>"),
     ("show --help", "--calls <CALLS>"),
+    ("show -h", "--svg <PICTURE>"),
     ("--version", "wblock 0.1.0\n"),
 ];
 

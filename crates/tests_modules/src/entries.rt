@@ -1,8 +1,8 @@
 // Which function a call starts with.
 use call::Call;
 use link::deployed::Deployed;
-use opening::{Refusal, entry_of};
-use samples::{EXAMPLE, deployed};
+use opening::{Refusal, asked_entry, entry_of};
+use samples::{EXAMPLE, FIRST_MODULE, deployed};
 use std::alloc::Global;
 use std::test::Fail;
 use wtypes::Value;
@@ -55,6 +55,33 @@ fn exports_that_are_no_functions(rt: HostRuntime) -> Result<(), Fail> {
         entry(a, &contract, "memory", &[])?,
         Err(Refusal::NotFunction)
     );
+    Ok(())
+}
+
+// Of the exports of the two contracts the second one's alone is from one number of 64 bits to one.
+#[test]
+fn exports_that_are_asked_for(rt: HostRuntime) -> Result<(), Fail> {
+    let a = rt.alloc();
+    let mut contracts = Vec::new(a);
+    contracts.push(deployed(a, &EXAMPLE)?)?;
+    contracts.push(deployed(a, &FIRST_MODULE)?)?;
+    let rows: [(usize, u32, u32, Result<u32, u8>); 8] = [
+        (0, 1, 0, Ok(2)),
+        (3, 1, 0, Ok(2)),
+        (4, 1, 0, Err(11)),
+        (4, 2, 9, Err(11)),
+        (0, 2, 0, Err(10)),
+        (0, 1, 1, Err(10)),
+        (0, 0, 0, Err(10)),
+        (0, 0, 3, Err(10)),
+    ];
+    for (level, number, export, answer) in rows {
+        let func = match asked_entry(&contracts, level, number, export) {
+            Ok((_, func)) => Ok(func),
+            Err(status) => Err(status),
+        };
+        assert_eq!(rt; func, answer, "contract {number}, export {export}");
+    }
     Ok(())
 }
 

@@ -8,10 +8,10 @@ use spec_ledger::{Entry, Kind, Lock, Mode, Outcome, Receipt, Version};
 use std::alloc::Global;
 use wblock_io::MemoryFiles;
 use wblock_line::{Answer, Fault};
-use wblock_show::{Showing, show_block, show_file_block};
+use wblock_show::{Form, Showing, show_block, show_file_block};
 
 /// No positions, in version 1.
-const NO_CALLS: [u8; 116] = [
+pub(crate) const NO_CALLS: [u8; 116] = [
     87, 66, 76, 75, 1, 0, 0, 0, 1, 1, 1, 1, 1, 1, 1, 1, 1, 1, 1, 1, 1, 1, 1, 1, 1, 1, 1, 1, 1, 1,
     1, 1, 1, 1, 1, 1, 1, 1, 1, 1, 2, 2, 2, 2, 2, 2, 2, 2, 2, 2, 2, 2, 2, 2, 2, 2, 2, 2, 2, 2, 2, 2,
     2, 2, 2, 2, 2, 2, 2, 2, 2, 2, 0, 0, 0, 0, 0, 0, 0, 0, 0, 0, 0, 0, 3, 3, 3, 3, 3, 3, 3, 3, 3, 3,
@@ -88,7 +88,7 @@ rejected 6 1
 ";
 
 /// A forged block: the turns of a cell go back in the order.
-const BACK: [u8; 187] = [
+pub(crate) const BACK: [u8; 187] = [
     87, 66, 76, 75, 1, 0, 0, 0, 1, 1, 1, 1, 1, 1, 1, 1, 1, 1, 1, 1, 1, 1, 1, 1, 1, 1, 1, 1, 1, 1,
     1, 1, 1, 1, 1, 1, 1, 1, 1, 1, 2, 2, 2, 2, 2, 2, 2, 2, 2, 2, 2, 2, 2, 2, 2, 2, 2, 2, 2, 2, 2, 2,
     2, 2, 2, 2, 2, 2, 2, 2, 2, 2, 2, 0, 0, 0, 0, 0, 0, 0, 5, 0, 0, 0, 0, 0, 0, 0, 0, 0, 1, 0, 0, 0,
@@ -115,7 +115,7 @@ out-of-fuel 1
 ";
 
 /// Eleven cells that several positions read, one of them by three.
-const ELEVEN: [u8; 596] = [
+pub(crate) const ELEVEN: [u8; 596] = [
     87, 66, 76, 75, 2, 0, 0, 0, 1, 1, 1, 1, 1, 1, 1, 1, 1, 1, 1, 1, 1, 1, 1, 1, 1, 1, 1, 1, 1, 1,
     1, 1, 1, 1, 1, 1, 1, 1, 1, 1, 2, 2, 2, 2, 2, 2, 2, 2, 2, 2, 2, 2, 2, 2, 2, 2, 2, 2, 2, 2, 2, 2,
     2, 2, 2, 2, 2, 2, 2, 2, 2, 2, 3, 0, 0, 0, 0, 0, 0, 0, 10, 0, 0, 0, 0, 0, 0, 0, 0, 0, 0, 0, 0,
@@ -342,7 +342,12 @@ fn the_most_positions_are_shown(rt: HostRuntime) {
 }
 
 /// What the command says of these names, over files that hold a block, its calls and a text that is no calls.
-fn is_done(alloc: Global, block: &str, calls: Option<&str>, wanted: Option<(bool, &str)>) -> bool {
+fn is_done<'a>(
+    alloc: Global,
+    block: &'a str,
+    calls: Option<&'a str>,
+    wanted: Option<(bool, &str)>,
+) -> bool {
     let mut files = MemoryFiles::new(alloc, usize::MAX, Failures::none());
     if files.hold("block", &FOUR).is_err()
         || files.hold("calls", CALLS.as_bytes()).is_err()
@@ -350,7 +355,12 @@ fn is_done(alloc: Global, block: &str, calls: Option<&str>, wanted: Option<(bool
     {
         return false;
     }
-    match show_file_block(alloc, &mut files, Showing { file: block, calls }) {
+    let task = Showing {
+        file: block,
+        calls,
+        form: Form::Text,
+    };
+    match show_file_block(alloc, &mut files, task) {
         Err(Fault::File(_)) => wanted.is_none(),
         Err(Fault::NoMemory) => false,
         Ok(answer) => {

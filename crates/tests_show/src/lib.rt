@@ -6,6 +6,10 @@ mod blocks;
 #[cfg(test)]
 mod contents;
 #[cfg(test)]
+mod drawings;
+#[cfg(test)]
+mod json;
+#[cfg(test)]
 mod named;
 #[cfg(test)]
 mod pictures;

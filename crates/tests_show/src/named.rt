@@ -7,12 +7,12 @@ use samples::FIRST_MODULE;
 use std::alloc::Global;
 use std::test::Fail;
 use wblock_io::MemoryFiles;
-use wblock_line::Fault;
-use wblock_show::{Showing, show_named};
+use wblock_line::{Answer, Fault};
+use wblock_show::{Form, Showing, show_named};
 
 /// What is shown of a file.
 #[derive(Clone, Copy)]
-enum Shown<'a> {
+pub(crate) enum Shown<'a> {
     /// This text.
     Text(&'a str),
     /// It is refused with this line, and a sentence that begins so.
@@ -32,9 +32,9 @@ data 0
 ";
 
 /// The file that is shown, the calls that are named with it, and what is shown.
-type Row<'a> = (&'a str, Option<&'a str>, Shown<'a>);
+pub(crate) type Row<'a> = (&'a str, Option<&'a str>, Shown<'a>);
 
-const ROWS: [Row; 15] = [
+pub(crate) const ROWS: [Row; 15] = [
     ("block", None, Shown::Text(FOUR_TEXT)),
     ("block", Some("calls"), Shown::Text(FOUR_CALLED)),
     ("world", None, Shown::Text(WORLD_TEXT)),
@@ -110,7 +110,7 @@ const ROWS: [Row; 15] = [
 ];
 
 /// The files that the rows name.
-fn files_of(alloc: Global) -> Result<MemoryFiles, Fail> {
+pub(crate) fn files_of(alloc: Global) -> Result<MemoryFiles, Fail> {
     let mut files = MemoryFiles::new(alloc, 1_000, Failures::none());
     let world = joined(alloc, &[WORLD_HEAD, &FIRST_MODULE, WORLD_CELLS])?;
     files.hold("block", &FOUR)?;
@@ -122,13 +122,13 @@ fn files_of(alloc: Global) -> Result<MemoryFiles, Fail> {
     files.hold("broken", b"0 50 total i64:7\n0 1")?;
     files.hold("text", b"(module)")?;
     files.hold("empty", b"")?;
+    files.hold("cut", b"WBLK\x02\0\0\0WBWD")?;
     Ok(files)
 }
 
-/// Whether a row's file is shown as it says.
-fn is_shown(alloc: Global, files: &mut MemoryFiles, row: &Row) -> bool {
-    let (file, calls, wanted) = *row;
-    match show_named(alloc, files, Showing { file, calls }) {
+/// Whether what a command came to is what is wanted.
+pub(crate) fn is_wanted(alloc: Global, came: Result<Answer, Fault>, wanted: Shown) -> bool {
+    match came {
         Err(Fault::File(name)) => match wanted {
             Shown::Missing(missing) => missing == name,
             _ => false,
@@ -147,6 +147,18 @@ fn is_shown(alloc: Global, files: &mut MemoryFiles, row: &Row) -> bool {
     }
 }
 
+/// Whether a row's file is shown as it says.
+fn is_shown(alloc: Global, files: &mut MemoryFiles, row: &Row) -> bool {
+    let (file, calls, wanted) = *row;
+    let task = Showing {
+        file,
+        calls,
+        form: Form::Text,
+    };
+    let came = show_named(alloc, files, task);
+    is_wanted(alloc, came, wanted)
+}
+
 #[test]
 fn each_kind_of_file_is_shown(rt: HostRuntime) -> Result<(), Fail> {
     let mut files = files_of(rt.alloc())?;
@@ -157,6 +169,111 @@ fn each_kind_of_file_is_shown(rt: HostRuntime) -> Result<(), Fail> {
             row.0,
             row.1
         );
+    }
+    Ok(())
+}
+
+/// What comes of a file where a picture is asked for.
+#[derive(Clone, Copy)]
+enum Drawn<'a> {
+    /// A picture that ends so is to be written, and a line is to be printed that tells of it.
+    Picture(&'a str),
+    /// It is refused with this line, and a sentence that begins so.
+    Refused(&'a str, &'a str),
+    /// There is no file of this name.
+    Missing,
+}
+
+/// The last box of the picture of the four positions.
+const LAST_BOX: &str = "<title>3 call 2 rejected 6 fuel 0
+wave 0</title><rect width=\"56\" height=\"18\"/><text x=\"5\" y=\"13\">X 3</text></g>
+</g>
+</svg>
+";
+
+/// Files, and what comes of each where its picture is asked for.
+const PICTURES: [(&str, Drawn); 8] = [
+    ("block", Drawn::Picture(LAST_BOX)),
+    (
+        "world",
+        Drawn::Refused(
+            "refused show 2\n",
+            "show: the file is a world, and only a block is drawn; ",
+        ),
+    ),
+    (
+        "module",
+        Drawn::Refused(
+            "refused show 2\n",
+            "show: the file is a module, and only a block is drawn; ",
+        ),
+    ),
+    (
+        "text",
+        Drawn::Refused("refused show 1\n", "show: the file is a module in text; "),
+    ),
+    (
+        "calls",
+        Drawn::Refused(
+            "refused show 1\n",
+            "show: the file begins as no module, no world and no block; ",
+        ),
+    ),
+    (
+        "empty",
+        Drawn::Refused("refused show 1\n", "show: the file is empty; "),
+    ),
+    (
+        "cut",
+        Drawn::Refused("refused block 1 8\n", "block, byte 8: "),
+    ),
+    ("none", Drawn::Missing),
+];
+
+/// Whether an answer writes a picture that ends so to the file of this name, and tells how many bytes it has.
+fn writes_picture(alloc: Global, answer: Answer, picture: &str, end: &str) -> Option<bool> {
+    let Answer::Done(writes, line) = answer else {
+        return Some(false);
+    };
+    let [write] = writes.as_slice() else {
+        return Some(false);
+    };
+    let count = write.bytes.len();
+    let wanted = format!(in alloc; "picture {count} bytes\n").ok()?;
+    Some(
+        write.name == picture
+            && write.bytes.starts_with(b"<svg xmlns=")
+            && write.bytes.ends_with(end.as_bytes())
+            && line.as_str() == wanted.as_str(),
+    )
+}
+
+/// Whether what comes of a file is what its row says.
+fn is_drawn(alloc: Global, files: &mut MemoryFiles, file: &str, wanted: Drawn) -> bool {
+    let task = Showing {
+        file,
+        calls: None,
+        form: Form::Picture("picture"),
+    };
+    match show_named(alloc, files, task) {
+        Err(Fault::File(name)) => matches!(wanted, Drawn::Missing) && name == file,
+        Err(Fault::NoMemory) => false,
+        Ok(answer) => match wanted {
+            Drawn::Picture(end) => writes_picture(alloc, answer, "picture", end) == Some(true),
+            Drawn::Refused(refusal, sentence) => {
+                let (done, line, why) = told(alloc, answer);
+                !done && line.as_str() == refusal && why.starts_with(sentence)
+            }
+            Drawn::Missing => false,
+        },
+    }
+}
+
+#[test]
+fn a_block_alone_is_drawn(rt: HostRuntime) -> Result<(), Fail> {
+    let mut files = files_of(rt.alloc())?;
+    for (file, wanted) in PICTURES {
+        assert!(rt; is_drawn(rt.alloc(), &mut files, file, wanted), "{file}");
     }
     Ok(())
 }

@@ -3,6 +3,7 @@
 ghost use Rattle.std.specs.Prelude.{IfSome, length, ◌<◌, ◌^◌};
 
 use block::Position;
+use block_figures::SharedLock;
 use block_picture::{Edge, Scene, edges_of, picture_of};
 use lock_profile::{Held, Profile, Touched, turns};
 use schedule::{Graph, turns_agree};
@@ -13,11 +14,11 @@ use std::alloc::Global;
 use wtypes::{TrapCode, Value};
 
 /// A lock of contract 0 that a position takes: its kind, its key and its mode.
-type Taken = (Kind, u64, Mode);
+pub(crate) type Taken = (Kind, u64, Mode);
 
 /// A position of a block whose calls have the numbers of their positions: what its call came to, the fuel that it used, the levels that it entered,
 /// and its locks.
-type Place<'a> = (Outcome, u64, u32, &'a [Taken]);
+pub(crate) type Place<'a> = (Outcome, u64, u32, &'a [Taken]);
 
 /// How many positions hold a lock of contract 0: its kind and its key.
 type Shared = (Kind, u64, u32);
@@ -108,7 +109,7 @@ counter 0:7 add turn 1</title><rect width=\"150\" height=\"18\"/><text x=\"5\" y
 wave 1
 map 0:7 read turn 0
 counter 0:7 add turn 1
-counter 0:-1 excl turn 0</title><rect width=\"75\" height=\"18\"/><text x=\"5\" y=\"13\">F 2</text></g>
+counter 0:18446744073709551615 excl turn 0</title><rect width=\"75\" height=\"18\"/><text x=\"5\" y=\"13\">F 2</text></g>
 <g class=\"X\" transform=\"translate(0 24)\"><title>3 call 3 rejected 6 fuel 0
 wave 0</title><rect width=\"56\" height=\"18\"/><text x=\"5\" y=\"13\">X 3</text></g>
 </g>
@@ -258,7 +259,7 @@ fn position(number: u32, place: &Place, profile: Profile) -> Option<Position> {
 }
 
 /// The positions of an order.
-fn positions(alloc: Global, order: &[Place]) -> Option<Vec<Position>> {
+pub(crate) fn positions(alloc: Global, order: &[Place]) -> Option<Vec<Position>> {
     let touched = touched_by(alloc, order)?;
     let profiles = turns(alloc, &touched).ok()?;
     let mut positions = Vec::new(alloc);
@@ -272,10 +273,16 @@ fn positions(alloc: Global, order: &[Place]) -> Option<Vec<Position>> {
 }
 
 /// The hottest locks of a scene.
-fn hottest(alloc: Global, shared: &[Shared]) -> Option<Vec<(Lock, u32)>> {
+fn hottest(alloc: Global, shared: &[Shared]) -> Option<Vec<SharedLock>> {
     let mut locks = Vec::new(alloc);
-    for (kind, key, holders) in shared {
-        locks.push((lock(*kind, *key), *holders)).ok()?;
+    for (kind, key, positions) in shared {
+        let lock = lock(*kind, *key);
+        locks
+            .push(SharedLock {
+                lock,
+                positions: *positions,
+            })
+            .ok()?;
     }
     Some(locks)
 }
@@ -321,7 +328,7 @@ const ADDS: Place = (Outcome::Returned(None), 1, 0, &[(Counter, 7, Add)]);
 const READS: Place = (Outcome::Returned(None), 1, 0, &[(Counter, 7, Read)]);
 
 /// So many positions that add to a counter, and behind them so many that read it.
-fn crowd<'a>(alloc: Global, adders: usize, readers: usize) -> Option<Vec<Place<'a>>> {
+pub(crate) fn crowd<'a>(alloc: Global, adders: usize, readers: usize) -> Option<Vec<Place<'a>>> {
     let mut order: Vec<Place> = Vec::new(alloc);
     for _ in 0..adders {
         order.push(ADDS).ok()?;

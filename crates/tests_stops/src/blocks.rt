@@ -49,7 +49,7 @@ pub(crate) fn calls_of(alloc: Global, rows: &[Row]) -> Result<Vec<Call>, Fail>
 }
 
 /// The bytes of a block.
-fn written(alloc: Global, block: &Block) -> Result<Vec<u8>, Fail> {
+pub(crate) fn written(alloc: Global, block: &Block) -> Result<Vec<u8>, Fail> {
     if !block.fits_version() {
         return Err(Fail::from("a receipt that is not told"));
     }
@@ -59,9 +59,10 @@ fn written(alloc: Global, block: &Block) -> Result<Vec<u8>, Fail> {
 }
 
 /// Mines calls with three tries at this pace.
-fn mined_at<R: Threads + Wait + Sync, P: Pace>(
+pub(crate) fn mined_at<R: Threads + Wait + Sync, P: Pace>(
     rt: &R,
     alloc: Global,
+    world: &World,
     calls: &[Call],
     workers: u32,
     pace: &P,
@@ -71,17 +72,17 @@ fn mined_at<R: Threads + Wait + Sync, P: Pace>(
     if workers < 1 || workers > 64 {
         return Err(Fail::from("outside the conditions"));
     }
-    let world = world_of(alloc)?;
-    match mine(rt, alloc, &world, calls, 1_000_000, workers, 3, pace) {
+    match mine(rt, alloc, world, calls, 1_000_000, workers, 3, pace) {
         Ok(mined) => Ok(mined),
         Err(_) => Err(Fail::from("refused")),
     }
 }
 
 /// Why the bytes of a block are rejected by so many workers at this pace. None where they are accepted.
-fn reason_at<R: Threads + Wait + Sync, P: Pace>(
+pub(crate) fn reason_at<R: Threads + Wait + Sync, P: Pace>(
     rt: &R,
     alloc: Global,
+    world: &World,
     calls: &[Call],
     bytes: &[u8],
     workers: u32,
@@ -92,8 +93,7 @@ fn reason_at<R: Threads + Wait + Sync, P: Pace>(
     if workers < 1 || workers > 64 {
         return Err(Fail::from("outside the conditions"));
     }
-    let world = world_of(alloc)?;
-    match validate(rt, alloc, &world, calls, 1_000_000, bytes, workers, pace) {
+    match validate(rt, alloc, world, calls, 1_000_000, bytes, workers, pace) {
         Ok(Verdict::Accept(_)) => Ok(None),
         Ok(Verdict::Reject(reason)) => Ok(Some(reason)),
         Err(_) => Err(Fail::from("refused")),
@@ -110,13 +110,17 @@ pub(crate) fn order_of<A: Allocator>(alloc: Global, block: &Block<A>) -> Result<
 }
 
 /// Whether all calls are in the block, with the receipts and the cells that they come to one after another in its order.
-fn is_serial(alloc: Global, calls: &[Call], mined: &Mined) -> Result<bool, Fail> {
+pub(crate) fn is_serial(
+    alloc: Global,
+    world: &World,
+    calls: &[Call],
+    mined: &Mined,
+) -> Result<bool, Fail> {
     let order = order_of(alloc, &mined.block)?;
     let known = order.iter().all(|call| (*call as usize) < calls.len());
     if !known || order.len() != calls.len() || !mined.left.is_empty() {
         return Ok(false);
     }
-    let world = world_of(alloc)?;
     let alone = serial_core(
         alloc,
         world.contracts(),
@@ -162,14 +166,15 @@ fn bumps_at<R: Threads + Wait + Sync>(
     workers: u32,
     stopping: Stopping,
 ) -> Result<Came, Fail> {
+    let world = world_of(alloc)?;
     let calls = calls_of(alloc, &BUMPS)?;
     let pace = Stops::new(stopping);
-    let mined = mined_at(rt, alloc, &calls, workers, &pace)?;
-    if !are_bumped(&mined.block) || !is_serial(alloc, &calls, &mined)? {
+    let mined = mined_at(rt, alloc, &world, &calls, workers, &pace)?;
+    if !are_bumped(&mined.block) || !is_serial(alloc, &world, &calls, &mined)? {
         return Err(Fail::from("no serial block of both"));
     }
     let bytes = written(alloc, &mined.block)?;
-    if reason_at(rt, alloc, &calls, &bytes, 2, &NoPace)?.is_some() {
+    if reason_at(rt, alloc, &world, &calls, &bytes, 2, &NoPace)?.is_some() {
         return Err(Fail::from("rejected"));
     }
     Ok(Came {
@@ -210,19 +215,20 @@ fn workers_that_stop_at_once_leave_all_to_the_caller(rt: HostRuntime) -> Result<
 #[test]
 fn a_stopped_validator_gives_the_same_verdict(rt: HostRuntime) -> Result<(), Fail> {
     let alloc = rt.alloc();
+    let world = world_of(alloc)?;
     let calls = calls_of(alloc, &BUMPS)?;
-    let mined = mined_at(&rt, alloc, &calls, 1, &NoPace)?;
+    let mined = mined_at(&rt, alloc, &world, &calls, 1, &NoPace)?;
     let good = written(alloc, &mined.block)?;
     let mut bad = good.to_vec(alloc)?;
     let place = bad.last_mut().ok_or("a byte")?;
     *place = place.wrapping_add(1);
     for workers in 1..=2 {
         for bytes in [&good, &bad] {
-            let plain = reason_at(&rt, alloc, &calls, bytes, workers, &NoPace)?;
+            let plain = reason_at(&rt, alloc, &world, &calls, bytes, workers, &NoPace)?;
             for step in 0..=4 {
                 for stopping in [Stopping::At(step), Stopping::From(step)] {
                     let pace = Stops::new(stopping);
-                    let found = reason_at(&rt, alloc, &calls, bytes, workers, &pace)?;
+                    let found = reason_at(&rt, alloc, &world, &calls, bytes, workers, &pace)?;
                     assert!(rt; found == plain, "{step}");
                 }
             }
@@ -254,6 +260,7 @@ fn is_stopped_well<R: Threads + Wait + Sync>(
     seed: u64,
 ) -> Result<bool, Fail> {
     let mut generator = Pcg32::new(seed, 0);
+    let world = world_of(alloc)?;
     let calls = random_calls(alloc, &mut generator, 12)?;
     let step = generator.random_range(0..60u64);
     let stopping = if seed % 2 == 0 {
@@ -261,10 +268,10 @@ fn is_stopped_well<R: Threads + Wait + Sync>(
     } else {
         Stopping::From(step)
     };
-    let mined = mined_at(rt, alloc, &calls, 3, &Stops::new(stopping))?;
+    let mined = mined_at(rt, alloc, &world, &calls, 3, &Stops::new(stopping))?;
     let bytes = written(alloc, &mined.block)?;
-    let reason = reason_at(rt, alloc, &calls, &bytes, 3, &Stops::new(stopping))?;
-    Ok(reason.is_none() && is_serial(alloc, &calls, &mined)?)
+    let reason = reason_at(rt, alloc, &world, &calls, &bytes, 3, &Stops::new(stopping))?;
+    Ok(reason.is_none() && is_serial(alloc, &world, &calls, &mined)?)
 }
 
 #[test]

@@ -5,6 +5,8 @@
 #[cfg(test)]
 mod blocks;
 #[cfg(test)]
+mod levels;
+#[cfg(test)]
 mod stopping;
 #[cfg(test)]
 mod undone;

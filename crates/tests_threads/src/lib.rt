@@ -11,6 +11,8 @@ mod intakes;
 #[cfg(test)]
 mod judged_blocks;
 #[cfg(test)]
+mod levels;
+#[cfg(test)]
 mod meetings;
 #[cfg(test)]
 mod mined_blocks;

@@ -47,6 +47,9 @@ pub(crate) enum Meeting {
     BothAsk,
     /// The first try of call 1 is held until call 2 was told of its own.
     PastAnother,
+    /// Call 1 is held at its first operation until call 0 has done its own and is there at the second, which is held until call 1 has
+    /// acted; and call 1 at its commit until call 0 has acted.
+    AddedMeanwhile,
 }
 
 /// Holds threads so that calls meet.
@@ -153,6 +156,16 @@ impl Meet {
         }
     }
 
+    fn added_meanwhile(&self, step: Step) -> bool {
+        match step {
+            Step::Op { call: 0, n: 1 } => tell(&self.tried) && self.hold(&self.acted, 1),
+            Step::Op { call: 1, n: 0 } => self.hold(&self.tried, 1),
+            Step::Commit { call: 1 } => tell(&self.acted) && self.hold(&self.acted, 2),
+            Step::Commit { call: 0 } => tell(&self.acted),
+            _ => true,
+        }
+    }
+
     fn past_another(&self, step: Step) -> bool {
         match step {
             Step::Attempt { call: 1, .. } => self.hold(&self.tried, 1),
@@ -173,6 +186,7 @@ impl Pace for Meet {
             Meeting::FourTries => self.four_tries(step),
             Meeting::BothAsk => self.both_ask(step),
             Meeting::PastAnother => self.past_another(step),
+            Meeting::AddedMeanwhile => self.added_meanwhile(step),
         };
         if !met {
             self.failed.store(true, Ordering::SeqCst);

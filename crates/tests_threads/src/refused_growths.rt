@@ -1,7 +1,7 @@
 // Every block of memory that a call asks for, refused in turn: alone, and with all that are asked for after it. The answer is want of
 // memory, or the one without a refusal, and what was lent is as it was. Which of the two it is has no clause, nor that a worker whose
 // fellow was refused comes to its end.
-use crate::given::{CellRow, are_cells, world_of};
+use crate::given::{CellRow, are_cells, cells_of, world_of};
 use crate::judged_blocks::{Two, calling, made_of};
 use assembler::{AsmRefusal, assemble};
 use block::{Block, BlockRefusal, read_block, write_block};
@@ -20,10 +20,11 @@ use mining::mine_in;
 use module_tree::module::Module;
 use pace::NoPace;
 use ration::Ration;
-use samples::{EXAMPLE, deployed, typed};
+use samples::{EXAMPLE, PROBING, deployed, typed};
 use serial_block::run;
 use spec_ledger::{Kind, Version};
 use std::alloc::{Allocator, Global};
+use std::process::Abort;
 use std::sync::Wait;
 use std::test::Fail;
 use std::thread::Threads;
@@ -62,8 +63,35 @@ const STORER: [u8; 55] = [
 /// The cells of the world that is lent.
 const CELLS: [CellRow; 2] = [(Kind::Map, 1, 10), (Kind::Counter, 7, 3)];
 
-/// The cells after the two calls.
-const AFTER: [CellRow; 2] = [(Kind::Map, 1, 9), (Kind::Counter, 7, 3)];
+/// Two calls of a contract, whose bytes these are, and the cells after them.
+struct Sample {
+    module: &'static [u8],
+    two: Two,
+    after: &'static [CellRow],
+}
+
+/// Two calls of the example contract over the cells that are lent, the first before the second.
+const PEEK_THEN_SET: Sample = Sample {
+    module: &EXAMPLE,
+    two: Two {
+        cells: &CELLS,
+        calls: [("peek", &[1]), ("set", &[1, 9])],
+        swapped: false,
+    },
+    after: &[(Kind::Map, 1, 9), (Kind::Counter, 7, 3)],
+};
+
+/// Two calls of a contract that asks itself, with key 7: `both` of `fall`, which is dropped, and of `count`, which is kept; and `probe` of
+/// `probe` of `spoil` of `store`, where the third level is dropped and the fourth is kept.
+const LEVELS_IN_LEVELS: Sample = Sample {
+    module: &PROBING,
+    two: Two {
+        cells: &CELLS,
+        calls: [("both", &[115_728]), ("probe", &[2_081_554_432])],
+        swapped: false,
+    },
+    after: &[(Kind::Map, 1, 10), (Kind::Counter, 7, 4)],
+};
 
 /// What asks for memory.
 #[derive(Clone, Copy, Debug)]
@@ -80,6 +108,11 @@ enum Asked {
     Validate,
     /// A block with another receipt is validated.
     Reject,
+    /// The same of calls that ask.
+    RunLevels,
+    MineLevels,
+    ValidateLevels,
+    RejectLevels,
     Debug,
 }
 
@@ -107,11 +140,16 @@ fn refused(is_as_it_was: bool) -> Came {
     }
 }
 
-/// Whether the module is the example contract's.
-fn is_example<A: Allocator>(heap: Global, module: &Module<A>) -> Result<bool, Fail> {
+/// Whether these bytes spell the module.
+fn is_module<A: Allocator>(heap: Global, module: &Module<A>, spelled: &[u8]) -> Result<bool, Fail> {
     let mut bytes = Vec::new(heap);
     encode(module, &mut bytes).or(Err("no memory"))?;
-    Ok(bytes.as_slice() == EXAMPLE.as_slice())
+    Ok(bytes.as_slice() == spelled)
+}
+
+/// Whether the module is the example contract's.
+fn is_example<A: Allocator>(heap: Global, module: &Module<A>) -> Result<bool, Fail> {
+    is_module(heap, module, &EXAMPLE)
 }
 
 fn load_in<A: Allocator + Copy>(heap: Global, alloc: A) -> Result<Came, Fail> {
@@ -152,15 +190,26 @@ fn deploy_in<A: Allocator + Copy>(heap: Global, lent: A, alloc: A) -> Result<Cam
     }
 }
 
-/// Whether this is the world of the example contract and the cells that are lent.
-fn is_lent<A: Allocator + Copy>(heap: Global, world: &World<A>) -> Result<bool, Fail> {
+/// The world of the contract of these bytes and of the cells that are lent.
+fn lent_world<A: Allocator + Copy>(alloc: A, module: &[u8]) -> Result<World<A>, Fail> {
+    let mut contracts = Vec::new(alloc);
+    contracts.push(deployed(alloc, module)?)?;
+    Ok(World::new(contracts, cells_of(alloc, &CELLS)?))
+}
+
+/// Whether this is the world of the contract of these bytes and of the cells that are lent.
+fn is_lent<A: Allocator + Copy>(
+    heap: Global,
+    world: &World<A>,
+    module: &[u8],
+) -> Result<bool, Fail> {
     let contracts = world.contracts();
     let Some(contract) = contracts.first() else {
         return Ok(false);
     };
     Ok(
         contracts.len() == 1
-            && is_example(heap, contract.module())?
+            && is_module(heap, contract.module(), module)?
             && are_cells(world.cells(), &CELLS),
     )
 }
@@ -171,21 +220,15 @@ fn read_world_in<A: Allocator + Copy>(heap: Global, alloc: A) -> Result<Came, Fa
         return Err(Fail::from("no memory"));
     };
     match read_world(alloc, &bytes) {
-        Ok(world) => Ok(answered(is_lent(heap, &world)?)),
+        Ok(world) => Ok(answered(is_lent(heap, &world, &EXAMPLE)?)),
         Err(refusal) => Ok(refused(refusal == ReadRefusal::NoMemory)),
     }
 }
 
-/// Two calls over the cells that are lent, the first before the second.
-const PEEK_THEN_SET: Two = Two {
-    cells: &CELLS,
-    calls: [("peek", &[1]), ("set", &[1, 9])],
-    swapped: false,
-};
-
 /// The calls, and the bytes of their block.
-fn block_of(heap: Global) -> Result<([Call; 2], Vec<u8>), Fail> {
-    made_of(heap, &world_of(heap, &CELLS)?, &PEEK_THEN_SET, Version::Two)
+fn block_of(heap: Global, sample: &Sample) -> Result<([Call; 2], Vec<u8>), Fail> {
+    let world = lent_world(heap, sample.module)?;
+    made_of(heap, &world, &sample.two, Version::Two)
 }
 
 /// The bytes of a block.
@@ -199,37 +242,44 @@ fn written<A: Allocator>(heap: Global, lent: A, block: &Block<A>) -> Result<Vec<
 }
 
 fn read_block_in<A: Allocator + Copy>(heap: Global, lent: A, alloc: A) -> Result<Came, Fail> {
-    let (_, bytes) = block_of(heap)?;
+    let (_, bytes) = block_of(heap, &PEEK_THEN_SET)?;
     match read_block(alloc, &bytes) {
         Ok(block) => Ok(answered(written(heap, lent, &block)? == bytes)),
         Err(refusal) => Ok(refused(refusal == BlockRefusal::NoMemory)),
     }
 }
 
-fn run_in<A: Allocator + Copy>(heap: Global, lent: A, alloc: A) -> Result<Came, Fail> {
-    let (_, bytes) = block_of(heap)?;
-    let world = world_of(lent, &CELLS)?;
-    let first = calling(heap, ("peek", &[1]))?;
-    let calls = [first, calling(heap, ("set", &[1, 9]))?];
+fn run_in<A: Allocator + Copy>(
+    heap: Global,
+    lent: A,
+    alloc: A,
+    sample: &Sample,
+) -> Result<Came, Fail> {
+    let (_, bytes) = block_of(heap, sample)?;
+    let world = lent_world(lent, sample.module)?;
+    let [first, second] = sample.two.calls;
+    let first = calling(heap, first)?;
+    let calls = [first, calling(heap, second)?];
     let answer = run(alloc, &world, &calls, &[0, 1]);
-    let is_lent = is_lent(heap, &world)?;
+    let is_lent = is_lent(heap, &world, sample.module)?;
     let Ok((block, next)) = answer else {
         return Ok(refused(is_lent));
     };
-    let is_same = written(heap, lent, &block)? == bytes && are_cells(next.cells(), &AFTER);
+    let is_same = written(heap, lent, &block)? == bytes && are_cells(next.cells(), sample.after);
     Ok(answered(is_lent && is_same))
 }
 
-/// Whether two workers accept the block, with the cells after both calls.
+/// Whether two workers accept the block, with these cells after both calls.
 fn is_accepted<R: Threads + Wait + Sync, A: Allocator + Copy + Send + Sync>(
     rt: &R,
     alloc: A,
     world: &World<A>,
     calls: &[Call; 2],
     bytes: &[u8],
+    after: &[CellRow],
 ) -> bool {
     match validate_in(rt, alloc, world, calls, 1_000, bytes, 2, &NoPace) {
-        Ok(Verdict::Accept(next)) => are_cells(next.cells(), &AFTER),
+        Ok(Verdict::Accept(next)) => are_cells(next.cells(), after),
         _ => false,
     }
 }
@@ -239,25 +289,33 @@ fn mine_by_two<R: Threads + Wait + Sync, A: Allocator + Copy + Send + Sync>(
     heap: Global,
     lent: A,
     alloc: A,
+    sample: &Sample,
 ) -> Result<Came, Fail> {
-    let (calls, _) = block_of(heap)?;
-    let world = world_of(lent, &CELLS)?;
+    let (calls, _) = block_of(heap, sample)?;
+    let world = lent_world(lent, sample.module)?;
     let answer = mine_in(rt, alloc, &world, &calls, 1_000, 2, 2, &NoPace);
-    let is_lent = is_lent(heap, &world)?;
+    let is_lent = is_lent(heap, &world, sample.module)?;
     let Ok(mined) = answer else {
         return Ok(refused(is_lent));
     };
     let bytes = written(heap, lent, &mined.block)?;
-    Ok(answered(is_lent && is_accepted(rt, lent, &world, &calls, &bytes)))
+    let is_accepted = is_accepted(rt, lent, &world, &calls, &bytes, sample.after);
+    Ok(answered(is_lent && is_accepted))
 }
 
 /// Why a block has to be rejected. None: it has to be accepted.
 type Wanted = Option<Reason>;
 
-/// Whether this is the verdict. The world after an accepted block has the cells after both calls.
-fn is_verdict<A: Allocator + Copy>(verdict: &Verdict<A>, wanted: Wanted) -> bool {
+const DEVIATES: Wanted = Some(Reason::Deviates(0));
+
+/// Whether this is the verdict. The world after an accepted block has these cells.
+fn is_verdict<A: Allocator + Copy>(
+    verdict: &Verdict<A>,
+    wanted: Wanted,
+    after: &[CellRow],
+) -> bool {
     match verdict {
-        Verdict::Accept(next) => wanted.is_none() && are_cells(next.cells(), &AFTER),
+        Verdict::Accept(next) => wanted.is_none() && are_cells(next.cells(), after),
         Verdict::Reject(reason) => wanted == Some(*reason),
     }
 }
@@ -267,17 +325,18 @@ fn validate_by_two<R: Threads + Wait + Sync, A: Allocator + Copy + Send + Sync>(
     heap: Global,
     lent: A,
     alloc: A,
+    sample: &Sample,
     wanted: Wanted,
 ) -> Result<Came, Fail> {
-    let (calls, mut bytes) = block_of(heap)?;
+    let (calls, mut bytes) = block_of(heap, sample)?;
     if wanted.is_some() {
         *bytes.get_mut(80).ok_or("a byte")? ^= 1;
     }
-    let world = world_of(lent, &CELLS)?;
+    let world = lent_world(lent, sample.module)?;
     let answer = validate_in(rt, alloc, &world, &calls, 1_000, &bytes, 2, &NoPace);
-    let is_lent = is_lent(heap, &world)?;
+    let is_lent = is_lent(heap, &world, sample.module)?;
     match answer {
-        Ok(verdict) => Ok(answered(is_lent && is_verdict(&verdict, wanted))),
+        Ok(verdict) => Ok(answered(is_lent && is_verdict(&verdict, wanted, sample.after))),
         Err(_) => Ok(refused(is_lent)),
     }
 }
@@ -375,10 +434,14 @@ fn came_of<R: Threads + Wait + Sync, A: Allocator + Copy + Send + Sync>(
         Asked::Deploy => deploy_in(heap, lent, alloc),
         Asked::ReadWorld => read_world_in(heap, alloc),
         Asked::ReadBlock => read_block_in(heap, lent, alloc),
-        Asked::Run => run_in(heap, lent, alloc),
-        Asked::Mine => mine_by_two(rt, heap, lent, alloc),
-        Asked::Validate => validate_by_two(rt, heap, lent, alloc, None),
-        Asked::Reject => validate_by_two(rt, heap, lent, alloc, Some(Reason::Deviates(0))),
+        Asked::Run => run_in(heap, lent, alloc, &PEEK_THEN_SET),
+        Asked::Mine => mine_by_two(rt, heap, lent, alloc, &PEEK_THEN_SET),
+        Asked::Validate => validate_by_two(rt, heap, lent, alloc, &PEEK_THEN_SET, None),
+        Asked::Reject => validate_by_two(rt, heap, lent, alloc, &PEEK_THEN_SET, DEVIATES),
+        Asked::RunLevels => run_in(heap, lent, alloc, &LEVELS_IN_LEVELS),
+        Asked::MineLevels => mine_by_two(rt, heap, lent, alloc, &LEVELS_IN_LEVELS),
+        Asked::ValidateLevels => validate_by_two(rt, heap, lent, alloc, &LEVELS_IN_LEVELS, None),
+        Asked::RejectLevels => validate_by_two(rt, heap, lent, alloc, &LEVELS_IN_LEVELS, DEVIATES),
         Asked::Debug => debug_in(heap, lent, alloc),
     }
 }
@@ -432,8 +495,10 @@ fn refused_in_turn<R: Threads + Wait + Sync>(
     Ok(Err(MANY))
 }
 
-/// Each call, and the least number of blocks that it wants.
-const ROWS: [(Asked, u32); 12] = [
+/// A call, and the least number of blocks that it wants.
+type Row = (Asked, u32);
+
+const ROWS: [Row; 12] = [
     (Asked::Load, 10),
     (Asked::Tokens, 1),
     (Asked::Assemble, 10),
@@ -448,16 +513,37 @@ const ROWS: [(Asked, u32); 12] = [
     (Asked::Debug, 10),
 ];
 
-#[test]
-fn each_block_is_refused_in_turn(rt: HostRuntime) -> Result<(), Fail> {
-    for (asked, least) in ROWS {
+const ROWS_OF_LEVELS: [Row; 4] = [
+    (Asked::RunLevels, 20),
+    (Asked::MineLevels, 20),
+    (Asked::ValidateLevels, 20),
+    (Asked::RejectLevels, 20),
+];
+
+/// Each block that the calls take is refused in turn.
+fn are_refused_in_turn<R: Threads + Wait + Sync + Abort>(
+    rt: &R,
+    heap: Global,
+    rows: &[Row],
+) -> Result<(), Fail> {
+    for (asked, least) in rows {
         for which in [Refusing::One, Refusing::AllAfter] {
-            let wanted = refused_in_turn(&rt, rt.alloc(), asked, which)?;
+            let wanted = refused_in_turn(rt, heap, *asked, which)?;
             assert!(rt;
-                matches!(wanted, Ok(times) if times >= least),
+                matches!(wanted, Ok(times) if times >= *least),
                 "{asked:?}, {which:?}: {wanted:?}"
             );
         }
     }
     Ok(())
+}
+
+#[test]
+fn each_block_is_refused_in_turn(rt: HostRuntime) -> Result<(), Fail> {
+    are_refused_in_turn(&rt, rt.alloc(), &ROWS)
+}
+
+#[test]
+fn each_block_is_refused_in_turn_of_calls_that_ask(rt: HostRuntime) -> Result<(), Fail> {
+    are_refused_in_turn(&rt, rt.alloc(), &ROWS_OF_LEVELS)
 }

@@ -1,5 +1,6 @@
 // Small blocks cut at each byte and with each bit flipped: what the validator says of them, beside the plain verdict, and how often it
 // says so by the format and the rules.
+use crate::plain_executor::Contracts;
 use crate::rows::{Counts, Given, compare};
 use crate::sealed::{seal, world_with};
 use crate::write::write;
@@ -41,7 +42,7 @@ fn given(alloc: Global, rows: &[Row]) -> Result<Given, Fail> {
         calls.push(call(alloc, 0, entry, &args, *fuel)?)?;
     }
     Ok(Given {
-        world: world_with(alloc, &BTreeMap::new(alloc))?,
+        world: world_with(alloc, Contracts::Example, &BTreeMap::new(alloc))?,
         calls,
         fuel: 1_000,
         workers: 2,

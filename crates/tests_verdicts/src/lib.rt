@@ -1,5 +1,5 @@
-//! Tests of verdicts: random blocks of the example contract, as they were made and with single things changed, small ones cut and with each bit
-//! flipped, and what the validator says of them beside a plain verdict, which reads the bytes, runs the calls and compares on its own. There is no code here.
+//! Tests of verdicts: random blocks of the example contract and of contracts that ask one another, as they were made and with single things
+//! changed, small ones cut and with each bit flipped, and what the validator says of them beside a plain verdict, which reads the bytes, runs the calls and compares on its own. There is no code here.
 #![tactic(auto)]
 
 #[cfg(test)]
@@ -8,6 +8,10 @@ mod calls;
 mod change;
 #[cfg(test)]
 mod forged;
+#[cfg(test)]
+mod levels;
+#[cfg(test)]
+mod nested;
 #[cfg(test)]
 mod plain;
 #[cfg(test)]

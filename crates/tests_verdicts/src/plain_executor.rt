@@ -1,4 +1,5 @@
 // The example contract's functions by hand: what a call of one does to the cells, one instruction after another.
+use crate::nested;
 use call::Call;
 use spec_ledger::{Kind, Lock, Mode, Outcome, Receipt};
 use std::alloc::{AllocError, Global};
@@ -7,6 +8,15 @@ use wtypes::{TrapCode, Value};
 
 /// What is in the cells. A counter at 0 is not there.
 pub type Stored = BTreeMap<Lock, u64>;
+
+/// Which contracts there are.
+#[derive(Clone, Copy)]
+pub enum Contracts {
+    /// The example contract alone.
+    Example,
+    /// The example contract, and two that ask whom their arguments say.
+    Asking,
+}
 
 /// What an instruction does to the storage. The key is the first argument.
 #[derive(Clone, Copy)]
@@ -55,13 +65,11 @@ fn doings(alloc: Global, name: &str) -> Result<Option<Vec<Doing>>, AllocError> {
     Ok(Some(doings))
 }
 
-/// The code with which a call is refused before it runs. There is one contract.
+/// The code with which a call of the example contract is refused before it runs.
 fn refusal(call: &Call, known: bool) -> Option<u8> {
     let count = if call.entry() == "peek" { 1 } else { 2 };
     let of_type = |value: &Value| matches!(value, Value::I64(_));
-    if call.contract() != 0 {
-        Some(6)
-    } else if !known {
+    if !known {
         Some(1)
     } else if call.args().len() != count {
         Some(3)
@@ -213,8 +221,8 @@ fn refused(alloc: Global, code: u8) -> Ran {
     }
 }
 
-/// Executes a call. The cells change only where it returns.
-pub fn execute(alloc: Global, call: &Call, cells: &mut Stored) -> Result<Ran, AllocError> {
+/// Executes a call of the example contract. The cells change only where it returns.
+fn execute_example(alloc: Global, call: &Call, cells: &mut Stored) -> Result<Ran, AllocError> {
     let found = doings(alloc, call.entry())?;
     if let Some(code) = refusal(call, found.is_some()) {
         return Ok(refused(alloc, code));
@@ -234,4 +242,25 @@ pub fn execute(alloc: Global, call: &Call, cells: &mut Stored) -> Result<Ran, Al
         put_all(cells, &written)?;
     }
     Ok(Ran { receipt, held })
+}
+
+/// Executes a call: of contract 0, which is the example, or of one that asks whom its argument says. The cells change only where it returns.
+pub fn execute(
+    alloc: Global,
+    contracts: Contracts,
+    call: &Call,
+    cells: &mut Stored,
+) -> Result<Ran, AllocError> {
+    let contract = call.contract();
+    if contract == 0 {
+        return execute_example(alloc, call, cells);
+    }
+    let asks = contract >= nested::FIRST && contract <= nested::LAST;
+    if !matches!(contracts, Contracts::Asking) || !asks {
+        return Ok(refused(alloc, 6));
+    }
+    match nested::execute(alloc, call, cells)? {
+        Some(ran) => Ok(ran),
+        None => Ok(refused(alloc, 1)),
+    }
 }

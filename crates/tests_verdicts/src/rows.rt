@@ -3,6 +3,7 @@ ghost use Rattle.std.specs.Prelude.{◌≤◌};
 
 use crate::calls::{random_calls, random_cells};
 use crate::change::{CHANGES, Change, change_block, change_bytes};
+use crate::plain_executor::Contracts;
 use crate::random::Random;
 use crate::read::read;
 use crate::sealed::{seal, world_digest, world_with};
@@ -72,7 +73,11 @@ pub fn written(alloc: Global, block: &Block) -> Result<Vec<u8>, Fail> {
 }
 
 /// The bytes of a block that workers mine.
-fn mined<R: Threads + Wait + Sync>(rt: &R, alloc: Global, given: &Given) -> Result<Vec<u8>, Fail> {
+pub fn mined<R: Threads + Wait + Sync>(
+    rt: &R,
+    alloc: Global,
+    given: &Given,
+) -> Result<Vec<u8>, Fail> {
     let workers = given.workers;
     if given.calls.len() > 65_535 || workers < 1 || workers > 64 {
         return Err(Fail::from("outside the conditions"));
@@ -156,7 +161,8 @@ pub fn validated<R: Threads + Wait + Sync>(
 
 /// Random cells and calls, and the fuel for their block: at times too little for all of them.
 pub fn random_given(alloc: Global, random: &mut Random) -> Result<Given, Fail> {
-    let world = world_with(alloc, &random_cells(alloc, random)?)?;
+    let cells = random_cells(alloc, random)?;
+    let world = world_with(alloc, Contracts::Example, &cells)?;
     let calls = random_calls(alloc, random, CALLS)?;
     let mut fuel: u64 = if random.once_in(2) { 1_000_000 } else { 0 };
     for call in &calls {
@@ -253,7 +259,7 @@ fn judge_changed<R: Threads + Wait + Sync + Abort>(
 }
 
 /// Judges a block as it is, with each change, and for another fuel.
-fn judge_bytes<R: Threads + Wait + Sync + Abort>(
+pub fn judge_bytes<R: Threads + Wait + Sync + Abort>(
     rt: &R,
     alloc: Global,
     given: &Given,

@@ -1,9 +1,10 @@
 // The block of an order, by hand.
 use crate::plain::{Place, Plain, take_turns};
-use crate::plain_executor::{Ran, Stored, execute};
+use crate::plain_executor::{Contracts, Ran, Stored, execute};
 use block::digest_calls;
 use call::Call;
-use samples::example;
+use link::deployed::Deployed;
+use samples::{PROBING, deployed, example};
 use spec_ledger::{Entry, Kind, Version};
 use std::alloc::{AllocError, Global};
 use std::collections::BTreeMap;
@@ -20,20 +21,44 @@ pub fn stored_in(alloc: Global, world: &World) -> Result<Stored, AllocError> {
     Ok(stored)
 }
 
-/// The world of the contract and of these cells.
-pub fn world_with(alloc: Global, stored: &Stored) -> Result<World, Fail> {
+/// Which contracts a world has.
+pub fn contracts_of(world: &World) -> Contracts {
+    if world.contracts().len() > 1 {
+        Contracts::Asking
+    } else {
+        Contracts::Example
+    }
+}
+
+/// These contracts.
+fn deployed_contracts(alloc: Global, contracts: Contracts) -> Result<Vec<Deployed<Global>>, Fail> {
+    let mut all = vec![in alloc; example(alloc)?]?;
+    if matches!(contracts, Contracts::Asking) {
+        all.push(deployed(alloc, &PROBING)?)?;
+        all.push(deployed(alloc, &PROBING)?)?;
+    }
+    Ok(all)
+}
+
+/// The world of these contracts and these cells.
+pub fn world_with(alloc: Global, contracts: Contracts, stored: &Stored) -> Result<World, Fail> {
     let mut cells = Cells::new(alloc);
     for (lock, value) in stored {
         if lock.kind == Kind::Map || *value > 0 {
             cells.insert(*lock, *value)?;
         }
     }
-    Ok(World::new(vec![in alloc; example(alloc)?]?, cells))
+    let contracts = deployed_contracts(alloc, contracts)?;
+    if contracts.len() > 3 {
+        return Err(Fail::from("too many contracts"));
+    }
+    Ok(World::new(contracts, cells))
 }
 
 /// The calls of a number of an order, one after another.
 pub fn run_all(
     alloc: Global,
+    contracts: Contracts,
     calls: &[Call],
     order: &[u32],
     cells: &mut Stored,
@@ -41,7 +66,7 @@ pub fn run_all(
     let mut all = Vec::new(alloc);
     for number in order {
         let call = calls.get(*number as usize).ok_or("a call")?;
-        all.push(execute(alloc, call, cells)?)?;
+        all.push(execute(alloc, contracts, call, cells)?)?;
     }
     Ok(all)
 }
@@ -120,7 +145,7 @@ fn sealed(
     })
 }
 
-/// The block of this version of an order of calls in a world. The contract has no memory, so its calls come to the same in each version.
+/// The block of this version of an order of calls in a world. No memory of a contract grows, so the calls come to the same in each version.
 pub fn seal(
     alloc: Global,
     world: &World,
@@ -129,7 +154,8 @@ pub fn seal(
     version: Version,
 ) -> Result<Plain, Fail> {
     let mut cells = stored_in(alloc, world)?;
-    let all = run_all(alloc, calls, order, &mut cells)?;
-    let after = world_with(alloc, &cells)?;
+    let contracts = contracts_of(world);
+    let all = run_all(alloc, contracts, calls, order, &mut cells)?;
+    let after = world_with(alloc, contracts, &cells)?;
     sealed(alloc, world, calls, order, &all, &after, version)
 }

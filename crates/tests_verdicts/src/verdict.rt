@@ -1,8 +1,10 @@
 // The verdict, by hand: the nine reasons one after another.
 use crate::plain::{Place, Plain, turn_at};
-use crate::plain_executor::{Ran, Stored};
+use crate::plain_executor::{Contracts, Ran, Stored};
 use crate::read::read;
-use crate::sealed::{calls_digest, run_all, stored_in, used_by, world_digest, world_with};
+use crate::sealed::{
+    calls_digest, contracts_of, run_all, stored_in, used_by, world_digest, world_with,
+};
 use block_judge::Reason;
 use call::Call;
 use std::alloc::{AllocError, Global};
@@ -118,11 +120,12 @@ fn of_another(
 /// The reason 9, where it holds of the cells and the calls that ran.
 fn at_the_end(
     alloc: Global,
+    contracts: Contracts,
     plain: &Plain,
     cells: &Stored,
     all: &[Ran],
 ) -> Result<Option<Reason>, Fail> {
-    let after = world_digest(alloc, &world_with(alloc, cells)?)?;
+    let after = world_digest(alloc, &world_with(alloc, contracts, cells)?)?;
     let is_end = plain.fuel == used_by(all) && plain.after == after;
     Ok((!is_end).then_some(Reason::WrongEnd))
 }
@@ -136,11 +139,12 @@ fn after_the_run(
     order: &[u32],
 ) -> Result<Option<Reason>, Fail> {
     let mut cells = stored_in(alloc, world)?;
-    let all = run_all(alloc, calls, order, &mut cells)?;
+    let contracts = contracts_of(world);
+    let all = run_all(alloc, contracts, calls, order, &mut cells)?;
     if let Some(position) = deviating(&plain.places, &all) {
         return Ok(Some(Reason::Deviates(position)));
     }
-    at_the_end(alloc, plain, &cells, &all)
+    at_the_end(alloc, contracts, plain, &cells, &all)
 }
 
 /// The first reason that holds of a block that was read.

@@ -126,7 +126,7 @@ fn keeps_the_limits(rt: HostRuntime) -> Result<(), Fail> {
 }
 
 /// A receipt's outcome, fuel and levels, and its text.
-const RECEIPTS: [(Outcome, u64, u32, &str); 9] = [
+const RECEIPTS: [(Outcome, u64, u32, &str); 11] = [
     (Outcome::Returned(None), 3, 0, "returned fuel 3"),
     (
         Outcome::Returned(Some(Value::I64(10))),
@@ -156,6 +156,13 @@ const RECEIPTS: [(Outcome, u64, u32, &str); 9] = [
         "returned i64:10 fuel 7 asks 4294967295",
     ),
     (Outcome::OutOfFuel, 6, 2, "out-of-fuel fuel 6 asks 2"),
+    (
+        Outcome::Returned(Some(Value::I64(7))),
+        13,
+        1,
+        "returned i64:7 fuel 13 asks 1",
+    ),
+    (Outcome::OutOfFuel, 24, 4, "out-of-fuel fuel 24 asks 4"),
 ];
 
 #[test]

@@ -10,22 +10,35 @@ use interp::turns::Turn;
 use spec_ledger::{NoMemory, Op};
 use std::alloc::Allocator;
 
-/// Makes turns until the run asks for an operation, and answers it. `None` where the run has ended.
+/// What a run asks of the book that keeps its storage.
+#[derive(Clone, Copy, Debug, PartialEq, Eq)]
+pub enum Wish {
+    /// An operation, whose reply the run waits for.
+    Do(Op),
+    /// A level was entered: what is done from here on is taken back if it traps.
+    Enter,
+    /// The innermost level was left, with what it did where this is true, else without it.
+    Leave(bool),
+}
+
+/// Makes turns until the run asks the book for something, and answers it. `None` where the run has ended.
 ///
 /// # Errors
 ///
 /// Memory was refused to a turn. The machine makes no further one.
-pub fn next_op<'a, A: Allocator + Copy>(
+pub fn next_wish<'a, A: Allocator + Copy>(
     machine: &mut Machine<'a, A>,
-) -> Result<Option<Op>, NoMemory>
+) -> Result<Option<Wish>, NoMemory>
     requires { IsFree machine.old.status }
-    ensures asks { IfOk result (λ o. IfSome o (λ op. HasComeTo machine.old op machine.new)) }
+    ensures asks { IfOk result (λ o. IfSome o (λ wish. HasComeTo machine.old wish machine.new)) }
     ensures ended { result ≡ Ok None → HasEnded machine.old machine.new }
     ensures on_run { IsProgress machine.new }
     ensures no_memory { OnErr result (HasLacked machine.old machine.new) }
 {
     match machine.turn_on() {
-        Turn::Host(op) => Ok(Some(op)),
+        Turn::Host(op) => Ok(Some(Wish::Do(op))),
+        Turn::Enter => Ok(Some(Wish::Enter)),
+        Turn::Leave(keep) => Ok(Some(Wish::Leave(keep))),
         Turn::Done(_) => Ok(None),
         Turn::NoMemory => Err(NoMemory),
         Turn::Stepped => unreachable!(),

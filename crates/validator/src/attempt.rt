@@ -22,7 +22,7 @@ use spec_ledger::{NoMemory, Op, Reply, Version};
 use std::alloc::Allocator;
 use std::sync::{Mutex, Wait};
 use storage::returned;
-use turn_loop::next_op;
+use turn_loop::{Wish, next_wish};
 
 /// Why a run is not made.
 #[derive(Drop)]
@@ -90,11 +90,44 @@ fn ask<A: Allocator + Copy, R: Wait, P: Pace>(
     act(rt, place.ahead, place.position, op)
 }
 
-/// Goes on to the next operation, and does it. Answers whether there was one.
+/// Notes how many operations a position has done where a level is entered.
+fn enter<A: Allocator + Copy, R: Wait, P: Pace>(
+    rt: &R,
+    place: &Place<'_, A, P>,
+    marks: &mut Vec<usize, A>,
+) -> Result<(), Stop> {
+    let mark = place.ahead.lock(rt).count(place.position as usize);
+    match marks.push(mark) {
+        Ok(()) => Ok(()),
+        Err(_) => Err(Stop::NoMemory),
+    }
+}
+
+/// Leaves the innermost level of a position, which the last mark is of: what was done in it stands, or is taken back under the lock of the cells.
+fn leave<A: Allocator + Copy, R: Wait, P: Pace>(
+    rt: &R,
+    place: &Place<'_, A, P>,
+    marks: &mut Vec<usize, A>,
+    keep: bool,
+) {
+    let Some(mark) = marks.pop() else {
+        return;
+    };
+    if keep {
+        return;
+    }
+    place
+        .ahead
+        .lock(rt)
+        .take_back_to(place.position as usize, mark);
+}
+
+/// Goes on to the next operation, or to the next level that is entered or left, and does it. Answers whether there was one.
 fn do_next<'a, A: Allocator + Copy, R: Wait, P: Pace>(
     rt: &R,
     place: &Place<'_, A, P>,
     machine: &mut Machine<'a, A>,
+    marks: &mut Vec<usize, A>,
     asked: &mut u64,
 ) -> Result<bool, Stop>
     requires free { IsFree machine.old.status }
@@ -105,11 +138,19 @@ fn do_next<'a, A: Allocator + Copy, R: Wait, P: Pace>(
     ensures ended { result ≡ Ok false → IsEnded machine.new.status }
     ensures asked { OnOk result (asked.new ≤ machine.new.used) }
 {
-    match next_op(machine) {
-        Ok(Some(op)) => {
+    match next_wish(machine) {
+        Ok(Some(Wish::Do(op))) => {
             let reply = ask(rt, place, *asked, op)?;
             machine.answer(reply);
             *asked += 1;
+            Ok(true)
+        }
+        Ok(Some(Wish::Enter)) => {
+            enter(rt, place, marks)?;
+            Ok(true)
+        }
+        Ok(Some(Wish::Leave(keep))) => {
+            leave(rt, place, marks, keep);
             Ok(true)
         }
         Ok(None) => Ok(false),
@@ -120,6 +161,7 @@ fn do_next<'a, A: Allocator + Copy, R: Wait, P: Pace>(
 /// Runs a call that starts to its end.
 fn run<'a, A: Allocator + Copy, R: Wait, P: Pace>(
     rt: &R,
+    alloc: A,
     place: &Place<'_, A, P>,
     mut machine: Machine<'a, A>,
 ) -> Result<Finished<'a, A>, Stop>
@@ -129,7 +171,9 @@ fn run<'a, A: Allocator + Copy, R: Wait, P: Pace>(
     ensures call { IfOk result (λ finished. finished.call ≡ machine.entry.call) }
 {
     let mut asked = 0;
-    'operations: while do_next(rt, place, &mut machine, &mut asked)? {}
+    // how many operations there were where each open level was entered, the innermost last
+    let mut marks = Vec::new(alloc);
+    'operations: while do_next(rt, place, &mut machine, &mut marks, &mut asked)? {}
     match machine.finish() {
         Ok(finished) => Ok(finished),
         Err(_) => unreachable!(),
@@ -165,7 +209,7 @@ fn play<'a, A: Allocator + Copy, R: Wait, P: Pace>(
     let call = &job.calls[number as usize];
     let _limit = call.fuel();
     match Machine::start_as(job.alloc, job.contracts, call, job.version) {
-        Ok(machine) => run(rt, place, machine),
+        Ok(machine) => run(rt, job.alloc, place, machine),
         Err(StartRefusal::NoMemory) => Err(Stop::NoMemory),
         Err(_) => Ok(rejected(job.alloc, job.contracts, call, job.version)),
     }

@@ -3,3 +3,4 @@ mod Lines
 mod Next
 pub mod Numbers
 mod Saying
+mod Showing

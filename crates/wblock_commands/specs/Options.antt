@@ -3,6 +3,8 @@ use Rattle.std.specs.Prelude.{◌≡◌, ℕ, ◌+◌, ◌-◌, ◌^◌, ◌≤�
 use Rattle.std.specs.Borrow.{Bor}
 use Rattle.std.specs.Str.{bytes_eq}
 use Rattle.wblock_line.specs.Words.{Choice}
+use Rattle.wblock_show.specs.declared.file.Form.{Form}
+use Rattle.wblock_show.specs.declared.file.Form.TheVariants.{Text, Json, Picture}
 
 -- the values of the options of a name, in their order
 abbrev pub values_in : List ℕ → List Choice → List (List ℕ)
@@ -44,6 +46,16 @@ IsNameOrNone values None = values ≡ []
 abbrev pub AsksCalls : List Choice → Option (Bor (List ℕ)) → Type 0
 AsksCalls options calls = IsNameOrNone (values_in (codes "--calls") options) calls
 
+-- what the values of `--json` and of `--svg` ask for: neither is given, and lines are shown; or one of them is, once, `--json` without a value
+abbrev pub IsForm : (switches pictures : List (List ℕ)) → Form → Type 0
+IsForm switches pictures Text = (switches ≡ []) × (pictures ≡ [])
+IsForm switches pictures Json = (switches ≡ [] ∷ []) × (pictures ≡ [])
+IsForm switches pictures (Picture name) = (switches ≡ []) × (pictures ≡ name.now ∷ [])
+
+-- `--json`, or `--svg PICTURE`, or lines
+abbrev pub AsksForm : List Choice → Form → Type 0
+AsksForm options form = IsForm (values_in (codes "--json") options) (values_in (codes "--svg") options) form
+
 -- `--next NEXT`, or no file
 abbrev pub AsksNext : List Choice → Option (Bor (List ℕ)) → Type 0
 AsksNext options next = IsNameOrNone (values_in (codes "--next") options) next
@@ -56,4 +68,4 @@ abbrev pub HasOnlyValidation : List Choice → Type 0
 HasOnlyValidation options = length options ≡ count_of (codes "--fuel") options + count_of (codes "--workers") options + count_of (codes "--next") options
 
 abbrev pub HasOnlyShowing : List Choice → Type 0
-HasOnlyShowing options = length options ≡ count_of (codes "--calls") options
+HasOnlyShowing options = length options ≡ count_of (codes "--calls") options + count_of (codes "--json") options + count_of (codes "--svg") options

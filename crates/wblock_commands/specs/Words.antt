@@ -4,11 +4,13 @@ use Rattle.std.specs.Borrow.{Bor}
 use Rattle.wblock_line.specs.Words.{Line, Choice, split}
 use Rattle.wblock_commands.specs.declared.command.Command.{Command}
 use Rattle.wblock_commands.specs.declared.command.Command.TheVariants.{Stored, Help, Version, Asm, Text, Check, Deploy, Mine, Validate, Debug, Show}
-use Rattle.wblock_commands.specs.Options.{AsksFuel, AsksWorkers, AsksTries, AsksNext, AsksCalls, HasOnlyMining, HasOnlyValidation, HasOnlyShowing}
+use Rattle.wblock_commands.specs.Options.{AsksFuel, AsksWorkers, AsksTries, AsksNext, AsksCalls, AsksForm, HasOnlyMining, HasOnlyValidation, HasOnlyShowing}
 use Rattle.wblock_debug.specs.Asks.{AsksDebug}
 use Rattle.wblock_debug.specs.declared.asked.Debugging.{Debugging}
 use Rattle.wblock_blocks.specs.declared.mine.Mining.{Mining}
 use Rattle.wblock_blocks.specs.declared.validate.Validation.{Validation}
+use Rattle.wblock_show.specs.declared.file.Form.{Form}
+use Rattle.wblock_show.specs.declared.file.Form.TheVariants as form
 use Rattle.wblock_show.specs.declared.file.Showing.{Showing}
 
 abbrev pub texts : List (Bor (List ℕ)) → List (List ℕ)
@@ -100,11 +102,26 @@ pub record AsksValidate (line : Line) (v : Validation) : Type 0 where
   pub spells : SpellsValidate line v
   pub apart : NextIsApart v
 
--- `show FILE [--calls CALLS]`
-pub record AsksShow (line : Line) (s : Showing) : Type 0 where
+-- `show FILE [--calls CALLS]`, with `--json` or `--svg PICTURE` or neither, whatever PICTURE is
+pub record SpellsShow (line : Line) (s : Showing) : Type 0 where
   pub words : line.words ≡ codes "show" ∷ s.file.now ∷ []
   pub calls : AsksCalls line.options s.calls
+  pub form : AsksForm line.options s.form
   pub only : HasOnlyShowing line.options
+
+-- the picture of a block is drawn without calls, and takes the place of no file that is read
+abbrev pub IsDrawnApart : Form → Option (Bor (List ℕ)) → List ℕ → Type 0
+IsDrawnApart form.Text calls file = Unit {0}
+IsDrawnApart form.Json calls file = Unit {0}
+IsDrawnApart (form.Picture picture) calls file = (calls ≡ None) × (file ≢ picture.now)
+
+abbrev pub PictureIsApart : Showing → Type 0
+PictureIsApart s = IsDrawnApart s.form s.calls s.file.now
+
+-- `show FILE [--calls CALLS] [--json]`, or `show FILE --svg PICTURE`, PICTURE of another name than FILE
+pub record AsksShow (line : Line) (s : Showing) : Type 0 where
+  pub spells : SpellsShow line s
+  pub apart : PictureIsApart s
 
 -- the line asks for no command over a world and calls
 pub record AsksNoTask (line : Line) : Type 0 where

@@ -2,7 +2,7 @@
 
 ghost use Rattle.std.specs.Prelude.{◌≡◌, ◌≢◌, ◌≤◌, ◌↔◌, ℕ, List, [], ◌∷◌, Option, IfOk, IfSome, IsTrue, MatchOption, codes, decimal};
 ghost use Rattle.wblock_line.specs.Words.{line_of};
-ghost use Rattle.wblock_commands.specs.Words.{AsksStored, AsksAsm, AsksText, AsksShow, AsksHeap, IsSize, AsksCheck, AsksDeploy, AsksMine, AsksValidate, CountsValidate, SpellsValidate, AsksNoTask, IsLineOf, IsApart, KeepsInputs, NextIsApart, AsksHelp, IsTold, HasFew, texts, choices};
+ghost use Rattle.wblock_commands.specs.Words.{AsksStored, AsksAsm, AsksText, AsksShow, AsksHeap, IsSize, AsksCheck, AsksDeploy, AsksMine, AsksValidate, CountsValidate, SpellsValidate, AsksNoTask, IsLineOf, IsApart, KeepsInputs, NextIsApart, SpellsShow, PictureIsApart, AsksHelp, IsTold, HasFew, texts, choices};
 ghost use Rattle.wblock_commands.specs.declared.command.Command.{Command as Asked};
 ghost use Rattle.wblock_blocks.specs.declared.mine.Mining.{Mining as TheMining};
 ghost use Rattle.wblock_blocks.specs.declared.validate.Validation.{Validation as TheValidation};
@@ -10,14 +10,14 @@ ghost use Rattle.wblock_show.specs.declared.file.Showing.{Showing as TheShowing}
 
 use crate::declared::HEAP;
 use crate::options::{
-    calls_in, fuel_in, has_only_mining, has_only_showing, has_only_validation, next_in,
+    calls_in, form_in, fuel_in, has_only_mining, has_only_showing, has_only_validation, next_in,
     number_within, tries_in, workers_in,
 };
 use std::alloc::{AllocError, Global};
 use wblock_blocks::{Mining, Validation};
 use wblock_debug::{Debugging, debugging_of};
 use wblock_line::Line;
-use wblock_show::Showing;
+use wblock_show::{Form, Showing};
 
 /// A command with its words.
 #[derive(Debug, Drop)]
@@ -42,7 +42,7 @@ pub enum Command<'l, 'w> {
     Validate(Validation<'w>),
     /// `debug WORLD CALLS CALL CMD... [--block BLOCK]`: a call that runs alone, or in a block, turn by turn.
     Debug(Debugging<'w>),
-    /// `show FILE [--calls CALLS]`: what is in a module, a world or a block.
+    /// `show FILE [--calls CALLS]`: what is in a module, a world or a block; or `show FILE --svg PICTURE`: a picture of a block.
     Show(Showing<'w>),
 }
 
@@ -139,6 +139,41 @@ fn text_of<'w>(words: &[&'w str], options: &[(&str, &str)]) -> Option<(&'w str, 
     Some((words[1], words[2]))
 }
 
+/// What `show` is asked for, whatever PICTURE is.
+fn spelled_showing<'w>(
+    alloc: Global,
+    words: &[&'w str],
+    options: &[(&'w str, &'w str)],
+) -> Result<Option<Showing<'w>>, AllocError>
+    ensures { IfOk result (λ found. MatchOption found ((s : TheShowing) → ¬ SpellsShow (record { words = texts words.now; options = choices options.now }) s) (SpellsShow (record { words = texts words.now; options = choices options.now }))) }
+{
+    if words.len() != 2 || !is_word(words[0], "show") || !has_only_showing(options) {
+        return Ok(None);
+    }
+    let Some(calls) = calls_in(alloc, options)? else {
+        return Ok(None);
+    };
+    let Some(form) = form_in(alloc, options)? else {
+        return Ok(None);
+    };
+    Ok(Some(Showing {
+        file: words[1],
+        calls,
+        form,
+    }))
+}
+
+/// Whether PICTURE, where there is one, is asked for without CALLS and takes not the place of FILE.
+fn picture_is_apart(showing: Showing) -> bool
+    ensures { IsTrue result ↔ PictureIsApart showing.entry }
+{
+    match showing.form {
+        Form::Text => true,
+        Form::Json => true,
+        Form::Picture(picture) => showing.calls.is_none() && !is_word(showing.file, picture),
+    }
+}
+
 /// What `show` is asked for.
 fn showing_of<'w>(
     alloc: Global,
@@ -147,16 +182,13 @@ fn showing_of<'w>(
 ) -> Result<Option<Showing<'w>>, AllocError>
     ensures { IfOk result (λ found. MatchOption found ((s : TheShowing) → ¬ AsksShow (record { words = texts words.now; options = choices options.now }) s) (AsksShow (record { words = texts words.now; options = choices options.now }))) }
 {
-    if words.len() != 2 || !is_word(words[0], "show") || !has_only_showing(options) {
+    let Some(showing) = spelled_showing(alloc, words, options)? else {
+        return Ok(None);
+    };
+    if !picture_is_apart(showing) {
         return Ok(None);
     }
-    match calls_in(alloc, options)? {
-        Some(calls) => Ok(Some(Showing {
-            file: words[1],
-            calls,
-        })),
-        None => Ok(None),
-    }
+    Ok(Some(showing))
 }
 
 /// The world and the modules of `deploy`.

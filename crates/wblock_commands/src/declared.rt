@@ -56,6 +56,12 @@ pub(crate) const QUIET: Switch = Switch {
     help: "Says nothing of the progress on standard error",
 };
 
+/// What is shown, as JSON.
+pub(crate) const JSON: Switch = Switch {
+    name: "json",
+    help: "Shows the same as one JSON object on a line",
+};
+
 /// The bytes of the heap of `check`.
 pub(crate) const HEAP: NumberOption = NumberOption {
     word: "--heap",
@@ -122,6 +128,14 @@ pub(crate) const CALLS: FileOption = FileOption {
     name: "calls",
     value: "CALLS",
     help: "The file of the block's calls, in text: each position is shown with its call",
+};
+
+/// The file of the picture of a block.
+pub(crate) const SVG: FileOption = FileOption {
+    word: "--svg",
+    name: "svg",
+    value: "PICTURE",
+    help: "The file of a picture of the block, an SVG, to be written in place of the text; another than FILE, and not with --calls",
 };
 
 /// The file of the world after a block that is accepted.

@@ -1,10 +1,10 @@
 //! What is wrong with words that the command line's reader takes and that ask for nothing, for people.
 
-use crate::declared::{BLOCK, CALLS, NEXT};
+use crate::declared::{BLOCK, CALLS, NEXT, SVG};
 use calls_text::number_of;
 use std::alloc::{AllocError, Global};
 use wblock_debug::command_of;
-use wblock_line::split_words;
+use wblock_line::{JSON_SWITCH, split_words};
 
 /// Two words of a line that name one file, the second of which would be written.
 fn clash(alloc: Global, first: &str, second: &str, name: &str) -> Result<String, AllocError> {
@@ -47,6 +47,35 @@ fn validation_misuse(
         }
         if *name == NEXT.word && *value == block {
             return Ok(Some(clash(alloc, "BLOCK", "NEXT", block)?));
+        }
+    }
+    Ok(None)
+}
+
+/// What is wrong with how options of `show` ask for a file to be shown.
+fn showing_misuse(
+    alloc: Global,
+    file: &str,
+    options: &[(&str, &str)],
+) -> Result<Option<String>, AllocError> {
+    let is_drawn = options.iter().any(|option| option.0 == SVG.word);
+    for (name, value) in options {
+        if *name == SVG.word && *value == file {
+            return Ok(Some(clash(alloc, "FILE", "PICTURE", file)?));
+        }
+        if *name == CALLS.word && is_drawn {
+            let text =
+                "usage: a picture is drawn without the calls: leave `--calls` or `--svg` out".to_string(
+                    alloc,
+                )?;
+            return Ok(Some(text));
+        }
+        if *name == JSON_SWITCH && is_drawn {
+            let text =
+                "usage: a file is shown in one form: leave `--json` or `--svg` out".to_string(
+                    alloc,
+                )?;
+            return Ok(Some(text));
         }
     }
     Ok(None)
@@ -98,6 +127,7 @@ fn names_misuse(
             mining_misuse(alloc, (*world, *calls, *block, *next))
         }
         ["validate", _, calls, block] => validation_misuse(alloc, *calls, *block, options),
+        ["show", file] => showing_misuse(alloc, *file, options),
         ["debug", _, _, call, commands @ ..] => {
             Ok(Some(debugging_misuse(alloc, *call, commands)?))
         }
@@ -107,7 +137,7 @@ fn names_misuse(
 
 /// Whether the value of the option of this name is a file's name.
 fn names_file(name: &str) -> bool {
-    name == BLOCK.word || name == CALLS.word || name == NEXT.word
+    name == BLOCK.word || name == CALLS.word || name == NEXT.word || name == SVG.word
 }
 
 /// `usage`, and what is wrong with words that the command line's reader takes.
@@ -119,6 +149,12 @@ pub(crate) fn misuse_text(alloc: Global, words: &[&str]) -> Result<String, Alloc
         return Ok(text);
     }
     for (name, value) in &line.options {
+        if *name == JSON_SWITCH {
+            if !value.is_empty() {
+                return "usage: `--json` takes no value".to_string(alloc);
+            }
+            continue;
+        }
         if !names_file(*name) && number_of(alloc, *value)?.is_none() {
             return format!(in alloc;
                 "usage: `{value}` of `{name}` is no number: decimal without sign and needless zeros"

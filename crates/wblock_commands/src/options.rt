@@ -1,13 +1,16 @@
 //! What options ask for.
 
 ghost use Rattle.std.specs.Borrow.{Bor};
-ghost use Rattle.std.specs.Prelude.{◌≡◌, ◌≢◌, ◌≤◌, ◌<◌, ◌+◌, ◌^◌, ◌↔◌, ℕ, List, Option, IfOk, IsTrue, MatchOption, decimal, length};
-ghost use Rattle.wblock_commands.specs.Options.{values_in, IsNumber, IsNumberOr, IsNameOrNone, count_of, AsksFuel, AsksWorkers, AsksTries, AsksNext, AsksCalls, HasOnlyMining, HasOnlyValidation, HasOnlyShowing};
+ghost use Rattle.std.specs.Prelude.{◌≡◌, ◌≢◌, ◌≤◌, ◌<◌, ◌+◌, ◌^◌, ◌↔◌, ℕ, List, [], Option, IfOk, IsTrue, MatchOption, decimal, length};
+ghost use Rattle.wblock_commands.specs.Options.{values_in, IsNumber, IsNumberOr, IsNameOrNone, IsForm, count_of, AsksFuel, AsksWorkers, AsksTries, AsksNext, AsksCalls, AsksForm, HasOnlyMining, HasOnlyValidation, HasOnlyShowing};
 ghost use Rattle.wblock_commands.specs.Words.{texts, choices};
+ghost use Rattle.wblock_show.specs.declared.file.Form.{Form as TheForm};
 
-use crate::declared::{CALLS, FUEL, NEXT, TRIES, USUAL_TRIES, USUAL_WORKERS, WORKERS};
+use crate::declared::{CALLS, FUEL, NEXT, SVG, TRIES, USUAL_TRIES, USUAL_WORKERS, WORKERS};
 use calls_text::number_of;
 use std::alloc::{AllocError, Global};
+use wblock_line::JSON_SWITCH;
+use wblock_show::Form;
 
 /// The values of the options of a name, in their order.
 fn values_of<'w>(
@@ -131,6 +134,36 @@ fn only_name<'w>(values: &[&'w str]) -> Option<Option<&'w str>>
     Some(Some(values[0]))
 }
 
+/// The form of a picture in the file of the only name, or lines where there is none; or None where there are several.
+fn picture_of<'w>(pictures: &[&'w str]) -> Option<Form<'w>>
+    ensures { MatchOption result ((form : TheForm) → ¬ IsForm [] (texts pictures.now) form) (IsForm [] (texts pictures.now)) }
+{
+    if pictures.is_empty() {
+        return Some(Form::Text);
+    }
+    if pictures.len() > 1 {
+        return None;
+    }
+    Some(Form::Picture(pictures[0]))
+}
+
+/// The form that the values of `--json` and of `--svg` ask for; or None where they ask for several, or `--json` has a value.
+fn form_of<'w>(switches: &[&str], pictures: &[&'w str]) -> Option<Form<'w>>
+    ensures { MatchOption result ((form : TheForm) → ¬ IsForm (texts switches.now) (texts pictures.now) form) (IsForm (texts switches.now) (texts pictures.now)) }
+{
+    if switches.is_empty() {
+        return picture_of(pictures);
+    }
+    if switches.len() > 1 || !pictures.is_empty() {
+        return None;
+    }
+    if switches[0].is_empty() {
+        Some(Form::Json)
+    } else {
+        None
+    }
+}
+
 /// The file that options name for the world after a block, if any; or None where they name several.
 pub(crate) fn next_in<'w>(
     alloc: Global,
@@ -151,6 +184,18 @@ pub(crate) fn calls_in<'w>(
 {
     let values = values_of(alloc, options, CALLS.word)?;
     Ok(only_name(values.as_slice()))
+}
+
+/// How options ask for a file to be shown: as JSON, by a picture where they name a file for it, or else by lines; or None where they ask for several.
+pub(crate) fn form_in<'w>(
+    alloc: Global,
+    options: &[(&'w str, &'w str)],
+) -> Result<Option<Form<'w>>, AllocError>
+    ensures { IfOk result (λ found. MatchOption found ((form : TheForm) → ¬ AsksForm (choices options.now) form) (AsksForm (choices options.now))) }
+{
+    let switches = values_of(alloc, options, JSON_SWITCH)?;
+    let pictures = values_of(alloc, options, SVG.word)?;
+    Ok(form_of(switches.as_slice(), pictures.as_slice()))
 }
 
 /// How many options have this name.
@@ -191,5 +236,8 @@ pub(crate) fn has_only_validation(options: &[(&str, &str)]) -> bool
 pub(crate) fn has_only_showing(options: &[(&str, &str)]) -> bool
     ensures { IsTrue result ↔ HasOnlyShowing (choices options.now) }
 {
-    options.len() == count_of(options, CALLS.word)
+    let calls = count_of(options, CALLS.word);
+    let switches = count_of(options, JSON_SWITCH);
+    let pictures = count_of(options, SVG.word);
+    options.len() == calls + switches + pictures
 }

@@ -5,7 +5,8 @@ ghost use Rattle.wblock_commands.specs.Lines.{EndsLine};
 ghost use Rattle.wblock_commands.specs.Does.{TellsText};
 
 use crate::declared::{
-    BLOCK, CALLS, FUEL, FileOption, HEAP, NEXT, NumberOption, QUIET, Switch, TRIES, WORKERS,
+    BLOCK, CALLS, FUEL, FileOption, HEAP, JSON, NEXT, NumberOption, QUIET, SVG, Switch, TRIES,
+    WORKERS,
 };
 use crate::misuse::misuse_text;
 use clap::builder::ValueParser;
@@ -157,13 +158,15 @@ fn debug<'a>(alloc: Global) -> Result<Command<'a>, AllocError> {
 
 fn show<'a>(alloc: Global) -> Result<Command<'a>, AllocError> {
     Command::new(alloc, "show")
-        .about("Shows what is in a module, a world or a block")
+        .about("Shows what is in a module, a world or a block, or draws a block")
         .arg(required(
             alloc,
             "FILE",
             "The file of the module, the world or the block",
         ))?
-        .arg(file(alloc, CALLS))
+        .arg(file(alloc, CALLS))?
+        .arg(switch(alloc, JSON))?
+        .arg(file(alloc, SVG))
 }
 
 fn program<'a>(alloc: Global) -> Result<Command<'a>, AllocError> {

@@ -1,4 +1,3 @@
 mod AtIndex
-mod Counting
 mod Lines
 mod Places

@@ -2,19 +2,15 @@
 use Rattle.std.specs.Prelude.{ℕ, List, [], ◌∷◌, ◌++◌, ◌==◌, if◌then◌else◌, Option, Some, None, codes, decimal, length, slice_get}
 use Rattle.std.specs.List.{flat_map}
 use Rattle.wtypes.specs.declared.ValType.{ValType}
-use Rattle.wtypes.specs.declared.ValType.TheVariants.{I32, I64}
 use Rattle.spec_syntax.specs.Syntax.{FuncType, Limits, GlobalType, ImportDesc, ImportFunc, ImportTable, ImportMemory, ImportGlobal, ExportDesc, ExportFunc, ExportTable, ExportMemory, ExportGlobal, Import, Export, Func, Global, Module}
 use Rattle.spec_syntax.specs.Shape.{size}
 use Rattle.spec_typing.specs.Modules.{type_at, func_type_indices, imported_globals}
 use Rattle.module_tree.specs.Readers.{imported_funcs}
+use Rattle.module_figures.specs.Names.{type_name}
 use Rattle.wblock_contents.specs.Names.{name_text}
 use Rattle.wblock_contents.specs.Lines.{numbered}
 
 -- ---- types
-
-abbrev pub type_name : ValType → List ℕ
-type_name I32 = codes "i32"
-type_name I64 = codes "i64"
 
 -- ` T` for each type
 abbrev pub types_text : List ValType → List ℕ

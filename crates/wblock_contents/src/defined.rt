@@ -1,6 +1,6 @@
 //! What a module defines.
 
-ghost use Rattle.std.specs.Prelude.{◌≡◌, ◌++◌, ◌+◌, ◌<◌, ◌^◌, IfOk, Some, length, map, vec_len, string_bytes};
+ghost use Rattle.std.specs.Prelude.{◌≡◌, IfOk, Some, length, map, string_bytes};
 ghost use Rattle.std.specs.List.{flat_map};
 ghost use Rattle.spec_typing.specs.Modules.{imported_globals};
 ghost use Rattle.module_tree.specs.ModuleView.{limits_view, func_view, global_view};
@@ -11,6 +11,7 @@ ghost use Rattle.wblock_contents.specs.ModuleText.{amounts_text, func_line, limi
 
 use crate::types::{global_type_text_of, limits_text_of, type_text_at};
 use body_typing::spaces::Spaces;
+use module_figures::first_func;
 use module_tree::module::{Func, Global as Variable, Module};
 use std::alloc::{AllocError, Global};
 use wtypes::Limits;
@@ -37,14 +38,6 @@ fn func_line_of(
     let amounts = amounts_text_of(alloc, func.locals.len(), tree.size(number))?;
     let line = format!(in alloc; "function {number}{func_type}{amounts}")?;
     Ok(line)
-}
-
-/// The number of the first defined function. No function has a number of more than 32 bits.
-fn first_func(tree: &Module<Global>) -> u32
-    ensures number { result ≡ imported_funcs (module_view tree.now).imports }
-    ensures room { result + vec_len tree.now.funcs < 2 ^ 32 }
-{
-    tree.imported_funcs() as u32
 }
 
 /// A line for each defined function.

@@ -14,5 +14,5 @@ mod worlds;
 pub use kind::{Kind, spelled_begin_so};
 pub use modules::list_module;
 pub use names::quoted;
-pub use show::{Contents, show_bytes, show_file};
+pub use show::{Contents, show_bytes, show_file, unknown_answer};
 pub use worlds::list_world;

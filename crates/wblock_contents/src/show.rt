@@ -54,8 +54,8 @@ fn unknown_words(bytes: &[u8]) -> &'static str {
     "show: the file begins as no module, no world and no block; name a file as `asm`, `deploy` or `mine` wrote it"
 }
 
-/// The answer to bytes of no kind.
-fn unknown_answer<'a>(alloc: Global, bytes: &[u8]) -> Result<Answer<'a>, AllocError>
+/// The answer to bytes of no kind: `refused show 1`, and a sentence that says what they look like.
+pub fn unknown_answer<'a>(alloc: Global, bytes: &[u8]) -> Result<Answer<'a>, AllocError>
     ensures { IfOk result IsUnknown }
 {
     let line = "refused show 1\n".to_string(alloc)?;

@@ -3,21 +3,12 @@
 ghost use Rattle.std.specs.Prelude.{◌≡◌, IfOk, map, string_bytes};
 ghost use Rattle.spec_typing.specs.Modules.{type_at};
 ghost use Rattle.module_tree.specs.ModuleView.{func_type_view, limits_view, global_type_view};
-ghost use Rattle.wblock_contents.specs.ModuleText.{type_name, types_text, listed, func_type_text, limits_text, global_type_text};
+ghost use Rattle.wblock_contents.specs.ModuleText.{types_text, listed, func_type_text, limits_text, global_type_text};
 
+use module_figures::type_name;
 use module_tree::module::GlobalType;
 use std::alloc::{AllocError, Global};
 use wtypes::{FuncType, Limits, ValType};
-
-/// The name of a type.
-fn name_of(value_type: ValType) -> &'static str
-    ensures { result.now ≡ type_name value_type }
-{
-    match value_type {
-        ValType::I32 => "i32",
-        ValType::I64 => "i64",
-    }
-}
 
 /// ` T` for each type.
 fn types_text_of(alloc: Global, types: &[ValType]) -> Result<String, AllocError>
@@ -25,7 +16,7 @@ fn types_text_of(alloc: Global, types: &[ValType]) -> Result<String, AllocError>
 {
     let mut text = String::new(alloc);
     for value_type in types {
-        let name = name_of(*value_type);
+        let name = type_name(*value_type);
         let word = format!(in alloc; " {name}")?;
         text.push_str(word.as_str())?;
     }
@@ -87,7 +78,7 @@ pub(crate) fn global_type_text_of(
 ) -> Result<String, AllocError>
     ensures { IfOk result (λ text. string_bytes text ≡ global_type_text (global_type_view global_type)) }
 {
-    let name = name_of(global_type.value_type);
+    let name = type_name(global_type.value_type);
     let text = if global_type.is_mutable {
         format!(in alloc; "(mut {name})")?
     } else {

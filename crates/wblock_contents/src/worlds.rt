@@ -1,10 +1,7 @@
 //! What is in a world.
 
-ghost use Rattle.std.specs.Prelude.{◌≡◌, IfOk, MatchResult, length, map, string_bytes};
-ghost use Rattle.spec_binary.specs.Shortest.{shortest};
+ghost use Rattle.std.specs.Prelude.{◌≡◌, IfOk, MatchResult, map, string_bytes};
 ghost use Rattle.spec_block.specs.Bytes.{world_bytes};
-ghost use Rattle.module_tree.specs.Modules.{module_view};
-ghost use Rattle.link.specs.Parts.{tree_of};
 ghost use Rattle.world.specs.Views.{contract_view, world_view};
 ghost use Rattle.wblock_line.specs.Worlds.{TellsNoWorld};
 ghost use Rattle.wblock_contents.specs.Lines.{numbered};
@@ -13,24 +10,13 @@ ghost use Rattle.wblock_contents.specs.Listings.{TellsWorld};
 
 use crate::cells::{cells_text_of, list_cells};
 use crate::interface::interface_text_of;
-use encoder::encode;
 use link::deployed::Deployed;
+use module_figures::shortest_size;
 use sha2::{Digest, Sha256};
 use std::alloc::{AllocError, Global};
 use storage::Kind;
 use wblock_line::judge_world;
 use world::World;
-
-/// How many bytes the shortest spelling of a contract's module has.
-fn contract_size(alloc: Global, contract: &Deployed<Global>) -> Result<usize, AllocError>
-    ensures { IfOk result (λ size. size ≡ length (shortest (module_view (tree_of contract.now)))) }
-{
-    let mut bytes = Vec::new(alloc);
-    match encode(contract.module(), &mut bytes) {
-        Ok(()) => Ok(bytes.len()),
-        Err(_) => Err(AllocError),
-    }
-}
 
 /// The lines of a contract.
 fn contract_text_of(
@@ -40,7 +26,7 @@ fn contract_text_of(
 ) -> Result<String, AllocError>
     ensures { IfOk result (λ text. string_bytes text ≡ contract_text number (contract_view contract.now)) }
 {
-    let size = contract_size(alloc, contract)?;
+    let size = shortest_size(alloc, contract.module())?;
     let interface = interface_text_of(alloc, contract.module())?;
     let text = format!(in alloc; "contract {number} {size} bytes\n{interface}")?;
     Ok(text)

@@ -3,9 +3,8 @@ use Rattle.std.specs.Prelude.{◌≡◌, ℕ, ◌+◌, ◌<◌, ◌≤◌, ◌�
 use Rattle.spec_ledger.specs.Cells.{Cells}
 use Rattle.spec_execution.specs.Configuration.{Setting}
 use Rattle.spec_execution.specs.Run.{ContractCall, opening, Refused}
-use Rattle.spec_execution.specs.Turns.{state_of}
 use Rattle.debugger.specs.Breaks.{with_break, without_break, instr_there}
-use Rattle.debugger.specs.Sight.{Sight, IsSight, stack_at, locals_at, globals_at}
+use Rattle.debugger.specs.Sight.{Sight, IsSight, stack_at, locals_at, globals_at, memory_at}
 use Rattle.debugger.specs.Commands.{IsOpened, HasStepped, HasGoneBack, HasContinued}
 use Rattle.debugger.specs.declared.session.Refusal.{Refusal}
 use Rattle.debugger.specs.declared.session.Refusal.TheVariants as refusal
@@ -27,14 +26,14 @@ Does (Clear f o) s t line = IsSome (instr_there s.contract.deployed.tree (f, o))
 Does Stack s t line = (t ≡ s) × (line ≡ values_line (codes "stack") (stack_at t))
 Does Locals s t line = (t ≡ s) × (line ≡ values_line (codes "locals") (locals_at t))
 Does Globals s t line = (t ≡ s) × (line ≡ values_line (codes "globals") (globals_at t))
-Does (Bytes from n) s t line = (t ≡ s) × (from + n ≤ length (state_of t.config.inner.config).memory) × (line ≡ bytes_line (take n (drop from (state_of t.config.inner.config).memory)))
+Does (Bytes from n) s t line = (t ≡ s) × (from + n ≤ length (memory_at t)) × (line ≡ bytes_line (take n (drop from (memory_at t))))
 
 -- a command that is refused, and why
 abbrev pub Refuses : Command → Sight → Refusal → Type 0
 Refuses (Back n) s refusal.BeforeStart = s.turns < n
 Refuses (Break f o) s refusal.NoSuchPlace = instr_there s.contract.deployed.tree (f, o) ≡ None
 Refuses (Clear f o) s refusal.NoSuchPlace = instr_there s.contract.deployed.tree (f, o) ≡ None
-Refuses (Bytes from n) s refusal.OutOfRange = length (state_of s.config.inner.config).memory < from + n
+Refuses (Bytes from n) s refusal.OutOfRange = length (memory_at s) < from + n
 Refuses c s r = ⊥
 
 -- From a first state on, these commands were given one after another: they have come to this state and printed this text. A command that is refused

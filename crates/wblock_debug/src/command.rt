@@ -18,7 +18,7 @@ pub enum Command {
     Cont,
     /// `place`: shows where the call stands.
     Place,
-    /// `break:F:O`: sets a break at this function's instruction of this ordinal.
+    /// `break:F:O`: sets a break at this function's instruction of this ordinal, in each level that runs the contract that is called.
     Break(u32, u32),
     /// `clear:F:O`: clears the break there.
     Clear(u32, u32),
@@ -26,9 +26,9 @@ pub enum Command {
     Stack,
     /// `locals`: shows the locals of the innermost frame.
     Locals,
-    /// `globals`: shows the globals.
+    /// `globals`: shows the globals of the innermost level, after the end those of the outer one.
     Globals,
-    /// `bytes:FROM:N`: shows so many bytes of memory from this address on.
+    /// `bytes:FROM:N`: shows so many bytes from this address on of the same level's memory.
     Bytes(u64, u64),
 }
 

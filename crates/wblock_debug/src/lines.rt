@@ -1,15 +1,35 @@
 //! The lines that tell what a session shows.
 
-ghost use Rattle.std.specs.Prelude.{◌≡◌, IfOk, string_bytes};
-ghost use Rattle.wblock_debug.specs.Lines.{state_line, values_text, values_line, bytes_line};
+ghost use Rattle.std.specs.Prelude.{◌≡◌, Some, IfOk, string_bytes};
+ghost use Rattle.wblock_debug.specs.Lines.{level_text, state_line, values_text, values_line, bytes_line};
 
 use calls_text::{ReceiptText, ValueText};
 use debugger::session::Session;
 use spec_ledger::Receipt;
 use std::alloc::{AllocError, Allocator};
+use std::fmt;
 use wtypes::Value;
 
-/// `K at F O`, or `K done RECEIPT`.
+/// The contract and the level that a call is in, printed as ` in C level L`, or as nothing in the outer level.
+#[derive(Clone, Copy)]
+struct LevelText {
+    contract: u32,
+    level: usize,
+}
+
+impl fmt::Display for LevelText {
+    ghost output = { λ l. Some (level_text l.contract l.level) };
+
+    fn fmt<W: fmt::Write>(&self, f: &mut fmt::Formatter<W>) -> fmt::Result {
+        let contract = self.contract;
+        match self.level {
+            0 => Ok(()),
+            level => write!(f, " in {contract} level {level}"),
+        }
+    }
+}
+
+/// `K at F O`, with ` in C level L` behind it in a level inside the outer one; or `K done RECEIPT`.
 pub(crate) fn state_line_of<A: Allocator + Copy>(
     alloc: A,
     session: &Session<'_, A>,
@@ -18,16 +38,21 @@ pub(crate) fn state_line_of<A: Allocator + Copy>(
 {
     let used = session.turns();
     if let Some(outcome) = session.ending() {
+        let asks = session.asks();
         let receipt = ReceiptText(Receipt {
             outcome,
             used,
-            asks: 0,
+            asks,
         });
         let line = format!(in alloc; "{used} done {receipt}\n")?;
         return Ok(line);
     }
+    let inside = LevelText {
+        contract: session.contract(),
+        level: session.level(),
+    };
     let line = match session.place() {
-        Some((func, ordinal)) => format!(in alloc; "{used} at {func} {ordinal}\n")?,
+        Some((func, ordinal)) => format!(in alloc; "{used} at {func} {ordinal}{inside}\n")?,
         None => format!(in alloc; "{used}\n")?,
     };
     Ok(line)

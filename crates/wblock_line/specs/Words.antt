@@ -1,5 +1,6 @@
 -- The words of a line, with its options taken out.
-use Rattle.std.specs.Prelude.{◌≡◌, ℕ, List, [], ◌∷◌, ◌++◌, Option, Some, None, Bool, ◌==◌, nat_lt, length, map, drop, option_map, slice_index, if◌then◌else◌}
+use Rattle.std.specs.Prelude.{◌≡◌, ℕ, List, [], ◌∷◌, ◌++◌, Option, Some, None, Bool, ◌==◌, ◌||◌, nat_lt, codes, length, map, drop, option_map, slice_index, if◌then◌else◌}
+use Rattle.std.specs.Str.{bytes_eq}
 use Rattle.std.specs.List.{position_or_len, before_first, after_first}
 use Rattle.wblock_line.specs.declared.words.Line.{Line as TheLine}
 
@@ -18,9 +19,13 @@ is_equals b = b == 0x3D
 abbrev pub is_option : List ℕ → Bool
 is_option word = slice_index word 0 == 0x2D
 
--- `NAME=VALUE`
+-- a switch is an option that has no value; it is taken as one with an empty value
+abbrev pub is_switch : List ℕ → Bool
+is_switch word = bytes_eq word (codes "--json")
+
+-- nothing more is wanted of the next word: `NAME=VALUE`, or a switch
 abbrev pub has_value : List ℕ → Bool
-has_value word = nat_lt (position_or_len is_equals word) (length word)
+has_value word = is_switch word || nat_lt (position_or_len is_equals word) (length word)
 
 abbrev pub halves : List ℕ → Choice
 halves word = (before_first is_equals word, after_first is_equals word)
@@ -29,7 +34,7 @@ halves word = (before_first is_equals word, after_first is_equals word)
 abbrev pub with_front : List (List ℕ) → List Choice → Option Line → Option Line
 with_front words options line = option_map (λ (l : Line). record { words = words ++ l.words; options = options ++ l.options }) line
 
--- An option stands anywhere, as `NAME=VALUE` or as `NAME VALUE`. There is no line whose last word is an option without its value.
+-- An option stands anywhere, as `NAME=VALUE` or as `NAME VALUE`, and a switch as `NAME`. There is no line whose last word is an option without its value.
 unfoldable pub split : List (List ℕ) → Option Line
 split [] = Some (record { words = []; options = [] })
 split (w ∷ []) =

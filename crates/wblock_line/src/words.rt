@@ -1,7 +1,7 @@
 //! The words of a line, with its options taken out.
 
 ghost use Rattle.std.specs.Prelude.{◌≡◌, ◌≤◌, ◌<◌, IfOk, IfSome, Some, None, length, map, option_map, if◌then◌else◌};
-ghost use Rattle.wblock_line.specs.Words.{split, line_of, is_option, has_value, halves, IsTaken};
+ghost use Rattle.wblock_line.specs.Words.{split, line_of, is_option, is_switch, has_value, halves, IsTaken};
 
 use std::alloc::{AllocError, Global};
 
@@ -10,7 +10,7 @@ use std::alloc::{AllocError, Global};
 pub struct Line<'a> {
     /// The words that are no options, in their order.
     pub words: Vec<&'a str>,
-    /// The options, each with its name, hyphens included, and its value, in their order.
+    /// The options, each with its name, hyphens included, and its value, which is empty for one that has none, in their order.
     pub options: Vec<(&'a str, &'a str)>,
 }
 
@@ -20,10 +20,22 @@ fn begins_option(word: &str) -> bool
     word.starts_with('-')
 }
 
-/// The two parts of `NAME=VALUE`.
+/// The option that has no value.
+pub const JSON_SWITCH: &str = "--json";
+
+fn is_switch(word: &str) -> bool
+    ensures { result ≡ is_switch word.now }
+{
+    word == JSON_SWITCH
+}
+
+/// The two parts of `NAME=VALUE`, or a switch and no value.
 fn halves_of<'a>(word: &'a str) -> Option<(&'a str, &'a str)>
     ensures { option_map (λ x. (x.0.now, x.1.now)) result ≡ (if has_value word.entry.now then Some (halves word.entry.now) else None) }
 {
+    if is_switch(word) {
+        return Some((word, ""));
+    }
     word.split_once('=')
 }
 
@@ -51,7 +63,7 @@ fn take_word<'a>(line: &mut Line<'a>, words: &[&'a str]) -> Result<Option<usize>
 }
 
 /// The words of a line with its options taken out: a word that begins with a hyphen is an option, `NAME=VALUE` or `NAME VALUE`, and stands
-/// anywhere. None where the last word is an option without its value.
+/// anywhere; `--json` has no value, and is taken as an option with an empty one. None where the last word is an option without its value.
 pub fn split_words<'a>(alloc: Global, words: &'a [&'a str]) -> Result<Option<Line<'a>>, AllocError>
     ensures { IfOk result (λ found. option_map line_of found ≡ split (map (λ w. w.now) words.entry.now)) }
 {

@@ -1,18 +1,15 @@
 -- The lines of a block that is shown.
-use Rattle.std.specs.Prelude.{◌==◌, ℕ, ◌+◌, ◌*◌, ◌/◌, ◌%◌, Option, Some, None, List, [], ◌∷◌, ◌++◌, if◌then◌else◌, codes, decimal, slice_get, slice_index}
+use Rattle.std.specs.Prelude.{◌==◌, ℕ, ◌+◌, ◌*◌, ◌/◌, Option, Some, None, List, [], ◌∷◌, ◌++◌, if◌then◌else◌, codes, decimal, slice_get, slice_index}
 use Rattle.std.specs.Borrow.{Bor}
 use Rattle.hex.specs.Hex.{encode_lower}
 use Rattle.wtypes.specs.declared.Value.{Value}
-use Rattle.spec_ledger.specs.declared.Kind.{Kind}
-use Rattle.spec_ledger.specs.declared.Kind.TheVariants.{Map, Counter}
 use Rattle.spec_ledger.specs.declared.Lock.{Lock}
-use Rattle.spec_ledger.specs.declared.Mode.{Mode}
-use Rattle.spec_ledger.specs.declared.Mode.TheVariants.{Read, Add, Excl}
 use Rattle.spec_ledger.specs.declared.Entry.{Entry}
 use Rattle.spec_block.specs.Worlds.{Block, Call, Position}
 use Rattle.spec_block.specs.Bytes.{trap_code, version_code}
 use Rattle.calls_text.specs.Texts.{value_text}
 use Rattle.calls_text.specs.Receipts.{position_text}
+use Rattle.block_figures.specs.Words.{hundredth, kind_word, mode_word}
 use Rattle.block_figures.specs.declared.figures.Chains.{Chains}
 use Rattle.block_figures.specs.declared.figures.Figures.{Figures}
 use Rattle.block_figures.specs.declared.hottest.SharedLock.{SharedLock}
@@ -24,15 +21,6 @@ use Rattle.block_figures.specs.declared.outcomes.OutcomeKind.TheVariants.{Return
 abbrev pub calls_of : Option (Bor (List Call)) → Option (List Call)
 calls_of None = None
 calls_of (Some calls) = Some calls.now
-
-abbrev pub kind_word : Kind → List ℕ
-kind_word Map = codes "map"
-kind_word Counter = codes "counter"
-
-abbrev pub mode_word : Mode → List ℕ
-mode_word Read = codes "read"
-mode_word Add = codes "add"
-mode_word Excl = codes "excl"
 
 -- `map CONTRACT:KEY` or `counter CONTRACT:KEY`
 abbrev pub lock_text : Lock → List ℕ
@@ -97,10 +85,6 @@ fuel_line b = codes "fuel " ++ (decimal b.fuel ++ 10 ∷ [])
 -- `version V`, `before HEX`, `calls HEX`, `after HEX` and `fuel N`
 unfoldable pub head_lines : Block → List ℕ
 head_lines b = version_line b ++ (digest_line (codes "before") b.before ++ (digest_line (codes "calls") b.calls ++ (digest_line (codes "after") b.after ++ fuel_line b)))
-
--- a hundredth of a number, with two decimals
-abbrev pub hundredth : ℕ → List ℕ
-hundredth n = decimal (n / 100) ++ codes "." ++ decimal (n / 10 % 10) ++ decimal (n % 10)
 
 -- one number by another, with two decimals, rounded down
 abbrev pub ratio_text : ℕ → ℕ → List ℕ

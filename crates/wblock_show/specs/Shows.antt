@@ -1,8 +1,8 @@
 -- What `show` answers.
-use Rattle.std.specs.Prelude.{◌≡◌, ◌≢◌, ◌⊎◌, ◌↔◌, ℕ, ◌<◌, ◌≤◌, Option, Some, None, IfSome, IsSome, List, [], ◌∷◌, ◌++◌, codes, decimal, length, map, slice_get, sum, string_bytes, Vec}
+use Rattle.std.specs.Prelude.{◌≡◌, ◌≢◌, ◌⊎◌, ℕ, ◌≤◌, Option, Some, None, List, [], ◌∷◌, ◌++◌, codes, decimal, length, map, slice_get, string_bytes, Vec}
 use Rattle.std.specs.Borrow.{Bor}
 use Rattle.sha2.specs.Sha256.{sha256}
-use Rattle.spec_block.specs.Worlds.{Block, Call, Position, order_of, profiles_of}
+use Rattle.spec_block.specs.Worlds.{Block, Call, Position, order_of}
 use Rattle.spec_block.specs.Bytes.{SpellsBlock, calls_bytes}
 use Rattle.spec_block.specs.Verdicts.{IsLeast}
 use Rattle.block.specs.declared.refusal.BlockRefusal.{BlockRefusal}
@@ -10,10 +10,7 @@ use Rattle.block.specs.declared.refusal.BlockRefusal.TheVariants.{Malformed, Too
 use Rattle.block.specs.Refusals.{Refuses}
 use Rattle.block.specs.Reading.{block_at}
 use Rattle.records.specs.Reading.{whole}
-use Rattle.block_figures.specs.Chains.{AreForward, fuels_of}
-use Rattle.block_figures.specs.Figures.{AreChains}
-use Rattle.block_figures.specs.Hottest.{AreHottest}
-use Rattle.block_figures.specs.Outcomes.{all_kinds, counts_among}
+use Rattle.block_figures.specs.Figures.{AreFigures}
 use Rattle.block_figures.specs.declared.figures.Figures.{Figures}
 use Rattle.wblock_io.specs.Holding.{Holding}
 use Rattle.wblock_line.specs.declared.answer.Answer.{Answer}
@@ -27,14 +24,6 @@ use Rattle.wblock_show.specs.declared.file.Showing.{Showing}
 use Rattle.wblock_show.specs.declared.file.Named.{Named}
 use Rattle.wblock_show.specs.declared.file.Named.TheVariants as named
 use Rattle.wblock_show.specs.Lines.{block_text}
-
--- the figures of a block
-pub record AreFigures (b : Block) (f : Figures) : Type 0 where
-  pub forward : IsSome f.chains ↔ AreForward (profiles_of b)
-  pub chains : IfSome f.chains (AreChains (profiles_of b) (fuels_of b.positions))
-  pub total : f.total_fuel ≡ sum (fuels_of b.positions)
-  pub hottest : AreHottest (profiles_of b) f.hottest.items
-  pub outcomes : f.outcomes.items ≡ counts_among all_kinds b.positions
 
 -- `refused block 1 P`, where P is the first byte at which the bytes spell no block, or `refused block 2 -`, where the positions are too many
 abbrev pub IsBlockLine : BlockRefusal → List ℕ → Type 0

@@ -12,13 +12,26 @@ use wblock_io::Files;
 use wblock_line::{Answer, Fault, read_file};
 use wtypes::NoMemory;
 
+/// How a file is to be shown.
+#[derive(Clone, Copy, Debug)]
+pub enum Form<'a> {
+    /// By lines, which are to be printed.
+    Text,
+    /// By one JSON object, which is to be printed on a line.
+    Json,
+    /// By a picture of its block, which is to be written to the file of this name.
+    Picture(&'a str),
+}
+
 /// What is to be shown.
 #[derive(Clone, Copy, Debug)]
 pub struct Showing<'a> {
     /// The name of the file.
     pub file: &'a str,
-    /// The name of the file of its calls, if each position is to be shown with its call.
+    /// The name of the file of its calls, if each position is to be shown with its call. A picture is drawn without them.
     pub calls: Option<&'a str>,
+    /// How it is to be shown.
+    pub form: Form<'a>,
 }
 
 /// The calls of a file, or why it spells none.
@@ -31,7 +44,7 @@ pub(crate) enum Named {
 }
 
 /// Reads the file of calls, if one is named.
-fn read_named<'a, F: Files>(
+pub(crate) fn read_named<'a, F: Files>(
     alloc: Global,
     files: &mut F,
     calls: Option<&'a str>,

@@ -1,35 +1,18 @@
 //! The lines of a block that is shown.
 
-ghost use Rattle.std.specs.Prelude.{◌≡◌, ◌≤◌, ◌<◌, ◌^◌, ◌%◌, ◌/◌, IfOk, length, string_bytes};
-ghost use Rattle.spec_block.specs.Bytes.{version_code};
-ghost use Rattle.wblock_show.specs.Lines.{args_text, block_text, call_text, called_text, calls_of, chain_line, chain_lines, digest_line, entries_text, entry_text, fuel_line, head_lines, hundredth, kind_text, lock_text, mode_word, more_entries, kind_word, no_chain_lines, outcome_lines, position_line, position_lines, ratio_line, ratio_text, shared_line, shared_lines, version_line, wave_text, waves_line};
+ghost use Rattle.std.specs.Prelude.{◌≡◌, ◌≤◌, ◌<◌, ◌^◌, IfOk, length, string_bytes};
+ghost use Rattle.wblock_show.specs.Lines.{args_text, block_text, call_text, called_text, calls_of, chain_line, chain_lines, digest_line, entries_text, entry_text, fuel_line, head_lines, kind_text, lock_text, more_entries, no_chain_lines, outcome_lines, position_line, position_lines, ratio_line, ratio_text, shared_line, shared_lines, version_line, wave_text, waves_line};
 
 use block::{Block, Position};
-use block_figures::{Chains, Figures, OutcomeCount, OutcomeKind, SharedLock};
+use block_figures::{
+    Chains, Figures, OutcomeCount, OutcomeKind, SharedLock, hundredth_of, number_of_version,
+    word_of_kind, word_of_mode,
+};
 use call::Call;
 use calls_text::{PositionLine, ValueText};
-use spec_ledger::{Entry, Kind, Lock, Mode, Version};
+use spec_ledger::{Entry, Lock};
 use std::alloc::{AllocError, Global};
 use wtypes::Value;
-
-fn word_of_kind(kind: Kind) -> &'static str
-    ensures { result.now ≡ kind_word kind }
-{
-    match kind {
-        Kind::Map => "map",
-        Kind::Counter => "counter",
-    }
-}
-
-fn word_of_mode(mode: Mode) -> &'static str
-    ensures { result.now ≡ mode_word mode }
-{
-    match mode {
-        Mode::Read => "read",
-        Mode::Add => "add",
-        Mode::Excl => "excl",
-    }
-}
 
 fn lock_text_of(alloc: Global, lock: Lock) -> Result<String, AllocError>
     ensures { IfOk result (λ text. string_bytes text ≡ lock_text lock) }
@@ -175,21 +158,11 @@ fn digest_line_of(alloc: Global, name: &str, digest: &[u8; 32]) -> Result<String
     Ok(text)
 }
 
-/// The number of a version.
-fn number_of(version: Version) -> u32
-    ensures { result ≡ version_code version }
-{
-    match version {
-        Version::One => 1,
-        Version::Two => 2,
-    }
-}
-
 #[tactic(auto, unfolding(crate::specs::Lines::version_line))]
 fn version_line_of(alloc: Global, block: &Block) -> Result<String, AllocError>
     ensures { IfOk result (λ text. string_bytes text ≡ version_line block.now) }
 {
-    let version = number_of(block.version());
+    let version = number_of_version(block.version());
     let text = format!(in alloc; "version {version}\n")?;
     Ok(text)
 }
@@ -214,16 +187,6 @@ fn head_lines_of(alloc: Global, block: &Block) -> Result<String, AllocError>
     let after = digest_line_of(alloc, "after", block.after())?;
     let fuel = fuel_line_of(alloc, block)?;
     let text = format!(in alloc; "{version}{before}{calls}{after}{fuel}")?;
-    Ok(text)
-}
-
-fn hundredth_of(alloc: Global, number: u128) -> Result<String, AllocError>
-    ensures { IfOk result (λ text. string_bytes text ≡ hundredth number) }
-{
-    let whole = number / 100;
-    let tenths = number / 10 % 10;
-    let hundredths = number % 10;
-    let text = format!(in alloc; "{whole}.{tenths}{hundredths}")?;
     Ok(text)
 }
 

@@ -6,11 +6,11 @@ ghost use Rattle.spec_block.specs.Worlds.{order_of, profiles_of};
 ghost use Rattle.spec_block.specs.Bytes.{SpellsBlock, calls_bytes};
 ghost use Rattle.spec_block.specs.Verdicts.{IsLeast};
 ghost use Rattle.wblock_show.specs.Lines.{calls_of};
-ghost use Rattle.wblock_show.specs.Shows.{numbers_of, other_line, AreFigures, AreItsCalls, AreTheCalls, IsBlockLine, IsOther, IsOtherOf, HasFew, IsTextOf, NamesNoCall, Shows, ShowsIt, TellsNoBlock, TellsOther};
+ghost use Rattle.wblock_show.specs.Shows.{numbers_of, other_line, AreItsCalls, AreTheCalls, IsBlockLine, IsOther, IsOtherOf, HasFew, IsTextOf, NamesNoCall, Shows, ShowsIt, TellsNoBlock, TellsOther};
 
 use crate::lines::block_text_of;
 use block::{Block, BlockRefusal, Position, digest_calls, read_block};
-use block_figures::{Figures, figures_of};
+use block_figures::figures_of;
 use call::Call;
 use std::alloc::{AllocError, Global};
 use wblock_line::Answer;
@@ -29,7 +29,10 @@ fn block_line(alloc: Global, refusal: BlockRefusal) -> Result<String, AllocError
 }
 
 /// The block that bytes spell, or the line and the sentence that say why they spell none.
-fn judge_bytes(alloc: Global, bytes: &[u8]) -> Result<Result<Block, (String, String)>, AllocError>
+pub(crate) fn judge_bytes(
+    alloc: Global,
+    bytes: &[u8],
+) -> Result<Result<Block, (String, String)>, AllocError>
     ensures { IfOk result (λ read. MatchResult read (λ block. SpellsBlock bytes.now block) (λ told. TellsNoBlock bytes.now (string_bytes told.0))) }
 {
     match read_block(alloc, bytes) {
@@ -119,15 +122,6 @@ fn other_words(alloc: Global, other: OtherCalls) -> Result<String, AllocError> {
     }
 }
 
-/// The figures of a block, and a bound on their sum of fuel.
-fn bounded_figures(alloc: Global, block: &Block) -> Result<Figures, NoMemory>
-    ensures figures { IfOk result (AreFigures block.now) }
-    ensures small { IfOk result (λ f. f.total_fuel < 2 ^ 80) }
-{
-    let figures = figures_of(alloc, block)?;
-    Ok(figures)
-}
-
 /// The answer that shows a block, with its calls where they are known.
 fn shown_of<'a>(
     alloc: Global,
@@ -136,13 +130,13 @@ fn shown_of<'a>(
 ) -> Result<Answer<'a>, NoMemory>
     ensures { IfOk result (IsTextOf block.now (calls_of calls.entry)) }
 {
-    let figures = bounded_figures(alloc, block)?;
+    let figures = figures_of(alloc, block)?;
     let text = block_text_of(alloc, block, calls, &figures)?;
     Ok(Answer::Done(Vec::new(alloc), text))
 }
 
 /// Why the calls, where they are known, are not those of a block.
-fn other_calls(
+pub(crate) fn other_calls(
     alloc: Global,
     block: &Block,
     calls: Option<&[Call]>,
@@ -158,7 +152,7 @@ fn other_calls(
 }
 
 /// The answer that tells why calls are not those of a block.
-fn tell_other<'a>(alloc: Global, other: OtherCalls) -> Result<Answer<'a>, NoMemory>
+pub(crate) fn tell_other<'a>(alloc: Global, other: OtherCalls) -> Result<Answer<'a>, NoMemory>
     ensures { IfOk result (TellsOther other) }
 {
     let line = other_line_of(alloc, other)?;

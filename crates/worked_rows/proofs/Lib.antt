@@ -1,3 +1,4 @@
+pub mod Asking
 pub mod Computing
 pub mod MarkRows
 pub mod Rows

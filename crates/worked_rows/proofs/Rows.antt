@@ -33,7 +33,7 @@ use Rattle.worked_rows.proofs.Computing.{is_run}
 
 -- ---- a host of fixed replies
 
-abbrev says : ℕ → List Step → Op → Reply
+abbrev pub says : ℕ → List Step → Op → Reply
 says n trace (Get p) = reply.I64 (pos 5)
 says n trace (Has p) = reply.I32 (pos 1)
 says n trace (Put p v) = reply.Nothing
@@ -41,7 +41,7 @@ says n trace (Del p) = reply.I32 (pos 1)
 says n trace (Add p v) = reply.Nothing
 says n trace (Total p) = reply.I64 (pos n)
 
-says_fit : (n : ℕ) → FitsSigned w64 (pos n) → (trace : List Step) (op : Op) → IsReply op (says n trace op)
+pub says_fit : (n : ℕ) → FitsSigned w64 (pos n) → (trace : List Step) (op : Op) → IsReply op (says n trace op)
 says_fit n fit trace (Get p) = to_get p (pos 5) (omega (arith, ints))
 says_fit n fit trace (Has p) = to_has p (pos 1) (omega (arith, ints))
 says_fit n fit trace (Put p v) = to_put p v
@@ -49,7 +49,7 @@ says_fit n fit trace (Del p) = to_del p (pos 1) (omega (arith, ints))
 says_fit n fit trace (Add p v) = to_add p v
 says_fit n fit trace (Total p) = to_total p (pos n) fit
 
-five_fits : FitsSigned w64 (pos 5)
+pub five_fits : FitsSigned w64 (pos 5)
 five_fits = omega (arith, ints)
 
 ten_fits : FitsSigned w64 (pos 10)

@@ -2,12 +2,13 @@
 use Rattle.std.specs.Prelude.{ℕ, List, [], ◌∷◌, None, Some, codes, pos}
 use Rattle.wtypes.specs.declared.ValType.TheVariants as type
 use Rattle.wtypes.specs.declared.Value.{Value}
-use Rattle.wtypes.specs.declared.Value.TheVariants.{I64}
+use Rattle.wtypes.specs.declared.Value.TheVariants.{I32, I64}
 use Rattle.wtypes.specs.declared.BinOp.TheVariants.{Add}
-use Rattle.wtypes.specs.declared.PlainInstr.TheVariants.{Unreachable, LocalGet, Const, Binary, Call, Drop}
+use Rattle.wtypes.specs.declared.CvtOp.TheVariants.{I64ExtendI32U}
+use Rattle.wtypes.specs.declared.PlainInstr.TheVariants.{Unreachable, LocalGet, Const, Binary, Call, Drop, Convert}
 use Rattle.wtypes.specs.declared.HostCall.{HostCall}
 use Rattle.wtypes.specs.declared.HostCall.TheVariants as host
-use Rattle.spec_syntax.specs.Syntax.{Instr, Plain, nothing, instrs_of, FuncType, Import, ImportFunc, ExportFunc}
+use Rattle.spec_syntax.specs.Syntax.{Instr, Plain, nothing, instrs_of, Func, FuncType, Import, ImportFunc, Export, ExportFunc}
 use Rattle.spec_syntax.specs.Profile.{host_module, host_name, host_type}
 use Rattle.spec_ledger.specs.declared.Version.TheVariants.{Two}
 use Rattle.spec_ledger.specs.declared.Place.{Place}
@@ -17,7 +18,7 @@ use Rattle.spec_ledger.specs.declared.Outcome.TheVariants.{Returned}
 use Rattle.spec_ledger.specs.declared.Receipt.{Receipt}
 use Rattle.spec_ledger.specs.declared.Reply.TheVariants as reply
 use Rattle.spec_ledger.specs.declared.Step.{Step}
-use Rattle.spec_ledger.specs.declared.Step.TheVariants.{Did}
+use Rattle.spec_ledger.specs.declared.Step.TheVariants.{Did, Opened, Kept, Dropped}
 use Rattle.spec_ledger.specs.Modes.{touched}
 use Rattle.spec_execution.specs.Configuration.{Setting, Deployed, Contract, Seq, End, Val, Code, Label, Frame, State, Config, Running}
 use Rattle.spec_execution.specs.Run.{ContractCall}
@@ -71,6 +72,38 @@ keeps =
     ∷ Plain (Call 2) ∷ Plain (LocalGet 0) ∷ Plain (Call 3) ∷ Plain Drop ∷ []
     )
 
+abbrev function_of : (type_index : ℕ) → List Instr → Func
+function_of type_index body = record { type_index = type_index; locals = []; body = instrs_of body }
+
+abbrev export_of : List ℕ → (number : ℕ) → Export
+export_of name number = record { name = name; desc = ExportFunc number }
+
+-- "one" adds 1 to the counter of its argument; "bad" does, and traps; "try" adds 10 and asks for the export of its number; "deep" asks for itself
+abbrev pub asking : Deployed
+asking = record {
+  tree = record {
+    types = host_type host.Add ∷ host_type host.Ask ∷ host_type host.Answer ∷ number_to_number ∷ record { params = type.I32 ∷ type.I64 ∷ []; results = type.I64 ∷ [] } ∷ [];
+    imports = import_of 0 host.Add ∷ import_of 1 host.Ask ∷ import_of 2 host.Answer ∷ [];
+    funcs =
+        function_of 3 (Plain (LocalGet 0) ∷ Plain (Const (I64 (pos 1))) ∷ Plain (Call 0) ∷ Plain (LocalGet 0) ∷ [])
+        ∷ function_of 3 (Plain (LocalGet 0) ∷ Plain (Const (I64 (pos 1))) ∷ Plain (Call 0) ∷ Plain Unreachable ∷ [])
+        ∷ function_of 4 (
+        Plain (LocalGet 1) ∷ Plain (Const (I64 (pos 10))) ∷ Plain (Call 0) ∷ Plain (Const (I32 (pos 0))) ∷ Plain (LocalGet 0) ∷ Plain (LocalGet 1)
+        ∷ Plain (Call 1) ∷ Plain Drop ∷ Plain (Call 2) ∷ []
+        )
+        ∷ function_of 3 (Plain (Const (I32 (pos 0))) ∷ Plain (Const (I32 (pos 3))) ∷ Plain (LocalGet 0) ∷ Plain (Call 1) ∷ Plain (Convert I64ExtendI32U) ∷ [])
+        ∷ [];
+    tables = [];
+    memories = [];
+    globals = [];
+    exports = export_of (codes "one") 3 ∷ export_of (codes "bad") 4 ∷ export_of (codes "try") 5 ∷ export_of (codes "deep") 6 ∷ [];
+    start = None;
+    elements = [];
+    datas = [];
+  };
+  hosts = host.Add ∷ host.Ask ∷ host.Answer ∷ [];
+}
+
 -- over this contract alone, with number 0, in version 2
 abbrev pub only : Deployed → Setting
 only d = record { contracts = d ∷ []; version = Two }
@@ -112,6 +145,32 @@ puts_and_deletes got =
 -- what a call of `counts` comes to, with this total
 abbrev pub counted : (total : ℕ) → Ran
 counted total = record { receipt = alone_with (returned total) 5; touched = touched (adds_and_reads total) }
+
+-- ---- levels
+
+-- a call of "try" for this export with 7, and one of "deep"
+abbrev pub tries : (export : ℕ) → ContractCall
+tries export = record { contract = 0; entry = codes "try"; args = I32 (pos export) ∷ I64 (pos 7) ∷ []; fuel = 100 }
+
+abbrev pub goes_deep : (fuel : ℕ) → ContractCall
+goes_deep fuel = record { contract = 0; entry = codes "deep"; args = I64 (pos 7) ∷ []; fuel = fuel }
+
+-- so much added to the counter 7
+abbrev pub added : ℕ → Step
+added n = Did (op.Add (record { contract = 0; key = 7 }) n) reply.Nothing
+
+-- 10 are added, and 1 in a level that is left so
+abbrev pub adds_in_a_level : (mark : Step) → List Step
+adds_in_a_level mark = added 10 ∷ Opened ∷ added 1 ∷ mark ∷ []
+
+abbrev pub adds_ten : List Step
+adds_ten = added 10 ∷ []
+
+abbrev pub four_levels : List Step
+four_levels = Opened ∷ Opened ∷ Opened ∷ Opened ∷ Kept ∷ Kept ∷ Kept ∷ Kept ∷ []
+
+abbrev pub two_levels : List Step
+two_levels = Opened ∷ Opened ∷ Dropped ∷ Dropped ∷ []
 
 -- ---- states
 

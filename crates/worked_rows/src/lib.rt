@@ -8,6 +8,7 @@ ghost use Rattle.spec_syntax.specs.Syntax.{Module};
 ghost use Rattle.spec_ledger.specs.declared.Outcome.TheVariants.{OutOfFuel, Rejected, Trapped};
 ghost use Rattle.spec_ledger.specs.declared.Receipt.{Receipt};
 ghost use Rattle.spec_ledger.specs.Book.{GetsReplies, after};
+ghost use Rattle.spec_ledger.specs.declared.Step.TheVariants.{Dropped, Kept};
 ghost use Rattle.spec_ledger.specs.Cells.{Cells};
 ghost use Rattle.spec_ledger.specs.Modes.{Modes, touched};
 ghost use Rattle.spec_execution.specs.Configuration.{Trap};
@@ -18,7 +19,7 @@ ghost use Rattle.spec_execution.specs.Turning.{IsState};
 ghost use Rattle.spec_text.specs.declared.TokenKind.TheVariants.{Close};
 ghost use Rattle.spec_text.specs.Lexical.{Lexes};
 ghost use Rattle.spec_text.specs.Names.{Names};
-ghost use Rattle.worked_rows.specs.Worked.{adds_and_reads, adds_seven, after_the_sum, alone_with, at_0, bare, before_the_sum, before_the_total, call_with, counted, counts, gives_up, keeps, on_five, on_key_nine, only, puts_and_deletes, returned};
+ghost use Rattle.worked_rows.specs.Worked.{adds_and_reads, adds_in_a_level, adds_seven, adds_ten, after_the_sum, alone_with, asking, at_0, bare, before_the_sum, before_the_total, call_with, counted, counts, four_levels, gives_up, goes_deep, keeps, on_five, on_key_nine, only, puts_and_deletes, returned, tries, two_levels};
 
 /// 5 and 7 more is 12, with fuel 3: with a limit of 2 it is out of fuel. Another value, one unit less, or another end is no run.
 pub fn a_call_that_adds()
@@ -68,6 +69,23 @@ pub fn calls_one_after_another()
     ensures first { Executes (only counts) (on_key_nine 5) empty (after (adds_and_reads 5) empty) (alone_with (returned 5) 5) (touched (adds_and_reads 5)) }
     ensures no_other_total { (last : Cells) → ¬ (Serial (only counts) (on_key_nine 5 ∷ on_key_nine 5 ∷ []) (0 ∷ 1 ∷ []) empty (counted 5 ∷ counted 5 ∷ []) last) }
     ensures no_fewer_calls { (last : Cells) → ¬ (Serial (only counts) (on_key_nine 5 ∷ on_key_nine 5 ∷ []) (0 ∷ 1 ∷ []) empty (counted 5 ∷ []) last) }
+{
+    spec_execution::runs_are_unique();
+}
+
+/// A call that asks for an export of a contract: what the level did stands where it returned, and not where it trapped; the fuel is used up on all
+/// levels, and ends the call at any; the receipt tells how many were entered.
+pub fn a_call_that_asks()
+    ensures level_returns { RunsWith (only asking) (tries 0) (adds_in_a_level Kept) (returned 7) 13 }
+    ensures level_traps { RunsWith (only asking) (tries 1) (adds_in_a_level Dropped) (returned 0) 13 }
+    ensures other_type { RunsWith (only asking) (tries 2) adds_ten (returned 0) 9 }
+    ensures not_there { RunsWith (only asking) (tries 9) adds_ten (returned 0) 9 }
+    ensures four_deep { RunsWith (only asking) (goes_deep 25) four_levels (returned 0) 25 }
+    ensures out_of_fuel_outside { RunsWith (only asking) (goes_deep 24) four_levels OutOfFuel 24 }
+    ensures out_of_fuel_inside { RunsWith (only asking) (goes_deep 10) two_levels OutOfFuel 10 }
+    ensures executes { (cells : Cells) → Executes (only asking) (tries 1) cells (after adds_ten cells) (record { outcome = returned 0; used = 13; asks = 1 }) (touched (adds_in_a_level Dropped)) }
+    ensures not_kept { ¬ (RunsWith (only asking) (tries 1) (adds_in_a_level Kept) (returned 0) 13) }
+    ensures no_less_fuel { ¬ (RunsWith (only asking) (tries 0) (adds_in_a_level Kept) (returned 7) 12) }
 {
     spec_execution::runs_are_unique();
 }

@@ -92,7 +92,7 @@ pub enum TrapCode {
     CallDepth = 8,
 }
 
-/// A function that the host module `boost` gives to contracts. Each works on the cell that its first argument names.
+/// A function that the host module `boost` gives to contracts. Each but the last two works on the cell that its first argument names.
 #[derive(Clone, Copy, Debug, PartialEq, Eq)]
 pub enum HostCall {
     /// The number in a map cell, 0 where the cell is absent.
@@ -107,6 +107,10 @@ pub enum HostCall {
     Add,
     /// The number of a counter, 0 where it is absent.
     Total,
+    /// Runs an export of a contract on a fresh instance, and gives a status that tells how that ended.
+    Ask,
+    /// The value that the last of these returned, 0 where it returned none.
+    Answer,
 }
 
 /// An operator of one operand (Core Specification, 2.4.1 Numeric Instructions: `iunop`).

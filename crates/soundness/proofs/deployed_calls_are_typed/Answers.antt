@@ -1,5 +1,5 @@
-use Rattle.soundness.proofs.Starting.{results, stands_alone, typed}
+use Rattle.soundness.proofs.Levels.{results, typed}
 use Rattle.soundness.proofs.deployed_calls_are_typed.Goals as goal
 
 pub returns : goal.returns
-returns _ = record { alone = stands_alone; reached = typed; results = results }
+returns _ = record { reached = typed; results = results }

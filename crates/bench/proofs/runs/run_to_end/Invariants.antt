@@ -1,5 +1,4 @@
-use Rattle.std.proofs.Common.{◌-◌}
-use Rattle.interp.specs.Progress.{IsSameCall, IsFree}
+use Rattle.interp.specs.Progress.{IsSameCall, IsFree, left_of}
 use Rattle.bench.proofs.runs.run_to_end.Given as goal
 
 abbrev pub invariant-turns : goal.invariant-turns
@@ -9,4 +8,4 @@ invariant-turns g l = record {
 }
 
 abbrev pub decreases-turns : goal.decreases-turns
-decreases-turns g l = l.machine.call.fuel - l.machine.used
+decreases-turns g l = left_of l.machine

@@ -7,4 +7,4 @@ use Rattle.block_picture.proofs.head.hot_text_of.Goals as goal
 pub returns : goal.returns
 returns c =
     printed c.format.result _ _ c.format.ensures.ok
-    (hot_parts (decimal (92 + 16 * c.args.number)) (string_bytes c.in_ok-lock.lock) (lock_text c.args.lock) (decimal c.args.holders) c.in_ok-lock.ensures)
+    (hot_parts (decimal (92 + 16 * c.args.number)) (string_bytes c.in_ok-lock.lock) (lock_text c.args.hot.lock) (decimal c.args.hot.positions) c.in_ok-lock.ensures)

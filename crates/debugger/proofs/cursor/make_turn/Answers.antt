@@ -1,13 +1,14 @@
-use Rattle.debugger.proofs.Turning.{stepped, asked_on}
+use Rattle.std.proofs.Common.{sym, ◌∙◌}
+use Rattle.debugger.proofs.Turning.{whole, is_shown, none_when}
 use Rattle.debugger.proofs.cursor.make_turn.Goals as goal
 
-pub returns-in-Stepped-clause-at : goal.returns-in-Stepped-clause-at
-returns-in-Stepped-clause-at g c =
-    let k = c.args.cursor.now in
-    stepped k.machine c.next.new.self k.start.now.cells k.cells.cells c.in-Stepped.ensures.turn c.in-Stepped.ensures.on_run c.requires
+pub begin_turn-requires-clause-goes_on : goal.begin_turn-requires-clause-goes_on
+begin_turn-requires-clause-goes_on g c =
+    let p = c.args.cursor.now.machine in
+    sym (c.ending.ensures (is_shown p.status c.requires.turns.goes_on)) ∙ none_when c.ending.result (sym c.is_some.ensures ∙ c.if-is_some.false)
 
-pub returns-in_ok-reply-in-Host-clause-at : goal.returns-in_ok-reply-in-Host-clause-at
-returns-in_ok-reply-in-Host-clause-at g c =
-    let k = c.args.cursor.now in
-    let r = c.in_ok-reply-in-Host in
-    asked_on k.machine c.next.new.self c.answer.new.self k.start.now.cells k.cells.cells c.reply_of.new.cells.cells c.in-Host.op r.reply c.in-Host.ensures.turn c.answer.ensures.answered r.ensures.is_reply c.answer.ensures.on_run c.requires r.ensures.reply r.ensures.cells
+pub returns-clause-at : goal.returns-clause-at
+returns-clause-at g c =
+    let first = c.args.cursor.now.machine in
+    let turn = c.in_ok-end_turn.ensures.turn first c.in_ok-begin_turn.ensures.turn in
+    record { turns = whole first c.end_turn.new.cursor.machine c.requires.turns turn.begun c.in_ok-end_turn.ensures.whole; cells = turn.cells }

@@ -5,7 +5,8 @@ use Rattle.operands.specs.Lent.{base_of}
 use Rattle.frames.specs.Views.{view}
 use Rattle.frames.specs.Waiting.{tail_of}
 use Rattle.execute.specs.Steps.{Led, Wants}
-use Rattle.interp.specs.Run.{seen}
+use Rattle.interp.specs.Run.{seen, args_of}
+use Rattle.interp.proofs.Copying.{room_kept}
 use Rattle.frames.specs.ViewLaws.{items_nil, ordered_any, last_of}
 use Rattle.interp.proofs.Turning.{live_of, safe_at, machine_stepped, has_stepped, machine_fell, has_fallen}
 use Rattle.sequences.specs.Rest.{Frees_join}
@@ -51,7 +52,9 @@ ask-requires-clause-call g c =
       suits = c.execute.ensures.max ∙ k.suits;
       waits = k.waits;
       place = k.place;
+      around = k.around;
       entered = k.entered;
+      room = room_kept r.status (length r.outer.items) r.trace c.requires.running k.room;
     }
 
 pub start_function-requires-clause-call : goal.start_function-requires-clause-call
@@ -65,7 +68,9 @@ start_function-requires-clause-call g c =
       suits = c.execute.ensures.max ∙ k.suits;
       waits = k.waits;
       place = k.place;
+      around = k.around;
       entered = k.entered;
+      room = room_kept r.status (length r.outer.items) r.trace c.requires.running k.room;
     }
 
 pub returns-in-Ok-Ran-clause-kept : goal.returns-in-Ok-Ran-clause-kept
@@ -76,13 +81,14 @@ returns-in-Ok-Ran-clause-kept g c =
     let charge = subst (λ (a : After). Led r.lent r.parts a c.execute.new.parts) c.in-Ok-Ran.field-0-is c.in-Ok-Ran.ensures.led b (safe_at (seen r) c.requires.kept.machine c.requires.running (λ e. c.if-run-fuel.false (e ∙ sym c.fuel.ensures))) c.requires.kept.suits in
     let q = c.settle_all.new.parts in
     let x = c.settle_all.new.waiting in
-    let come = c.settle_all.ensures.comes (seen r).contract r.call.now.args b c.requires.kept.waits in
+    let come = c.settle_all.ensures.comes (seen r).contract (args_of r.call.now.args r.argument) b c.requires.kept.waits in
     record {
-      machine = machine_stepped (seen r) k.machine c.requires.running (λ e. c.if-run-fuel.false (e ∙ sym c.fuel.ensures)) _ charge.reduces (view b q) (tail_of r.call.now.args x) (Frees_join _ _ _ _ (frees_joined (seen r).tail _ _ _ charge.frees) come.frees) come.ordered (λ e. c.settle_all.ensures.ready (items_nil q.code.now e)) (last_of r.call.now.args q x c.settle_all.ensures.last);
+      machine = machine_stepped (seen r) k.machine c.requires.running (λ e. c.if-run-fuel.false (e ∙ sym c.fuel.ensures)) _ charge.reduces (view b q) (tail_of (args_of r.call.now.args r.argument) x) (Frees_join _ _ _ _ (frees_joined (seen r).tail _ _ _ charge.frees) come.frees) come.ordered (λ e. c.settle_all.ensures.ready (items_nil q.code.now e)) (last_of (args_of r.call.now.args r.argument) q x c.settle_all.ensures.last);
       counted = c.settle_all.ensures.counted;
       suits = ap (λ i. i.memory.max) c.settle_all.ensures.instance ∙ (c.execute.ensures.max ∙ k.suits);
       waits = come.waits;
       place = c.settle_all.ensures.place;
+      around = k.around;
       entered = k.entered;
       room = k.room;
     }
@@ -95,8 +101,8 @@ returns-in-Ok-Ran-clause-turn g c =
     let charge = subst (λ (a : After). Led r.lent r.parts a c.execute.new.parts) c.in-Ok-Ran.field-0-is c.in-Ok-Ran.ensures.led b (safe_at (seen r) c.requires.kept.machine c.requires.running (λ e. c.if-run-fuel.false (e ∙ sym c.fuel.ensures))) c.requires.kept.suits in
     let q = c.settle_all.new.parts in
     let x = c.settle_all.new.waiting in
-    let come = c.settle_all.ensures.comes (seen r).contract r.call.now.args b c.requires.kept.waits in
-    has_stepped (seen r) k.machine c.requires.running (λ e. c.if-run-fuel.false (e ∙ sym c.fuel.ensures)) _ charge.reduces (view b q) (tail_of r.call.now.args x) (Frees_join _ _ _ _ (frees_joined (seen r).tail _ _ _ charge.frees) come.frees) come.ordered (λ e. c.settle_all.ensures.ready (items_nil q.code.now e)) (last_of r.call.now.args q x c.settle_all.ensures.last)
+    let come = c.settle_all.ensures.comes (seen r).contract (args_of r.call.now.args r.argument) b c.requires.kept.waits in
+    has_stepped (seen r) k.machine c.requires.running (λ e. c.if-run-fuel.false (e ∙ sym c.fuel.ensures)) _ charge.reduces (view b q) (tail_of (args_of r.call.now.args r.argument) x) (Frees_join _ _ _ _ (frees_joined (seen r).tail _ _ _ charge.frees) come.frees) come.ordered (λ e. c.settle_all.ensures.ready (items_nil q.code.now e)) (last_of (args_of r.call.now.args r.argument) q x c.settle_all.ensures.last)
 
 pub returns-in-Ok-Fell-clause-kept : goal.returns-in-Ok-Fell-clause-kept
 returns-in-Ok-Fell-clause-kept g c =
@@ -110,8 +116,9 @@ returns-in-Ok-Fell-clause-kept g c =
       suits = c.execute.ensures.max ∙ k.suits;
       waits = k.waits;
       place = k.place;
+      around = k.around;
       entered = k.entered;
-      room = tt;
+      room = room_kept r.status (length r.outer.items) r.trace c.requires.running k.room;
     }
 
 pub returns-in-Ok-Fell-clause-turn : goal.returns-in-Ok-Fell-clause-turn
@@ -134,7 +141,7 @@ returns-else-f-run-clause-turn g c =
     let r = c.args.run.now in
     let b = base_of r.lent in
     started_turn (seen r) c.in-Ok-Calls.f (view b c.execute.new.parts) c.start_function.result (seen c.start_function.new.run) c.requires.running
-    (subst (λ (a : After). Led r.lent r.parts a c.execute.new.parts) c.in-Ok-Calls.field-0-is c.in-Ok-Calls.ensures.led b (safe_at (seen r) c.requires.kept.machine c.requires.running (λ e. c.if-run-fuel.false (e ∙ sym c.fuel.ensures))) c.requires.kept.suits) c.start_function.ensures.turn
+    (subst (λ (a : After). Led r.lent r.parts a c.execute.new.parts) c.in-Ok-Calls.field-0-is c.in-Ok-Calls.ensures.led b (safe_at (seen r) c.requires.kept.machine c.requires.running (λ e. c.if-run-fuel.false (e ∙ sym c.fuel.ensures))) c.requires.kept.suits) c.start_function.ensures.kept.machine c.start_function.ensures.turn
 
 pub returns-then-f-run-clause-no_memory : goal.returns-then-f-run-clause-no_memory
 returns-then-f-run-clause-no_memory g c h =

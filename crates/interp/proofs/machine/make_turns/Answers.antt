@@ -7,7 +7,8 @@ use Rattle.frames.specs.Waiting.{tail_of}
 use Rattle.execute.specs.Steps.{Led, Wants}
 use Rattle.interp.specs.declared.turns.Turn.{Turn}
 use Rattle.interp.specs.Progress.{NextIs}
-use Rattle.interp.specs.Run.{seen}
+use Rattle.interp.specs.Run.{seen, args_of}
+use Rattle.interp.proofs.Copying.{room_kept}
 use Rattle.frames.specs.ViewLaws.{items_nil, ordered_any, last_of}
 use Rattle.interp.proofs.Turning.{live_of, safe_at, machine_stepped, has_stepped, machine_fell, has_fallen}
 use Rattle.sequences.specs.Rest.{Frees_join}
@@ -50,7 +51,9 @@ ask-requires-clause-call g c =
       suits = c.execute.ensures.max ∙ k.suits;
       waits = k.waits;
       place = k.place;
+      around = k.around;
       entered = k.entered;
+      room = room_kept r.status (length r.outer.items) r.trace c.turns.invariant.running k.room;
     }
 
 pub start_function-requires-clause-call : goal.start_function-requires-clause-call
@@ -64,7 +67,9 @@ start_function-requires-clause-call g c =
       suits = c.execute.ensures.max ∙ k.suits;
       waits = k.waits;
       place = k.place;
+      around = k.around;
       entered = k.entered;
+      room = room_kept r.status (length r.outer.items) r.trace c.turns.invariant.running k.room;
     }
 
 pub turns-preserved : goal.turns-preserved
@@ -75,19 +80,20 @@ turns-preserved g c =
     let charge = subst (λ (a : After). Led r.lent r.parts a c.execute.new.parts) c.in-Ok-Ran.field-0-is c.in-Ok-Ran.ensures.led b (safe_at (seen r) c.turns.invariant.kept.machine c.turns.invariant.running (λ e. c.if-run-fuel.false (e ∙ sym c.fuel.ensures))) c.turns.invariant.kept.suits in
     let q = c.settle_all.new.parts in
     let x = c.settle_all.new.waiting in
-    let come = c.settle_all.ensures.comes (seen r).contract r.call.now.args b c.turns.invariant.kept.waits in
+    let come = c.settle_all.ensures.comes (seen r).contract (args_of r.call.now.args r.argument) b c.turns.invariant.kept.waits in
     record {
       kept = record {
-        machine = machine_stepped (seen r) k.machine c.turns.invariant.running (λ e. c.if-run-fuel.false (e ∙ sym c.fuel.ensures)) _ charge.reduces (view b q) (tail_of r.call.now.args x) (Frees_join _ _ _ _ (frees_joined (seen r).tail _ _ _ charge.frees) come.frees) come.ordered (λ e. c.settle_all.ensures.ready (items_nil q.code.now e)) (last_of r.call.now.args q x c.settle_all.ensures.last);
+        machine = machine_stepped (seen r) k.machine c.turns.invariant.running (λ e. c.if-run-fuel.false (e ∙ sym c.fuel.ensures)) _ charge.reduces (view b q) (tail_of (args_of r.call.now.args r.argument) x) (Frees_join _ _ _ _ (frees_joined (seen r).tail _ _ _ charge.frees) come.frees) come.ordered (λ e. c.settle_all.ensures.ready (items_nil q.code.now e)) (last_of (args_of r.call.now.args r.argument) q x c.settle_all.ensures.last);
         counted = c.settle_all.ensures.counted;
         suits = ap (λ i. i.memory.max) c.settle_all.ensures.instance ∙ (c.execute.ensures.max ∙ k.suits);
         waits = come.waits;
         place = c.settle_all.ensures.place;
+        around = k.around;
         entered = k.entered;
         room = k.room;
       };
       running = c.turns.invariant.running;
-      steps = one_more _ _ _ c.turns.invariant.steps (has_stepped (seen r) k.machine c.turns.invariant.running (λ e. c.if-run-fuel.false (e ∙ sym c.fuel.ensures)) _ charge.reduces (view b q) (tail_of r.call.now.args x) (Frees_join _ _ _ _ (frees_joined (seen r).tail _ _ _ charge.frees) come.frees) come.ordered (λ e. c.settle_all.ensures.ready (items_nil q.code.now e)) (last_of r.call.now.args q x c.settle_all.ensures.last));
+      steps = one_more _ _ _ c.turns.invariant.steps (has_stepped (seen r) k.machine c.turns.invariant.running (λ e. c.if-run-fuel.false (e ∙ sym c.fuel.ensures)) _ charge.reduces (view b q) (tail_of (args_of r.call.now.args r.argument) x) (Frees_join _ _ _ _ (frees_joined (seen r).tail _ _ _ charge.frees) come.frees) come.ordered (λ e. c.settle_all.ensures.ready (items_nil q.code.now e)) (last_of (args_of r.call.now.args r.argument) q x c.settle_all.ensures.last));
     }
 
 pub returns-in-Ok-Fell-clause-kept : goal.returns-in-Ok-Fell-clause-kept
@@ -102,8 +108,9 @@ returns-in-Ok-Fell-clause-kept g c =
       suits = c.execute.ensures.max ∙ k.suits;
       waits = k.waits;
       place = k.place;
+      around = k.around;
       entered = k.entered;
-      room = tt;
+      room = room_kept r.status (length r.outer.items) r.trace c.turns.invariant.running k.room;
     }
 
 pub returns-in-Ok-Fell-clause-turned : goal.returns-in-Ok-Fell-clause-turned
@@ -132,7 +139,7 @@ returns-in-Ok-Calls-clause-turned g c =
     let b = base_of r.lent in
     turned _ _ _ _ c.turns.invariant.steps c.turns.invariant.running
     (started_turn (seen r) c.in-Ok-Calls.f (view b c.execute.new.parts) c.start_function.result (seen c.start_function.new.run) c.turns.invariant.running
-    (subst (λ (a : After). Led r.lent r.parts a c.execute.new.parts) c.in-Ok-Calls.field-0-is c.in-Ok-Calls.ensures.led b (safe_at (seen r) c.turns.invariant.kept.machine c.turns.invariant.running (λ e. c.if-run-fuel.false (e ∙ sym c.fuel.ensures))) c.turns.invariant.kept.suits) c.start_function.ensures.turn)
+    (subst (λ (a : After). Led r.lent r.parts a c.execute.new.parts) c.in-Ok-Calls.field-0-is c.in-Ok-Calls.ensures.led b (safe_at (seen r) c.turns.invariant.kept.machine c.turns.invariant.running (λ e. c.if-run-fuel.false (e ∙ sym c.fuel.ensures))) c.turns.invariant.kept.suits) c.start_function.ensures.kept.machine c.start_function.ensures.turn)
     (λ h. may_take (seen c.turns.run) c.turns.invariant.kept.machine c.turns.invariant.running (λ e. c.if-run-fuel.false (e ∙ sym c.fuel.ensures))
     (c.in-Ok-Calls.ensures.takes (subst (λ (a : After). Wants {E = Unit {0}} (Ok a)) (sym c.in-Ok-Calls.field-0-is) tt)))
     (λ h. let s = c.start_function.ensures.same h in record { setting = s.setting; call = s.call; contract = s.contract; func = s.func })

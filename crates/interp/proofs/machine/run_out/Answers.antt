@@ -1,23 +1,22 @@
+use Rattle.std.proofs.Common.{subst, length}
+use Rattle.interp.specs.declared.turns.Status.{Status}
+use Rattle.interp.specs.Machine.{HasRoom}
 use Rattle.interp.specs.Run.{seen}
 use Rattle.frames.specs.ViewLaws.{items_nil}
-use Rattle.interp.proofs.Turning.{machine_exhausted, has_exhausted}
+use Rattle.interp.proofs.Turning.{is_shut, stops_here}
 use Rattle.interp.proofs.machine.run_out.Goals as goal
 
-pub returns-clause-kept : goal.returns-clause-kept
-returns-clause-kept g c =
+pub tell_out_of_fuel-requires-clause-shut : goal.tell_out_of_fuel-requires-clause-shut
+tell_out_of_fuel-requires-clause-shut g c =
     let r = c.args.run.now in
-    let k = c.requires.kept in
-    record {
-      machine = machine_exhausted (seen r) k.machine c.requires.running (λ e. c.requires.some (items_nil r.parts.code.now e)) c.requires.out;
-      counted = k.counted;
-      suits = k.suits;
-      waits = k.waits;
-      place = k.place;
-      entered = k.entered;
-      room = tt;
-    }
+    is_shut (seen r) c.requires.kept.machine c.requires.running (λ e. c.requires.some (items_nil r.parts.code.now e)) c.requires.out
 
-pub returns-clause-turn : goal.returns-clause-turn
-returns-clause-turn g c =
+pub tell_out_of_fuel-requires-clause-room : goal.tell_out_of_fuel-requires-clause-room
+tell_out_of_fuel-requires-clause-room g c =
     let r = c.args.run.now in
-    has_exhausted (seen r) c.requires.kept.machine c.requires.running (λ e. c.requires.some (items_nil r.parts.code.now e)) c.requires.out
+    subst (λ (x : Status). HasRoom x (length r.outer.items) r.trace) c.requires.running c.requires.kept.room
+
+pub tell_out_of_fuel-requires-clause-stops : goal.tell_out_of_fuel-requires-clause-stops
+tell_out_of_fuel-requires-clause-stops g c =
+    let r = c.args.run.now in
+    stops_here (seen r) c.requires.kept.machine c.requires.running (λ e. c.requires.some (items_nil r.parts.code.now e)) c.requires.out

@@ -4,7 +4,7 @@ use Rattle.frames.specs.Calls.{Enters}
 use Rattle.operands.specs.Lent.{base_of}
 use Rattle.frames.specs.Views.{view}
 use Rattle.frames.specs.Waiting.{tail_of}
-use Rattle.interp.specs.Run.{seen}
+use Rattle.interp.specs.Run.{seen, args_of}
 use Rattle.frames.specs.ViewLaws.{items_nil, last_of}
 use Rattle.interp.proofs.Asking.{fine_call, machine_started, is_started, machine_trapped, is_trapped}
 use Rattle.interp.proofs.machine.start_function.Goals as goal
@@ -19,15 +19,16 @@ returns-in-Ok-true-clause-kept g c =
     let b = base_of r.lent in
     let q = c.settle_all.new.parts in
     let x = c.settle_all.new.waiting in
-    let come = c.settle_all.ensures.comes (seen r).contract r.call.now.args b c.requires.call.waits in
+    let come = c.settle_all.ensures.comes (seen r).contract (args_of r.call.now.args r.argument) b c.requires.call.waits in
     record {
-      machine = machine_started (seen r) c.args.func c.requires.call.calling (view b c.enter.new.parts) (view b q) (tail_of r.call.now.args x) entered come.frees come.ordered (λ e. c.settle_all.ensures.ready (items_nil q.code.now e)) (last_of r.call.now.args q x c.settle_all.ensures.last);
+      machine = machine_started (seen r) c.args.func c.requires.call.calling (view b c.enter.new.parts) (view b q) (tail_of (args_of r.call.now.args r.argument) x) entered come.frees come.ordered (λ e. c.settle_all.ensures.ready (items_nil q.code.now e)) (last_of (args_of r.call.now.args r.argument) q x c.settle_all.ensures.last);
       counted = c.settle_all.ensures.counted;
       suits = ap (λ i. i.memory.max) (c.settle_all.ensures.instance ∙ c.enter.ensures.instance) ∙ c.requires.call.suits;
       waits = come.waits;
       place = c.settle_all.ensures.place;
+      around = c.requires.call.around;
       entered = c.requires.call.entered;
-      room = tt;
+      room = c.requires.call.room;
     }
 
 pub returns-in-Ok-true-clause-turn : goal.returns-in-Ok-true-clause-turn
@@ -37,8 +38,8 @@ returns-in-Ok-true-clause-turn g c =
     let b = base_of r.lent in
     let q = c.settle_all.new.parts in
     let x = c.settle_all.new.waiting in
-    let come = c.settle_all.ensures.comes (seen r).contract r.call.now.args b c.requires.call.waits in
-    is_started (seen r) c.args.func c.requires.call.calling (view b c.enter.new.parts) (view b q) (tail_of r.call.now.args x) entered come.frees come.ordered (λ e. c.settle_all.ensures.ready (items_nil q.code.now e)) (last_of r.call.now.args q x c.settle_all.ensures.last)
+    let come = c.settle_all.ensures.comes (seen r).contract (args_of r.call.now.args r.argument) b c.requires.call.waits in
+    is_started (seen r) c.args.func c.requires.call.calling (view b c.enter.new.parts) (view b q) (tail_of (args_of r.call.now.args r.argument) x) entered come.frees come.ordered (λ e. c.settle_all.ensures.ready (items_nil q.code.now e)) (last_of (args_of r.call.now.args r.argument) q x c.settle_all.ensures.last)
 
 pub returns-in-Ok-false-clause-kept : goal.returns-in-Ok-false-clause-kept
 returns-in-Ok-false-clause-kept g c =
@@ -50,8 +51,9 @@ returns-in-Ok-false-clause-kept g c =
       suits = ap (λ i. i.memory.max) c.enter.ensures.instance ∙ c.requires.call.suits;
       waits = c.requires.call.waits;
       place = c.requires.call.place;
+      around = c.requires.call.around;
       entered = c.requires.call.entered;
-      room = tt;
+      room = c.requires.call.room;
     }
 
 pub returns-in-Ok-false-clause-turn : goal.returns-in-Ok-false-clause-turn

@@ -2,6 +2,7 @@ use Rattle.std.proofs.Common.{◌≡◌, ◌<◌, ◌≤◌, ap, arith}
 use Rattle.interp.specs.Machine.{progress}
 use Rattle.interp.specs.Run.{seen}
 use Rattle.interp.specs.Going.{none}
+use Rattle.interp.proofs.Telling.{told_stops}
 use Rattle.interp.proofs.Stepping.{free_of, steps_join, within_of, turned_after, turned_stepped, steps_fuel, stepped_used}
 use Rattle.interp.proofs.machine.turn_on.Goals as goal
 
@@ -28,8 +29,29 @@ turns-preserved g c = record {
 pub returns-in-Host-clause-turned : goal.returns-in-Host-clause-turned
 returns-in-Host-clause-turned g c = turned_after _ _ _ _ c.turns.invariant.steps c.in-Host.ensures.turned
 
+pub returns-in-Enter-clause-turned : goal.returns-in-Enter-clause-turned
+returns-in-Enter-clause-turned g c = turned_after _ _ _ _ c.turns.invariant.steps c.in-Enter.ensures.turned
+
+pub returns-in-Leave-clause-turned : goal.returns-in-Leave-clause-turned
+returns-in-Leave-clause-turned g c = turned_after _ _ _ _ c.turns.invariant.steps c.in-Leave.ensures.turned
+
 pub returns-in-NoMemory-clause-turned : goal.returns-in-NoMemory-clause-turned
 returns-in-NoMemory-clause-turned g c = turned_after _ _ _ _ c.turns.invariant.steps c.in-NoMemory.ensures.turned
 
 pub returns-in-Done-clause-turned : goal.returns-in-Done-clause-turned
 returns-in-Done-clause-turned g c = turned_after _ _ _ _ c.turns.invariant.steps c.in-Done.ensures.turned
+
+-- what is told at an end is no step
+pub returns-in_default : goal.returns-in_default
+returns-in_default g c = record {
+  kept = c.tell.ensures.kept;
+  turned = record {
+    before = progress (seen c.turns.run);
+    steps = c.turns.invariant.steps;
+    last = c.tell.ensures.turn;
+    told = c.tell.ensures.told;
+    no_memory = c.tell.ensures.no_memory;
+    same = c.tell.ensures.same;
+  };
+  stops = told_stops _ c.tell.result (progress (seen c.tell.new.run)) c.turns.run.status c.in_default.not-Running c.turns.invariant.free c.tell.ensures.told;
+}

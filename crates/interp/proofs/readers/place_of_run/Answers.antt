@@ -12,5 +12,11 @@ returns-in-Running-2 g c o = c.place_in_code.ensures ∙ running_place (seen c.a
 pub returns-in-Asking : goal.returns-in-Asking
 returns-in-Asking g c o = no_place (seen c.args.run.now) c.requires.machine _ tt c.in-Asking.is (λ q. absurd (cc))
 
+pub returns-in-Fallen : goal.returns-in-Fallen
+returns-in-Fallen g c o = no_place (seen c.args.run.now) c.requires.machine _ tt c.in-Fallen.is (λ q. absurd (cc))
+
+pub returns-in-Closing : goal.returns-in-Closing
+returns-in-Closing g c o = no_place (seen c.args.run.now) c.requires.machine _ tt c.in-Closing.is (λ q. absurd (cc))
+
 pub returns-in-Ended : goal.returns-in-Ended
 returns-in-Ended g c o = ended_place (seen c.args.run.now) c.requires.machine c.in-Ended.field-0 c.in-Ended.is

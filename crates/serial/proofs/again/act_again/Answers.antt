@@ -1,6 +1,8 @@
-use Rattle.std.proofs.Common.{rules, ◌≡◌, true, length, arith}
-use Rattle.serial.proofs.Redoing.{again_more, again_other, not_again, opened_again, kept_popped, dropped_empty, dropped_again, may_drop, within, again_same}
-use Rattle.serial.proofs.again.act_again.Goals.{in-Did+in_ok-again-in-Did+else-not-is_same, in-Opened+in_ok-push-in-Opened, in-Kept, in-Dropped+in-Some, in-Dropped+in_default}
+use Rattle.std.proofs.Common.{rules, ◌≡◌, true, [], refl, length, take, arith}
+use Rattle.spec_ledger.specs.declared.Step.TheVariants.{Opened, Kept, Dropped}
+use Rattle.serial.proofs.Levels.{none_in_levels, may_be_left, same_in_levels, entered}
+use Rattle.serial.proofs.Redoing.{again_more, again_other, not_again, one_more}
+use Rattle.serial.proofs.again.act_again.Goals.{in-Did+in_ok-again-in-Did+else-not-is_same, in-Opened+in_ok-push-in-Opened, in-Kept, in-Dropped}
 use Rattle.serial.proofs.again.act_again.Goals as goal
 
 pub returns-then-not-is_same-clause-other : goal.returns-then-not-is_same-clause-other
@@ -17,15 +19,16 @@ returns-then-not-is_same-clause-some g c =
     again_other c.args.cells.now l.cells c.act.new.cells c.args.trace.now l.step-index _ l.inverses.items c.act.new.inverses.items l.marks.items c.in-Did.op c.in-Did.reply c.in_ok-again-in-Did.again c.loop-step-test.true c.in-Did.is
     l.invariant e.reply e.cells e.unsettled e.inverses
 
-pub take_back_to-requires-clause-unsettled : goal.take_back_to-requires-clause-unsettled
-take_back_to-requires-clause-unsettled g c =
-    let l = c.loop-step in
-    may_drop c.args.cells.now l.cells c.args.trace.now l.step-index _ l.inverses.items l.marks.items c.loop-step-test.true l.invariant c.in-Dropped.is c.pop-in-Dropped.new.self.items c.in-Some.mark c.in-Some.ensures.items c.requires.settled
+pub leave-requires : goal.leave-requires
+leave-requires g c = let l = c.loop-step in may_be_left c.args.cells.now (take l.step-index c.args.trace.now) l.cells l.inverses.items l.marks.items l.invariant
 
-pub take_back_to-requires-clause-mark : goal.take_back_to-requires-clause-mark
-take_back_to-requires-clause-mark g c =
-    let l = c.loop-step in
-    within c.args.cells.now l.cells c.args.trace.now l.step-index _ l.inverses.items l.marks.items c.loop-step-test.true l.invariant c.in-Dropped.is c.pop-in-Dropped.new.self.items c.in-Some.mark c.in-Some.ensures.items
+pub leave-requires-in-Dropped : goal.leave-requires-in-Dropped
+leave-requires-in-Dropped g c = let l = c.loop-step in may_be_left c.args.cells.now (take l.step-index c.args.trace.now) l.cells l.inverses.items l.marks.items l.invariant
+
+pub loop-step-init : goal.loop-step-init
+loop-step-init g c =
+    same_in_levels c.args.cells.now c.args.cells.now _ [] _ [] _ [] _ (search rules) (search rules) (search rules) (search rules)
+    (none_in_levels c.args.cells.now c.requires.settled c.hold.ensures.cells)
 
 pub loop-step-preserved : goal.loop-step-preserved
 loop-step-preserved g c =
@@ -39,22 +42,17 @@ loop-step-preserved g c =
     elim c.match-step.branch [
       | in-Did+in_ok-again-in-Did+else-not-is_same w ↦
           let e = w.in_ok-again-in-Did.ensures in
-          again_same start w.act.new.cells _ _ w.act.new.inverses.items _ ms _ (search rules) (search rules) (search rules)
+          same_in_levels start w.act.new.cells _ _ _ w.act.new.inverses.items _ ms _ refl (search rules) (search rules) (search rules)
           (again_more start l.cells w.act.new.cells t i _ is w.act.new.inverses.items ms w.in-Did.op w.in-Did.reply w.in_ok-again-in-Did.again below w.in-Did.is l.invariant e.reply e.cells e.unsettled e.inverses
           (w.is_same.ensures.0 (search rules)))
       | in-Opened+in_ok-push-in-Opened w ↦
           let size : w.len.result ≡ length is = omega (arith, w.len.ensures, l.inverses.ok.0) in
-          again_same start l.cells _ _ is _ w.push.new.self.items _ (search rules) (search rules) (search rules)
-          (opened_again start l.cells t i _ is ms below l.invariant w.len.result size w.push.new.self.items w.in_ok-push-in-Opened.ensures.items w.in-Opened.is)
+          same_in_levels start l.cells _ _ _ is _ w.push.new.self.items _ refl (search rules) (search rules) (search rules)
+          (entered start l.cells (take i t) is ms l.invariant _ (one_more t i _ Opened below w.in-Opened.is) w.len.result size w.push.new.self.items w.in_ok-push-in-Opened.ensures.items)
       | in-Kept w ↦
-          again_same start l.cells _ _ is _ w.pop.new.self.items _ (search rules) (search rules) (search rules)
-          (kept_popped start l.cells t i _ is ms below l.invariant l.marks.len l.marks.ok.0 w.in-Kept.is w.pop.new.self.items w.pop.result w.pop.ensures.items w.pop.ensures.variant.1)
-      | in-Dropped+in-Some w ↦
-          let e = w.take_back_to.ensures in
-          again_same start w.take_back_to.new.cells _ _ w.take_back_to.new.inverses.items _ w.pop-in-Dropped.new.self.items _ (search rules) (search rules) (search rules)
-          (dropped_again start l.cells t i _ is ms below l.invariant w.in-Dropped.is w.pop-in-Dropped.new.self.items w.in-Some.mark w.in-Some.ensures.items c.requires.settled c.hold.ensures.cells
-          w.take_back_to.new.cells w.take_back_to.new.inverses.items e.inverses e.cells e.unsettled)
-      | in-Dropped+in_default w ↦
-          again_same start l.cells _ _ is _ w.pop-in-Dropped.new.self.items _ (search rules) (search rules) (search rules)
-          (dropped_empty start l.cells t i _ is ms below l.invariant l.marks.len l.marks.ok.0 w.in-Dropped.is w.pop-in-Dropped.new.self.items w.in_default.ensures.items w.in_default.ensures.cases.0)
+          same_in_levels start w.leave.new.cells _ _ _ w.leave.new.inverses.items _ w.leave.new.marks.items _ (one_more t i _ Kept below w.in-Kept.is) (search rules) (search rules) (search rules)
+          (w.leave.ensures start (take i t) l.invariant)
+      | in-Dropped w ↦
+          same_in_levels start w.leave-in-Dropped.new.cells _ _ _ w.leave-in-Dropped.new.inverses.items _ w.leave-in-Dropped.new.marks.items _ (one_more t i _ Dropped below w.in-Dropped.is) (search rules) (search rules) (search rules)
+          (w.leave-in-Dropped.ensures start (take i t) l.invariant)
     ]

@@ -1,6 +1,6 @@
 use Rattle.std.proofs.Common.{IfOk, subst}
 use Rattle.serial.specs.Playing.{IsPlayedOver}
-use Rattle.serial.proofs.Doing.{free_first}
+use Rattle.serial.proofs.Meeting.{free_first}
 use Rattle.serial.proofs.playing.play.Goals as goal
 
 pub run-requires-clause-free : goal.run-requires-clause-free

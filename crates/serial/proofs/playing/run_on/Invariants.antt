@@ -1,14 +1,13 @@
-use Rattle.std.proofs.Common.{◌-◌}
-use Rattle.interp.specs.Progress.{IsSameCall, IsFree}
-use Rattle.serial.specs.Playing.{AreDone}
+use Rattle.interp.specs.Progress.{IsSameCall, IsFree, left_of}
+use Rattle.serial.specs.Playing.{IsOnItsWay}
 use Rattle.serial.proofs.playing.run_on.Given as goal
 
 abbrev pub invariant-operations : goal.invariant-operations
 invariant-operations g l = record {
   same : IsSameCall l.fn.machine l.machine;
   free : IsFree l.machine.status;
-  done : AreDone l.fn.cells l.machine.trace l.cells l.inverses.items;
+  way : IsOnItsWay l.fn.cells l.machine l.cells l.inverses.items l.marks.items;
 }
 
 abbrev pub decreases-operations : goal.decreases-operations
-decreases-operations g l = l.machine.call.fuel - l.machine.used
+decreases-operations g l = left_of l.machine

@@ -1,7 +1,7 @@
 use Rattle.std.proofs.Common.{◌∙◌, sym, ap, refl, length}
 use Rattle.std.specs.Prelude.{Some}
 use Rattle.std.proofs.lemmas.Option.{slice_get_read}
-use Rattle.serial.proofs.Doing.{free_first}
+use Rattle.serial.proofs.Meeting.{free_first}
 use Rattle.validator.proofs.Runs.{is_run}
 use Rattle.validator.proofs.attempt.play.Goals as goal
 

@@ -1,5 +1,5 @@
-use Rattle.std.proofs.Common.{◌≤◌, ◌<◌, ◌-◌, ◌^◌}
-use Rattle.interp.specs.Progress.{IsSameCall, IsFree}
+use Rattle.std.proofs.Common.{◌≤◌, ◌<◌, ◌^◌}
+use Rattle.interp.specs.Progress.{IsSameCall, IsFree, left_of}
 use Rattle.validator.proofs.attempt.run.Given as goal
 
 abbrev pub invariant-operations : goal.invariant-operations
@@ -11,4 +11,4 @@ invariant-operations g l = record {
 }
 
 abbrev pub decreases-operations : goal.decreases-operations
-decreases-operations g l = l.machine.call.fuel - l.machine.used
+decreases-operations g l = left_of l.machine

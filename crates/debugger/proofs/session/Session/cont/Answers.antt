@@ -10,7 +10,7 @@ returns g c =
     let end = c.go_on.new.cursor in
     let went = c.in_ok-go_on.ensures in
     subst (λ (s : Sight). HasContinued s (c.used.result - c.used-turns.result) (sight_of end.machine end.start.now.cells c.self.inside.breaks.items)) c.self.view_is
-    (continued here c.in_ok-cursor.cursor end c.self.inside.breaks.items c.deref.result.now c.deref.ensures.value c.in_ok-cursor.ensures went.cursor.same went.moves went.stops went.least c.used-turns.result c.used.result c.used-turns.ensures c.used.ensures)
+    (continued here c.in_ok-cursor.cursor end c.self.invariant.at went.cursor.at c.self.inside.breaks.items c.deref.result.now c.deref.ensures.value c.in_ok-cursor.ensures went.cursor.same went.moves went.stops went.least c.used-turns.result c.used.result c.used-turns.ensures c.used.ensures)
 
 pub invariant_of-self : goal.invariant_of-self
 invariant_of-self g c =

@@ -6,4 +6,4 @@ use Rattle.debugger.proofs.session.Session.is_sight.Goals as goal
 pub returns : goal.returns
 returns g c =
     let here = c.self.inside.here in
-    subst IsSight c.self.view_is (is_sight here.machine here.start.now.cells here.cells.cells c.self.inside.breaks.items c.self.invariant.at)
+    subst IsSight c.self.view_is (is_sight here.machine here.start.now.cells c.self.inside.breaks.items c.self.invariant.at.turns c.self.invariant.at.cells.replies)

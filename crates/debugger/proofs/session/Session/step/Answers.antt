@@ -1,7 +1,7 @@
 use Rattle.std.proofs.Common.{◌≡◌, ap, refl, subst, arith}
 use Rattle.debugger.specs.Commands.{HasStepped}
 use Rattle.debugger.specs.Sight.{Sight, sight_of}
-use Rattle.debugger.proofs.Keeping.{kept_on, kept_still}
+use Rattle.debugger.proofs.Keeping.{kept_on, kept_still, seen_end}
 use Rattle.debugger.proofs.session.Session.step.Goals as goal
 
 pub returns : goal.returns
@@ -18,7 +18,7 @@ returns g c =
       };
       turns = omega (arith, first, went.made);
       most = went.most;
-      all = went.all;
+      all = seen_end _ end c.self.inside.breaks.items went.cursor.at went.all;
     })
 
 pub invariant_of-self : goal.invariant_of-self
