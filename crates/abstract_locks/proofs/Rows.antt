@@ -1,6 +1,6 @@
 -- What a lock's holders have in common, as one takes it or lets it go.
 use Rattle.std.proofs.Common.{◌≡◌, ◌⊎◌, ℕ, zero, suc, ◌+◌, ◌-◌, ◌<◌, ◌≤◌, ◌^◌, true, false, cond, Option, Some, None, IsSome, is_some, List, [], ◌∷◌, ◌++◌, length, take, drop, get_or, set, replicate, refl, sym, ◌∙◌, ap, subst, inl, inr, ⊎_elim, arith, add-one}
-use Rattle.std.proofs.lemmas.List.{get_or_default, take-append-drop, drop-set, take-set}
+use Rattle.std.proofs.lemmas.List.{take-append-drop, drop-set, take-set}
 use Rattle.std.proofs.Math.Seq.{drop-cons}
 use Rattle.std.specs.List.{AllByRecursion}
 use Rattle.std.specs.Ordering.{eq_by_cmp}
@@ -198,16 +198,13 @@ longer (x ∷ p) m q = let e = longer p m q in omega (arith, e)
 
 -- ---- a take, by what its steps gave
 
-module _ (locks : Sharings) (rows : List Modes) (call : ℕ) (below : call < length rows) (are : AreShared locks rows) (l : Lock) (mode joined : Mode) (row : Modes) (row_is : row ≡ get_or rows call row)
-    (held : Option Mode) (held_is : held ≡ get row l) (shared : Option Shared) (shared_is : shared ≡ get locks l) (joined_is : joined ≡ join_held mode held) where
-  first_row : get_or rows call empty ≡ row
-  first_row = get_or_default rows call empty row below ∙ sym row_is
-
-  round_row : rows ≡ take call rows ++ row ∷ drop (call + 1) rows
-  round_row = split_row rows call below ∙ (λ i. take call rows ++ first_row i ∷ drop (call + 1) rows)
+module _ (locks : Sharings) (rows : List Modes) (call : ℕ) (below : call < length rows) (are : AreShared locks rows) (l : Lock) (mode joined : Mode)
+    (held : Option Mode) (held_is : held ≡ get (get_or rows call empty) l) (shared : Option Shared) (shared_is : shared ≡ get locks l) (joined_is : joined ≡ join_held mode held) where
+  abbrev row : Modes
+  row = get_or rows call empty
 
   are_round : AreShared locks (take call rows ++ row ∷ drop (call + 1) rows)
-  are_round = subst (λ (ms : List Modes). AreShared locks ms) round_row are
+  are_round = subst (λ (ms : List Modes). AreShared locks ms) (split_row rows call below) are
 
   pub take_less : held_once held ≤ count_in shared
   take_less =
@@ -224,8 +221,8 @@ module _ (locks : Sharings) (rows : List Modes) (call : ℕ) (below : call < len
   may_here : MayJoin (get locks l) (count_in (get locks l) - held_once (get row l)) joined → MayJoin shared (count_in shared - held_once held) joined
   may_here may = let path : ◌≡◌ {A = Option Mode × Option Shared} (get row l, get locks l) (held, shared) = λ i. (sym held_is i, sym shared_is i) in subst Joins path may
 
-  joined_there : joined ≡ join_held mode (get (get_or rows call empty) l)
-  joined_there = joined_is ∙ ap (join_held mode) (held_is ∙ ap (λ m. get m l) (sym first_row))
+  joined_there : joined ≡ join_held mode (get row l)
+  joined_there = joined_is ∙ ap (join_held mode) held_is
 
   pub take_asked : AllShare (get_or rows call empty) l mode (take call rows ++ drop (call + 1) rows) → MayJoin shared (count_in shared - held_once held) joined
   take_asked share =
@@ -241,26 +238,27 @@ module _ (locks : Sharings) (rows : List Modes) (call : ℕ) (below : call < len
         subst (λ (j : Mode). AllByRecursion (Shares l j) (take call rows ++ drop (call + 1) rows)) joined_there
         (granted_all locks (take call rows) row (drop (call + 1) rows) are_round l joined (may_there may))
 
-    pub take_shared : (next : Shared) → next ≡ record { mode = joined; count = count_in shared - held_once held + 1 } → (now : Sharings) → now ≡ insert locks l next → (left : Modes) → left ≡ insert row l joined → AreShared now (set rows call left)
-    take_shared next next_is now now_is left left_is =
+    pub take_shared : (next : Shared) → next ≡ record { mode = joined; count = count_in shared - held_once held + 1 } → (now : Sharings) → now ≡ insert locks l next
+        → (after : List Modes) → after ≡ set rows call (insert row l joined) → AreShared now after
+    take_shared next next_is now now_is after after_is =
         let count : count_in shared - held_once held ≡ count_in (get locks l) - held_once (get row l) = λ i. count_in (shared_is i) - held_once (held_is i) in
         let here : AreShared (insert locks l next) (take call rows ++ insert row l joined ∷ drop (call + 1) rows) =
         taken_all locks (take call rows) row (drop (call + 1) rows) are_round l joined next (next_is ∙ (λ i. record { mode = joined; count = count i + 1 })) (may_there may) in
-        let path : ◌≡◌ {A = Sharings × List Modes} (insert locks l next, take call rows ++ insert row l joined ∷ drop (call + 1) rows) (now, set rows call left) =
-        λ i. (sym now_is i, ((λ k. take call rows ++ sym left_is k ∷ drop (call + 1) rows) ∙ sym (set_row rows call left below)) i) in
+        let path : ◌≡◌ {A = Sharings × List Modes} (insert locks l next, take call rows ++ insert row l joined ∷ drop (call + 1) rows) (now, after) =
+        λ i. (sym now_is i, (sym (set_row rows call (insert row l joined) below) ∙ sym after_is) i) in
         let P : Sharings × List Modes → Type 0 = λ (s, ms). AreShared s ms in
         subst P path here
 
   pub take_fits : length rows < 2 ^ 32 → count_in shared - held_once held + 1 < 2 ^ 64
   take_fits few =
       let count : count_in shared - held_once held ≡ count_in (get locks l) - held_once (get row l) = λ i. count_in (shared_is i) - held_once (held_is i) in
-      let all : length rows ≡ length (take call rows ++ row ∷ drop (call + 1) rows) = ap length round_row in
+      let all : length rows ≡ length (take call rows ++ row ∷ drop (call + 1) rows) = ap length (split_row rows call below) in
       let more = longer (take call rows) row (drop (call + 1) rows) in
       let fit = others_fit locks (take call rows) row (drop (call + 1) rows) are_round l in
       omega (arith, few, count, all, more, fit)
 
-  pub take_is : (left : Modes) → left ≡ insert row l joined → left ≡ asked (get_or rows call empty) l mode
-  take_is left left_is = left_is ∙ (λ i. insert (sym first_row i) l (joined_there i))
+  pub take_is : (after : List Modes) → after ≡ set rows call (insert row l joined) → after ≡ set rows call (asked row l mode)
+  take_is after after_is = after_is ∙ (λ i. set rows call (insert row l (joined_there i)))
 
 pub restored : (locks now back : Sharings) (l : Lock) (next : Shared) (shared : Option Shared) → now ≡ insert locks l next → shared ≡ get locks l → back ≡ set_at now l shared → back ≡ locks
 restored locks now back l next shared now_is shared_is back_is = same_map lock_cmp_total lock_cmp-IsAntisymmetric back locks (λ q.
@@ -285,16 +283,9 @@ fewer_locks m n l held e =
       | suc k ↦ λ z. omega (arith, left, z)
     ] refl
 
-pub same_row : (rows : List Modes) (call : ℕ) → call < length rows → (x y : Modes) → x ≡ get_or rows call x → y ≡ get_or rows call y → x ≡ y
-same_row rows call below x y e f = e ∙ get_or_default rows call x y below ∙ sym f
-
-pub kept_shared : (locks : Sharings) (rows : List Modes) (call : ℕ) → call < length rows → AreShared locks rows → (now : Sharings) → now ≡ locks → (left row : Modes) → left ≡ row → row ≡ get_or rows call row → AreShared now (set rows call left)
-kept_shared locks rows call below are now now_is left row left_is row_is =
-    let same : set rows call left ≡ rows =
-    set_row rows call left below
-    ∙ (λ i. take call rows ++ (left_is ∙ row_is ∙ get_or_default rows call row empty below) i ∷ drop (call + 1) rows)
-    ∙ sym (split_row rows call below) in
-    let path : ◌≡◌ {A = Sharings × List Modes} (locks, rows) (now, set rows call left) = λ i. (sym now_is i, sym same i) in
+pub kept_shared : (locks now : Sharings) (rows after : List Modes) → AreShared locks rows → now ≡ locks → after ≡ rows → AreShared now after
+kept_shared locks now rows after are now_is after_is =
+    let path : ◌≡◌ {A = Sharings × List Modes} (locks, rows) (now, after) = λ i. (sym now_is i, sym after_is i) in
     let P : Sharings × List Modes → Type 0 = λ (s, ms). AreShared s ms in
     subst P path are
 
@@ -307,6 +298,8 @@ one_went locks before held later are l some now now_is left left_is =
     let P : Sharings × List Modes → Type 0 = λ (s, ms). AreShared s ms in
     subst P path (gone_all locks before held later are l some)
 
-pub round_held : (locks : Sharings) (rows : List Modes) (call : ℕ) → call < length rows → AreShared locks rows → (held : Modes) → held ≡ get_or rows call held → AreShared locks (take call rows ++ held ∷ drop (call + 1) rows)
-round_held locks rows call below are held is =
-    subst (λ (ms : List Modes). AreShared locks ms) (split_row rows call below ∙ (λ i. take call rows ++ (get_or_default rows call empty held below ∙ sym is) i ∷ drop (call + 1) rows)) are
+pub round_held : (locks : Sharings) (rows : List Modes) (call : ℕ) → call < length rows → AreShared locks rows → (held : Modes) → held ≡ get_or rows call empty → AreShared locks (take call rows ++ held ∷ drop (call + 1) rows)
+round_held locks rows call below are held is = subst (λ (ms : List Modes). AreShared locks ms) (split_row rows call below ∙ (λ i. take call rows ++ sym is i ∷ drop (call + 1) rows)) are
+
+pub round_none : (locks : Sharings) (rows after : List Modes) (call : ℕ) → call < length rows → AreShared locks (take call rows ++ empty ∷ drop (call + 1) rows) → after ≡ set rows call empty → AreShared locks after
+round_none locks rows after call below are after_is = subst (λ (ms : List Modes). AreShared locks ms) (sym (set_row rows call empty below) ∙ sym after_is) are

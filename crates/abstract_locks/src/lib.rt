@@ -8,14 +8,14 @@ ghost use Rattle.abstract_locks.specs.Table.{AllShare, asked, others, row_at};
 ghost use Rattle.abstract_locks.specs.Held.{MayJoin, count_in, held_once};
 
 mod holder;
+mod holders;
 mod sharing;
 
-use holder::Holder;
+use holders::Holders;
 use sharing::{Shared, Sharing, let_all_go};
 pub use spec_ledger::Mode;
 use std::alloc::{Allocator, Global};
 use std::marker::Model;
-use std::mem;
 use storage::{Lock, NoMemory};
 use thiserror::Error;
 
@@ -90,11 +90,10 @@ pub enum LockRefusal {
     NoMemory,
 }
 
-/// The modes that each call holds. A lock is taken in time logarithmic in the number of locks, without a look at the other calls.
+/// The modes that each call holds. A lock is taken in time logarithmic in the number of locks and in that of the calls that hold one, without a look at the other calls. Memory is taken for what is held alone, however many calls there are.
 #[derive(Drop)]
 pub struct Table<A: Allocator = Global> {
-    alloc: A,
-    holders: Vec<Holder<A>, A>,
+    holders: Holders<A>,
     locks: Sharing<A>,
 }
 
@@ -109,9 +108,9 @@ impl<A: Allocator> Model for Table<A> {
 
     ghost coded = { coded_list coded_modes };
 
-    ghost view = { λ t. t.holders.items };
+    ghost view = { λ t. t.holders };
 
-    ghost invariant = { λ t. AreShared t.locks t.holders.items × (length t.holders.items < 2 ^ 32) };
+    ghost invariant = { λ t. AreShared t.locks t.holders × (length t.holders < 2 ^ 32) };
 }
 
 impl<A: Allocator + Copy> Table<A> {
@@ -119,15 +118,8 @@ impl<A: Allocator + Copy> Table<A> {
     pub fn open(alloc: A, calls: u32) -> Result<Self, NoMemory>
         ensures { IfOk result (λ table. table ≡ replicate calls finite.empty) }
     {
-        let mut holders = Vec::new(alloc);
-        for _call in 0..calls {
-            let Ok(()) = holders.push(Holder::new(alloc)) else {
-                return Err(NoMemory);
-            };
-        }
         Ok(Table {
-            alloc,
-            holders,
+            holders: Holders::new(alloc, calls),
             locks: Sharing::new(alloc),
         })
     }
@@ -140,7 +132,7 @@ impl<A: Allocator + Copy> Table<A> {
         ensures conflict { (result ≡ Err LockRefusal.Conflict) ↔ ¬ (AllShare (row_at self.old call) lock mode (others self.old call)) }
         ensures err { OnErr result (self.new ≡ self.old) }
     {
-        let held = self.holders[call as usize].mode(lock);
+        let held = self.holders.mode(call, lock);
         let shared = self.locks.at(lock);
         let joined = join_to(mode, held);
         let others = count_others(shared, held);
@@ -154,7 +146,7 @@ impl<A: Allocator + Copy> Table<A> {
         let Ok(()) = self.locks.put(lock, next) else {
             return Err(LockRefusal::NoMemory);
         };
-        let Ok(()) = self.holders[call as usize].hold(lock, joined) else {
+        let Ok(()) = self.holders.hold(call, lock, joined) else {
             self.locks.put_back(lock, shared);
             return Err(LockRefusal::NoMemory);
         };
@@ -166,7 +158,7 @@ impl<A: Allocator + Copy> Table<A> {
         requires { call < length self.now }
         ensures { IsTrue result ↔ AllShare (row_at self.now call) lock mode (others self.now call) }
     {
-        let held = self.holders[call as usize].mode(lock);
+        let held = self.holders.mode(call, lock);
         let shared = self.locks.at(lock);
         let joined = join_to(mode, held);
         let others = count_others(shared, held);
@@ -178,7 +170,7 @@ impl<A: Allocator + Copy> Table<A> {
         requires { call < length self.old }
         ensures { self.new ≡ slice_set self.old call finite.empty }
     {
-        let held = mem::replace(&mut self.holders[call as usize], Holder::new(self.alloc));
+        let held = self.holders.take_out(call);
         let_all_go(&mut self.locks, held);
     }
 }

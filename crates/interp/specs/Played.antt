@@ -10,7 +10,7 @@ use Rattle.spec_execution.specs.Run.{ContractCall}
 use Rattle.spec_execution.specs.Levels.{RunsWith}
 use Rattle.interp.specs.Codes.{coded_setting, coded_call}
 
--- contracts, a call of one of them, the operations that it asked for with their replies, its outcome and its fuel
+-- contracts, a call of one of them, the operations that it asked for with their replies and the marks of levels among them, its outcome and its fuel
 pub record Played : Type 0 where
   pub setting : Setting
   pub call : ContractCall

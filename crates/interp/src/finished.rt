@@ -13,8 +13,8 @@ use spec_ledger::{Outcome, Step, Version};
 use std::alloc::Allocator;
 use std::marker::Model;
 
-/// A lent call over lent contracts, by the rules of a version, with the operations that it asked for, their replies, its
-/// outcome, the fuel that it used and how many levels it entered. That these are a run of the call over the contracts is
+/// A lent call over lent contracts, by the rules of a version, with the operations that it asked for, their replies, the marks
+/// of its levels, its outcome, the fuel that it used and how many levels it entered. That these are a run of the call over the contracts is
 /// kept by the type.
 #[derive(Drop)]
 pub struct Finished<'a, A: Allocator> {
@@ -109,7 +109,7 @@ impl<'a, A: Allocator + Copy> Finished<'a, A> {
         self.call
     }
 
-    /// The operations that it asked for, with their replies, first to last.
+    /// What it asked for, first to last: its operations with their replies, and the marks of the levels that it entered and left.
     pub fn trace(&self) -> &[Step]
         ensures { result.now ≡ self.now.trace }
     {

@@ -168,6 +168,7 @@ fn tell<'a, A: Allocator + Copy>(run: &mut Run<'a, A>) -> Turn
 }
 
 // The innermost level has trapped: it is left, or else the run has ended.
+#[inline(never)]
 fn tell_trap<'a, A: Allocator + Copy>(run: &mut Run<'a, A>, code: TrapCode) -> Turn
     requires kept { IsKept run.old }
     requires fallen { run.old.status ≡ Status.Fallen code }
@@ -185,6 +186,7 @@ fn tell_trap<'a, A: Allocator + Copy>(run: &mut Run<'a, A>, code: TrapCode) -> T
 }
 
 // The fuel is out: the innermost level is left, or else the run has ended.
+#[inline(never)]
 fn tell_out_of_fuel<'a, A: Allocator + Copy>(run: &mut Run<'a, A>) -> Turn
     requires kept { IsKept run.old }
     requires shut { IsShut (seen run.old) }
@@ -273,6 +275,7 @@ fn run_out<'a, A: Allocator + Copy>(run: &mut Run<'a, A>) -> Turn
 }
 
 // The fuel is out, and the innermost level is left.
+#[inline(never)]
 fn close<'a, A: Allocator + Copy>(run: &mut Run<'a, A>) -> Turn
     requires kept { IsKept run.old }
     requires closes { IsToClose (seen run.old) }
@@ -289,6 +292,7 @@ fn close<'a, A: Allocator + Copy>(run: &mut Run<'a, A>) -> Turn
 }
 
 // The innermost level is left, and the one around it goes on with this status and this answer.
+#[inline(never)]
 fn leave<'a, A: Allocator + Copy>(run: &mut Run<'a, A>, status: u8, answer: i64, keep: bool) -> Turn
     requires kept { IsKept run.old }
     requires leaving { IsLeaving (seen run.old) status answer keep }
@@ -424,6 +428,7 @@ fn start_function<'a, A: Allocator + Copy>(run: &mut Run<'a, A>, func: u32) -> T
 }
 
 // A level begins: the start function is called, or else the entry, where the module has none.
+#[inline(always)]
 fn start_run<'a, A: Allocator + Copy>(run: &mut Run<'a, A>) -> Turn
     requires first { IsFirst run.old }
     ensures kept { IsKept run.new }
@@ -477,6 +482,7 @@ fn ask_host<'a, A: Allocator + Copy>(run: &mut Run<'a, A>, op: Op) -> Turn
 }
 
 // `answer` gives the value of the last `ask` of this level.
+#[inline(never)]
 fn give_answer<'a, A: Allocator + Copy>(run: &mut Run<'a, A>) -> Turn
     requires call { IsToCall run.old run.old.asked }
     requires wished { IsWished run.old (wish_of_code Wish.Answer) }
@@ -495,6 +501,7 @@ fn give_answer<'a, A: Allocator + Copy>(run: &mut Run<'a, A>) -> Turn
 }
 
 // `ask` enters a level, or goes on with the status that says why it does not.
+#[inline(never)]
 fn ask_contract<'a, A: Allocator + Copy>(
     run: &mut Run<'a, A>,
     number: u32,
@@ -653,6 +660,7 @@ enum Wish {
     Answer,
 }
 
+#[inline(always)]
 fn wish_for<A: Allocator + Copy>(contract: u32, host: HostCall, stack: &Vec<Value, A>) -> Wish
     requires { arity_of host ≤ vec_len stack.now }
     ensures { wish_of_code result ≡ wish_of contract host (drop (vec_len stack.now - arity_of host) stack.now.items) }
@@ -751,6 +759,7 @@ fn record_step<A: Allocator + Copy>(trace: &mut Vec<Step, A>, step: Step)
 }
 
 // What a run that has ended gives.
+#[inline(always)]
 fn finished<'a, A: Allocator + Copy>(run: Run<'a, A>, outcome: Outcome) -> Finished<'a, A>
     requires kept { IsKept run }
     requires ended { run.status ≡ Status.Ended outcome }
@@ -842,6 +851,7 @@ impl<'a, A: Allocator + Copy> Machine<'a, A> {
     }
 
     /// The finished call, exactly where Done was answered; else the machine.
+    #[inline(always)]
     pub fn finish(self) -> Result<Finished<'a, A>, Machine<'a, A>>
         ensures { MatchResult result (IsFinishOf self.entry) (λ m. (m ≡ self.entry) × IsUnfinished self.entry.status) }
     {
@@ -899,6 +909,7 @@ impl<'a, A: Allocator + Copy> Machine<'a, A> {
     ///
     /// Why the call does not start. Of several causes it is the first of: the contract, the export, the function, the
     /// number of arguments, their types, memory.
+    #[inline(always)]
     pub fn start_as(
         alloc: A,
         contracts: &'a [Deployed<A>],
@@ -922,6 +933,7 @@ impl<'a, A: Allocator + Copy> Machine<'a, A> {
     }
 
     // The machine of a call that opens with this function of this contract, before its first turn.
+    #[inline(always)]
     fn begin(
         alloc: A,
         contracts: &'a [Deployed<A>],

@@ -1,5 +1,5 @@
 // One attempt at a call.
-ghost use Rattle.std.specs.Prelude.{◌≡◌, ◌<◌, ◌≤◌, ◌^◌, Ok, true, false, IfOk, OnOk, IfSome, length};
+ghost use Rattle.std.specs.Prelude.{◌≡◌, ◌↔◌, ◌<◌, ◌≤◌, ◌^◌, Ok, true, false, IfOk, OnOk, IfSome, length};
 ghost use Rattle.spec_execution.specs.Run.{IsReply};
 ghost use Rattle.spec_execution.specs.Run.{opening};
 ghost use Rattle.spec_ledger.specs.declared.Version.TheVariants.{Two};
@@ -80,7 +80,10 @@ fn told<P: Pace>(pace: &P, step: Step) -> bool {
 
 /// Why an attempt stops at an operation that was refused, where the pace stops the worker or does not. Want of memory is told
 /// in either case.
-fn stop_at(refusal: OpRefusal, stops: bool) -> Stop {
+fn stop_at(refusal: OpRefusal, stops: bool) -> Stop
+    ensures memory { (result ≡ Stop.NoMemory) ↔ (refusal ≡ OpRefusal.NoMemory) }
+    ensures stopped { result ≡ Stop.Stopped → stops ≡ true }
+{
     match refusal {
         OpRefusal::NoMemory => Stop::NoMemory,
         OpRefusal::Conflict | OpRefusal::Stale => {

@@ -1,3 +1,4 @@
 mod Gathering
+mod Moving
 mod Together
 mod Walks

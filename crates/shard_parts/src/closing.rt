@@ -1,5 +1,5 @@
 // The book that shards were.
-ghost use Rattle.std.specs.Prelude.{◌≡◌, ◌<◌, ◌≤◌, ◌^◌, ℕ, Err, IsTrue, ◌↔◌, IfOk, length, slice_index_or};
+ghost use Rattle.std.specs.Prelude.{◌≡◌, ◌<◌, ◌≤◌, ◌+◌, ◌^◌, ℕ, Err, IsTrue, ◌↔◌, IfOk, false, length, slice_index_or};
 ghost use Rattle.std.specs.FinMap as finite;
 ghost use Rattle.std.specs.List.{AllByRecursion};
 ghost use Rattle.spec_ledger.specs.declared.Lock.{Lock};
@@ -7,6 +7,7 @@ ghost use Rattle.spec_ledger.specs.Book.{AreDistinct, IsDefined, settled};
 ghost use Rattle.spec_ledger.specs.Modes.{touched};
 ghost use Rattle.spec_shards.specs.Shards.{shard_of};
 ghost use Rattle.shard_parts.specs.Parts.{AreParts, AreWhole, Part as ThePart};
+ghost use Rattle.shard_parts.specs.Places.{AreAt, HaveEntriesOf};
 
 use crate::parts::Part;
 use boost::attempt::Entry;
@@ -37,8 +38,59 @@ impl From<NoMemory> for CloseRefusal {
     }
 }
 
-/// Whether each is its shard's part of the book with these opening cells and this journal.
-fn are_parts<A: Allocator + Copy>(
+/// Moves the place of each shard on past one more entry of the journal. Answers whether it could.
+fn move_on<A: Allocator + Copy>(
+    parts: &[Part<A>],
+    places: &mut [usize; 16],
+    journal: &[Entry<A>],
+    position: usize,
+) -> bool
+    requires shards { (1 ≤ length parts.now) × (length parts.now < 2 ^ 32) }
+    requires position { position < length journal.now }
+    requires at { AreAt journal.now parts.now places.old position }
+    ensures after { IsTrue result → AreAt journal.now parts.now places.new (position + 1) }
+    ensures differs { result ≡ false → ¬ (HaveEntriesOf journal.now parts.now) }
+{
+    let shards = parts.len() as u32;
+    for shard in 0..shards {
+        let place = places[shard as usize];
+        match parts[shard as usize].next_after(place, journal, position, shard, shards) {
+            Some(next) => places[shard as usize] = next,
+            None => return false,
+        }
+    }
+    true
+}
+
+/// Whether the places are those after all entries, and the cells that each shard was opened with those of all at its locks.
+fn have_ended<A: Allocator + Copy>(
+    opening: &Cells<A>,
+    parts: &[Part<A>],
+    places: &[usize; 16],
+    journal: &[Entry<A>],
+) -> bool
+    requires shards { (1 ≤ length parts.now) × (length parts.now < 2 ^ 32) }
+    requires at { AreAt journal.now parts.now places.now (length journal.now) }
+    ensures parts { IsTrue result ↔ AreParts opening.now.cells journal.now parts.now }
+    ensures whole { IsTrue result → AreWhole parts.now }
+{
+    let _journal = journal;
+    let shards = parts.len() as u32;
+    for shard in 0..shards {
+        let part = &parts[shard as usize];
+        part.hold();
+        if !part.ends_at(places[shard as usize]) {
+            return false;
+        }
+        if !part.has_cells_of(opening, shard, shards) {
+            return false;
+        }
+    }
+    true
+}
+
+/// Whether each is its shard's part of the book with these opening cells and this journal, which is gone over for each shard.
+fn are_parts_one_by_one<A: Allocator + Copy>(
     opening: &Cells<A>,
     journal: &[Entry<A>],
     parts: &[Part<A>],
@@ -56,6 +108,29 @@ fn are_parts<A: Allocator + Copy>(
         }
     }
     true
+}
+
+/// Whether each is its shard's part of the book with these opening cells and this journal. With 16 shards or fewer the journal is gone over once, with a
+/// place in the entries of each.
+fn are_parts<A: Allocator + Copy>(
+    opening: &Cells<A>,
+    journal: &[Entry<A>],
+    parts: &[Part<A>],
+) -> bool
+    requires { (1 ≤ length parts.now) × (length parts.now < 2 ^ 32) }
+    ensures parts { IsTrue result ↔ AreParts opening.now.cells journal.now parts.now }
+    ensures whole { IsTrue result → AreWhole parts.now }
+{
+    if parts.len() > 16 {
+        return are_parts_one_by_one(opening, journal, parts);
+    }
+    let mut places = [0usize; 16];
+    for position in 0..journal.len() {
+        if !move_on(parts, &mut places, journal, position) {
+            return false;
+        }
+    }
+    have_ended(opening, parts, &places, journal)
 }
 
 /// The cells of all shards, of each those at its own locks.

@@ -1,10 +1,11 @@
 // What is left of a shard.
-ghost use Rattle.std.specs.Prelude.{◌≡◌, ◌<◌, ℕ, IsTrue, ◌↔◌, IfOk, OnOk, None, Some};
+ghost use Rattle.std.specs.Prelude.{◌≡◌, ◌<◌, ◌+◌, ℕ, IsTrue, ◌↔◌, IfNone, IfSome, OnOk, None, Some, length};
 ghost use Rattle.std.specs.FinMap as finite;
 ghost use Rattle.std.specs.List.{AllByRecursion};
 ghost use Rattle.spec_ledger.specs.Modes.{touched};
 ghost use Rattle.spec_shards.specs.Shards.{AreCellsOf, entries_in, part as part_of, shard_of, with_trace};
 ghost use Rattle.shard_parts.specs.Parts.{IsPart, IsPartOf};
+ghost use Rattle.shard_parts.specs.Places.{IsAt};
 
 use crate::homes::{home, is_part, same_outcome, touches};
 use boost::attempt::Entry;
@@ -105,6 +106,35 @@ fn are_entries_in<A: Allocator + Copy>(
     next == own.len()
 }
 
+/// The place of the shard's next entry once one more entry of the journal was gone over. None where its own is not that one's part.
+fn next_after<A: Allocator + Copy>(
+    own: &[Entry<A>],
+    next: usize,
+    journal: &[Entry<A>],
+    position: usize,
+    shard: u32,
+    shards: u32,
+) -> Option<usize>
+    requires shards { 0 < shards }
+    requires modes { AllByRecursion (λ e. e.modes ≡ touched e.trace) own.now }
+    requires position { position < length journal.now }
+    requires at { IsAt (shard_of shards) shard own.now journal.now next position }
+    ensures after { IfSome result (λ after. IsAt (shard_of shards) shard own.now journal.now after (position + 1)) }
+    ensures differs { IfNone result (¬ (own.now ≡ entries_in (shard_of shards) shard journal.now)) }
+{
+    let entry = &journal[position];
+    if !touches(entry.trace(), shard, shards) {
+        return Some(next);
+    }
+    if next >= own.len() {
+        return None;
+    }
+    if !is_entry_in(&own[next], entry, shard, shards) {
+        return None;
+    }
+    Some(next + 1)
+}
+
 /// Puts the cells at a shard's locks among others.
 fn gather<A: Allocator + Copy>(
     all: &mut Cells<A>,
@@ -154,6 +184,15 @@ impl<A: Allocator + Copy> Part<A> {
         let _entries = &self.entries;
     }
 
+    /// Whether the cells that it was opened with are, at the shard's locks, these.
+    pub(crate) fn has_cells_of(&self, opening: &Cells<A>, shard: u32, shards: u32) -> bool
+        requires { 0 < shards }
+        ensures { IsTrue result ↔ AreCellsOf (shard_of shards) shard opening.now.cells self.now.opening }
+    {
+        are_cells_among(opening, &self.opening, shard, shards)
+            && are_cells_among(&self.opening, opening, shard, shards)
+    }
+
     /// Whether it is the part of a shard in the book with these opening cells and this journal.
     pub(crate) fn is_part_of(
         &self,
@@ -165,9 +204,33 @@ impl<A: Allocator + Copy> Part<A> {
         requires { 0 < shards }
         ensures { IsTrue result ↔ IsPartOf (shard_of shards) opening.now.cells journal.now shard self.now }
     {
-        are_cells_among(opening, &self.opening, shard, shards)
-            && are_cells_among(&self.opening, opening, shard, shards)
+        self.has_cells_of(opening, shard, shards)
             && are_entries_in(&self.entries, journal, shard, shards)
+    }
+
+    /// The place of its next entry once one more entry of the journal was gone over. None where its own is not that one's part.
+    pub(crate) fn next_after(
+        &self,
+        next: usize,
+        journal: &[Entry<A>],
+        position: usize,
+        shard: u32,
+        shards: u32,
+    ) -> Option<usize>
+        requires shards { 0 < shards }
+        requires position { position < length journal.now }
+        requires at { IsAt (shard_of shards) shard self.now.entries journal.now next position }
+        ensures after { IfSome result (λ after. IsAt (shard_of shards) shard self.now.entries journal.now after (position + 1)) }
+        ensures differs { IfNone result (¬ (self.now.entries ≡ entries_in (shard_of shards) shard journal.now)) }
+    {
+        next_after(&self.entries, next, journal, position, shard, shards)
+    }
+
+    /// Whether it has so many entries.
+    pub(crate) fn ends_at(&self, next: usize) -> bool
+        ensures { IsTrue result ↔ (next ≡ length self.now.entries) }
+    {
+        next == self.entries.len()
     }
 
     /// Puts its cells at the shard's locks among others.

@@ -20,6 +20,7 @@ use crate::ticket::Ticket;
 use boost::book::{
     BeginRefusal, Closed, CommitRefusal, EnterRefusal, LeaveRefusal, OpRefusal, Run,
 };
+use brief_lock::acquire;
 use journal::Journal;
 use shard::Shard;
 use shard_parts::{CloseRefusal, close, home};
@@ -171,7 +172,7 @@ impl<'g, G: Gate, A: Allocator + Copy> Shards<'g, G, A> {
         ensures live { result ≡ Err BeginRefusal.Live → HoldsOfTheJournal (λ old. (number : ℕ) × IsLive old call number) }
         ensures committed { result ≡ Err BeginRefusal.Committed → HoldsOfTheJournal (λ old. ¬ (call_is_new call old.entries)) }
     {
-        let mut journal = self.journal.lock(rt);
+        let mut journal = acquire(rt, &self.journal);
         look_at_journal(&journal);
         match journal.begin(call) {
             Ok(number) => Ok(Ticket::new(self.alloc, call, number)),
@@ -195,7 +196,7 @@ impl<'g, G: Gate, A: Allocator + Copy> Shards<'g, G, A> {
         ensures conflict { result ≡ Err OpRefusal.Conflict → HoldsOfAShard (λ old. HasToWait old.book call number marks.now op) }
         ensures stale { result ≡ Err OpRefusal.Stale → HoldsOfAShard (λ old. IsOver old.book call number ⊎ (length old.book.begun ≤ call)) }
     {
-        let mut found = self.shards[shard as usize].shard.lock(rt);
+        let mut found = acquire(rt, &self.shards[shard as usize].shard);
         look_at_shard(&found);
         self.gate.inside(shard);
         found.op_with(call, number, marks, op)
@@ -245,7 +246,7 @@ impl<'g, G: Gate, A: Allocator + Copy> Shards<'g, G, A> {
         requires { shard < self.now.shards }
         ensures { result ≡ Err EnterRefusal.Stale → HoldsOfAShard (λ old. IsStale old.book call number) }
     {
-        let mut found = self.shards[shard].shard.lock(rt);
+        let mut found = acquire(rt, &self.shards[shard].shard);
         look_at_shard(&found);
         found.make_room(call, number)
     }
@@ -276,7 +277,7 @@ impl<'g, G: Gate, A: Allocator + Copy> Shards<'g, G, A> {
         ensures ok { OnOk result (HoldsOfAShard (λ old. (new : Content) × EnterDone old.book new call number)) }
         ensures stale { result ≡ Err EnterRefusal.Stale → HoldsOfAShard (λ old. IsStale old.book call number) }
     {
-        let mut found = self.shards[shard].shard.lock(rt);
+        let mut found = acquire(rt, &self.shards[shard].shard);
         look_at_shard(&found);
         found.enter(call, number)
     }
@@ -297,7 +298,7 @@ impl<'g, G: Gate, A: Allocator + Copy> Shards<'g, G, A> {
         ensures touched { ticket.new.touched ≡ ticket.old.touched }
         ensures err { OnErr result (ticket.new ≡ ticket.old) }
     {
-        let journal = self.journal.lock(rt);
+        let journal = acquire(rt, &self.journal);
         look_at_journal(&journal);
         if !journal.is_live(ticket.call, ticket.number) {
             return Err(EnterRefusal::Stale);
@@ -330,7 +331,7 @@ impl<'g, G: Gate, A: Allocator + Copy> Shards<'g, G, A> {
         ensures stale { result ≡ Err LeaveRefusal.Stale → HoldsOfAShard (λ old. IsStale old.book call number) }
         ensures not_entered { result ≡ Err LeaveRefusal.NotEntered → HoldsOfAShard (λ old. IsNotEntered old.book call number) }
     {
-        let mut found = self.shards[shard].shard.lock(rt);
+        let mut found = acquire(rt, &self.shards[shard].shard);
         look_at_shard(&found);
         found.leave(call, number, keep)
     }
@@ -360,7 +361,7 @@ impl<'g, G: Gate, A: Allocator + Copy> Shards<'g, G, A> {
         if ticket.marks.is_outside() {
             return Err(LeaveRefusal::NotEntered);
         }
-        let journal = self.journal.lock(rt);
+        let journal = acquire(rt, &self.journal);
         look_at_journal(&journal);
         if !journal.is_live(ticket.call, ticket.number) {
             return Err(LeaveRefusal::Stale);
@@ -379,7 +380,7 @@ impl<'g, G: Gate, A: Allocator + Copy> Shards<'g, G, A> {
         requires { shard < self.now.shards }
         ensures { HoldsOfAShard (λ old. IsStale old.book call number ⊎ ((new : Content) × UndoDone old.book new call number)) }
     {
-        let mut found = self.shards[shard].shard.lock(rt);
+        let mut found = acquire(rt, &self.shards[shard].shard);
         look_at_shard(&found);
         found.undo(call, number);
     }
@@ -389,7 +390,7 @@ impl<'g, G: Gate, A: Allocator + Copy> Shards<'g, G, A> {
     pub fn undo(&self, rt: &impl Wait, ticket: Ticket<A>)
         ensures { HoldsOfTheJournal (λ old. (new : TheJournal) × ((IsLive old ticket.call ticket.number × (new ≡ after_undo old ticket.call)) ⊎ (¬ (IsLive old ticket.call ticket.number) × (new ≡ old)))) }
     {
-        let mut journal = self.journal.lock(rt);
+        let mut journal = acquire(rt, &self.journal);
         undo_in_journal(&mut journal, ticket.call, ticket.number);
         for shard in 0..self.shards.len() {
             if ticket.has_touched(shard) {
@@ -411,7 +412,7 @@ impl<'g, G: Gate, A: Allocator + Copy> Shards<'g, G, A> {
         ensures differs { result ≡ Err CommitRefusal.Differs → HoldsOfAShard (λ old. IsOther old.book ticket.now.call ticket.now.number (part (shard_of self.now.shards) shard trace.now)) }
         ensures memory { result ≢ Err CommitRefusal.NoMemory }
     {
-        let found = self.shards[shard].shard.lock(rt);
+        let found = acquire(rt, &self.shards[shard].shard);
         look_at_shard(&found);
         found.look(
             ticket.call,
@@ -448,7 +449,7 @@ impl<'g, G: Gate, A: Allocator + Copy> Shards<'g, G, A> {
     fn end(&self, rt: &impl Wait, ticket: &Ticket<A>, outcome: Outcome, position: u32) {
         for shard in 0..self.shards.len() {
             if ticket.has_touched(shard) {
-                let mut found = self.shards[shard].shard.lock(rt);
+                let mut found = acquire(rt, &self.shards[shard].shard);
                 let _passed_over = found.end(ticket.call, ticket.number, outcome, position);
             }
         }
@@ -471,7 +472,7 @@ impl<'g, G: Gate, A: Allocator + Copy> Shards<'g, G, A> {
         let Ok(trace) = copied(self.alloc, run.trace) else {
             return Err((ticket, CommitRefusal::NoMemory));
         };
-        let mut journal = self.journal.lock(rt);
+        let mut journal = acquire(rt, &self.journal);
         look_at_journal(&journal);
         if !journal.is_live(ticket.call, ticket.number) {
             return Err((ticket, CommitRefusal::Stale));

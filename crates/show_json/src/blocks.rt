@@ -6,14 +6,14 @@ ghost use Rattle.block_figures.specs.Figures.{AreFigures};
 ghost use Rattle.show_json.specs.Json.{array_of, maybe, numbered};
 ghost use Rattle.show_json.specs.Blocks.{block_data, call_data, called_data, calls_of, chain_data, code_data, count_data, entry_data, figures_data, kind_of as kind_in, longest_data, outcome_word, position_data, ratio_data, returned_data, shared_data, speed_up_data, typed_data, value_data, wave_data, waves_data, IsBlockJson};
 
-use crate::values::{digest_of, large_of, null, text_of};
+use crate::values::{digest_of, large_of, null, text_of, with_member, word_of};
 use block::{Block, Position};
 use block_figures::{
     Chains, Figures, OutcomeCount, OutcomeKind, SharedLock, figures_of, hundredth_of,
     number_of_version, word_of_kind, word_of_mode,
 };
 use call::Call;
-use serde_json::{Value as Json, json};
+use serde_json::{Map, Value as Json, json};
 use spec_ledger::{Entry, Outcome};
 use std::alloc::{AllocError, Global};
 use wtypes::{NoMemory, Value};
@@ -179,25 +179,22 @@ fn position_of(
     let call = position.call();
     let receipt = position.receipt();
     let kind = kind_of(receipt.outcome);
-    let called = called_of(alloc, calls, call)?;
     let outcome = word_of_outcome(kind);
-    let code = code_of(kind);
+    let members = Map::new(alloc);
+    let members = with_member(alloc, members, "position", Json::from(number))?;
+    let members = with_member(alloc, members, "call", Json::from(call))?;
+    let members = with_member(alloc, members, "called", called_of(alloc, calls, call)?)?;
+    let members = with_member(alloc, members, "outcome", word_of(alloc, outcome)?)?;
+    let members = with_member(alloc, members, "code", code_of(kind))?;
     let value = returned_of(alloc, receipt.outcome)?;
+    let members = with_member(alloc, members, "value", value)?;
     let fuel = large_of(alloc, receipt.used as u128)?;
-    let wave = wave_of(chains, number);
+    let members = with_member(alloc, members, "fuel", fuel)?;
+    let members = with_member(alloc, members, "asks", Json::from(receipt.asks))?;
+    let members = with_member(alloc, members, "wave", wave_of(chains, number))?;
     let locks = locks_of(alloc, position.profile().entries())?;
-    json!(in alloc; {
-        "position": number,
-        "call": call,
-        "called": called,
-        "outcome": outcome,
-        "code": code,
-        "value": value,
-        "fuel": fuel,
-        "asks": receipt.asks,
-        "wave": wave,
-        "locks": locks,
-    })
+    let members = with_member(alloc, members, "locks", locks)?;
+    Ok(Json::from(members))
 }
 
 fn positions_of(
@@ -318,20 +315,19 @@ fn figures_data_of(alloc: Global, figures: &Figures) -> Result<Json, AllocError>
     requires { figures.now.total_fuel < 2 ^ 80 }
     ensures { IfOk result (λ v. view v ≡ figures_data figures.now) }
 {
-    let total_fuel = large_of(alloc, figures.total_fuel)?;
-    let waves = waves_of(&figures.chains);
-    let chain = chain_of(alloc, &figures.chains)?;
-    let speed_up = speed_up_of(alloc, &figures.chains, figures.total_fuel)?;
+    let total = figures.total_fuel;
+    let chains = &figures.chains;
+    let members = Map::new(alloc);
+    let members = with_member(alloc, members, "total_fuel", large_of(alloc, total)?)?;
+    let members = with_member(alloc, members, "waves", waves_of(chains))?;
+    let members = with_member(alloc, members, "chain", chain_of(alloc, chains)?)?;
+    let speed_up = speed_up_of(alloc, chains, total)?;
+    let members = with_member(alloc, members, "speed_up", speed_up)?;
     let shared = hottest_of(alloc, &figures.hottest)?;
+    let members = with_member(alloc, members, "shared", shared)?;
     let outcomes = outcomes_of(alloc, &figures.outcomes)?;
-    json!(in alloc; {
-        "total_fuel": total_fuel,
-        "waves": waves,
-        "chain": chain,
-        "speed_up": speed_up,
-        "shared": shared,
-        "outcomes": outcomes,
-    })
+    let members = with_member(alloc, members, "outcomes", outcomes)?;
+    Ok(Json::from(members))
 }
 
 // ---- blocks
@@ -348,22 +344,18 @@ fn block_of(
 {
     block.hold();
     let version = number_of_version(block.version());
-    let before = digest_of(alloc, block.before())?;
-    let called = digest_of(alloc, block.calls())?;
-    let after = digest_of(alloc, block.after())?;
+    let members = Map::new(alloc);
+    let members = with_member(alloc, members, "kind", word_of(alloc, "block")?)?;
+    let members = with_member(alloc, members, "version", Json::from(version))?;
+    let members = with_member(alloc, members, "before", digest_of(alloc, block.before())?)?;
+    let members = with_member(alloc, members, "calls", digest_of(alloc, block.calls())?)?;
+    let members = with_member(alloc, members, "after", digest_of(alloc, block.after())?)?;
     let fuel = large_of(alloc, block.fuel() as u128)?;
+    let members = with_member(alloc, members, "fuel", fuel)?;
     let positions = positions_of(alloc, calls, &figures.chains, block.positions())?;
-    let figures = figures_data_of(alloc, figures)?;
-    json!(in alloc; {
-        "kind": "block",
-        "version": version,
-        "before": before,
-        "calls": called,
-        "after": after,
-        "fuel": fuel,
-        "positions": positions,
-        "figures": figures,
-    })
+    let members = with_member(alloc, members, "positions", positions)?;
+    let members = with_member(alloc, members, "figures", figures_data_of(alloc, figures)?)?;
+    Ok(Json::from(members))
 }
 
 /// The figures of a block, and a bound on their sum of fuel. Memory that was refused is told as the other functions tell it.

@@ -2,6 +2,7 @@
 
 ghost use Rattle.std.specs.Prelude.{◌≡◌, IfOk, OnOk, length, string_bytes};
 ghost use Rattle.serde_json.specs.View.{members_view, view};
+ghost use Rattle.body_typing.specs.Spaces.{AreSpaces};
 ghost use Rattle.module_tree.specs.Modules.{module_view};
 ghost use Rattle.show_json.specs.Json.{small, with_members};
 ghost use Rattle.show_json.specs.Modules.{module_data, module_members, IsModuleJson};
@@ -29,8 +30,33 @@ fn datas_of(tree: &Module<Global>) -> Json
     Json::from(tree.datas.len())
 }
 
-/// Puts what is told of a module that so many bytes spell among the members of an object.
+/// Puts what is told of a module whose index spaces are these. Each value is made where it is put, so that none is held where memory is refused.
 #[tactic(auto, unfolding(crate::specs::Modules::module_members))]
+fn put_members(
+    alloc: Global,
+    map: &mut Map<String, Json>,
+    size: usize,
+    tree: &Module<Global>,
+    spaces: &Spaces<Global>,
+) -> Result<(), AllocError>
+    requires { AreSpaces spaces.now (module_view tree.now) }
+    ensures { OnOk result (members_view map.new.entries ≡ with_members (module_members size (module_view tree.now)) (members_view map.old.entries)) }
+{
+    put(map, alloc, "bytes", Json::from(size))?;
+    let imports = imports_of(alloc, &tree.types, &tree.imports)?;
+    put(map, alloc, "imports", imports)?;
+    put(map, alloc, "exports", exports_of(alloc, tree, spaces)?)?;
+    put(map, alloc, "functions", funcs_of(alloc, tree)?)?;
+    put(map, alloc, "tables", all_limits_of(alloc, &tree.tables)?)?;
+    let memories = all_limits_of(alloc, &tree.memories)?;
+    put(map, alloc, "memories", memories)?;
+    put(map, alloc, "globals", globals_of(alloc, tree, spaces)?)?;
+    put(map, alloc, "start", maybe_number(tree.start))?;
+    put(map, alloc, "elements", elements_of(tree))?;
+    put(map, alloc, "data", datas_of(tree))
+}
+
+/// Puts what is told of a module that so many bytes spell among the members of an object.
 pub(crate) fn put_module(
     alloc: Global,
     map: &mut Map<String, Json>,
@@ -40,22 +66,7 @@ pub(crate) fn put_module(
     ensures { OnOk result (members_view map.new.entries ≡ with_members (module_members size (module_view tree.now)) (members_view map.old.entries)) }
 {
     let spaces = Spaces::of_module(&alloc, tree)?;
-    let imports = imports_of(alloc, &tree.types, &tree.imports)?;
-    let exports = exports_of(alloc, tree, &spaces)?;
-    let functions = funcs_of(alloc, tree)?;
-    let tables = all_limits_of(alloc, &tree.tables)?;
-    let memories = all_limits_of(alloc, &tree.memories)?;
-    let globals = globals_of(alloc, tree, &spaces)?;
-    put(map, alloc, "bytes", Json::from(size))?;
-    put(map, alloc, "imports", imports)?;
-    put(map, alloc, "exports", exports)?;
-    put(map, alloc, "functions", functions)?;
-    put(map, alloc, "tables", tables)?;
-    put(map, alloc, "memories", memories)?;
-    put(map, alloc, "globals", globals)?;
-    put(map, alloc, "start", maybe_number(tree.start))?;
-    put(map, alloc, "elements", elements_of(tree))?;
-    put(map, alloc, "data", datas_of(tree))
+    put_members(alloc, map, size, tree, &spaces)
 }
 
 #[tactic(auto, unfolding(crate::specs::Modules::module_data))]

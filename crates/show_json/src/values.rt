@@ -1,11 +1,11 @@
 //! Values of JSON, and their text.
 
 ghost use Rattle.std.specs.Prelude.{◌≡◌, IfOk, string_bytes};
-ghost use Rattle.serde_json.specs.Data.{null};
-ghost use Rattle.serde_json.specs.View.{view};
+ghost use Rattle.serde_json.specs.Data.{null, put as put_in, string};
+ghost use Rattle.serde_json.specs.View.{members_view, view};
 ghost use Rattle.show_json.specs.Json.{hex_data, large, IsFlat, IsJson};
 
-use serde_json::Value;
+use serde_json::{Map, Value, put};
 use std::alloc::{AllocError, Global};
 
 /// What there is not.
@@ -29,6 +29,27 @@ pub(crate) fn digest_of(alloc: Global, digest: &[u8; 32]) -> Result<Value, Alloc
 {
     let digits = hex::encode(alloc, *digest)?;
     Ok(Value::from(digits))
+}
+
+/// A word, as a string.
+pub(crate) fn word_of(alloc: Global, word: &str) -> Result<Value, AllocError>
+    ensures { IfOk result (λ v. view v ≡ string word.now) }
+{
+    Value::try_from_str(alloc, word)
+}
+
+/// These members with one more. An object of many members is built by a call for each, so that no other value is held where memory is refused.
+pub(crate) fn with_member(
+    alloc: Global,
+    members: Map<String, Value>,
+    name: &str,
+    value: Value,
+) -> Result<Map<String, Value>, AllocError>
+    ensures { IfOk result (λ m. members_view m.entries ≡ put_in name.now (view value) (members_view members.entries)) }
+{
+    let mut members = members;
+    put(&mut members, alloc, name, value)?;
+    Ok(members)
 }
 
 /// The text of a value, without spaces.

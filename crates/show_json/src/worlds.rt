@@ -10,7 +10,7 @@ ghost use Rattle.show_json.specs.Json.{array_of, numbered};
 ghost use Rattle.show_json.specs.Worlds.{cell_data, cells_data, cells_of as cells_in, contract_data, world_data, IsWorldJson};
 
 use crate::modules::put_module;
-use crate::values::{digest_of, large_of, text_of};
+use crate::values::{digest_of, large_of, text_of, with_member, word_of};
 use link::deployed::Deployed;
 use module_figures::shortest_size;
 use serde_json::{Map, Value as Json, json, put};
@@ -100,10 +100,14 @@ fn world_digest_of(alloc: Global, world: &World) -> Result<[u8; 32], AllocError>
 fn world_of(alloc: Global, world: &World) -> Result<Json, AllocError>
     ensures { IfOk result (λ v. view v ≡ world_data (world_view world.now)) }
 {
-    let digest = digest_of(alloc, &world_digest_of(alloc, world)?)?;
+    let digest = world_digest_of(alloc, world)?;
+    let members = Map::new(alloc);
+    let members = with_member(alloc, members, "kind", word_of(alloc, "world")?)?;
+    let members = with_member(alloc, members, "digest", digest_of(alloc, &digest)?)?;
     let contracts = contracts_of(alloc, world.contracts())?;
-    let cells = all_cells_of(alloc, world.cells())?;
-    json!(in alloc; {"kind": "world", "digest": digest, "contracts": contracts, "cells": cells})
+    let members = with_member(alloc, members, "contracts", contracts)?;
+    let members = with_member(alloc, members, "cells", all_cells_of(alloc, world.cells())?)?;
+    Ok(Json::from(members))
 }
 
 /// A world as JSON: an object with its digest, its contracts with what is told of their modules, and its cells. The text has no spaces and no

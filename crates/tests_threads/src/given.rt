@@ -1,38 +1,57 @@
-// Worlds and calls of the example contract, from rows.
-ghost use Rattle.std.specs.Prelude.{◌≤◌, IfOk, length};
-
+// Worlds and calls from rows, and the bytes of blocks.
+use block::{Block, write_block};
 use call::Call;
-use samples::example;
+use codec::{Failures, MemorySink};
+use samples::deployed;
 use spec_ledger::{Kind, Lock};
-use std::alloc::{AllocError, Allocator, Global};
+use std::alloc::{Allocator, Global};
 use std::test::Fail;
 use storage::Cells;
 use world::World;
-use wtypes::Value;
+use wtypes::Value::{self, I64};
 
-/// A cell of contract 0: its kind, its key and its number.
-pub(crate) type CellRow = (Kind, u64, u64);
+/// A cell: its contract, its kind, its key and its number.
+pub(crate) type CellRow = (u32, Kind, u64, u64);
 
-/// A call of contract 0: its entry, its numbers and its fuel.
-pub(crate) type CallRow = (&'static str, &'static [i64], u64);
+/// A call: its contract, its entry, its arguments and its fuel.
+pub(crate) type CallRow = (u32, &'static str, &'static [Value], u64);
 
-/// A cell of contract 0.
-pub(crate) fn cell(kind: Kind, key: u64) -> Lock {
+/// The calls of a world.
+#[derive(Clone, Copy)]
+pub(crate) enum Calls {
+    These(&'static [CallRow]),
+    /// So many calls of `run`, at so many keys in turn.
+    Runs(u32, u32),
+    /// So many writers of one cell, one after another.
+    Chain(u32),
+    /// So many readers of one counter, and then as many that add 1 to it.
+    LooksAndBumps(u32),
+}
+
+/// A world, and calls in it.
+#[derive(Drop)]
+pub(crate) struct Given {
+    pub(crate) world: World,
+    pub(crate) calls: Vec<Call>,
+}
+
+/// A cell of a contract.
+pub(crate) fn cell(contract: u32, kind: Kind, key: u64) -> Lock {
     Lock {
-        contract: 0,
+        contract,
         kind,
         key,
     }
 }
 
 /// These cells.
-pub(crate) fn cells_of<A: Allocator + Copy>(alloc: A, rows: &[CellRow]) -> Result<Cells<A>, Fail> {
+fn cells_of<A: Allocator + Copy>(alloc: A, rows: &[CellRow]) -> Result<Cells<A>, Fail> {
     let mut cells = Cells::new(alloc);
-    for (kind, key, number) in rows {
+    for (contract, kind, key, number) in rows {
         if *number == 0 {
             return Err(Fail::from("a cell of 0"));
         }
-        cells.insert(cell(*kind, *key), *number)?;
+        cells.insert(cell(*contract, *kind, *key), *number)?;
     }
     Ok(cells)
 }
@@ -40,42 +59,85 @@ pub(crate) fn cells_of<A: Allocator + Copy>(alloc: A, rows: &[CellRow]) -> Resul
 /// Whether these are the cells, and no others.
 pub(crate) fn are_cells<A: Allocator + Copy>(cells: &Cells<A>, rows: &[CellRow]) -> bool {
     cells.entries().count() == rows.len()
-        && rows.iter().all(|(kind, key, number)| { cells.get(cell(*kind, *key)) == Some(*number) })
+        && rows.iter().all(|(contract, kind, key, number)| {
+            cells.get(cell(*contract, *kind, *key)) == Some(*number)
+        })
 }
 
-/// The world of the example contract and of these cells.
-pub(crate) fn world_of<A: Allocator + Copy>(alloc: A, rows: &[CellRow]) -> Result<World<A>, Fail> {
+/// The world of the contracts of these modules and of these cells.
+pub(crate) fn world_of<A: Allocator + Copy>(
+    alloc: A,
+    modules: &[&[u8]],
+    rows: &[CellRow],
+) -> Result<World<A>, Fail> {
     let mut contracts = Vec::new(alloc);
-    contracts.push(example(alloc)?)?;
+    for module in modules {
+        contracts.push(deployed(alloc, *module)?)?;
+    }
+    if contracts.len() > 2 {
+        return Err(Fail::from("too many contracts"));
+    }
     Ok(World::new(contracts, cells_of(alloc, rows)?))
 }
 
-/// These numbers as arguments.
-pub(crate) fn values(alloc: Global, numbers: &[i64]) -> Result<Vec<Value>, AllocError> {
-    let mut values = Vec::new(alloc);
-    for number in numbers {
-        values.push(Value::I64(*number))?;
+/// How many calls these are.
+fn count(calls: &Calls) -> u32 {
+    match calls {
+        Calls::These(rows) => u32::try_from(rows.len()).unwrap_or(u32::MAX),
+        Calls::Runs(count, _) | Calls::Chain(count) => *count,
+        Calls::LooksAndBumps(each) => each.saturating_mul(2),
     }
-    Ok(values)
 }
 
-/// A call of contract 0.
-fn call_of(alloc: Global, row: &CallRow) -> Result<Call, Fail> {
-    let (entry, numbers, fuel) = *row;
-    let args = values(alloc, numbers)?;
-    Ok(samples::call(alloc, 0, entry, &args, fuel)?)
+/// The call of this number.
+fn call_at(alloc: Global, calls: &Calls, number: u32) -> Result<Call, Fail> {
+    match calls {
+        Calls::These(rows) => {
+            let (contract, entry, args, fuel) = *rows.get(number as usize).ok_or("a row")?;
+            Ok(samples::call(alloc, contract, entry, args, fuel)?)
+        }
+        Calls::Runs(_, keys) => {
+            let key = number.checked_rem(*keys).ok_or("some key")?;
+            Ok(samples::call(alloc, 0, "run", &[I64(i64::from(key))], 7)?)
+        }
+        Calls::Chain(_) => {
+            Ok(samples::call(alloc, 0, "set", &[I64(1), I64(i64::from(number))], 100)?)
+        }
+        Calls::LooksAndBumps(each) => {
+            if number < *each {
+                Ok(samples::call(alloc, 0, "look", &[I64(1)], 100)?)
+            } else {
+                Ok(samples::call(alloc, 0, "bump", &[I64(1), I64(1)], 100)?)
+            }
+        }
+    }
 }
 
-/// These calls.
-pub(crate) fn calls_of(alloc: Global, rows: &[CallRow]) -> Result<Vec<Call>, Fail>
-    ensures { IfOk result (λ calls. length calls.items ≤ 65535) }
-{
-    let mut calls = Vec::new(alloc);
-    for row in rows {
-        calls.push(call_of(alloc, row)?)?;
+/// A world of the contracts of these modules and of these cells, and these calls.
+pub(crate) fn give(
+    alloc: Global,
+    modules: &[&[u8]],
+    cells: &[CellRow],
+    calls: &Calls,
+) -> Result<Given, Fail> {
+    let mut list = Vec::new(alloc);
+    for number in 0..count(calls) {
+        list.push(call_at(alloc, calls, number)?)?;
     }
-    if calls.len() > 65_535 {
-        return Err(Fail::from("too many calls"));
+    let world = world_of(alloc, modules, cells)?;
+    Ok(Given { world, calls: list })
+}
+
+/// The bytes of a block.
+pub(crate) fn written<A: Allocator>(
+    heap: Global,
+    alloc: A,
+    block: &Block<A>,
+) -> Result<Vec<u8>, Fail> {
+    if !block.fits_version() {
+        return Err(Fail::from("a receipt that is not told"));
     }
-    Ok(calls)
+    let mut sink = MemorySink::new(heap, 10_000_000, Failures::none());
+    write_block(alloc, block, &mut sink).or(Err("not written"))?;
+    Ok(sink.bytes().to_vec(heap)?)
 }

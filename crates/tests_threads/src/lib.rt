@@ -11,13 +11,13 @@ mod intakes;
 #[cfg(test)]
 mod judged_blocks;
 #[cfg(test)]
-mod levels;
-#[cfg(test)]
 mod meetings;
 #[cfg(test)]
 mod mined_blocks;
 #[cfg(test)]
 mod mined_cores;
+#[cfg(test)]
+mod mined_rows;
 #[cfg(test)]
 mod paces;
 #[cfg(test)]
@@ -25,10 +25,10 @@ mod rationed_blocks;
 #[cfg(test)]
 mod refused_growths;
 #[cfg(test)]
-mod sharded_blocks;
-#[cfg(test)]
 mod shared_books;
 #[cfg(test)]
 mod shared_lanes;
+#[cfg(test)]
+mod verdicts;
 #[cfg(test)]
 mod versions;

@@ -20,12 +20,6 @@ pub(crate) fn hold(told: &AtomicU64, count: u64, looks: u32) -> bool {
     false
 }
 
-/// Tells one more. Nothing is waited for.
-fn tell(told: &AtomicU64) -> bool {
-    told.fetch_add(1, Ordering::SeqCst);
-    true
-}
-
 /// How calls are made to meet.
 #[derive(Clone, Copy)]
 pub(crate) enum Meeting {
@@ -52,10 +46,83 @@ pub(crate) enum Meeting {
     AddedMeanwhile,
 }
 
+/// What is counted of the threads.
+#[derive(Clone, Copy)]
+enum Told {
+    Tried,
+    Acted,
+    Refused,
+    Committed,
+}
+
+/// What a thread tells first at a step, and how many of what it is then held for.
+type Held = (Option<Told>, Option<(Told, u64)>);
+
+const GOES_ON: Held = (None, None);
+
+/// What a thread of a meeting does at a step.
+fn held(meeting: Meeting, step: Step) -> Held {
+    match meeting {
+        Meeting::BothActed => match step {
+            Step::Commit { .. } => (Some(Told::Acted), Some((Told::Acted, 2))),
+            _ => GOES_ON,
+        },
+        Meeting::RefusedOnce => match step {
+            Step::Op { call: 0, n: 1 } => (None, Some((Told::Acted, 1))),
+            Step::Commit { call: 1 } => (Some(Told::Acted), Some((Told::Refused, 1))),
+            Step::Refused { .. } => (Some(Told::Refused), None),
+            Step::Attempt { call: 0, nth: 1 } => (None, Some((Told::Committed, 1))),
+            Step::Committed { .. } => (Some(Told::Committed), None),
+            _ => GOES_ON,
+        },
+        Meeting::BothRefused => match step {
+            Step::Op { n: 1, .. } => (Some(Told::Acted), Some((Told::Acted, 2))),
+            Step::Refused { .. } => (Some(Told::Refused), Some((Told::Refused, 2))),
+            _ => GOES_ON,
+        },
+        Meeting::OvertakenAdder => match step {
+            Step::Op { call: 1, .. } => (None, Some((Told::Acted, 1))),
+            Step::Commit { call: 0 } => (Some(Told::Acted), Some((Told::Committed, 1))),
+            Step::Committed { .. } => (Some(Told::Committed), None),
+            _ => GOES_ON,
+        },
+        Meeting::Clash => match step {
+            Step::Op { call: 0, n: 1 } => (Some(Told::Acted), Some((Told::Tried, 1))),
+            Step::Attempt { call: 1, nth: 0 } => (None, Some((Told::Acted, 1))),
+            Step::Attempt { call: 1 | 2, .. } => (Some(Told::Tried), Some((Told::Committed, 1))),
+            Step::Refused { call: 1 } => (Some(Told::Refused), None),
+            Step::Committed { call: 0 } => (Some(Told::Committed), None),
+            _ => GOES_ON,
+        },
+        Meeting::FourTries => match step {
+            Step::Attempt { nth: 0, .. } => (Some(Told::Tried), Some((Told::Tried, 4))),
+            _ => GOES_ON,
+        },
+        Meeting::BothAsk => match step {
+            Step::Attempt { nth: 0, .. } => (Some(Told::Tried), None),
+            Step::Op { n: 0, .. } => (Some(Told::Acted), Some((Told::Acted, 2))),
+            _ => GOES_ON,
+        },
+        Meeting::AddedMeanwhile => match step {
+            Step::Op { call: 0, n: 1 } => (Some(Told::Tried), Some((Told::Acted, 1))),
+            Step::Op { call: 1, n: 0 } => (None, Some((Told::Tried, 1))),
+            Step::Commit { call: 1 } => (Some(Told::Acted), Some((Told::Acted, 2))),
+            Step::Commit { call: 0 } => (Some(Told::Acted), None),
+            _ => GOES_ON,
+        },
+        Meeting::PastAnother => match step {
+            Step::Attempt { call: 1, .. } => (None, Some((Told::Tried, 1))),
+            Step::Attempt { call: 2, .. } => (Some(Told::Tried), None),
+            _ => GOES_ON,
+        },
+    }
+}
+
 /// Holds threads so that calls meet.
 #[derive(Drop)]
 pub(crate) struct Meet {
-    meeting: Meeting,
+    /// None: no thread is held.
+    meeting: Option<Meeting>,
     looks: u32,
     tried: AtomicU64,
     acted: AtomicU64,
@@ -66,7 +133,7 @@ pub(crate) struct Meet {
 
 impl Meet {
     /// Holds threads for this meeting. A held thread looks at most so often, and then goes on.
-    pub(crate) fn new(meeting: Meeting, looks: u32) -> Meet {
+    pub(crate) fn new(meeting: Option<Meeting>, looks: u32) -> Meet {
         Meet {
             meeting,
             looks,
@@ -81,112 +148,35 @@ impl Meet {
     /// Whether each held thread got what it waited for, and what the meeting counts came as often as it has to.
     pub(crate) fn was_met(&self) -> bool {
         let counted = match self.meeting {
-            Meeting::Clash => self.refused.load(Ordering::SeqCst) == 1,
-            Meeting::BothAsk => self.tried.load(Ordering::SeqCst) == 2,
+            Some(Meeting::Clash) => self.refused.load(Ordering::SeqCst) == 1,
+            Some(Meeting::BothAsk) => self.tried.load(Ordering::SeqCst) == 2,
             _ => true,
         };
         counted && !self.failed.load(Ordering::SeqCst)
     }
 
-    /// Waits until so many were told, and says whether they were.
-    fn hold(&self, told: &AtomicU64, count: u64) -> bool {
-        hold(told, count, self.looks)
-    }
-
-    fn both_acted(&self, step: Step) -> bool {
-        match step {
-            Step::Commit { .. } => tell(&self.acted) && self.hold(&self.acted, 2),
-            _ => true,
-        }
-    }
-
-    fn refused_once(&self, step: Step) -> bool {
-        match step {
-            Step::Op { call: 0, n: 1 } => self.hold(&self.acted, 1),
-            Step::Commit { call: 1 } => tell(&self.acted) && self.hold(&self.refused, 1),
-            Step::Refused { .. } => tell(&self.refused),
-            Step::Attempt { call: 0, nth: 1 } => self.hold(&self.committed, 1),
-            Step::Committed { .. } => tell(&self.committed),
-            _ => true,
-        }
-    }
-
-    fn both_refused(&self, step: Step) -> bool {
-        match step {
-            Step::Op { n: 1, .. } => tell(&self.acted) && self.hold(&self.acted, 2),
-            Step::Refused { .. } => tell(&self.refused) && self.hold(&self.refused, 2),
-            _ => true,
-        }
-    }
-
-    fn overtaken_adder(&self, step: Step) -> bool {
-        match step {
-            Step::Op { call: 1, .. } => self.hold(&self.acted, 1),
-            Step::Commit { call: 0 } => tell(&self.acted) && self.hold(&self.committed, 1),
-            Step::Committed { .. } => tell(&self.committed),
-            _ => true,
-        }
-    }
-
-    fn clash(&self, step: Step) -> bool {
-        match step {
-            Step::Op { call: 0, n: 1 } => tell(&self.acted) && self.hold(&self.tried, 1),
-            Step::Attempt { call: 1, nth: 0 } => self.hold(&self.acted, 1),
-            Step::Attempt { call: 1 | 2, .. } => {
-                tell(&self.tried) && self.hold(&self.committed, 1)
-            }
-            Step::Refused { call: 1 } => tell(&self.refused),
-            Step::Committed { call: 0 } => tell(&self.committed),
-            _ => true,
-        }
-    }
-
-    fn four_tries(&self, step: Step) -> bool {
-        match step {
-            Step::Attempt { nth: 0, .. } => tell(&self.tried) && self.hold(&self.tried, 4),
-            _ => true,
-        }
-    }
-
-    fn both_ask(&self, step: Step) -> bool {
-        match step {
-            Step::Attempt { nth: 0, .. } => tell(&self.tried),
-            Step::Op { n: 0, .. } => tell(&self.acted) && self.hold(&self.acted, 2),
-            _ => true,
-        }
-    }
-
-    fn added_meanwhile(&self, step: Step) -> bool {
-        match step {
-            Step::Op { call: 0, n: 1 } => tell(&self.tried) && self.hold(&self.acted, 1),
-            Step::Op { call: 1, n: 0 } => self.hold(&self.tried, 1),
-            Step::Commit { call: 1 } => tell(&self.acted) && self.hold(&self.acted, 2),
-            Step::Commit { call: 0 } => tell(&self.acted),
-            _ => true,
-        }
-    }
-
-    fn past_another(&self, step: Step) -> bool {
-        match step {
-            Step::Attempt { call: 1, .. } => self.hold(&self.tried, 1),
-            Step::Attempt { call: 2, .. } => tell(&self.tried),
-            _ => true,
+    fn count(&self, told: Told) -> &AtomicU64 {
+        match told {
+            Told::Tried => &self.tried,
+            Told::Acted => &self.acted,
+            Told::Refused => &self.refused,
+            Told::Committed => &self.committed,
         }
     }
 }
 
 impl Pace for Meet {
     fn at(&self, step: Step) {
-        let met = match self.meeting {
-            Meeting::BothActed => self.both_acted(step),
-            Meeting::RefusedOnce => self.refused_once(step),
-            Meeting::BothRefused => self.both_refused(step),
-            Meeting::OvertakenAdder => self.overtaken_adder(step),
-            Meeting::Clash => self.clash(step),
-            Meeting::FourTries => self.four_tries(step),
-            Meeting::BothAsk => self.both_ask(step),
-            Meeting::PastAnother => self.past_another(step),
-            Meeting::AddedMeanwhile => self.added_meanwhile(step),
+        let Some(meeting) = self.meeting else {
+            return;
+        };
+        let (tells, waits) = held(meeting, step);
+        if let Some(told) = tells {
+            self.count(told).fetch_add(1, Ordering::SeqCst);
+        }
+        let met = match waits {
+            Some((told, count)) => hold(self.count(told), count, self.looks),
+            None => true,
         };
         if !met {
             self.failed.store(true, Ordering::SeqCst);

@@ -1,14 +1,15 @@
 // Every block of memory that a call asks for, refused in turn: alone, and with all that are asked for after it. The answer is want of
 // memory, or the one without a refusal, and what was lent is as it was. Which of the two it is has no clause, nor that a worker whose
 // fellow was refused comes to its end.
-use crate::given::{CellRow, are_cells, cells_of, world_of};
-use crate::judged_blocks::{Two, calling, made_of};
+use crate::given::{CellRow, are_cells, world_of, written};
+use crate::judged_blocks::{Entries, Source, calling, make};
+use crate::mined_rows::OF_EXAMPLE;
+use crate::verdicts::{Judged, told};
 use assembler::{AsmRefusal, assemble};
-use block::{Block, BlockRefusal, read_block, write_block};
+use block::{BlockRefusal, read_block};
 use block_judge::Reason;
 use body_typing::scope::TypeRefusal;
 use call::Call;
-use codec::{Failures, MemorySink};
 use debugger::session::{Refusal, Session};
 use encoder::encode;
 use interp::start::StartRefusal;
@@ -20,19 +21,20 @@ use mining::mine_in;
 use module_tree::module::Module;
 use pace::NoPace;
 use ration::Ration;
-use samples::{EXAMPLE, PROBING, deployed, typed};
+use samples::{EXAMPLE, PROBING, typed};
 use serial_block::run;
-use spec_ledger::{Kind, Version};
+use spec_ledger::Kind::{Counter, Map};
+use spec_ledger::Version;
 use std::alloc::{Allocator, Global};
 use std::process::Abort;
 use std::sync::Wait;
 use std::test::Fail;
 use std::thread::Threads;
-use storage::Cells;
 use typing::check::check;
-use validator::{Verdict, validate_in};
+use validator::validate_in;
 use world::{World, encode_world};
 use world_reader::{ReadRefusal, read_world};
+use wtypes::Value::I64;
 
 /// The example contract as text.
 const TEXT: &str = r#"(module
@@ -61,36 +63,39 @@ const STORER: [u8; 55] = [
 ];
 
 /// The cells of the world that is lent.
-const CELLS: [CellRow; 2] = [(Kind::Map, 1, 10), (Kind::Counter, 7, 3)];
+const CELLS: [CellRow; 2] = [(0, Map, 1, 10), (0, Counter, 7, 3)];
 
-/// Two calls of a contract, whose bytes these are, and the cells after them.
+/// The module that asks itself.
+const OF_PROBING: &[&[u8]] = &[&PROBING];
+
+/// Two calls over the cells that are lent, the bytes of their contract, and the cells after them.
 struct Sample {
     module: &'static [u8],
-    two: Two,
+    source: Source,
     after: &'static [CellRow],
 }
 
-/// Two calls of the example contract over the cells that are lent, the first before the second.
+/// Two calls of the example contract, the first before the second.
 const PEEK_THEN_SET: Sample = Sample {
     module: &EXAMPLE,
-    two: Two {
+    source: Source {
+        modules: OF_EXAMPLE,
         cells: &CELLS,
-        calls: [("peek", &[1]), ("set", &[1, 9])],
-        swapped: false,
+        entries: Entries::Two(("peek", &[I64(1)]), ("set", &[I64(1), I64(9)])),
     },
-    after: &[(Kind::Map, 1, 9), (Kind::Counter, 7, 3)],
+    after: &[(0, Map, 1, 9), (0, Counter, 7, 3)],
 };
 
 /// Two calls of a contract that asks itself, with key 7: `both` of `fall`, which is dropped, and of `count`, which is kept; and `probe` of
 /// `probe` of `spoil` of `store`, where the third level is dropped and the fourth is kept.
 const LEVELS_IN_LEVELS: Sample = Sample {
     module: &PROBING,
-    two: Two {
+    source: Source {
+        modules: OF_PROBING,
         cells: &CELLS,
-        calls: [("both", &[115_728]), ("probe", &[2_081_554_432])],
-        swapped: false,
+        entries: Entries::Two(("both", &[I64(115_728)]), ("probe", &[I64(2_081_554_432)])),
     },
-    after: &[(Kind::Map, 1, 10), (Kind::Counter, 7, 4)],
+    after: &[(0, Map, 1, 10), (0, Counter, 7, 4)],
 };
 
 /// What asks for memory.
@@ -103,21 +108,25 @@ enum Asked {
     Deploy,
     ReadWorld,
     ReadBlock,
+    Debug,
+    /// Work with two calls.
+    Of(Work),
+    /// The same with calls that ask.
+    OfLevels(Work),
+}
+
+/// What is done with two calls.
+#[derive(Clone, Copy, Debug)]
+enum Work {
     Run,
     Mine,
     Validate,
     /// A block with another receipt is validated.
     Reject,
-    /// The same of calls that ask.
-    RunLevels,
-    MineLevels,
-    ValidateLevels,
-    RejectLevels,
-    Debug,
 }
 
 /// What comes of it.
-#[derive(Clone, Copy, Debug, PartialEq, Eq)]
+#[derive(Clone, Copy)]
 enum Came {
     /// What comes of it without a refusal, and what was lent is as it was.
     AsEver,
@@ -190,13 +199,6 @@ fn deploy_in<A: Allocator + Copy>(heap: Global, lent: A, alloc: A) -> Result<Cam
     }
 }
 
-/// The world of the contract of these bytes and of the cells that are lent.
-fn lent_world<A: Allocator + Copy>(alloc: A, module: &[u8]) -> Result<World<A>, Fail> {
-    let mut contracts = Vec::new(alloc);
-    contracts.push(deployed(alloc, module)?)?;
-    Ok(World::new(contracts, cells_of(alloc, &CELLS)?))
-}
-
 /// Whether this is the world of the contract of these bytes and of the cells that are lent.
 fn is_lent<A: Allocator + Copy>(
     heap: Global,
@@ -215,7 +217,7 @@ fn is_lent<A: Allocator + Copy>(
 }
 
 fn read_world_in<A: Allocator + Copy>(heap: Global, alloc: A) -> Result<Came, Fail> {
-    let lent = world_of(heap, &CELLS)?;
+    let lent = world_of(heap, OF_EXAMPLE, &CELLS)?;
     let Ok(bytes) = encode_world(heap, &lent) else {
         return Err(Fail::from("no memory"));
     };
@@ -225,119 +227,107 @@ fn read_world_in<A: Allocator + Copy>(heap: Global, alloc: A) -> Result<Came, Fa
     }
 }
 
-/// The calls, and the bytes of their block.
-fn block_of(heap: Global, sample: &Sample) -> Result<([Call; 2], Vec<u8>), Fail> {
-    let world = lent_world(heap, sample.module)?;
-    made_of(heap, &world, &sample.two, Version::Two)
-}
-
-/// The bytes of a block.
-fn written<A: Allocator>(heap: Global, lent: A, block: &Block<A>) -> Result<Vec<u8>, Fail> {
-    if !block.fits_version() {
-        return Err(Fail::from("a receipt that is not told"));
-    }
-    let mut sink = MemorySink::new(heap, 1_000_000, Failures::none());
-    write_block(lent, block, &mut sink).or(Err("not written"))?;
-    Ok(sink.bytes().to_vec(heap)?)
-}
-
 fn read_block_in<A: Allocator + Copy>(heap: Global, lent: A, alloc: A) -> Result<Came, Fail> {
-    let (_, bytes) = block_of(heap, &PEEK_THEN_SET)?;
-    match read_block(alloc, &bytes) {
-        Ok(block) => Ok(answered(written(heap, lent, &block)? == bytes)),
+    let made = make(heap, &PEEK_THEN_SET.source, Version::Two)?;
+    match read_block(alloc, &made.bytes) {
+        Ok(block) => Ok(answered(written(heap, lent, &block)? == made.bytes)),
         Err(refusal) => Ok(refused(refusal == BlockRefusal::NoMemory)),
     }
 }
 
-fn run_in<A: Allocator + Copy>(
+/// Whether two calls that run one after another come to their block and to these cells. None: memory was refused.
+fn ran<A: Allocator + Copy>(
     heap: Global,
     lent: A,
     alloc: A,
+    world: &World<A>,
     sample: &Sample,
-) -> Result<Came, Fail> {
-    let (_, bytes) = block_of(heap, sample)?;
-    let world = lent_world(lent, sample.module)?;
-    let [first, second] = sample.two.calls;
+    bytes: &[u8],
+) -> Result<Option<bool>, Fail> {
+    let Entries::Two(first, second) = sample.source.entries else {
+        return Err(Fail::from("no two calls"));
+    };
     let first = calling(heap, first)?;
     let calls = [first, calling(heap, second)?];
-    let answer = run(alloc, &world, &calls, &[0, 1]);
-    let is_lent = is_lent(heap, &world, sample.module)?;
-    let Ok((block, next)) = answer else {
-        return Ok(refused(is_lent));
+    let Ok((block, next)) = run(alloc, world, &calls, &[0, 1]) else {
+        return Ok(None);
     };
-    let is_same = written(heap, lent, &block)? == bytes && are_cells(next.cells(), sample.after);
-    Ok(answered(is_lent && is_same))
+    let is_same = written(heap, lent, &block)?.as_slice() == bytes;
+    Ok(Some(is_same && are_cells(next.cells(), sample.after)))
 }
 
-/// Whether two workers accept the block, with these cells after both calls.
-fn is_accepted<R: Threads + Wait + Sync, A: Allocator + Copy + Send + Sync>(
+/// What has to be said of the block, and of the one with another receipt.
+const ACCEPTED: Judged = Ok((true, 0));
+
+const DEVIATES: Judged = Err(Reason::Deviates(0));
+
+/// Whether two workers say this of a block of these calls. None: memory was refused.
+fn is_judged_so<R: Threads + Wait + Sync, A: Allocator + Copy + Send + Sync>(
     rt: &R,
     alloc: A,
     world: &World<A>,
-    calls: &[Call; 2],
+    calls: &[Call],
     bytes: &[u8],
     after: &[CellRow],
-) -> bool {
+    wanted: Judged,
+) -> Option<bool> {
+    if calls.len() > 2 {
+        return None;
+    }
     match validate_in(rt, alloc, world, calls, 1_000, bytes, 2, &NoPace) {
-        Ok(Verdict::Accept(next)) => are_cells(next.cells(), after),
-        _ => false,
+        Ok(verdict) => Some(told(&verdict, 0, after) == wanted),
+        Err(_) => None,
     }
 }
 
-fn mine_by_two<R: Threads + Wait + Sync, A: Allocator + Copy + Send + Sync>(
+/// Whether two workers accept the block that two workers mine of these calls, with these cells after it. None: memory was refused.
+fn mined<R: Threads + Wait + Sync, A: Allocator + Copy + Send + Sync>(
     rt: &R,
     heap: Global,
     lent: A,
     alloc: A,
-    sample: &Sample,
-) -> Result<Came, Fail> {
-    let (calls, _) = block_of(heap, sample)?;
-    let world = lent_world(lent, sample.module)?;
-    let answer = mine_in(rt, alloc, &world, &calls, 1_000, 2, 2, &NoPace);
-    let is_lent = is_lent(heap, &world, sample.module)?;
-    let Ok(mined) = answer else {
-        return Ok(refused(is_lent));
+    world: &World<A>,
+    calls: &[Call],
+    after: &[CellRow],
+) -> Result<Option<bool>, Fail> {
+    if calls.len() > 2 {
+        return Err(Fail::from("too many calls"));
+    }
+    let Ok(mined) = mine_in(rt, alloc, world, calls, 1_000, 2, 2, &NoPace) else {
+        return Ok(None);
     };
     let bytes = written(heap, lent, &mined.block)?;
-    let is_accepted = is_accepted(rt, lent, &world, &calls, &bytes, sample.after);
-    Ok(answered(is_lent && is_accepted))
+    let accepted = is_judged_so(rt, lent, world, calls, &bytes, after, ACCEPTED);
+    Ok(Some(accepted == Some(true)))
 }
 
-/// Why a block has to be rejected. None: it has to be accepted.
-type Wanted = Option<Reason>;
-
-const DEVIATES: Wanted = Some(Reason::Deviates(0));
-
-/// Whether this is the verdict. The world after an accepted block has these cells.
-fn is_verdict<A: Allocator + Copy>(
-    verdict: &Verdict<A>,
-    wanted: Wanted,
-    after: &[CellRow],
-) -> bool {
-    match verdict {
-        Verdict::Accept(next) => wanted.is_none() && are_cells(next.cells(), after),
-        Verdict::Reject(reason) => wanted == Some(*reason),
-    }
-}
-
-fn validate_by_two<R: Threads + Wait + Sync, A: Allocator + Copy + Send + Sync>(
+/// What comes of work with two calls.
+fn worked<R: Threads + Wait + Sync, A: Allocator + Copy + Send + Sync>(
     rt: &R,
     heap: Global,
     lent: A,
     alloc: A,
     sample: &Sample,
-    wanted: Wanted,
+    work: Work,
 ) -> Result<Came, Fail> {
-    let (calls, mut bytes) = block_of(heap, sample)?;
-    if wanted.is_some() {
-        *bytes.get_mut(80).ok_or("a byte")? ^= 1;
+    let mut made = make(heap, &sample.source, Version::Two)?;
+    if matches!(work, Work::Reject) {
+        *made.bytes.get_mut(80).ok_or("a byte")? ^= 1;
     }
-    let world = lent_world(lent, sample.module)?;
-    let answer = validate_in(rt, alloc, &world, &calls, 1_000, &bytes, 2, &NoPace);
+    let world = world_of(lent, sample.source.modules, &CELLS)?;
+    let calls = made.given.calls.as_slice();
+    let bytes = made.bytes.as_slice();
+    let after = sample.after;
+    let is_right = match work {
+        Work::Run => ran(heap, lent, alloc, &world, sample, bytes)?,
+        Work::Mine => mined(rt, heap, lent, alloc, &world, calls, after)?,
+        Work::Validate => is_judged_so(rt, alloc, &world, calls, bytes, after, ACCEPTED),
+        Work::Reject => is_judged_so(rt, alloc, &world, calls, bytes, after, DEVIATES),
+    };
     let is_lent = is_lent(heap, &world, sample.module)?;
-    match answer {
-        Ok(verdict) => Ok(answered(is_lent && is_verdict(&verdict, wanted, sample.after))),
-        Err(_) => Ok(refused(is_lent)),
+    match is_right {
+        Some(is_right) => Ok(answered(is_lent && is_right)),
+        None => Ok(refused(is_lent)),
     }
 }
 
@@ -398,21 +388,24 @@ fn shown<A: Allocator + Copy>(
     }
 }
 
+/// What comes of all asks, up to the first that does not come to what it has to.
+fn all_shown<A: Allocator + Copy>(session: &mut Session<'_, A>) -> Came {
+    for (ask, turns, byte) in ASKS {
+        let came = shown(session, ask, turns, byte);
+        if !matches!(came, Came::AsEver) {
+            return came;
+        }
+    }
+    Came::AsEver
+}
+
 fn debug_in<A: Allocator + Copy>(heap: Global, lent: A, alloc: A) -> Result<Came, Fail> {
-    let mut contracts = Vec::new(lent);
-    contracts.push(deployed(lent, &STORER)?)?;
-    let cells = Cells::new(lent);
+    let world = world_of(lent, &[&STORER], &[])?;
     let call = calling(heap, ("w", &[]))?;
-    match Session::open(alloc, &contracts, &cells, &call, Version::Two) {
+    match Session::open(alloc, world.contracts(), world.cells(), &call, Version::Two) {
         Ok(session) => {
             let mut session = session;
-            for (ask, turns, byte) in ASKS {
-                let came = shown(&mut session, ask, turns, byte);
-                if came != Came::AsEver {
-                    return Ok(came);
-                }
-            }
-            Ok(Came::AsEver)
+            Ok(all_shown(&mut session))
         }
         Err(refusal) => Ok(refused(refusal == StartRefusal::NoMemory)),
     }
@@ -434,14 +427,8 @@ fn came_of<R: Threads + Wait + Sync, A: Allocator + Copy + Send + Sync>(
         Asked::Deploy => deploy_in(heap, lent, alloc),
         Asked::ReadWorld => read_world_in(heap, alloc),
         Asked::ReadBlock => read_block_in(heap, lent, alloc),
-        Asked::Run => run_in(heap, lent, alloc, &PEEK_THEN_SET),
-        Asked::Mine => mine_by_two(rt, heap, lent, alloc, &PEEK_THEN_SET),
-        Asked::Validate => validate_by_two(rt, heap, lent, alloc, &PEEK_THEN_SET, None),
-        Asked::Reject => validate_by_two(rt, heap, lent, alloc, &PEEK_THEN_SET, DEVIATES),
-        Asked::RunLevels => run_in(heap, lent, alloc, &LEVELS_IN_LEVELS),
-        Asked::MineLevels => mine_by_two(rt, heap, lent, alloc, &LEVELS_IN_LEVELS),
-        Asked::ValidateLevels => validate_by_two(rt, heap, lent, alloc, &LEVELS_IN_LEVELS, None),
-        Asked::RejectLevels => validate_by_two(rt, heap, lent, alloc, &LEVELS_IN_LEVELS, DEVIATES),
+        Asked::Of(work) => worked(rt, heap, lent, alloc, &PEEK_THEN_SET, work),
+        Asked::OfLevels(work) => worked(rt, heap, lent, alloc, &LEVELS_IN_LEVELS, work),
         Asked::Debug => debug_in(heap, lent, alloc),
     }
 }
@@ -506,18 +493,18 @@ const ROWS: [Row; 12] = [
     (Asked::Deploy, 1),
     (Asked::ReadWorld, 10),
     (Asked::ReadBlock, 1),
-    (Asked::Run, 10),
-    (Asked::Mine, 10),
-    (Asked::Validate, 10),
-    (Asked::Reject, 10),
+    (Asked::Of(Work::Run), 10),
+    (Asked::Of(Work::Mine), 10),
+    (Asked::Of(Work::Validate), 10),
+    (Asked::Of(Work::Reject), 10),
     (Asked::Debug, 10),
 ];
 
 const ROWS_OF_LEVELS: [Row; 4] = [
-    (Asked::RunLevels, 20),
-    (Asked::MineLevels, 20),
-    (Asked::ValidateLevels, 20),
-    (Asked::RejectLevels, 20),
+    (Asked::OfLevels(Work::Run), 20),
+    (Asked::OfLevels(Work::Mine), 20),
+    (Asked::OfLevels(Work::Validate), 20),
+    (Asked::OfLevels(Work::Reject), 20),
 ];
 
 /// Each block that the calls take is refused in turn.

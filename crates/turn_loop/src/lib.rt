@@ -1,4 +1,4 @@
-//! The one way over a machine's turns. Who runs a call goes from one operation of storage to the next, and answers each.
+//! The one way over a machine's turns. Who runs a call goes from one wish to the next, an operation of storage or a level that is entered or left, and answers each operation.
 #![tactic(auto)]
 
 ghost use Rattle.std.specs.Prelude.{IfOk, IfSome, OnErr, None, Ok, ◌≡◌};
@@ -26,6 +26,7 @@ pub enum Wish {
 /// # Errors
 ///
 /// Memory was refused to a turn. The machine makes no further one.
+#[inline(always)]
 pub fn next_wish<'a, A: Allocator + Copy>(
     machine: &mut Machine<'a, A>,
 ) -> Result<Option<Wish>, NoMemory>

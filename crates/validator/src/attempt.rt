@@ -11,6 +11,7 @@ ghost use Rattle.validator.specs.Handed.{IsMade, IsRunOf};
 use crate::job::{Came, Job, Made};
 use crate::profile::allows;
 use ahead::Ahead;
+use brief_lock::acquire;
 use call::Call;
 use interp::finished::Finished;
 use interp::machine::Machine;
@@ -60,7 +61,7 @@ fn act<A: Allocator + Copy>(
 ) -> Result<Reply, Stop>
     ensures { IfOk result (λ reply. IsReply op reply) }
 {
-    let mut ahead = ahead.lock(rt);
+    let mut ahead = acquire(rt, ahead);
     match ahead.act(position as usize, op) {
         Ok(Some(reply)) => Ok(reply),
         Ok(None) => Err(Stop::Outside),
@@ -96,7 +97,7 @@ fn enter<A: Allocator + Copy, R: Wait, P: Pace>(
     place: &Place<'_, A, P>,
     marks: &mut Vec<usize, A>,
 ) -> Result<(), Stop> {
-    let mark = place.ahead.lock(rt).count(place.position as usize);
+    let mark = acquire(rt, place.ahead).count(place.position as usize);
     match marks.push(mark) {
         Ok(()) => Ok(()),
         Err(_) => Err(Stop::NoMemory),
@@ -116,10 +117,7 @@ fn leave<A: Allocator + Copy, R: Wait, P: Pace>(
     if keep {
         return;
     }
-    place
-        .ahead
-        .lock(rt)
-        .take_back_to(place.position as usize, mark);
+    acquire(rt, place.ahead).take_back_to(place.position as usize, mark);
 }
 
 /// Goes on to the next operation, or to the next level that is entered or left, and does it. Answers whether there was one.
@@ -260,7 +258,7 @@ pub(crate) fn attempt<'a, A: Allocator + Copy, R: Wait, P: Pace>(
         pace: job.pace,
     };
     let played = play(rt, job, &place, number);
-    ahead.lock(rt).end(at, stands(&played));
+    acquire(rt, ahead).end(at, stands(&played));
     match played {
         Ok(finished) => Ok(Came {
             run: Some(Made {

@@ -1,6 +1,7 @@
 // What the workers share beside the job.
 
 use ahead::Ahead;
+use brief_lock::acquire;
 use lanes::Lane;
 use schedule::{Board, EndRefusal};
 use spec_ledger::NoMemory;
@@ -27,7 +28,7 @@ impl<A: Allocator + Copy> Shared<A> {
 
     /// Ends a position on the board, and gives those that may start now.
     fn end(&self, rt: &impl Wait, alloc: A, position: u32) -> Result<Vec<u32, A>, NoMemory> {
-        let mut board = self.board.lock(rt);
+        let mut board = acquire(rt, &self.board);
         match board.end(position) {
             Ok(freed) => {
                 self.rest.fetch_sub(1, Ordering::SeqCst);

@@ -1,13 +1,16 @@
-use Rattle.std.proofs.Common.{length, refl}
-use Rattle.spec_shards.specs.Shards.{shard_of}
-use Rattle.shard_parts.specs.Parts.{IsPart, IsPartOf}
-use Rattle.shard_parts.proofs.Together.{each_more}
+use Rattle.std.proofs.Common.{◌≡◌, length, subst, arith}
+use Rattle.shard_parts.specs.Places.{AreAt}
+use Rattle.shard_parts.proofs.Moving.{all_at_start}
 use Rattle.shard_parts.proofs.closing.are_parts.Goals as goal
 
-pub loop-shard-preserved : goal.loop-shard-preserved
-loop-shard-preserved g c = record {
-  parts = each_more c.args.parts.now c.loop-shard.shard c.index-parts-shard.result c.index-parts-shard.is c.loop-shard-test.true
-      (λ shard p. IsPartOf (shard_of (length c.args.parts.now)) c.args.opening.now.cells c.args.journal.now shard p) (c.if-not-is_part_of.ensures.0 refl) c.loop-shard.invariant.parts;
-  whole = each_more c.args.parts.now c.loop-shard.shard c.index-parts-shard.result c.index-parts-shard.is c.loop-shard-test.true
-      (λ shard p. IsPart p) c.hold.ensures c.loop-shard.invariant.whole;
+pub have_ended-requires-clause-at : goal.have_ended-requires-clause-at
+have_ended-requires-clause-at g c =
+    let within = c.loop-position.invariant.within in
+    let last : c.loop-position.position ≡ length c.args.journal.now = omega (arith, c.loop-position-test.false, within) in
+    subst (AreAt c.args.journal.now c.args.parts.now c.loop-position.places) last c.loop-position.invariant.at
+
+pub loop-position-init : goal.loop-position-init
+loop-position-init g c = record {
+  at = all_at_start c.args.journal.now c.args.parts.now (omega (arith, c.if-parts-gt16.false));
+  within = omega arith;
 }

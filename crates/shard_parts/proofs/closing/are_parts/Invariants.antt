@@ -1,12 +1,10 @@
-use Rattle.std.proofs.Common.{ℕ, ◌<◌, length}
-use Rattle.std.specs.Prelude.{slice_index_or}
-use Rattle.spec_shards.specs.Shards.{shard_of}
-use Rattle.shard_parts.specs.Parts.{Part, IsPart, IsPartOf}
+use Rattle.std.proofs.Common.{◌≤◌, length}
+use Rattle.shard_parts.specs.Places.{AreAt}
 use Rattle.shard_parts.proofs.closing.are_parts.Given as goal
 
--- each shard looked at is its part of the book
-abbrev pub invariant-loop-shard : goal.invariant-loop-shard
-invariant-loop-shard g l = record {
-  parts : (shard : ℕ) (other : Part) → shard < l.shard → IsPartOf (shard_of (length l.parts)) l.opening.cells l.journal shard (slice_index_or l.parts shard other);
-  whole : (shard : ℕ) (other : Part) → shard < l.shard → IsPart (slice_index_or l.parts shard other);
+-- each shard is at its place
+abbrev pub invariant-loop-position : goal.invariant-loop-position
+invariant-loop-position g l = record {
+  at : AreAt l.journal l.parts l.places l.position;
+  within : l.position ≤ length l.journal;
 }
