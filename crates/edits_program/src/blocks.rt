@@ -3,7 +3,7 @@ ghost use Rattle.std.specs.Prelude.{◌≡◌, ◌≤◌, IsTrue, IfOk, IfErr, O
 ghost use Rattle.calls_text.specs.Texts.{SpellsCalls};
 ghost use Rattle.calls_text.specs.Refusals.{Tells};
 ghost use Rattle.wblock_line.specs.Answers.{CountsFault, IsOfFile};
-ghost use Rattle.wblock_blocks.specs.Inputs.{HasFew, Gives, IsNextInput};
+ghost use Rattle.wblock_inputs.specs.Inputs.{HasFew, Gives, IsNextInput};
 ghost use Rattle.wblock_blocks.specs.Mines.{Mines};
 ghost use Rattle.wblock_blocks.specs.Validates.{Validates, IsNextFile};
 
@@ -13,7 +13,8 @@ use pace::Pace;
 use std::alloc::Global;
 use std::sync::Wait;
 use std::thread::Threads;
-use wblock_blocks::{Inputs, Mining, Validation};
+use wblock_blocks::{Mining, Validation};
+use wblock_inputs::Inputs;
 use wblock_io::Files;
 use wblock_line::{Answer, Fault};
 
@@ -26,7 +27,7 @@ pub fn read_calls(alloc: Global, text: &[u8]) -> Result<Vec<Call>, CallsRefusal>
     calls_text::read_calls(alloc, text)
 }
 
-/// As [`wblock_blocks::read_inputs`].
+/// As [`wblock_inputs::read_inputs`].
 pub fn read_inputs<'a, F: Files>(
     alloc: Global,
     files: &mut F,
@@ -40,7 +41,7 @@ pub fn read_inputs<'a, F: Files>(
     ensures counted { IfErr result (λ f. CountsFault f (F.failures files.old) (F.failures files.new)) }
     ensures next { IfErr result (IsOfFile (λ name. IsTrue F.tells → IsNextInput (F.holds files.old) world.entry.now calls.entry.now name)) }
 {
-    wblock_blocks::read_inputs(alloc, files, world, calls)
+    wblock_inputs::read_inputs(alloc, files, world, calls)
 }
 
 /// As [`wblock_blocks::mine_block`].

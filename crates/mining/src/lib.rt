@@ -7,6 +7,7 @@ mod attempt;
 mod brake;
 mod mined_core;
 mod outcome;
+mod sample;
 mod worker;
 
 ghost use Rattle.std.specs.Prelude.{◌≡◌, ◌≤◌, IfOk, length};
@@ -48,6 +49,9 @@ pub struct Mined<A: Allocator = Global> {
 /// calls that are published add up to at most the block's fuel, and no call is left out that had room. A worker tries a call
 /// at most so often; the calls that it tried in vain run alone when the workers have ended. The pace is told each step of the
 /// workers, and may stop a worker at any of them: its call, and the calls that nobody drew, then run alone as well. The world is as it was.
+///
+/// Where 16 of a thousand calls or more, which run alone first and are forgotten, are so short or wait for one another so much that workers do not pay
+/// (`gain`), no worker is started, the pace is told nothing, and all calls run alone.
 ///
 /// Whatever the workers do at once, the block and the world after it are those of its calls run one after another in its order.
 ///

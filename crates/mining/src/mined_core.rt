@@ -13,6 +13,7 @@ ghost use Rattle.mining.specs.Handed.{AreRuns, IsSerialBook};
 use crate::attempt::Job;
 use crate::brake::Brake;
 use crate::outcome::publish;
+use crate::sample::do_workers_pay;
 use crate::worker::{Worked, draw_rest, work};
 use boost::book::Closed;
 use call::Call;
@@ -55,6 +56,8 @@ pub struct MinedCore<A: Allocator = Global> {
 /// nobody drew. Then these and the calls that were tried in vain or stopped run alone in rising number, and then each other call
 /// that still has room.
 ///
+/// Where workers do not pay (as far as 16 of a thousand calls or more tell), none is started, and all calls that have room run alone in rising number.
+///
 /// The book that the workers share is in so many shards, each behind a lock of its own. Where these are not parts of one book at its end, no run
 /// stands, and all calls that have room run alone in rising number.
 ///
@@ -89,6 +92,20 @@ pub fn mine_core<'a, R: Threads + Wait + Sync, A: Allocator + Copy + Send + Sync
     ensures left { IfOk result (λ core. AreLeft core.order.items (length calls.now) core.left.items) }
     ensures by_workers { IfOk result (λ core. core.by_workers ≤ length core.order.items) }
 {
+    if !do_workers_pay(alloc, contracts, cells, calls, workers)? {
+        let none = Vec::new(alloc);
+        let rest = Ok(Vec::new(alloc));
+        return publish(
+            alloc,
+            contracts,
+            calls,
+            cells,
+            block_fuel,
+            Ok(None),
+            none,
+            rest,
+        );
+    }
     let count = calls.len() as u32;
     let book = Shards::open(alloc, cells.copy(alloc)?, count, shards, &NoGate)?;
     let Ok((intake, mut seats)) = Intake::open(alloc, count, block_fuel, workers + 1) else {

@@ -1,10 +1,11 @@
 //! Lines of words that mine and validate, at each fault in turn.
 
-use command_rows::Wanted::{self, Absent, All, Cut, Front, Part as Holds, Text};
-use command_rows::{
-    BUMP, BUMP_OF_2, FIRST_AND_LAST, FIRST_AND_LAST_OF_2, File, LEFT, LEFT_OF_2, Line, NO_CALLS,
+use command_rows::{Line, unlike};
+use file_rows::Wanted::{self, Absent, All, Cut, Front, Part as Holds, Text};
+use file_rows::{
+    BUMP, BUMP_OF_2, FIRST_AND_LAST, FIRST_AND_LAST_OF_2, File, LEFT, LEFT_OF_2, NO_CALLS,
     NO_CALLS_OF_2, NOTHING, Part, TWO, TWO_OF_2, WITHOUT_LAST, WORLD, WORLD_OF_ASKING,
-    WORLD_OF_FIRST, WORLD_OF_MANY, WORLD_WITH_2, WORLD_WITH_5, unlike,
+    WORLD_OF_FIRST, WORLD_OF_MANY, WORLD_WITH_2, WORLD_WITH_5,
 };
 use std::alloc::Global;
 use std::process::Abort;

@@ -1,9 +1,10 @@
 //! Lines of words that debug a call, over modules whose bytes another program made.
 
-use command_rows::Wanted::{self, Part as Holds, Text};
-use command_rows::{
-    BUMP_OF_2, FIRST_AND_LAST_OF_2, File, Line, NOTHING, OPENED, OPENED_OF_2, Part, TWO_OF_2,
-    WITHOUT_LAST, WORLD, WORLD_OF_ASKING, WORLD_OF_DOOR, WORLD_OF_LOOP, WORLD_OF_WRITER, unlike,
+use command_rows::{Line, unlike};
+use file_rows::Wanted::{self, Part as Holds, Text};
+use file_rows::{
+    BUMP_OF_2, FIRST_AND_LAST_OF_2, File, NOTHING, OPENED, OPENED_OF_2, Part, TWO_OF_2,
+    WITHOUT_LAST, WORLD, WORLD_OF_ASKING, WORLD_OF_DOOR, WORLD_OF_LOOP, WORLD_OF_WRITER,
 };
 use std::alloc::Global;
 use std::process::Abort;

@@ -9,3 +9,5 @@ mod rules;
 mod said;
 #[cfg(test)]
 mod texts;
+#[cfg(test)]
+mod usage;

@@ -1,7 +1,7 @@
 //! Modules that break a rule of validation: the line that is printed, and the sentence that is said.
 
 use crate::said::said;
-use command_rows::{File, holding};
+use file_rows::{File, holding};
 use std::alloc::Global;
 use std::process::Abort;
 use std::sync::Wait;

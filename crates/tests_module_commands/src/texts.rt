@@ -2,8 +2,8 @@
 
 use crate::module_lines::{CALM, OLD, comes_to};
 use crate::said::said;
-use command_rows::Wanted::{Absent, All, Front, Part as Holds, Text};
-use command_rows::{File, HEADER, MODULES, NOTHING, Part, holding, holds};
+use file_rows::Wanted::{Absent, All, Front, Part as Holds, Text};
+use file_rows::{File, HEADER, MODULES, NOTHING, Part, holding, holds};
 use std::alloc::Global;
 use std::process::Abort;
 use std::sync::Wait;

@@ -1,7 +1,7 @@
 //! Calls and receipts as lines of text.
 
 use calls_text::{CallsRefusal, MOST_CALLS, PositionLine, ReceiptText, ValueText, read_calls};
-use command_rows::{Part, joined};
+use file_rows::{Part, joined};
 use spec_ledger::{Outcome, Receipt};
 use std::alloc::Global;
 use std::test::Fail;

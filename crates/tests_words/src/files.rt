@@ -1,8 +1,8 @@
 //! Files and streams, at each failure in turn.
 
 use codec::{Sink, SinkFault, put_all};
-use command_rows::Wanted::{self, Text};
-use command_rows::{File, holding, holds};
+use file_rows::Wanted::{self, Text};
+use file_rows::{File, holding, holds};
 use std::alloc::Global;
 use std::test::Fail;
 use wblock_io::{Disk, Files, ReadFault, StartFault, Stream, write_file};

@@ -1,7 +1,7 @@
 //! The sentences of files that are no world, and no block.
 
 use block::read_block;
-use command_rows::{Part, joined};
+use file_rows::{Part, joined};
 use std::test::Fail;
 use wblock_words::{block_words, world_words};
 use world_reader::read_world;

@@ -1,9 +1,9 @@
 //! Files of worlds and of calls that are read or refused.
 
-use command_rows::{Part, WORLD_OF_MANY, WORLD_OF_NONE, holding};
+use file_rows::{Part, WORLD_OF_MANY, WORLD_OF_NONE, holding};
 use std::alloc::Global;
 use std::test::Fail;
-use wblock_blocks::{Inputs, read_inputs};
+use wblock_inputs::{Inputs, read_inputs};
 use wblock_line::Fault;
 
 /// A world, calls, after how many calls of the files one fails, and what is told: the contract and the entry of each call where both

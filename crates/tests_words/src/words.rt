@@ -1,9 +1,8 @@
-//! Words that are commands of a debugger, lines that ask to debug, and what is said of lines that ask for nothing.
+//! Words that are commands of a debugger, and lines that ask to debug.
 
-use command_rows::words_of;
+use file_rows::words_of;
 use std::alloc::Global;
 use std::test::Fail;
-use wblock_commands::usage_text;
 use wblock_debug::{Command, command_of, commands_of, debugging_of};
 use wblock_line::split_words;
 
@@ -154,50 +153,6 @@ fn asks(alloc: Global, line: &str, asked: Option<Asked>) -> Result<bool, Fail> {
 fn reads_a_line(rt: HostRuntime) -> Result<(), Fail> {
     for (line, asked) in LINES {
         assert!(rt; asks(rt.alloc(), line, asked)?, "{line}");
-    }
-    Ok(())
-}
-
-/// Lines that ask for nothing although the command line takes them.
-const TAKEN: [&str; 5] = [
-    "asm t m",
-    "check --heap=2000 m",
-    "deploy w m n",
-    "mine w c --fuel=5 b n",
-    "debug w c 9 step:1 place",
-];
-
-/// Lines that the command line does not take, and what stands in what is said of them.
-const NOT_TAKEN: [(&str, &str); 13] = [
-    ("check", "Usage: "),
-    ("mine w c b n", "Usage: "),
-    ("mine w c b --fuel=5", "Usage: "),
-    ("validate w c b --fuel=5 --tries=3", "Usage: "),
-    ("check m --depth 3", "Usage: "),
-    ("deploy w", "Usage: "),
-    ("asm t", "Usage: "),
-    ("asm t m n", "Usage: "),
-    ("debug w c 0", "Usage: "),
-    ("run m c", "Usage: "),
-    ("walk", "Usage: "),
-    ("--help", "Usage: "),
-    ("check m --heap", "a value is required for '--heap <N>'"),
-];
-
-/// What is said of a line.
-fn said(alloc: Global, line: &str) -> Result<String, Fail> {
-    let words = words_of(alloc, line)?;
-    Ok(usage_text(alloc, &words)?)
-}
-
-#[test]
-fn tells_what_is_wrong(rt: HostRuntime) -> Result<(), Fail> {
-    for line in TAKEN {
-        assert!(rt; said(rt.alloc(), line)?.starts_with("usage: "), "{line}");
-    }
-    for (line, part) in NOT_TAKEN {
-        let text = said(rt.alloc(), line)?;
-        assert!(rt; text.contains(part) && text.ends_with('\n'), "{text}");
     }
     Ok(())
 }

@@ -24,10 +24,11 @@ use crate::end::conclude;
 use crate::fold::fold;
 use crate::job::Job;
 pub use crate::verdict::Verdict;
-use crate::workers::run_ready;
+use crate::workers::{no_runs, run_ready};
 pub use block_judge::Reason;
 use block_judge::{Fit, Unfit, judge};
 use call::Call;
+use gain::{MANY, are_long, least_mean};
 use pace::Pace;
 use std::alloc::{Allocator, Global};
 use std::sync::Wait;
@@ -42,6 +43,12 @@ pub struct Validated<A: Allocator = Global> {
     pub verdict: Verdict<A>,
     /// How many positions the caller ran, since no worker's run of them had the replies of the serial execution.
     pub again: u32,
+}
+
+/// Whether the calls of a block, by the fuel that it says they use, are so few or so long that workers are started.
+fn are_worth_workers<A: Allocator>(fit: &Fit<A>, workers: u32) -> bool {
+    let count = fit.order.len();
+    count < MANY || are_long(least_mean(workers), count as u32, fit.block.fuel())
 }
 
 /// Runs the calls of a block that passes so far, and compares what they come to with what it says.
@@ -73,7 +80,11 @@ fn run<R: Threads + Wait + Sync, A: Allocator + Copy + Send + Sync, P: Pace>(
         profiles: &fit.profiles,
         pace,
     };
-    let runs = run_ready(rt, &job, world.cells(), workers)?;
+    let runs = if are_worth_workers(fit, workers) {
+        run_ready(rt, &job, world.cells(), workers)?
+    } else {
+        no_runs(&job)?
+    };
     let folded = fold(&job, world.cells(), &runs)?;
     let verdict = conclude(alloc, world, &fit.block, folded.core)?;
     Ok(Validated {
@@ -118,7 +129,8 @@ pub fn find_verdict<R: Threads + Wait + Sync, A: Allocator + Copy + Send + Sync,
 
 /// The verdict on the bytes of a block of these calls over a world, with this fuel for the block: the first of the nine reasons that holds, or else
 /// the world after the block. This many workers, of which the calling thread is one, run the calls at once, each as soon as those that it waits for have
-/// ended; the pace is told each attempt and each operation of theirs, and may stop a worker there. What no worker ran the caller runs.
+/// ended; the pace is told each attempt and each operation of theirs, and may stop a worker there. What no worker ran the caller runs. Where workers do not pay
+/// (`gain`), by the fuel and the turns that a block of a thousand calls or more names, none is started, and the pace is told nothing.
 ///
 /// # Errors
 ///

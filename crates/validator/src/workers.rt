@@ -9,6 +9,7 @@ use crate::attempt::attempt;
 use crate::job::{Came, Job, Made, Part};
 use crate::shared::Shared;
 use ahead::Ahead;
+use gain::{MANY, are_wide, count_waves};
 use lanes::{Lane, Thief, lanes};
 use pace::Pace;
 use schedule::{Board, Graph};
@@ -154,7 +155,7 @@ fn take_in<'a, A: Allocator + Copy, P: Pace>(
 }
 
 /// No runs yet, of so many positions.
-fn no_runs<'a, A: Allocator + Copy, P: Pace>(
+pub(crate) fn no_runs<'a, A: Allocator + Copy, P: Pace>(
     job: &Job<'_, 'a, A, P>,
 ) -> Result<Vec<Option<Made<'a, A>>, A>, NoMemory>
     ensures runs { IfOk result (λ runs. AreFound (setting_view job.now.version job.now.contracts.now) job.now.calls.now runs.items) }
@@ -209,8 +210,15 @@ fn run_workers<'a, R: Threads + Wait + Sync, A: Allocator + Copy + Send + Sync, 
     Ok(parts)
 }
 
+/// Whether positions in these waves are so few, or so many of a wave go at once, that workers are started.
+fn are_wide_enough(waves: &[u32]) -> bool {
+    let count = waves.len();
+    count < MANY || count > u32::MAX as usize || are_wide(count as u32, count_waves(waves))
+}
+
 /// Runs the calls of a block at once, each over what its predecessors left, and gives the runs by position. A call that asks for an operation outside
-/// its published locks and modes has none, nor has one whose worker the pace stopped, nor any where all workers were stopped before it.
+/// its published locks and modes has none, nor has one whose worker the pace stopped, nor any where all workers were stopped before it, or where so many wait
+/// for one another that none is started.
 pub(crate) fn run_ready<'a, R: Threads + Wait + Sync, A: Allocator + Copy + Send + Sync, P: Pace>(
     rt: &R,
     job: &Job<'_, 'a, A, P>,
@@ -224,7 +232,11 @@ pub(crate) fn run_ready<'a, R: Threads + Wait + Sync, A: Allocator + Copy + Send
     ensures runs { IfOk result (λ runs. AreFound (setting_view job.now.version job.now.contracts.now) job.now.calls.now runs.items) }
     ensures size { IfOk result (λ runs. length runs.items ≡ length job.now.order.now) }
 {
-    let board = Board::open(job.alloc, &Graph::of(job.alloc, job.profiles)?)?;
+    let graph = Graph::of(job.alloc, job.profiles)?;
+    if !are_wide_enough(graph.waves()) {
+        return no_runs(job);
+    }
+    let board = Board::open(job.alloc, &graph)?;
     let ready = Vec::from_slice(job.alloc, board.ready())?;
     let shared = Shared {
         board: Mutex::new(board),

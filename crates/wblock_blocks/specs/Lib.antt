@@ -1,4 +1,3 @@
-pub mod Inputs
 pub mod Mines
 pub mod Texts
 pub mod Validates

@@ -1,30 +1,22 @@
 -- What `validate` answers.
-use Rattle.std.specs.Prelude.{◌≡◌, ℕ, ◌⊎◌, List, [], ◌∷◌, ◌++◌, Option, Some, None, codes, decimal, map, string_bytes}
+use Rattle.std.specs.Prelude.{◌≡◌, ℕ, ◌⊎◌, List, [], ◌∷◌, ◌++◌, Option, Some, None, codes, map, string_bytes}
 use Rattle.std.specs.Borrow.{Bor}
 use Rattle.hex.specs.Hex.{encode_lower}
 use Rattle.sha2.specs.Sha256.{sha256}
 use Rattle.spec_block.specs.Worlds.{World, Call}
 use Rattle.spec_block.specs.Bytes.{world_bytes}
-use Rattle.spec_block.specs.Verdicts.{Verdict, Accept, Malformed, WrongWorld, WrongCalls, BadOrder, OverBudget, RoomLeft, BadTurns, Deviates, WrongEnd, place, IsVerdictOf}
-use Rattle.block_judge.specs.Judging.{place_in}
+use Rattle.spec_block.specs.Verdicts.{Verdict, Accept, Malformed, WrongWorld, WrongCalls, BadOrder, OverBudget, RoomLeft, BadTurns, Deviates, WrongEnd, IsVerdictOf}
 use Rattle.wblock_io.specs.Holding.{Holding}
 use Rattle.wblock_line.specs.declared.answer.Answer.{Answer}
 use Rattle.wblock_line.specs.declared.answer.Answer.TheVariants.{Done, Refused}
 use Rattle.wblock_line.specs.Answers.{Written, write_of}
-use Rattle.wblock_blocks.specs.Inputs.{HoldsWorld, HoldsCalls, IsNextInput, TellsRefusal}
+use Rattle.wblock_inputs.specs.Inputs.{HoldsWorld, HoldsCalls, IsNextInput, TellsRefusal}
+use Rattle.wblock_inputs.specs.Rejections.{Rejects}
 use Rattle.wblock_blocks.specs.declared.validate.Validation.{Validation}
 
 -- `accept` and `after HEX`, a line each, where HEX is the digest of the world after the block
 abbrev pub accept_text : World → List ℕ
 accept_text next = codes "accept" ++ 10 ∷ codes "after " ++ encode_lower (sha256 (world_bytes next)) ++ 10 ∷ []
-
-abbrev pub place_text : Option ℕ → List ℕ
-place_text (Some p) = codes " " ++ decimal p
-place_text None = []
-
--- `reject N`, with ` P` where the reason has a position or call
-abbrev pub reject_line : Verdict → List ℕ
-reject_line v = codes "reject " ++ decimal (place v) ++ place_text (place_in v) ++ 10 ∷ []
 
 -- the world after the block, in the file that is named for it; nothing where none is
 abbrev pub next_writes : Option (Bor (List ℕ)) → World → List Written
@@ -35,11 +27,6 @@ next_writes None next = []
 abbrev pub Accepts : Option (Bor (List ℕ)) → World → Answer → Type 0
 Accepts name next (Done writes text) = (map write_of writes.items ≡ next_writes name next) × (string_bytes text ≡ accept_text next)
 Accepts name next (Refused line why) = ⊥
-
--- the answer's line tells why the block is rejected, and no file is to be written
-abbrev pub Rejects : Verdict → Answer → Type 0
-Rejects v (Done writes text) = ⊥
-Rejects v (Refused line why) = string_bytes line ≡ reject_line v
 
 abbrev pub TellsVerdict : Option (Bor (List ℕ)) → Verdict → Answer → Type 0
 TellsVerdict name (Accept next) a = Accepts name next a

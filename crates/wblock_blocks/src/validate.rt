@@ -3,24 +3,20 @@
 
 ghost use Rattle.std.specs.Prelude.{◌≡◌, ◌≤◌, IsTrue, IfOk, IfErr, OnOk, length, map, string_bytes};
 ghost use Rattle.spec_block.specs.Verdicts.{IsVerdictOf};
-ghost use Rattle.block_judge.specs.Judging.{told};
 ghost use Rattle.validator.specs.Judged.{told_by};
 ghost use Rattle.world.specs.Views.{world_view};
 ghost use Rattle.wblock_line.specs.Answers.{CountsFault, IsOfFile, write_of};
-ghost use Rattle.wblock_blocks.specs.Validates.{accept_text, next_writes, reject_line, TellsVerdict, Validates, IsNextFile};
+ghost use Rattle.wblock_blocks.specs.Validates.{accept_text, next_writes, TellsVerdict, Validates, IsNextFile};
 
-use crate::{Inputs, read_inputs};
-use block::read_block;
-use block_judge::Reason;
 use call::Call;
 use pace::Pace;
-use std::alloc::{AllocError, Global};
+use std::alloc::Global;
 use std::sync::Wait;
 use std::thread::Threads;
 use validator::{Verdict, validate};
+use wblock_inputs::{Inputs, read_inputs, reason_words, reject_line_of};
 use wblock_io::Files;
 use wblock_line::{Answer, Fault, Write, read_file};
-use wblock_words::{advice_on, block_words};
 use world::{World, digest_world, encode_world};
 use wtypes::NoMemory;
 
@@ -91,29 +87,6 @@ fn next_writes_of<'a>(
         writes.push(Write { name, bytes })?;
     }
     Ok(writes)
-}
-
-/// `reject N`, and behind it the position or the call that the reason speaks of, where it speaks of one.
-pub fn reject_line_of(alloc: Global, reason: Reason) -> Result<String, AllocError>
-    ensures { IfOk result (λ line. string_bytes line ≡ reject_line (told reason)) }
-{
-    let number = reason.number();
-    let line = match reason.place() {
-        Some(place) => format!(in alloc; "reject {number} {place}\n")?,
-        None => format!(in alloc; "reject {number}\n")?,
-    };
-    Ok(line)
-}
-
-/// The sentence of a block of these bytes that is rejected.
-pub fn reason_words(alloc: Global, bytes: &[u8], reason: Reason) -> Result<String, AllocError> {
-    if reason == Reason::Malformed {
-        if let Err(refusal) = read_block(alloc, bytes) {
-            return block_words(alloc, bytes, refusal);
-        }
-    }
-    let advice = advice_on(reason.number());
-    format!(in alloc; "block: {reason}; {advice}")
 }
 
 /// The answer that tells a verdict on these bytes, and writes the world after a block that is accepted where a file is named for it.

@@ -10,7 +10,7 @@ use Rattle.wblock_modules.specs.Assembles.{Assembles}
 use Rattle.wblock_modules.specs.Checks.{Checks}
 use Rattle.wblock_modules.specs.Deploys.{Deploys, IsNextModule}
 use Rattle.wblock_modules.specs.Texts.{WritesText}
-use Rattle.wblock_blocks.specs.Inputs.{IsNextInput}
+use Rattle.wblock_inputs.specs.Inputs.{IsNextInput}
 use Rattle.wblock_blocks.specs.Mines.{Mines}
 use Rattle.wblock_blocks.specs.Validates.{Validates, IsNextFile}
 use Rattle.wblock_debug.specs.Debugs.{Debugs, IsNotListed, IsNextRead}

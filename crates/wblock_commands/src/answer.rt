@@ -9,7 +9,7 @@ use crate::runs::run_calls;
 use crate::stored::{CALLS, MODULE};
 use link::deployed::Deployed;
 use std::alloc::{AllocError, Global};
-use wblock_blocks::judge_calls;
+use wblock_inputs::judge_calls;
 use wblock_line::{Answer, Fault, ModuleRefusal, Stop, read_contract};
 
 /// The answer to a text of calls of a contract.

@@ -15,8 +15,8 @@ use Rattle.wblock_line.specs.declared.answer.Answer.{Answer}
 use Rattle.wblock_line.specs.declared.answer.Answer.TheVariants.{Done, Refused}
 use Rattle.wblock_line.specs.declared.perform.Status.TheVariants as status
 use Rattle.wblock_line.specs.Answers.{writes_of, text_of, status_of}
-use Rattle.wblock_blocks.specs.Inputs.{HoldsWorld, HoldsCalls, IsNextInput, TellsRefusal}
-use Rattle.wblock_blocks.specs.Validates.{Rejects}
+use Rattle.wblock_inputs.specs.Inputs.{HoldsWorld, HoldsCalls, IsNextInput, TellsRefusal}
+use Rattle.wblock_inputs.specs.Rejections.{Rejects}
 use Rattle.wblock_debug.specs.declared.asked.Debugging.{Debugging}
 
 -- the text is printed and no file is written

@@ -5,7 +5,7 @@ ghost use Rattle.std.specs.Prelude.{◌≡◌, ◌≤◌, ◌<◌, ◌^◌, IsTr
 ghost use Rattle.world.specs.Views.{world_view};
 ghost use Rattle.block_judge.specs.Judging.{told};
 ghost use Rattle.wblock_line.specs.Answers.{CountsFault, IsOfFile};
-ghost use Rattle.wblock_blocks.specs.Validates.{Rejects};
+ghost use Rattle.wblock_inputs.specs.Rejections.{Rejects};
 ghost use Rattle.wblock_debug.specs.Debugs.{IsText, TellsAbsent, TellsCall, TellsOfBlock, TellsListed, IsBlockName, IsNextRead, IsNotListed, Debugs};
 
 use crate::{Debugging, Printed, debug_call};
@@ -15,7 +15,7 @@ use call::Call;
 use spec_ledger::Version;
 use std::alloc::{AllocError, Global};
 use storage::Cells;
-use wblock_blocks::{Inputs, read_inputs, reason_words, reject_line_of};
+use wblock_inputs::{Inputs, read_inputs, reason_words, reject_line_of};
 use wblock_io::Files;
 use wblock_line::{Answer, Fault, read_file};
 use world::World;

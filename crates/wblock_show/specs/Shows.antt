@@ -17,7 +17,7 @@ use Rattle.wblock_line.specs.declared.answer.Answer.{Answer}
 use Rattle.wblock_line.specs.declared.answer.Answer.TheVariants.{Done, Refused}
 use Rattle.wblock_line.specs.declared.perform.Status.TheVariants as status
 use Rattle.wblock_line.specs.Answers.{writes_of, text_of, status_of}
-use Rattle.wblock_blocks.specs.Inputs.{Holds, HoldsCalls, TellsNoCalls}
+use Rattle.wblock_inputs.specs.Inputs.{Holds, HoldsCalls, TellsNoCalls}
 use Rattle.wblock_show.specs.declared.show.OtherCalls.{OtherCalls}
 use Rattle.wblock_show.specs.declared.show.OtherCalls.TheVariants.{Digest, At}
 use Rattle.wblock_show.specs.declared.file.Showing.{Showing}

@@ -1,7 +1,7 @@
 use Rattle.std.proofs.Common.{inr, subst}
 use Rattle.spec_block.specs.Worlds.{order_of}
 use Rattle.spec_block.specs.Headline.{Headline, IsLeft}
-use Rattle.wblock_blocks.specs.Inputs.{HoldsWorld, HoldsCalls, Gives}
+use Rattle.wblock_inputs.specs.Inputs.{HoldsWorld, HoldsCalls, Gives}
 use Rattle.world.specs.Views.{world_view}
 use Rattle.wblock_blocks.proofs.mine.mine_block.Goals as goal
 

@@ -8,8 +8,8 @@ use Rattle.calls_text.specs.Texts.{SpellsCalls}
 use Rattle.calls_text.specs.Refusals.{Tells, IsCallsLine}
 use Rattle.calls_text.specs.declared.reader.CallsRefusal.{CallsRefusal}
 use Rattle.wblock_io.specs.Holding.{Holding}
-use Rattle.wblock_blocks.specs.declared.inputs.Inputs.{Inputs}
-use Rattle.wblock_blocks.specs.declared.inputs.Inputs.TheVariants.{Read, Refused}
+use Rattle.wblock_inputs.specs.declared.inputs.Inputs.{Inputs}
+use Rattle.wblock_inputs.specs.declared.inputs.Inputs.TheVariants.{Read, Refused}
 
 -- the file of a name holds bytes of which this is true
 pub record Holds (holds : Holding) (name : List ℕ) (Is : List ℕ → Type 0) : Type 0 where

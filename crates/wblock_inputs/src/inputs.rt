@@ -3,7 +3,7 @@
 ghost use Rattle.std.specs.Prelude.{◌≡◌, ◌≤◌, IsTrue, IfOk, IfErr, OnOk, MatchResult, vec_len, string_bytes};
 ghost use Rattle.calls_text.specs.Texts.{SpellsCalls};
 ghost use Rattle.wblock_line.specs.Answers.{CountsFault, IsOfFile};
-ghost use Rattle.wblock_blocks.specs.Inputs.{TellsNoCalls, HasFew, Gives, IsNextInput};
+ghost use Rattle.wblock_inputs.specs.Inputs.{TellsNoCalls, HasFew, Gives, IsNextInput};
 
 use call::Call;
 use calls_text::{calls_words, read_calls, refusal_line};

@@ -2,9 +2,9 @@ use Rattle.std.proofs.Common.{◌≡◌, IsTrue, Some, inl, inr, subst, string_b
 use Rattle.std.proofs.lemmas.Result.{err_from_is_err_and}
 use Rattle.spec_block.specs.Bytes.{SpellsWorld}
 use Rattle.world.specs.Views.{world_view}
-use Rattle.wblock_blocks.specs.Inputs.{TellsNoCalls, IsNextInput}
+use Rattle.wblock_inputs.specs.Inputs.{TellsNoCalls, IsNextInput}
 use Rattle.wblock_line.specs.FaultLaws.{of_file_weaker}
-use Rattle.wblock_blocks.proofs.inputs.read_inputs.Goals as goal
+use Rattle.wblock_inputs.proofs.inputs.read_inputs.Goals as goal
 
 pub returns-in-Ok-Err-judge_calls-clause-gives : goal.returns-in-Ok-Err-judge_calls-clause-gives
 returns-in-Ok-Err-judge_calls-clause-gives g c = λ t. inr (
