@@ -30,7 +30,7 @@ fn run_samples<'a, A: Allocator + Copy>(
     let mut publishing = Publishing::open(alloc, contracts, calls, cells, u64::MAX)?;
     for nth in 0..SAMPLES {
         if count > 0 {
-            publishing.take_alone(nth * step % count)?;
+            publishing.take_alone(nth.wrapping_mul(step) % count)?;
         }
     }
     publishing.close()

@@ -24,11 +24,10 @@ use crate::end::conclude;
 use crate::fold::fold;
 use crate::job::Job;
 pub use crate::verdict::Verdict;
-use crate::workers::{no_runs, run_ready};
+use crate::workers::made_runs;
 pub use block_judge::Reason;
 use block_judge::{Fit, Unfit, judge};
 use call::Call;
-use gain::{MANY, are_long, least_mean};
 use pace::Pace;
 use std::alloc::{Allocator, Global};
 use std::sync::Wait;
@@ -43,12 +42,6 @@ pub struct Validated<A: Allocator = Global> {
     pub verdict: Verdict<A>,
     /// How many positions the caller ran, since no worker's run of them had the replies of the serial execution.
     pub again: u32,
-}
-
-/// Whether the calls of a block, by the fuel that it says they use, are so few or so long that workers are started.
-fn are_worth_workers<A: Allocator>(fit: &Fit<A>, workers: u32) -> bool {
-    let count = fit.order.len();
-    count < MANY || are_long(least_mean(workers), count as u32, fit.block.fuel())
 }
 
 /// Runs the calls of a block that passes so far, and compares what they come to with what it says.
@@ -80,11 +73,7 @@ fn run<R: Threads + Wait + Sync, A: Allocator + Copy + Send + Sync, P: Pace>(
         profiles: &fit.profiles,
         pace,
     };
-    let runs = if are_worth_workers(fit, workers) {
-        run_ready(rt, &job, world.cells(), workers)?
-    } else {
-        no_runs(&job)?
-    };
+    let runs = made_runs(rt, &job, world.cells(), fit.block.fuel(), workers)?;
     let folded = fold(&job, world.cells(), &runs)?;
     let verdict = conclude(alloc, world, &fit.block, folded.core)?;
     Ok(Validated {

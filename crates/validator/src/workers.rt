@@ -9,7 +9,7 @@ use crate::attempt::attempt;
 use crate::job::{Came, Job, Made, Part};
 use crate::shared::Shared;
 use ahead::Ahead;
-use gain::{MANY, are_wide, count_waves};
+use gain::{MANY, are_long, are_wide, count_waves, least_mean};
 use lanes::{Lane, Thief, lanes};
 use pace::Pace;
 use schedule::{Board, Graph};
@@ -155,7 +155,7 @@ fn take_in<'a, A: Allocator + Copy, P: Pace>(
 }
 
 /// No runs yet, of so many positions.
-pub(crate) fn no_runs<'a, A: Allocator + Copy, P: Pace>(
+fn no_runs<'a, A: Allocator + Copy, P: Pace>(
     job: &Job<'_, 'a, A, P>,
 ) -> Result<Vec<Option<Made<'a, A>>, A>, NoMemory>
     ensures runs { IfOk result (λ runs. AreFound (setting_view job.now.version job.now.contracts.now) job.now.calls.now runs.items) }
@@ -219,7 +219,7 @@ fn are_wide_enough(waves: &[u32]) -> bool {
 /// Runs the calls of a block at once, each over what its predecessors left, and gives the runs by position. A call that asks for an operation outside
 /// its published locks and modes has none, nor has one whose worker the pace stopped, nor any where all workers were stopped before it, or where so many wait
 /// for one another that none is started.
-pub(crate) fn run_ready<'a, R: Threads + Wait + Sync, A: Allocator + Copy + Send + Sync, P: Pace>(
+fn run_ready<'a, R: Threads + Wait + Sync, A: Allocator + Copy + Send + Sync, P: Pace>(
     rt: &R,
     job: &Job<'_, 'a, A, P>,
     cells: &Cells<A>,
@@ -250,4 +250,28 @@ pub(crate) fn run_ready<'a, R: Threads + Wait + Sync, A: Allocator + Copy + Send
     let mut runs = no_runs(job)?;
     take_in(job, &mut runs, parts)?;
     Ok(runs)
+}
+
+/// The runs of the calls of a block by position, which use so much fuel together as the block says. Where that is so little that workers do not pay, there
+/// are none.
+pub(crate) fn made_runs<'a, R: Threads + Wait + Sync, A: Allocator + Copy + Send + Sync, P: Pace>(
+    rt: &R,
+    job: &Job<'_, 'a, A, P>,
+    cells: &Cells<A>,
+    fuel: u64,
+    workers: u32,
+) -> Result<Vec<Option<Made<'a, A>>, A>, NoMemory>
+    requires few { length job.now.profiles.now ≤ 65535 }
+    requires positions { length job.now.order.now ≤ 65535 }
+    requires known { All (λ number. number < length job.now.calls.now) job.now.order.now }
+    requires turns { HaveTurns job.now.profiles.now }
+    requires workers { 1 ≤ workers }
+    ensures runs { IfOk result (λ runs. AreFound (setting_view job.now.version job.now.contracts.now) job.now.calls.now runs.items) }
+    ensures size { IfOk result (λ runs. length runs.items ≡ length job.now.order.now) }
+{
+    let count = job.order.len();
+    if count >= MANY && !are_long(least_mean(workers), count as u32, fuel) {
+        return no_runs(job);
+    }
+    run_ready(rt, job, cells, workers)
 }

@@ -1,0 +1,7 @@
+//! Tests of who runs the calls of a block: workers where they pay, and else the caller alone. There is no code here.
+#![tactic(auto)]
+
+#[cfg(test)]
+mod assertions;
+#[cfg(test)]
+mod long_lists;
