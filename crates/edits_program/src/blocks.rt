@@ -1,16 +1,19 @@
 //! The commands on blocks, and what they read.
-ghost use Rattle.std.specs.Prelude.{◌≡◌, ◌≤◌, IsTrue, IfOk, IfErr, OnOk, vec_len};
+ghost use Rattle.std.specs.Prelude.{◌≡◌, ◌≤◌, IsTrue, IfOk, IfErr, OnOk, MatchResult, string_bytes, vec_len};
+ghost use Rattle.block_judge.specs.Judging.{told};
 ghost use Rattle.calls_text.specs.Texts.{SpellsCalls};
 ghost use Rattle.calls_text.specs.Refusals.{Tells};
 ghost use Rattle.wblock_line.specs.Answers.{CountsFault, IsOfFile};
-ghost use Rattle.wblock_inputs.specs.Inputs.{HasFew, Gives, IsNextInput};
+ghost use Rattle.wblock_inputs.specs.Inputs.{HasFew, Gives, IsNextInput, TellsNoCalls};
+ghost use Rattle.wblock_inputs.specs.Rejections.{reject_line};
 ghost use Rattle.wblock_blocks.specs.Mines.{Mines};
 ghost use Rattle.wblock_blocks.specs.Validates.{Validates, IsNextFile};
 
+use block_judge::Reason;
 use call::Call;
 use calls_text::CallsRefusal;
 use pace::Pace;
-use std::alloc::Global;
+use std::alloc::{AllocError, Global};
 use std::sync::Wait;
 use std::thread::Threads;
 use wblock_blocks::{Mining, Validation};
@@ -25,6 +28,24 @@ pub fn read_calls(alloc: Global, text: &[u8]) -> Result<Vec<Call>, CallsRefusal>
     ensures refused { IfErr result (Tells text.now) }
 {
     calls_text::read_calls(alloc, text)
+}
+
+/// As [`wblock_inputs::judge_calls`].
+pub fn judge_calls(
+    alloc: Global,
+    text: &[u8],
+) -> Result<Result<Vec<Call>, (String, String)>, AllocError>
+    ensures few { IfOk result (λ read. IfOk read (λ calls. vec_len calls ≤ 65535)) }
+    ensures judged { IfOk result (λ read. MatchResult read (λ calls. SpellsCalls text.now calls.items) (λ told. TellsNoCalls text.now (string_bytes told.0))) }
+{
+    wblock_inputs::judge_calls(alloc, text)
+}
+
+/// As [`wblock_inputs::reject_line_of`].
+pub fn reject_line_of(alloc: Global, reason: Reason) -> Result<String, AllocError>
+    ensures { IfOk result (λ line. string_bytes line ≡ reject_line (told reason)) }
+{
+    wblock_inputs::reject_line_of(alloc, reason)
 }
 
 /// As [`wblock_inputs::read_inputs`].

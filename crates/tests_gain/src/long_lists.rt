@@ -31,7 +31,7 @@ use wtypes::Value::I64;
 ///           (br_if $again (i64.ne (local.get 1) (i64.const 0))))))
 ///
 /// A call costs 9 for each round, the `loop` among them, and 6 besides.
-const SPIN: [u8; 96] = [
+const SPIN: &[u8] = &[
     0x00, 0x61, 0x73, 0x6d, 0x01, 0x00, 0x00, 0x00, 0x01, 0x0b, 0x02, 0x60, 0x01, 0x7e, 0x01, 0x7e,
     0x60, 0x02, 0x7e, 0x7e, 0x00, 0x02, 0x19, 0x02, 0x05, 0x62, 0x6f, 0x6f, 0x73, 0x74, 0x03, 0x67,
     0x65, 0x74, 0x00, 0x00, 0x05, 0x62, 0x6f, 0x6f, 0x73, 0x74, 0x03, 0x70, 0x75, 0x74, 0x00, 0x01,
@@ -57,7 +57,7 @@ struct Row {
     ran: (u32, u32),
 }
 
-const ROWS: [Row; 11] = [
+const ROWS: &[Row] = &[
     Row {
         name: "few short calls have workers",
         calls: 1_023,
@@ -167,7 +167,7 @@ fn calls_of(alloc: Global, row: &Row) -> Result<Vec<Call>, Fail>
 /// A world of the contract, with no cells.
 fn world_of(alloc: Global) -> Result<World, Fail> {
     let mut contracts = Vec::new(alloc);
-    contracts.push(deployed(alloc, &SPIN)?)?;
+    contracts.push(deployed(alloc, SPIN)?)?;
     if contracts.len() > 1 {
         return Err(Fail::from("more than one contract"));
     }
@@ -264,5 +264,5 @@ fn rows_of<R: Abort + Threads + Wait + Sync>(
 
 #[test]
 fn workers_run_what_they_run_faster(rt: HostRuntime) -> Result<(), Fail> {
-    rows_of(&rt, rt.alloc(), &ROWS)
+    rows_of(&rt, rt.alloc(), ROWS)
 }
