@@ -1,5 +1,6 @@
 //! Conversions and extensions of the sign beside another implementation, V8's WebAssembly engine (Node.js 20.20), on the values at the edges of each width.
 
+use crate::assertions::equal;
 use numeric::convert;
 use wtypes::{CvtOp, Value};
 
@@ -16,10 +17,11 @@ fn conversions(rt: HostRuntime) {
         (0x1234_5678_9abc_def0, -1_698_898_192),
     ];
     for (wide, narrow) in wrapped {
-        assert_eq!(rt;
-            convert(CvtOp::I32WrapI64, Value::I64(wide)),
-            Value::I32(narrow),
-            "of {wide}"
+        equal(
+            &rt,
+            &(CvtOp::I32WrapI64, wide),
+            &convert(CvtOp::I32WrapI64, Value::I64(wide)),
+            &Value::I32(narrow),
         );
     }
     let extended = [
@@ -30,15 +32,17 @@ fn conversions(rt: HostRuntime) {
         (i32::MAX, 2_147_483_647, 2_147_483_647),
     ];
     for (narrow, signed, unsigned) in extended {
-        assert_eq!(rt;
-            convert(CvtOp::I64ExtendI32S, Value::I32(narrow)),
-            Value::I64(signed),
-            "of {narrow}"
+        equal(
+            &rt,
+            &(CvtOp::I64ExtendI32S, narrow),
+            &convert(CvtOp::I64ExtendI32S, Value::I32(narrow)),
+            &Value::I64(signed),
         );
-        assert_eq!(rt;
-            convert(CvtOp::I64ExtendI32U, Value::I32(narrow)),
-            Value::I64(unsigned),
-            "of {narrow}"
+        equal(
+            &rt,
+            &(CvtOp::I64ExtendI32U, narrow),
+            &convert(CvtOp::I64ExtendI32U, Value::I32(narrow)),
+            &Value::I64(unsigned),
         );
     }
 }
@@ -70,10 +74,11 @@ fn extensions_of_the_sign_of_32_bits(rt: HostRuntime) {
     ];
     for (value, of_8, of_16) in rows {
         for (op, extended) in [(CvtOp::I32Extend8S, of_8), (CvtOp::I32Extend16S, of_16)] {
-            assert_eq!(rt;
-                convert(op, Value::I32(value)),
-                Value::I32(extended),
-                "{op:?} of {value}"
+            equal(
+                &rt,
+                &(op, value),
+                &convert(op, Value::I32(value)),
+                &Value::I32(extended),
             );
         }
     }
@@ -115,10 +120,11 @@ fn extensions_of_the_sign_of_64_bits(rt: HostRuntime) {
             (CvtOp::I64Extend16S, of_16),
             (CvtOp::I64Extend32S, of_32),
         ] {
-            assert_eq!(rt;
-                convert(op, Value::I64(value)),
-                Value::I64(extended),
-                "{op:?} of {value}"
+            equal(
+                &rt,
+                &(op, value),
+                &convert(op, Value::I64(value)),
+                &Value::I64(extended),
             );
         }
     }

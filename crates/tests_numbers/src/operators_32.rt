@@ -3,6 +3,7 @@
 ghost use Rattle.std.specs.Prelude.{◌≡◌};
 ghost use Rattle.spec_numeric.specs.Operators.{binary_type, compare_type, unary_type};
 
+use crate::assertions::equal;
 use numeric::{binary, compare, test, unary};
 use std::process::Abort;
 use wtypes::TrapCode::{DivideByZero, IntegerOverflow};
@@ -22,69 +23,66 @@ const COUNTS: [i32; 5] = [0, 1, 31, 32, 33];
 fn total(rt: &impl Abort, op: BinOp, answers: &[[i32; 5]; 5])
     requires { binary_type op ≡ ValType.I32 }
 {
-    for (first, row) in OPERANDS.iter().zip(answers) {
-        for (second, answer) in OPERANDS.iter().zip(row) {
-            let found = binary(op, Value::I32(*first), Value::I32(*second));
-            assert_eq!(rt;
-                found,
-                Ok(Value::I32(*answer)),
-                "{op:?} of {first} and {second}"
-            );
-        }
+    for place in 0..25usize {
+        let (row, column) = (place / 5, place % 5);
+        let (first, second) = (OPERANDS[row], OPERANDS[column]);
+        let found = binary(op, Value::I32(first), Value::I32(second));
+        let wanted = Ok(Value::I32(answers[row][column]));
+        equal(rt, &(op, first, second), &found, &wanted);
+    }
+}
+
+/// The answer as a value.
+fn value_of(answer: Result<i32, TrapCode>) -> Result<Value, TrapCode> {
+    match answer {
+        Ok(number) => Ok(Value::I32(number)),
+        Err(code) => Err(code),
     }
 }
 
 fn division(rt: &impl Abort, op: BinOp, answers: &[[Result<i32, TrapCode>; 5]; 5])
     requires { binary_type op ≡ ValType.I32 }
 {
-    for (first, row) in OPERANDS.iter().zip(answers) {
-        for (second, answer) in OPERANDS.iter().zip(row) {
-            let found = binary(op, Value::I32(*first), Value::I32(*second));
-            let wanted = match answer {
-                Ok(number) => Ok(Value::I32(*number)),
-                Err(code) => Err(*code),
-            };
-            assert_eq!(rt; found, wanted, "{op:?} of {first} and {second}");
-        }
+    for place in 0..25usize {
+        let (row, column) = (place / 5, place % 5);
+        let (first, second) = (OPERANDS[row], OPERANDS[column]);
+        let found = binary(op, Value::I32(first), Value::I32(second));
+        let wanted = value_of(answers[row][column]);
+        equal(rt, &(op, first, second), &found, &wanted);
     }
 }
 
 fn shift(rt: &impl Abort, op: BinOp, answers: &[[i32; 5]; 6])
     requires { binary_type op ≡ ValType.I32 }
 {
-    for (first, row) in SHIFTED.iter().zip(answers) {
-        for (count, answer) in COUNTS.iter().zip(row) {
-            let found = binary(op, Value::I32(*first), Value::I32(*count));
-            assert_eq!(rt;
-                found,
-                Ok(Value::I32(*answer)),
-                "{op:?} of {first} by {count}"
-            );
-        }
+    for place in 0..30usize {
+        let (row, column) = (place / 5, place % 5);
+        let (first, count) = (SHIFTED[row], COUNTS[column]);
+        let found = binary(op, Value::I32(first), Value::I32(count));
+        let wanted = Ok(Value::I32(answers[row][column]));
+        equal(rt, &(op, first, count), &found, &wanted);
     }
 }
 
 fn comparison(rt: &impl Abort, op: RelOp, answers: &[[i32; 5]; 5])
     requires { compare_type op ≡ ValType.I32 }
 {
-    for (first, row) in OPERANDS.iter().zip(answers) {
-        for (second, answer) in OPERANDS.iter().zip(row) {
-            let found = compare(op, Value::I32(*first), Value::I32(*second));
-            assert_eq!(rt;
-                found,
-                Value::I32(*answer),
-                "{op:?} of {first} and {second}"
-            );
-        }
+    for place in 0..25usize {
+        let (row, column) = (place / 5, place % 5);
+        let (first, second) = (OPERANDS[row], OPERANDS[column]);
+        let found = compare(op, Value::I32(first), Value::I32(second));
+        let wanted = Value::I32(answers[row][column]);
+        equal(rt, &(op, first, second), &found, &wanted);
     }
 }
 
 fn count(rt: &impl Abort, op: UnOp, answers: &[i32; 6])
     requires { unary_type op ≡ ValType.I32 }
 {
-    for (operand, answer) in SHIFTED.iter().zip(answers) {
-        let found = unary(op, Value::I32(*operand));
-        assert_eq!(rt; found, Value::I32(*answer), "{op:?} of {operand}");
+    for place in 0..6usize {
+        let operand = SHIFTED[place];
+        let found = unary(op, Value::I32(operand));
+        equal(rt, &(op, operand), &found, &Value::I32(answers[place]));
     }
 }
 
@@ -411,8 +409,15 @@ fn counts_of_bits(rt: HostRuntime) {
 
 #[test]
 fn tests_of_zero(rt: HostRuntime) {
-    for (operand, answer) in SHIFTED.iter().zip(&[1, 0, 0, 0, 0, 0]) {
-        let found = test(TestOp::Eqz(I32), Value::I32(*operand));
-        assert_eq!(rt; found, Value::I32(*answer), "eqz of {operand}");
+    let answers = [1, 0, 0, 0, 0, 0];
+    for place in 0..6usize {
+        let operand = SHIFTED[place];
+        let found = test(TestOp::Eqz(I32), Value::I32(operand));
+        equal(
+            &rt,
+            &("eqz of", operand),
+            &found,
+            &Value::I32(answers[place]),
+        );
     }
 }
