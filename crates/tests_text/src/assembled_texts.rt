@@ -1,7 +1,10 @@
 // Texts, and behind each the bytes that `wat2wasm` of wabt 1.0.32 gives for it, without the header of eight bytes.
 use crate::assembling::{Row, assembles};
+use crate::assertions::equal;
 use assembler::assemble;
 use encoder::encode;
+use module_tree::module::Module;
+use std::alloc::Global;
 use std::test::Fail;
 
 // A contract of six functions over maps and counters.
@@ -24,7 +27,7 @@ const CONTRACT: &str = "(module
   (call $put (local.get 1) (call $get (local.get 0)))))
 ";
 
-const SHAPES_TYPES_AND_FUNCTIONS: [Row; 13] = [
+const SHAPES_TYPES_AND_FUNCTIONS: &[Row] = &[
     // an empty module
     ("(module)", b""),
     // a named module
@@ -82,10 +85,10 @@ const SHAPES_TYPES_AND_FUNCTIONS: [Row; 13] = [
 
 #[test]
 fn shapes_types_and_functions(rt: HostRuntime) -> Result<(), Fail> {
-    assembles(&rt, rt.alloc(), &SHAPES_TYPES_AND_FUNCTIONS)
+    assembles(&rt, rt.alloc(), SHAPES_TYPES_AND_FUNCTIONS)
 }
 
-const IMPORTS_EXPORTS_AND_LIMITS: [Row; 13] = [
+const IMPORTS_EXPORTS_AND_LIMITS: &[Row] = &[
     // the first equal type is taken
     (
         "(module (type (func)) (type (func)) (func) (func (type 1)))",
@@ -146,10 +149,10 @@ const IMPORTS_EXPORTS_AND_LIMITS: [Row; 13] = [
 
 #[test]
 fn imports_exports_and_limits(rt: HostRuntime) -> Result<(), Fail> {
-    assembles(&rt, rt.alloc(), &IMPORTS_EXPORTS_AND_LIMITS)
+    assembles(&rt, rt.alloc(), IMPORTS_EXPORTS_AND_LIMITS)
 }
 
-const GLOBALS_ELEMENTS_DATA_AND_LOCALS: [Row; 13] = [
+const GLOBALS_ELEMENTS_DATA_AND_LOCALS: &[Row] = &[
     // globals of each kind
     (
         "(module (global i32 (i32.const 1)) (global $a i64 i64.const -1) (global (mut i32) (i32.const 0x7fffffff)) (global (mut i64) (i64.const 0)))",
@@ -219,10 +222,10 @@ const GLOBALS_ELEMENTS_DATA_AND_LOCALS: [Row; 13] = [
 
 #[test]
 fn globals_elements_data_and_locals(rt: HostRuntime) -> Result<(), Fail> {
-    assembles(&rt, rt.alloc(), &GLOBALS_ELEMENTS_DATA_AND_LOCALS)
+    assembles(&rt, rt.alloc(), GLOBALS_ELEMENTS_DATA_AND_LOCALS)
 }
 
-const BLOCKS_AND_BRANCHES: [Row; 13] = [
+const BLOCKS_AND_BRANCHES: &[Row] = &[
     // deep folds
     (
         "(module (func (result i32) (i32.add (i32.sub (i32.const 1) (i32.const 2)) (i32.mul (i32.const 3) (i32.add (i32.const 4) (i32.const 5))))))",
@@ -292,10 +295,10 @@ const BLOCKS_AND_BRANCHES: [Row; 13] = [
 
 #[test]
 fn blocks_and_branches(rt: HostRuntime) -> Result<(), Fail> {
-    assembles(&rt, rt.alloc(), &BLOCKS_AND_BRANCHES)
+    assembles(&rt, rt.alloc(), BLOCKS_AND_BRANCHES)
 }
 
-const CALLS_AND_MEMORY: [Row; 13] = [
+const CALLS_AND_MEMORY: &[Row] = &[
     // an if without a folded condition
     (
         "(module (func (param i32) local.get 0 (if (then nop) (else nop nop))))",
@@ -365,10 +368,10 @@ const CALLS_AND_MEMORY: [Row; 13] = [
 
 #[test]
 fn calls_and_memory(rt: HostRuntime) -> Result<(), Fail> {
-    assembles(&rt, rt.alloc(), &CALLS_AND_MEMORY)
+    assembles(&rt, rt.alloc(), CALLS_AND_MEMORY)
 }
 
-const NUMBERS_AND_OPERATORS: [Row; 13] = [
+const NUMBERS_AND_OPERATORS: &[Row] = &[
     // tee select drop return
     (
         "(module (func (param i32) (result i32) (select (local.tee 0 (i32.const 1)) (i32.const 2) (local.get 0)) return))",
@@ -438,20 +441,37 @@ const NUMBERS_AND_OPERATORS: [Row; 13] = [
 
 #[test]
 fn numbers_and_operators(rt: HostRuntime) -> Result<(), Fail> {
-    assembles(&rt, rt.alloc(), &NUMBERS_AND_OPERATORS)
+    assembles(&rt, rt.alloc(), NUMBERS_AND_OPERATORS)
+}
+
+// The name of the last import, and that of the last export.
+fn last_names(contract: &Module<Global>) -> (Option<&str>, Option<&str>) {
+    let import = match contract.imports.last() {
+        Some(import) => Some(import.name.as_str()),
+        None => None,
+    };
+    let export = match contract.exports.last() {
+        Some(export) => Some(export.name.as_str()),
+        None => None,
+    };
+    (import, export)
 }
 
 #[test]
 fn a_contract_has_its_parts(rt: HostRuntime) -> Result<(), Fail> {
     let contract = assemble(rt.alloc(), CONTRACT)?;
-    assert_eq!(rt; contract.types.len(), 4);
-    assert_eq!(rt; contract.imports.len(), 4);
-    assert_eq!(rt; contract.imports[3].name.as_str(), "put");
-    assert_eq!(rt; contract.funcs.len(), 6);
-    assert_eq!(rt; contract.exports.len(), 6);
-    assert_eq!(rt; contract.exports[5].name.as_str(), "move");
+    equal(&rt, &"types", &contract.types.len(), &4);
+    equal(&rt, &"imports", &contract.imports.len(), &4);
+    equal(&rt, &"functions", &contract.funcs.len(), &6);
+    equal(&rt, &"exports", &contract.exports.len(), &6);
+    equal(
+        &rt,
+        &"last names",
+        &last_names(&contract),
+        &(Some("put"), Some("move")),
+    );
     let mut bytes = Vec::new(rt.alloc());
     encode(&contract, &mut bytes)?;
-    assert_eq!(rt; bytes.len(), 201);
+    equal(&rt, &"bytes", &bytes.len(), &201);
     Ok(())
 }

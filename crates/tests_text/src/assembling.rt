@@ -1,7 +1,9 @@
 // What is answered to a text.
+use crate::assertions::{equal, given};
 use crate::written::written_again;
 use assembler::{AsmRefusal, assemble};
 use encoder::encode;
+use module_tree::module::Module;
 use std::alloc::Global;
 use std::process::Abort;
 use std::test::Fail;
@@ -14,22 +16,31 @@ pub type Broken<'b> = (&'b str, AsmRefusal);
 
 const HEADER: [u8; 8] = [0x00, 0x61, 0x73, 0x6D, 0x01, 0x00, 0x00, 0x00];
 
+/// How a text is refused, if it is.
+pub fn refusal_of(a: Global, text: &str) -> Option<AsmRefusal> {
+    assemble(a, text).err()
+}
+
+// The bytes of a module.
+fn spelled(a: Global, module: &Module<Global>) -> Result<Vec<u8>, Fail> {
+    let mut bytes = Vec::new(a);
+    encode(module, &mut bytes)?;
+    Ok(bytes)
+}
+
 /// Each text names the module of these sections, and so does the text that the module is written as.
 pub fn assembles(rt: &impl Abort, a: Global, rows: &[Row]) -> Result<(), Fail> {
     for (text, sections) in rows {
-        match assemble(a, *text) {
-            Ok(module) => {
-                let mut bytes = Vec::new(a);
-                encode(&module, &mut bytes)?;
-                assert_eq!(rt; &bytes[..8], HEADER.as_slice(), "{text}");
-                assert_eq!(rt; &bytes[8..], *sections, "{text}");
-                let again = written_again(a, &module)?;
-                assert_eq!(rt; again.as_slice(), bytes.as_slice(), "{text}");
-            }
-            Err(refusal) => {
-                assert!(rt; false, "{text}: {refusal:?}");
-            }
-        }
+        let module = given(rt, text, assemble(a, *text));
+        let bytes = spelled(a, &module)?;
+        equal(
+            rt,
+            text,
+            &bytes.as_slice().split_at_checked(8),
+            &Some((HEADER.as_slice(), *sections)),
+        );
+        let again = written_again(a, &module)?;
+        equal(rt, text, &again.as_slice(), &bytes.as_slice());
     }
     Ok(())
 }
@@ -37,14 +48,7 @@ pub fn assembles(rt: &impl Abort, a: Global, rows: &[Row]) -> Result<(), Fail> {
 /// Each text is refused as it has to be.
 pub fn refuses(rt: &impl Abort, a: Global, rows: &[Broken]) -> Result<(), Fail> {
     for (text, refusal) in rows {
-        match assemble(a, *text) {
-            Ok(_module) => {
-                assert!(rt; false, "{text}");
-            }
-            Err(answered) => {
-                assert_eq!(rt; answered, *refusal, "{text}");
-            }
-        }
+        equal(rt, text, &refusal_of(a, *text), &Some(*refusal));
     }
     Ok(())
 }

@@ -1,3 +1,4 @@
+use crate::assertions::{equal, holds};
 use crate::texts::words_of;
 use spec_text::Operator;
 use std::alloc::Global;
@@ -56,13 +57,12 @@ type Row<'t> = (&'t str, &'t [u8], usize);
 fn reads(rt: &impl Abort, a: Global, rows: &[Row]) -> Result<(), Fail> {
     for (text, wanted, behind) in rows {
         let (found, left) = answer_to(a, *text)??;
-        assert_eq!(rt; found.as_slice(), *wanted, "{text}");
-        assert_eq!(rt; left, *behind, "{text}");
+        equal(rt, text, &(found.as_slice(), left), &(*wanted, *behind));
     }
     Ok(())
 }
 
-const PLAIN: [Row; 4] = [
+const PLAIN: &[Row] = &[
     ("nop drop) i32", b"ss", 1),
     ("local.get 0 call $f br_table 0 $a 2)", b"#$t", 0),
     ("i32.load offset=4 i32.store align=2 i64.load)", b"lwL", 0),
@@ -75,10 +75,10 @@ const PLAIN: [Row; 4] = [
 
 #[test]
 fn plain_instructions(rt: HostRuntime) -> Result<(), Fail> {
-    reads(&rt, rt.alloc(), &PLAIN)
+    reads(&rt, rt.alloc(), PLAIN)
 }
 
-const FOLDED: [Row; 4] = [
+const FOLDED: &[Row] = &[
     (
         "(i32.add (i32.const 1) (i32.add (i32.const 2) (i32.const 3))))",
         b"kkk++",
@@ -95,10 +95,10 @@ const FOLDED: [Row; 4] = [
 
 #[test]
 fn folded_instructions(rt: HostRuntime) -> Result<(), Fail> {
-    reads(&rt, rt.alloc(), &FOLDED)
+    reads(&rt, rt.alloc(), FOLDED)
 }
 
-const FORMS: [Row; 2] = [
+const FORMS: &[Row] = &[
     ("block $l loop end end $l)", b"bo..", 0),
     (
         "i32.const 1 if (result i32) (nop) else $x (loop) end)",
@@ -109,11 +109,11 @@ const FORMS: [Row; 2] = [
 
 #[test]
 fn flat_forms(rt: HostRuntime) -> Result<(), Fail> {
-    reads(&rt, rt.alloc(), &FORMS)
+    reads(&rt, rt.alloc(), FORMS)
 }
 
 // Texts that are no bodies, and how many words are left where they are refused.
-const BROKEN: [(&str, usize); 12] = [
+const BROKEN: &[(&str, usize)] = &[
     ("nop", 0),
     ("i32.const )", 1),
     ("br_table)", 1),
@@ -131,8 +131,8 @@ const BROKEN: [(&str, usize); 12] = [
 #[test]
 fn broken_bodies(rt: HostRuntime) -> Result<(), Fail> {
     for (text, left) in BROKEN {
-        let wanted = Some(Unread::Stuck(left));
-        assert_eq!(rt; answer_to(rt.alloc(), text)?.err(), wanted, "{text}");
+        let wanted = Some(Unread::Stuck(*left));
+        equal(&rt, text, &answer_to(rt.alloc(), *text)?.err(), &wanted);
     }
     Ok(())
 }
@@ -169,10 +169,15 @@ const PARTS: &str = "$f (type 1) (param $x i32) (param i64) (result i32) (local 
 fn parts_of_fields(rt: HostRuntime) -> Result<(), Fail> {
     let words = words_of(rt.alloc(), PARTS)?;
     let mut rest = words.as_slice();
-    assert!(rt; begins_with_one_name(&mut rest));
-    assert!(rt; goes_on_with_parts(rt.alloc(), &mut rest)?);
-    assert!(rt; goes_on_with_one_bracket(&mut rest));
-    assert_eq!(rt; shared::indices(&rt.alloc(), &mut rest)?.len(), 2);
-    assert_eq!(rt; rest.len(), 0);
+    holds(&rt, &"a name", begins_with_one_name(&mut rest));
+    holds(&rt, &"parts", goes_on_with_parts(rt.alloc(), &mut rest)?);
+    holds(&rt, &"a bracket", goes_on_with_one_bracket(&mut rest));
+    equal(
+        &rt,
+        &"indices",
+        &shared::indices(&rt.alloc(), &mut rest)?.len(),
+        &2,
+    );
+    equal(&rt, &"what is left", &rest.len(), &0);
     Ok(())
 }

@@ -4,7 +4,7 @@ use assembler::AsmRefusal::{Lex, NumberRange, RepeatedName, Unexpected, UnknownN
 use lexer::LexRefusal::{BadToken, Unclosed};
 use std::test::Fail;
 
-const CHARACTERS_THAT_ARE_NO_TOKENS: [Broken; 21] = [
+const CHARACTERS_THAT_ARE_NO_TOKENS: &[Broken] = &[
     // a word that begins with a digit
     ("(module 7x)", Lex(BadToken(8))),
     // a capital keyword
@@ -57,10 +57,10 @@ const CHARACTERS_THAT_ARE_NO_TOKENS: [Broken; 21] = [
 
 #[test]
 fn characters_that_are_no_tokens(rt: HostRuntime) -> Result<(), Fail> {
-    refuses(&rt, rt.alloc(), &CHARACTERS_THAT_ARE_NO_TOKENS)
+    refuses(&rt, rt.alloc(), CHARACTERS_THAT_ARE_NO_TOKENS)
 }
 
-const TOKENS_THAT_ARE_NO_TEXT: [Broken; 43] = [
+const TOKENS_THAT_ARE_NO_TEXT: &[Broken] = &[
     // nothing
     ("", Unexpected(0)),
     // only a comment
@@ -181,10 +181,10 @@ const TOKENS_THAT_ARE_NO_TEXT: [Broken; 43] = [
 
 #[test]
 fn tokens_that_are_no_text(rt: HostRuntime) -> Result<(), Fail> {
-    refuses(&rt, rt.alloc(), &TOKENS_THAT_ARE_NO_TEXT)
+    refuses(&rt, rt.alloc(), TOKENS_THAT_ARE_NO_TEXT)
 }
 
-const NAMES_AND_NUMBERS: [Broken; 39] = [
+const NAMES_AND_NUMBERS: &[Broken] = &[
     // an unknown local
     ("(module (func (local.get $x)))", UnknownName(25)),
     // an unknown function
@@ -336,5 +336,5 @@ const NAMES_AND_NUMBERS: [Broken; 39] = [
 
 #[test]
 fn names_and_numbers(rt: HostRuntime) -> Result<(), Fail> {
-    refuses(&rt, rt.alloc(), &NAMES_AND_NUMBERS)
+    refuses(&rt, rt.alloc(), NAMES_AND_NUMBERS)
 }

@@ -1,3 +1,4 @@
+use crate::assertions::equal;
 use crate::texts::{repeated, tree_of};
 use std::alloc::Global;
 use std::process::Abort;
@@ -17,12 +18,12 @@ fn fault(a: Global, text: &str) -> Result<AsmRefusal, Fail> {
 // Each text gets its refusal.
 fn refuses(rt: &impl Abort, a: Global, rows: &[Row]) -> Result<(), Fail> {
     for (text, refusal) in rows {
-        assert_eq!(rt; fault(a, *text)?, *refusal, "{text}");
+        equal(rt, text, &fault(a, *text)?, refusal);
     }
     Ok(())
 }
 
-const UNKNOWN: [Row; 14] = [
+const UNKNOWN: &[Row] = &[
     ("(module (func (local.get $x)))", UnknownName(25)),
     ("(module (func call $f))", UnknownName(19)),
     ("(module (func (type $t)))", UnknownName(20)),
@@ -53,10 +54,10 @@ const UNKNOWN: [Row; 14] = [
 
 #[test]
 fn unknown_names(rt: HostRuntime) -> Result<(), Fail> {
-    refuses(&rt, rt.alloc(), &UNKNOWN)
+    refuses(&rt, rt.alloc(), UNKNOWN)
 }
 
-const REPEATED: [Row; 5] = [
+const REPEATED: &[Row] = &[
     ("(module (func $f) (func $f))", RepeatedName(24)),
     (
         "(module (import \"a\" \"b\" (func $f)) (func $f))",
@@ -78,10 +79,10 @@ const REPEATED: [Row; 5] = [
 
 #[test]
 fn repeated_names(rt: HostRuntime) -> Result<(), Fail> {
-    refuses(&rt, rt.alloc(), &REPEATED)
+    refuses(&rt, rt.alloc(), REPEATED)
 }
 
-const OUT_OF_RANGE: [Row; 9] = [
+const OUT_OF_RANGE: &[Row] = &[
     ("(module (func i32.const 4294967296))", NumberRange(24)),
     ("(module (func i32.const -2147483649))", NumberRange(24)),
     (
@@ -101,11 +102,11 @@ const OUT_OF_RANGE: [Row; 9] = [
 
 #[test]
 fn numbers_out_of_range(rt: HostRuntime) -> Result<(), Fail> {
-    refuses(&rt, rt.alloc(), &OUT_OF_RANGE)
+    refuses(&rt, rt.alloc(), OUT_OF_RANGE)
 }
 
 // The least place comes first, in whatever field or space, and then the least limit.
-const TWO_FAULTS: [Row; 8] = [
+const TWO_FAULTS: &[Row] = &[
     (
         "(module (func call $f i32.const 4294967296))",
         UnknownName(19),
@@ -133,7 +134,7 @@ const TWO_FAULTS: [Row; 8] = [
 
 #[test]
 fn the_first_of_two_faults(rt: HostRuntime) -> Result<(), Fail> {
-    refuses(&rt, rt.alloc(), &TWO_FAULTS)
+    refuses(&rt, rt.alloc(), TWO_FAULTS)
 }
 
 // A front, a part and a back, how many parts there may be, and how one more is refused.
@@ -164,16 +165,18 @@ fn fault_of_many(a: Global, parts: [&str; 3], times: u32) -> Result<AsmRefusal, 
 #[test]
 fn each_limit_is_met_exactly(rt: HostRuntime) -> Result<(), Fail> {
     for (parts, most, refusal) in LIMITS {
-        assert_eq!(rt;
-            fault_of_many(rt.alloc(), parts, most)?,
-            TooLarge(Limit::Bytes),
-            "{most}"
+        equal(
+            &rt,
+            &most,
+            &fault_of_many(rt.alloc(), parts, most)?,
+            &TooLarge(Limit::Bytes),
         );
         let above = most.saturating_add(1);
-        assert_eq!(rt;
-            fault_of_many(rt.alloc(), parts, above)?,
-            refusal,
-            "{above}"
+        equal(
+            &rt,
+            &above,
+            &fault_of_many(rt.alloc(), parts, above)?,
+            &refusal,
         );
     }
     Ok(())
@@ -196,13 +199,17 @@ fn blocks_nest_128_deep(rt: HostRuntime) -> Result<(), Fail> {
         ["(module (func (local.get 0) br_table", " 0", " 0 "],
         1_025,
     )?;
-    assert_eq!(rt;
-        fault_of_blocks(a, "(module (func ", 128)?,
-        TooLarge(Limit::Bytes)
+    equal(
+        &rt,
+        &128,
+        &fault_of_blocks(a, "(module (func ", 128)?,
+        &TooLarge(Limit::Bytes),
     );
-    assert_eq!(rt;
-        fault_of_blocks(a, many_labels.as_str(), 129)?,
-        TooLarge(Limit::Nesting)
+    equal(
+        &rt,
+        &129,
+        &fault_of_blocks(a, many_labels.as_str(), 129)?,
+        &TooLarge(Limit::Nesting),
     );
     Ok(())
 }

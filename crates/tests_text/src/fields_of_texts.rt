@@ -1,3 +1,4 @@
+use crate::assertions::{equal, holds};
 use crate::texts::{read, tree_of};
 use spec_text::Operator;
 use std::alloc::Global;
@@ -44,7 +45,7 @@ fn letters(a: Global, text: &str) -> Result<Vec<u8, Global>, Fail> {
 // Each text has the fields of its row.
 fn reads(rt: &impl Abort, a: Global, rows: &[(&str, &[u8])]) -> Result<(), Fail> {
     for (text, wanted) in rows {
-        assert_eq!(rt; letters(a, *text)?.as_slice(), *wanted, "{text}");
+        equal(rt, text, &letters(a, *text)?.as_slice(), wanted);
     }
     Ok(())
 }
@@ -60,14 +61,15 @@ type Broken<'t> = (&'t str, &'t str);
 
 // Each row's parts together are no text, and are refused where the second begins.
 fn refuses(rt: &impl Abort, a: Global, rows: &[Broken]) -> Result<(), Fail> {
-    for (front, back) in rows {
+    for row in rows {
+        let (front, back) = row;
         let wanted = Some(TextRefusal::Unexpected(front.len()));
-        assert_eq!(rt; refusal(a, *front, *back)?, wanted, "{front}{back}");
+        equal(rt, row, &refusal(a, *front, *back)?, &wanted);
     }
     Ok(())
 }
 
-const EACH_FIELD: [(&str, &[u8]); 6] = [
+const EACH_FIELD: &[(&str, &[u8])] = &[
     ("(module)", b""),
     (
         "(module $m (type (func)) (type $t (func (param i32) (param $x i64) (result i32))))",
@@ -93,10 +95,10 @@ const EACH_FIELD: [(&str, &[u8]); 6] = [
 
 #[test]
 fn each_field(rt: HostRuntime) -> Result<(), Fail> {
-    reads(&rt, rt.alloc(), &EACH_FIELD)
+    reads(&rt, rt.alloc(), EACH_FIELD)
 }
 
-const IMPORTS_BEHIND: [(&str, &[u8]); 2] = [
+const IMPORTS_BEHIND: &[(&str, &[u8])] = &[
     (
         "(module (type (func)) (export \"a\" (func 0)) (start 0) (import \"\" \"\" (func)))",
         b"txsf",
@@ -109,7 +111,7 @@ const IMPORTS_BEHIND: [(&str, &[u8]); 2] = [
 
 #[test]
 fn imports_behind_what_defines_nothing(rt: HostRuntime) -> Result<(), Fail> {
-    reads(&rt, rt.alloc(), &IMPORTS_BEHIND)
+    reads(&rt, rt.alloc(), IMPORTS_BEHIND)
 }
 
 // Whether the piece is there, and written so.
@@ -153,7 +155,7 @@ fn are_a_type(fields: &[Field<'_, Global>]) -> bool {
 #[test]
 fn a_type(rt: HostRuntime) -> Result<(), Fail> {
     let text = "(module (type $t (func (param $x i32) (param i64) (result i64))))";
-    assert!(rt; are_a_type(&tree_of(rt.alloc(), text)?.fields));
+    holds(&rt, &text, are_a_type(&tree_of(rt.alloc(), text)?.fields));
     Ok(())
 }
 
@@ -185,7 +187,11 @@ fn are_import_and_export(fields: &[Field<'_, Global>]) -> bool {
 fn an_import_and_an_export(rt: HostRuntime) -> Result<(), Fail> {
     let text =
         "(module (import \"a\\n\" \"\\u{e9}\" (memory $m 1 0x10)) (export \"out\" (memory $m)))";
-    assert!(rt; are_import_and_export(&tree_of(rt.alloc(), text)?.fields));
+    holds(
+        &rt,
+        &text,
+        are_import_and_export(&tree_of(rt.alloc(), text)?.fields),
+    );
     Ok(())
 }
 
@@ -231,7 +237,11 @@ fn are_a_function(fields: &[Field<'_, Global>]) -> bool {
 fn a_function(rt: HostRuntime) -> Result<(), Fail> {
     let text =
         "(module (func $f (export \"a\") (export \"b\") (type 1) (param i32) (local i64) (drop (local.get 0))))";
-    assert!(rt; are_a_function(&tree_of(rt.alloc(), text)?.fields));
+    holds(
+        &rt,
+        &text,
+        are_a_function(&tree_of(rt.alloc(), text)?.fields),
+    );
     Ok(())
 }
 
@@ -257,7 +267,7 @@ fn are_segments(fields: &[Field<'_, Global>]) -> bool {
 fn segments(rt: HostRuntime) -> Result<(), Fail> {
     let text =
         "(module (elem 0 (offset i32.const 2) $f 1) (data 1 (offset i32.const 4) \"ab\" \"\" \"\\00\\ff\"))";
-    assert!(rt; are_segments(&tree_of(rt.alloc(), text)?.fields));
+    holds(&rt, &text, are_segments(&tree_of(rt.alloc(), text)?.fields));
     Ok(())
 }
 
@@ -289,11 +299,11 @@ fn are_spaces(fields: &[Field<'_, Global>]) -> bool {
 fn a_global_and_tables(rt: HostRuntime) -> Result<(), Fail> {
     let text =
         "(module (table $t 1 2 funcref) (memory 3) (global $g (mut i32) (i32.const 7)) (start $f))";
-    assert!(rt; are_spaces(&tree_of(rt.alloc(), text)?.fields));
+    holds(&rt, &text, are_spaces(&tree_of(rt.alloc(), text)?.fields));
     Ok(())
 }
 
-const MODULES: [Broken; 12] = [
+const MODULES: &[Broken] = &[
     ("", ""),
     ("", "module"),
     ("(", "func)"),
@@ -310,10 +320,10 @@ const MODULES: [Broken; 12] = [
 
 #[test]
 fn broken_modules(rt: HostRuntime) -> Result<(), Fail> {
-    refuses(&rt, rt.alloc(), &MODULES)
+    refuses(&rt, rt.alloc(), MODULES)
 }
 
-const TYPES_AND_IMPORTS: [Broken; 11] = [
+const TYPES_AND_IMPORTS: &[Broken] = &[
     ("(module (type (", "param i32)))"),
     ("(module (type (func (result i32) (", "param i32))))"),
     ("(module (type (func (param i32 ", "i32))))"),
@@ -329,10 +339,10 @@ const TYPES_AND_IMPORTS: [Broken; 11] = [
 
 #[test]
 fn broken_types_and_imports(rt: HostRuntime) -> Result<(), Fail> {
-    refuses(&rt, rt.alloc(), &TYPES_AND_IMPORTS)
+    refuses(&rt, rt.alloc(), TYPES_AND_IMPORTS)
 }
 
-const DEFINITIONS: [Broken; 14] = [
+const DEFINITIONS: &[Broken] = &[
     ("(module (func (param i32", ""),
     ("(module (func (export ", "a)))"),
     ("(module (func (result i32) (", "export \"a\")))"),
@@ -351,10 +361,10 @@ const DEFINITIONS: [Broken; 14] = [
 
 #[test]
 fn broken_definitions(rt: HostRuntime) -> Result<(), Fail> {
-    refuses(&rt, rt.alloc(), &DEFINITIONS)
+    refuses(&rt, rt.alloc(), DEFINITIONS)
 }
 
-const EXPORTS_AND_SEGMENTS: [Broken; 10] = [
+const EXPORTS_AND_SEGMENTS: &[Broken] = &[
     ("(module (export \"a\" (", "type 0)))"),
     ("(module (export \"a\" (func ", ")))"),
     ("(module (export \"a\" (func 0 ", "1)))"),
@@ -369,10 +379,10 @@ const EXPORTS_AND_SEGMENTS: [Broken; 10] = [
 
 #[test]
 fn broken_exports_and_segments(rt: HostRuntime) -> Result<(), Fail> {
-    refuses(&rt, rt.alloc(), &EXPORTS_AND_SEGMENTS)
+    refuses(&rt, rt.alloc(), EXPORTS_AND_SEGMENTS)
 }
 
-const NOT_UTF8: [Broken; 4] = [
+const NOT_UTF8: &[Broken] = &[
     ("(module (import ", "\"\\ff\" \"b\" (func)))"),
     ("(module (import \"a\" ", "\"\\ed\\a0\\80\" (func)))"),
     ("(module (export ", "\"\\c3\" (func 0)))"),
@@ -386,11 +396,11 @@ const UTF8_AND_DATA: [(&str, &[u8]); 1] = [(
 
 #[test]
 fn names_that_are_not_utf8(rt: HostRuntime) -> Result<(), Fail> {
-    refuses(&rt, rt.alloc(), &NOT_UTF8)?;
+    refuses(&rt, rt.alloc(), NOT_UTF8)?;
     reads(&rt, rt.alloc(), &UTF8_AND_DATA)
 }
 
-const ORDER: [Broken; 5] = [
+const ORDER: &[Broken] = &[
     ("(module (func) (", "import \"a\" \"b\" (func)))"),
     (
         "(module (table 1 funcref) (type (func)) (",
@@ -403,10 +413,10 @@ const ORDER: [Broken; 5] = [
 
 #[test]
 fn rules_on_order(rt: HostRuntime) -> Result<(), Fail> {
-    refuses(&rt, rt.alloc(), &ORDER)
+    refuses(&rt, rt.alloc(), ORDER)
 }
 
-const LEAST_PLACE: [Broken; 6] = [
+const LEAST_PLACE: &[Broken] = &[
     ("(module (func ", "f32.add))"),
     ("(module (func (param ", "f32)))"),
     ("(module) ", "(func f32.add)"),
@@ -417,7 +427,7 @@ const LEAST_PLACE: [Broken; 6] = [
 
 #[test]
 fn the_least_place(rt: HostRuntime) -> Result<(), Fail> {
-    refuses(&rt, rt.alloc(), &LEAST_PLACE)
+    refuses(&rt, rt.alloc(), LEAST_PLACE)
 }
 
 // The place of a name, if there is one.
@@ -468,9 +478,14 @@ const PLACES: [(Option<usize>, Option<usize>); 6] = [
 #[test]
 fn names_come_with_their_places(rt: HostRuntime) -> Result<(), Fail> {
     let tree = tree_of(rt.alloc(), EQUAL_NAMES)?;
-    assert_eq!(rt; tree.fields.len(), PLACES.len());
-    for (field, wanted) in tree.fields.iter().zip(PLACES) {
-        assert_eq!(rt; places(field), wanted);
+    equal(&rt, &"fields", &tree.fields.len(), &PLACES.len());
+    for (place, field) in tree.fields.iter().enumerate() {
+        equal(
+            &rt,
+            &("field", place),
+            &Some(places(field)),
+            &PLACES.get(place).copied(),
+        );
     }
     Ok(())
 }

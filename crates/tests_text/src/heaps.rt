@@ -1,3 +1,4 @@
+use crate::assertions::{equal, holds};
 use crate::texts::{read, repeated, tree_of};
 use lexer::{LexRefusal, tokens};
 use linked_list_allocator::LocalHeap;
@@ -44,20 +45,25 @@ fn read_in_heap(a: Global, size: usize) -> Result<Outcome, Fail> {
 
 #[test]
 fn heaps_that_are_too_small(rt: HostRuntime) -> Result<(), Fail> {
-    assert_eq!(rt; read_in(&rt.alloc(), TEXT)?, Outcome::Fields(10));
+    equal(
+        &rt,
+        &"no bound",
+        &read_in(&rt.alloc(), TEXT)?,
+        &Outcome::Fields(10),
+    );
     let mut full = 0u32;
     let mut read = 0u32;
     for step in 1..160usize {
         let found = read_in_heap(rt.alloc(), step * 256)?;
         if found == Outcome::Full {
-            assert_eq!(rt; read, 0);
+            equal(&rt, &("read in less than", step), &read, &0);
             full = full.saturating_add(1);
         } else {
-            assert_eq!(rt; found, Outcome::Fields(10));
+            equal(&rt, &("read in", step), &found, &Outcome::Fields(10));
             read = read.saturating_add(1);
         }
     }
-    assert!(rt; full > 10 && read > 10);
+    holds(&rt, &("full", full, "read", read), full > 10 && read > 10);
     Ok(())
 }
 
@@ -78,7 +84,7 @@ const BRACKETS: [([&str; 3], u32, usize); 3] = [
 fn a_megabyte_of_brackets(rt: HostRuntime) -> Result<(), Fail> {
     for (parts, times, at) in BRACKETS {
         let wanted = Some(TextRefusal::Unexpected(at));
-        assert_eq!(rt; refusal(rt.alloc(), parts, times)?, wanted, "{at}");
+        equal(&rt, &at, &refusal(rt.alloc(), parts, times)?, &wanted);
     }
     Ok(())
 }
@@ -96,6 +102,6 @@ fn operands_within_operands(rt: HostRuntime) -> Result<(), Fail> {
     let opened = repeated(rt.alloc(), ["(module (func ", "(drop ", ""], 100_000)?;
     let text = repeated(rt.alloc(), [opened.as_str(), ")", ""], 100_002)?;
     let tree = tree_of(rt.alloc(), text.as_str())?;
-    assert_eq!(rt; size_of_body(&tree.fields), Some(100_000));
+    equal(&rt, &"size", &size_of_body(&tree.fields), &Some(100_000));
     Ok(())
 }

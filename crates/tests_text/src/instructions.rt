@@ -1,3 +1,4 @@
+use crate::assertions::{equal, holds};
 use crate::texts::{repeated, space_of, spaces_of};
 use lexer::tokens;
 use module_tree::instr::Instr;
@@ -45,7 +46,7 @@ fn are_plain(found: &[Instr<Global>], wanted: &[PlainInstr]) -> bool {
 // Each text becomes the plain instructions of its row.
 fn becomes(rt: &impl Abort, a: Global, rows: &[(&str, &[PlainInstr])]) -> Result<(), Fail> {
     for (text, wanted) in rows {
-        assert!(rt; are_plain(&resolved(a, *text)??, *wanted), "{text}");
+        holds(rt, text, are_plain(&resolved(a, *text)??, *wanted));
     }
     Ok(())
 }
@@ -56,7 +57,7 @@ type Row<'t> = (&'t str, Option<Unresolved>);
 // Each text is refused as its row says.
 fn refuses(rt: &impl Abort, a: Global, rows: &[Row]) -> Result<(), Fail> {
     for (text, wanted) in rows {
-        assert_eq!(rt; resolved(a, *text)?.err(), *wanted, "{text}");
+        equal(rt, text, &resolved(a, *text)?.err(), wanted);
     }
     Ok(())
 }
@@ -74,7 +75,7 @@ const NAMES: [(&str, &[PlainInstr]); 1] = [(
     ],
 )];
 
-const UNKNOWN_NAMES: [Row; 2] = [
+const UNKNOWN_NAMES: &[Row] = &[
     ("call $x)", Some(UnknownName(5))),
     ("nop local.get $g)", Some(UnknownName(14))),
 ];
@@ -82,7 +83,7 @@ const UNKNOWN_NAMES: [Row; 2] = [
 #[test]
 fn names_of_each_space(rt: HostRuntime) -> Result<(), Fail> {
     becomes(&rt, rt.alloc(), &NAMES)?;
-    refuses(&rt, rt.alloc(), &UNKNOWN_NAMES)
+    refuses(&rt, rt.alloc(), UNKNOWN_NAMES)
 }
 
 const INTEGERS: [(&str, &[PlainInstr]); 1] = [(
@@ -96,7 +97,7 @@ const INTEGERS: [(&str, &[PlainInstr]); 1] = [(
     ],
 )];
 
-const OUT_OF_RANGE: [Row; 5] = [
+const OUT_OF_RANGE: &[Row] = &[
     ("i32.load align=3)", Some(NumberRange(9))),
     ("i32.load align=0)", Some(NumberRange(9))),
     ("i32.load offset=4294967296)", Some(NumberRange(9))),
@@ -107,7 +108,7 @@ const OUT_OF_RANGE: [Row; 5] = [
 #[test]
 fn integers_of_instructions(rt: HostRuntime) -> Result<(), Fail> {
     becomes(&rt, rt.alloc(), &INTEGERS)?;
-    refuses(&rt, rt.alloc(), &OUT_OF_RANGE)
+    refuses(&rt, rt.alloc(), OUT_OF_RANGE)
 }
 
 const TYPES: [(&str, &[PlainInstr]); 1] = [(
@@ -120,7 +121,7 @@ const TYPES: [(&str, &[PlainInstr]); 1] = [(
     ],
 )];
 
-const OTHER_TYPES: [Row; 2] = [
+const OTHER_TYPES: &[Row] = &[
     ("call_indirect (type 2))", Some(UnknownName(20))),
     (
         "call_indirect (type 0) (result i64))",
@@ -131,7 +132,7 @@ const OTHER_TYPES: [Row; 2] = [
 #[test]
 fn types_that_are_written(rt: HostRuntime) -> Result<(), Fail> {
     becomes(&rt, rt.alloc(), &TYPES)?;
-    refuses(&rt, rt.alloc(), &OTHER_TYPES)
+    refuses(&rt, rt.alloc(), OTHER_TYPES)
 }
 
 // Whether these are block 0, of the loop 1 and the if 4, and an instruction behind it.
@@ -168,7 +169,7 @@ fn are_parts(chosen: &[Instr<Global>], others: &[Instr<Global>]) -> bool {
         && matches!(others, [Instr::Plain(6, PlainInstr::Nop)])
 }
 
-const UNKNOWN_LABELS: [Row; 3] = [
+const UNKNOWN_LABELS: &[Row] = &[
     ("block $a end $b)", Some(UnknownName(13))),
     ("if $a else $b end)", Some(UnknownName(11))),
     ("block $a end br $a)", Some(UnknownName(16))),
@@ -178,8 +179,8 @@ const UNKNOWN_LABELS: [Row; 3] = [
 fn labels_and_ordinals(rt: HostRuntime) -> Result<(), Fail> {
     let text =
         "block $a loop $b br $a br_table $b 7 $a end $b if $a br $a else nop end end $a unreachable)";
-    assert!(rt; are_nested(&resolved(rt.alloc(), text)??));
-    refuses(&rt, rt.alloc(), &UNKNOWN_LABELS)
+    holds(&rt, &text, are_nested(&resolved(rt.alloc(), text)??));
+    refuses(&rt, rt.alloc(), UNKNOWN_LABELS)
 }
 
 // How so many blocks in one another are refused.
@@ -198,10 +199,15 @@ fn refusal_of_labels(a: Global, count: u32) -> Result<Option<Unresolved>, Fail> 
 #[test]
 fn limits_of_an_expression(rt: HostRuntime) -> Result<(), Fail> {
     for (levels, wanted) in [(128, None), (129, Some(TooLarge(Limit::Nesting)))] {
-        assert_eq!(rt; refusal_of_blocks(rt.alloc(), levels)?, wanted, "{levels}");
+        equal(
+            &rt,
+            &levels,
+            &refusal_of_blocks(rt.alloc(), levels)?,
+            &wanted,
+        );
     }
     for (count, wanted) in [(1024, None), (1025, Some(TooLarge(Limit::Labels)))] {
-        assert_eq!(rt; refusal_of_labels(rt.alloc(), count)?, wanted, "{count}");
+        equal(&rt, &count, &refusal_of_labels(rt.alloc(), count)?, &wanted);
     }
     Ok(())
 }

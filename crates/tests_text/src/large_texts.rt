@@ -1,18 +1,12 @@
 // Texts at the limits of modules and above, and texts that nest deeply.
+use crate::assembling::refusal_of;
+use crate::assertions::equal;
 use crate::texts::repeated;
 use assembler::AsmRefusal::{TooLarge, Unexpected};
-use assembler::{AsmRefusal, Limit, assemble};
-use module_tree::module::Module;
+use assembler::{AsmRefusal, Limit};
 use std::alloc::Global;
 use std::process::Abort;
 use std::test::Fail;
-
-fn refusal_of(answer: Result<Module<Global>, AsmRefusal>) -> Option<AsmRefusal> {
-    match answer {
-        Ok(_module) => None,
-        Err(refusal) => Some(refusal),
-    }
-}
 
 // A text with so many parts assembles, and one with one more is refused by this limit.
 fn limited(
@@ -24,12 +18,13 @@ fn limited(
 ) -> Result<(), Fail> {
     let [_, part, _] = parts;
     let within = repeated(a, parts, most)?;
-    assert_eq!(rt; refusal_of(assemble(a, &within)), None, "{part}");
+    equal(rt, &(part, most), &refusal_of(a, &within), &None);
     let above = repeated(a, parts, most.saturating_add(1))?;
-    assert_eq!(rt;
-        refusal_of(assemble(a, &above)),
-        Some(TooLarge(limit)),
-        "{part}"
+    equal(
+        rt,
+        &(part, "one more"),
+        &refusal_of(a, &above),
+        &Some(TooLarge(limit)),
     );
     Ok(())
 }
@@ -56,18 +51,19 @@ fn each_limit_is_met_exactly(rt: HostRuntime) -> Result<(), Fail> {
     Ok(())
 }
 
+// How so many blocks in one another are refused, if they are.
+fn refusal_of_blocks(a: Global, levels: u32) -> Result<Option<AsmRefusal>, Fail> {
+    let mut text = repeated(a, ["(module (func ", "block ", ""], levels)?;
+    text.push_str(&repeated(a, ["", "end ", "))"], levels)?)?;
+    Ok(refusal_of(a, &text))
+}
+
 #[test]
 fn blocks_nest_128_deep(rt: HostRuntime) -> Result<(), Fail> {
     let a = rt.alloc();
-    let mut text = repeated(a, ["(module (func ", "block ", ""], 128)?;
-    text.push_str(&repeated(a, ["", "end ", "))"], 128)?)?;
-    assert_eq!(rt; refusal_of(assemble(a, &text)), None);
-    let mut text = repeated(a, ["(module (func ", "block ", ""], 129)?;
-    text.push_str(&repeated(a, ["", "end ", "))"], 129)?)?;
-    assert_eq!(rt;
-        refusal_of(assemble(a, &text)),
-        Some(TooLarge(Limit::Nesting))
-    );
+    for (levels, wanted) in [(128, None), (129, Some(TooLarge(Limit::Nesting)))] {
+        equal(&rt, &levels, &refusal_of_blocks(a, levels)?, &wanted);
+    }
     Ok(())
 }
 
@@ -75,8 +71,18 @@ fn blocks_nest_128_deep(rt: HostRuntime) -> Result<(), Fail> {
 fn brackets_nest_without_bound(rt: HostRuntime) -> Result<(), Fail> {
     let a = rt.alloc();
     let text = repeated(a, ["", "(", ""], 1_048_576)?;
-    assert_eq!(rt; refusal_of(assemble(a, &text)), Some(Unexpected(1)));
+    equal(
+        &rt,
+        &"brackets alone",
+        &refusal_of(a, &text),
+        &Some(Unexpected(1)),
+    );
     let text = repeated(a, ["(module (func ", "(drop ", ""], 170_000)?;
-    assert_eq!(rt; refusal_of(assemble(a, &text)), Some(Unexpected(1_020_014)));
+    equal(
+        &rt,
+        &"instructions",
+        &refusal_of(a, &text),
+        &Some(Unexpected(1_020_014)),
+    );
     Ok(())
 }

@@ -8,6 +8,8 @@ mod assembled_texts;
 #[cfg(test)]
 mod assembling;
 #[cfg(test)]
+mod assertions;
+#[cfg(test)]
 mod bodies;
 #[cfg(test)]
 mod broken_texts;

@@ -1,3 +1,4 @@
+use crate::assertions::equal;
 use crate::texts::space_of;
 use std::alloc::Global;
 use std::process::Abort;
@@ -35,17 +36,24 @@ fn numbers(
 fn names_stand_for_their_indices(rt: HostRuntime) -> Result<(), Fail> {
     let space = space_of(rt.alloc(), &[(3, b"$a"), (5, b""), (9, b"$b")])?;
     for (name, wanted) in NAMES {
-        assert!(rt; space.find(piece(20, name)) == wanted, "{name:?}");
-        assert!(rt;
-            index_in(&space, Index::Named(piece(20, name))) == wanted,
-            "{name:?}"
+        equal(&rt, &name, &space.find(piece(20, name)), &wanted);
+        equal(
+            &rt,
+            &("index", name),
+            &index_in(&space, Index::Named(piece(20, name))),
+            &wanted,
         );
     }
-    assert!(rt; index_in(&space, Index::Numbered(piece(20, b"0x1F"))) == Ok(31));
+    equal(
+        &rt,
+        &"number",
+        &index_in(&space, Index::Numbered(piece(20, b"0x1F"))),
+        &Ok(31),
+    );
     let found = numbers(rt.alloc(), &space, Index::Numbered(piece(23, b"7")))?;
-    assert_eq!(rt; found.as_slice(), [2, 7].as_slice());
+    equal(&rt, &"numbers", &found.as_slice(), &[2, 7].as_slice());
     let refused = numbers(rt.alloc(), &space, Index::Named(piece(25, b"$d")));
-    assert!(rt; refused.err() == Some(UnknownName(25)));
+    equal(&rt, &"unknown", &refused.err(), &Some(UnknownName(25)));
     Ok(())
 }
 
@@ -55,7 +63,7 @@ fn a_repeated_name_is_refused_at_the_second(rt: HostRuntime) {
         rt.alloc(),
         &[(3, b"$a"), (9, b"$b"), (14, b"$a"), (19, b"$b")],
     );
-    assert!(rt; refused.err() == Some(RepeatedName(14)));
+    equal(&rt, &"repeated", &refused.err(), &Some(RepeatedName(14)));
 }
 
 /// What is done with labels.
@@ -69,7 +77,7 @@ enum Step<'t> {
     Find(usize, &'t [u8], Result<u32, Unresolved>),
 }
 
-const STEPS: [Step; 15] = [
+const STEPS: &[Step] = &[
     Step::Enter(b"$a"),
     Step::Enter(b""),
     Step::Enter(b"$b"),
@@ -98,10 +106,7 @@ fn follows<'t>(
         Step::Enter(label) => labels.enter(Some(piece(0, label)))?,
         Step::Leave => labels.leave(),
         Step::Find(at, label, wanted) => {
-            assert!(rt;
-                labels.find(piece(at, label)) == wanted,
-                "{label:?} at {at}"
-            );
+            equal(rt, &(label, at), &labels.find(piece(at, label)), &wanted);
         }
     }
     Ok(())
@@ -111,7 +116,7 @@ fn follows<'t>(
 fn an_inner_label_hides_an_outer_one(rt: HostRuntime) -> Result<(), Fail> {
     let mut labels = Labels::new(rt.alloc());
     for step in STEPS {
-        follows(&rt, &mut labels, step)?;
+        follows(&rt, &mut labels, *step)?;
     }
     Ok(())
 }
@@ -125,6 +130,6 @@ const RANGES: [(usize, &[u8], Result<u32, Unresolved>); 3] = [
 #[test]
 fn numbers_end_at_their_limit(rt: HostRuntime) {
     for (at, text, wanted) in RANGES {
-        assert!(rt; number(piece(at, text)) == wanted, "{text:?}");
+        equal(&rt, &text, &number(piece(at, text)), &wanted);
     }
 }

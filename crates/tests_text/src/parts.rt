@@ -1,3 +1,4 @@
+use crate::assertions::{equal, holds};
 use crate::texts::{spaces_of, tree_of};
 use assembler::{Parts, parts_of_text};
 use module_tree::module::{Export, ExportDesc, ImportDesc};
@@ -59,8 +60,8 @@ const TEXT: &str =
 #[test]
 fn lists_are_from_the_last_to_the_first(rt: HostRuntime) -> Result<(), Fail> {
     let parts = answer_to(rt.alloc(), TEXT)??;
-    for (what, holds) in are_reversed(&parts) {
-        assert!(rt; holds, "{what}");
+    for (what, is) in are_reversed(&parts) {
+        holds(&rt, &what, is);
     }
     Ok(())
 }
@@ -86,9 +87,9 @@ const EXPORTING: &str =
 #[test]
 fn exports_stand_where_the_text_has_them(rt: HostRuntime) -> Result<(), Fail> {
     let parts = answer_to(rt.alloc(), EXPORTING)??;
-    assert_eq!(rt; parts.exports.len(), 4);
+    equal(&rt, &"exports", &parts.exports.len(), &4);
     for (place, name, desc) in EXPORTS {
-        assert!(rt; is_export(parts.exports.get(place), name, desc), "{name}");
+        holds(&rt, &name, is_export(parts.exports.get(place), name, desc));
     }
     Ok(())
 }
@@ -107,12 +108,12 @@ fn are_two_and_one(parts: &Parts<Global>) -> bool {
 #[test]
 fn segments_and_globals(rt: HostRuntime) -> Result<(), Fail> {
     let parts = answer_to(rt.alloc(), SEGMENTS)??;
-    assert_eq!(rt; sizes(&parts), [0, 1, 1, 1, 2, 0, 1, 2]);
-    assert!(rt; are_two_and_one(&parts));
+    equal(&rt, &"sizes", &sizes(&parts), &[0, 1, 1, 1, 2, 0, 1, 2]);
+    holds(&rt, &"data", are_two_and_one(&parts));
     Ok(())
 }
 
-const REFUSALS: [(&str, Option<Unresolved>); 2] = [
+const REFUSALS: &[(&str, Option<Unresolved>)] = &[
     ("(module (func) (start $f) (func))", Some(UnknownName(22))),
     ("(module (func) (start 0) (func))", None),
 ];
@@ -120,7 +121,7 @@ const REFUSALS: [(&str, Option<Unresolved>); 2] = [
 #[test]
 fn a_field_that_makes_nothing_is_refused(rt: HostRuntime) -> Result<(), Fail> {
     for (text, wanted) in REFUSALS {
-        assert_eq!(rt; answer_to(rt.alloc(), text)?.err(), wanted, "{text}");
+        equal(&rt, text, &answer_to(rt.alloc(), *text)?.err(), wanted);
     }
     Ok(())
 }

@@ -1,3 +1,4 @@
+use crate::assertions::{equal, holds};
 use crate::texts::{spaces_of, tree_of};
 use module_tree::instr::Instr;
 use module_tree::module::{DataSegment, Element, Export, ExportDesc, Func, Import, ImportDesc};
@@ -73,7 +74,11 @@ fn has_function(parts: &[Part<Global>]) -> bool {
 
 #[test]
 fn a_function_has_its_exports(rt: HostRuntime) -> Result<(), Fail> {
-    assert!(rt; has_function(&answer_to(rt.alloc(), FUNCTION)??));
+    holds(
+        &rt,
+        &FUNCTION,
+        has_function(&answer_to(rt.alloc(), FUNCTION)??),
+    );
     Ok(())
 }
 
@@ -104,7 +109,7 @@ fn has_spaces(parts: &[Part<Global>]) -> bool {
 
 #[test]
 fn tables_memories_and_globals(rt: HostRuntime) -> Result<(), Fail> {
-    assert!(rt; has_spaces(&answer_to(rt.alloc(), SPACES)??));
+    holds(&rt, &SPACES, has_spaces(&answer_to(rt.alloc(), SPACES)??));
     Ok(())
 }
 
@@ -139,11 +144,15 @@ fn begins_with_segments(parts: &[Part<Global>]) -> bool {
 
 #[test]
 fn start_and_segments(rt: HostRuntime) -> Result<(), Fail> {
-    assert!(rt; begins_with_segments(&answer_to(rt.alloc(), SEGMENTS)??));
+    holds(
+        &rt,
+        &SEGMENTS,
+        begins_with_segments(&answer_to(rt.alloc(), SEGMENTS)??),
+    );
     Ok(())
 }
 
-const REFUSALS: [(&str, Option<Unresolved>); 5] = [
+const REFUSALS: &[(&str, Option<Unresolved>)] = &[
     (
         "(module (func (param $a i32) (local $a i32)))",
         Some(RepeatedName(36)),
@@ -164,7 +173,7 @@ const REFUSALS: [(&str, Option<Unresolved>); 5] = [
 #[test]
 fn refusals_have_their_places(rt: HostRuntime) -> Result<(), Fail> {
     for (text, wanted) in REFUSALS {
-        assert_eq!(rt; answer_to(rt.alloc(), text)?.err(), wanted, "{text}");
+        equal(&rt, text, &answer_to(rt.alloc(), *text)?.err(), wanted);
     }
     Ok(())
 }

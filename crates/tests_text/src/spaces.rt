@@ -1,3 +1,4 @@
+use crate::assertions::equal;
 use crate::texts::spaces_of;
 use std::alloc::Global;
 use std::test::Fail;
@@ -34,7 +35,7 @@ const TEXT: &str =
     "(module (type $a (func)) (import \"m\" \"f\" (func $b)) (import \"m\" \"t\" (table $c 1 funcref)) (import \"m\" \"n\" (memory 1)) (import \"m\" \"g\" (global $e i32)) (memory $d 1) (func $a (param i32)) (table $d 1 funcref) (global $a i64 i64.const 0))";
 
 // Spaces of the text, names, and the index of each name in its space.
-const INDICES: [(Sort, &[u8], Option<u32>); 9] = [
+const INDICES: &[(Sort, &[u8], Option<u32>)] = &[
     (Sort::Types, b"$a", Some(0)),
     (Sort::Funcs, b"$b", Some(0)),
     (Sort::Funcs, b"$a", Some(1)),
@@ -49,15 +50,15 @@ const INDICES: [(Sort, &[u8], Option<u32>); 9] = [
 #[test]
 fn each_name_is_in_its_space(rt: HostRuntime) -> Result<(), Fail> {
     let spaces = spaces_of(rt.alloc(), TEXT)??;
-    assert_eq!(rt; spaces.types.len(), 2);
+    equal(&rt, &"types", &spaces.types.len(), &2);
     for (sort, name, wanted) in INDICES {
-        assert_eq!(rt; index(&spaces, sort, name), wanted, "{sort:?} {name:?}");
+        equal(&rt, &(*sort, *name), &index(&spaces, *sort, *name), wanted);
     }
     Ok(())
 }
 
 // Texts, and how they are refused for a name that stands twice.
-const REPEATED: [(&str, Option<Unresolved>); 6] = [
+const REPEATED: &[(&str, Option<Unresolved>)] = &[
     (
         "(module (type $t (func)) (type $t (func)))",
         Some(Unresolved::RepeatedName(31)),
@@ -84,7 +85,7 @@ const REPEATED: [(&str, Option<Unresolved>); 6] = [
 #[test]
 fn a_name_stands_once_in_a_space(rt: HostRuntime) -> Result<(), Fail> {
     for (text, wanted) in REPEATED {
-        assert_eq!(rt; spaces_of(rt.alloc(), text)?.err(), wanted, "{text}");
+        equal(&rt, text, &spaces_of(rt.alloc(), *text)?.err(), wanted);
     }
     Ok(())
 }

@@ -1,3 +1,4 @@
+use crate::assertions::equal;
 use lexer::LexRefusal::{BadToken, Unclosed};
 use lexer::{LexRefusal, is_integer, tokens};
 use spec_text::TokenKind;
@@ -24,7 +25,7 @@ const CONTRACT: &str = r#"(module
   (call $put (local.get 1) (call $get (local.get 0)))))"#;
 
 /// Texts that are one token from end to end.
-const ONE_TOKEN: [(&str, TokenKind); 30] = [
+const ONE_TOKEN: &[(&str, TokenKind)] = &[
     ("(", TokenKind::Open),
     (")", TokenKind::Close),
     ("module", TokenKind::Keyword),
@@ -58,7 +59,7 @@ const ONE_TOKEN: [(&str, TokenKind); 30] = [
 ];
 
 /// Texts that have no tokens, with the refusal and its place.
-const BROKEN: [(&str, LexRefusal); 55] = [
+const BROKEN: &[(&str, LexRefusal)] = &[
     ("(; x", Unclosed(0)),
     ("(module (; x", Unclosed(8)),
     ("(module 7x)", BadToken(8)),
@@ -133,11 +134,12 @@ fn spans(a: Global, text: &str) -> Result<Vec<Span, Global>, LexRefusal> {
 #[test]
 fn each_kind_of_token(rt: HostRuntime) -> Result<(), Fail> {
     for (text, kind) in ONE_TOKEN {
-        let wanted = [(kind, 0, text.len())];
-        assert_eq!(rt;
-            spans(rt.alloc(), text)?.as_slice(),
-            wanted.as_slice(),
-            "in {text}"
+        let wanted = [(*kind, 0, text.len())];
+        equal(
+            &rt,
+            text,
+            &spans(rt.alloc(), *text)?.as_slice(),
+            &wanted.as_slice(),
         );
     }
     Ok(())
@@ -146,12 +148,12 @@ fn each_kind_of_token(rt: HostRuntime) -> Result<(), Fail> {
 #[test]
 fn broken_texts(rt: HostRuntime) {
     for (text, refusal) in BROKEN {
-        assert_eq!(rt; spans(rt.alloc(), text).err(), Some(refusal), "in {text}");
+        equal(&rt, text, &spans(rt.alloc(), *text).err(), &Some(*refusal));
     }
 }
 
 /// Texts that have no token.
-const NO_TOKEN: [&str; 11] = [
+const NO_TOKEN: &[&str] = &[
     "",
     " \t\r\n",
     ";;",
@@ -168,7 +170,7 @@ const NO_TOKEN: [&str; 11] = [
 #[test]
 fn texts_with_no_token(rt: HostRuntime) -> Result<(), Fail> {
     for text in NO_TOKEN {
-        assert_eq!(rt; spans(rt.alloc(), text)?.len(), 0, "in {text}");
+        equal(&rt, text, &spans(rt.alloc(), *text)?.len(), &0);
     }
     Ok(())
 }
@@ -185,7 +187,7 @@ const TOGETHER: [Span; 6] = [
 #[test]
 fn tokens_that_stand_together(rt: HostRuntime) -> Result<(), Fail> {
     let found = spans(rt.alloc(), "\"a\"\"b\"c$d;;e\n-1(;f;)(g")?;
-    assert_eq!(rt; found.as_slice(), TOGETHER.as_slice());
+    equal(&rt, &"tokens", &found.as_slice(), &TOGETHER.as_slice());
     Ok(())
 }
 
@@ -210,15 +212,15 @@ const FIRST_TOKENS: [Span; 14] = [
 #[test]
 fn tokens_of_a_contract(rt: HostRuntime) -> Result<(), Fail> {
     let found = spans(rt.alloc(), CONTRACT)?;
-    assert_eq!(rt; found.len(), 246);
-    for (token, wanted) in found.iter().zip(FIRST_TOKENS) {
-        assert_eq!(rt; *token, wanted);
+    equal(&rt, &"tokens", &found.len(), &246);
+    for (place, wanted) in FIRST_TOKENS.iter().enumerate() {
+        equal(&rt, &("token", place), &found.get(place), &Some(wanted));
     }
     Ok(())
 }
 
 /// Texts, and whether they are integers.
-const INTEGERS: [(&[u8], bool); 12] = [
+const INTEGERS: &[(&[u8], bool)] = &[
     (b"1_000", true),
     (b"0xdead_BEEF", true),
     (b"", false),
@@ -236,6 +238,6 @@ const INTEGERS: [(&[u8], bool); 12] = [
 #[test]
 fn integers(rt: HostRuntime) {
     for (text, wanted) in INTEGERS {
-        assert_eq!(rt; is_integer(text), wanted, "{text:?}");
+        equal(&rt, text, &is_integer(*text), wanted);
     }
 }

@@ -1,3 +1,4 @@
+use crate::assertions::equal;
 use crate::texts::tree_of;
 use std::alloc::{AllocError, Global};
 use std::test::Fail;
@@ -28,7 +29,7 @@ fn letters(a: Global, text: &str) -> Result<String<Global>, Fail> {
     Ok(found)
 }
 
-const TYPES: [(&str, &str); 3] = [
+const TYPES: &[(&str, &str)] = &[
     ("(module)", ""),
     (
         "(module (import \"m\" \"f\" (func (param i64))) (func (result i32) i32.const 0 call_indirect (param i32) (result i64)) (type (func (param i32))) (type $t (func (result i32))) (func (type $t)) (global i32 i32.const 0 call_indirect) (elem 0 (offset call_indirect (param i32 ) (param i32)) 0) (data 0 (offset call_indirect (param i64)) \"\"))",
@@ -43,7 +44,7 @@ const TYPES: [(&str, &str); 3] = [
 #[test]
 fn types_in_the_order_of_the_text(rt: HostRuntime) -> Result<(), Fail> {
     for (text, wanted) in TYPES {
-        assert_eq!(rt; letters(rt.alloc(), text)?.as_str(), wanted, "{text}");
+        equal(&rt, text, &letters(rt.alloc(), *text)?.as_str(), wanted);
     }
     Ok(())
 }

@@ -1,3 +1,4 @@
+use crate::assertions::equal;
 use crate::texts::words_of;
 use lexer::tokens;
 use spec_text::{KeyWord, Operator};
@@ -37,7 +38,7 @@ const WORDS: [Word; 10] = [
 #[test]
 fn each_kind_of_word(rt: HostRuntime) -> Result<(), Fail> {
     let found = words_of(rt.alloc(), TEXT)?;
-    assert_eq!(rt; found.as_slice(), WORDS.as_slice());
+    equal(&rt, &"words", &found.as_slice(), &WORDS.as_slice());
     Ok(())
 }
 
@@ -48,7 +49,7 @@ fn refusal(a: Global, text: &str) -> Result<Option<TextRefusal>, Fail> {
 }
 
 // Texts, and the places at which their tokens are no words.
-const NO_WORDS: [(&str, usize); 7] = [
+const NO_WORDS: &[(&str, usize)] = &[
     ("(module f32)", 8),
     ("(i32.load offset=)", 10),
     ("(i32.load offset=1_)", 10),
@@ -61,8 +62,8 @@ const NO_WORDS: [(&str, usize); 7] = [
 #[test]
 fn keywords_that_are_no_words(rt: HostRuntime) -> Result<(), Fail> {
     for (text, at) in NO_WORDS {
-        let wanted = Some(TextRefusal::Unexpected(at));
-        assert_eq!(rt; refusal(rt.alloc(), text)?, wanted, "{text}");
+        let wanted = Some(TextRefusal::Unexpected(*at));
+        equal(&rt, text, &refusal(rt.alloc(), *text)?, &wanted);
     }
     Ok(())
 }
@@ -87,12 +88,12 @@ const SIGNED: [Word; 4] = [
 #[test]
 fn memory_arguments_with_a_sign(rt: HostRuntime) -> Result<(), Fail> {
     let found = words_of(rt.alloc(), "offset=+1 offset=-0x1_0  align=-4 align=+4")?;
-    assert_eq!(rt; found.as_slice(), SIGNED.as_slice());
+    equal(&rt, &"words", &found.as_slice(), &SIGNED.as_slice());
     Ok(())
 }
 
 // Strings without their quotes, and what stands behind an `x` when they are put there.
-const STRINGS: [(&[u8], &[u8]); 2] = [
+const STRINGS: &[(&[u8], &[u8])] = &[
     (b"a\\t\\\"\\7f\\u{20ac}", b"xa\t\"\x7f\xe2\x82\xac"),
     (b"z", b"xz"),
 ];
@@ -106,16 +107,17 @@ fn put_behind(a: Global, front: &[u8], string: &[u8]) -> Result<Vec<u8, Global>,
 #[test]
 fn strings(rt: HostRuntime) -> Result<(), Fail> {
     for (string, wanted) in STRINGS {
-        assert_eq!(rt;
-            put_behind(rt.alloc(), b"x", string)?.as_slice(),
+        equal(
+            &rt,
+            string,
+            &put_behind(rt.alloc(), b"x", *string)?.as_slice(),
             wanted,
-            "{string:?}"
         );
     }
     Ok(())
 }
 
-const WITHOUT_SIGN: [(&[u8], Option<u32>); 8] = [
+const WITHOUT_SIGN: &[(&[u8], Option<u32>)] = &[
     (b"0", Some(0)),
     (b"4_294_967_295", Some(u32::MAX)),
     (b"4294967296", None),
@@ -129,11 +131,11 @@ const WITHOUT_SIGN: [(&[u8], Option<u32>); 8] = [
 #[test]
 fn numbers_without_a_sign(rt: HostRuntime) {
     for (text, wanted) in WITHOUT_SIGN {
-        assert_eq!(rt; unsigned_32(text), wanted, "{text:?}");
+        equal(&rt, text, &unsigned_32(*text), wanted);
     }
 }
 
-const OF_32_BITS: [(&[u8], Option<u32>); 7] = [
+const OF_32_BITS: &[(&[u8], Option<u32>)] = &[
     (b"+7", Some(7)),
     (b"-0", Some(0)),
     (b"-1", Some(u32::MAX)),
@@ -146,11 +148,11 @@ const OF_32_BITS: [(&[u8], Option<u32>); 7] = [
 #[test]
 fn numbers_of_32_bits(rt: HostRuntime) {
     for (text, wanted) in OF_32_BITS {
-        assert_eq!(rt; bits_32(text), wanted, "{text:?}");
+        equal(&rt, text, &bits_32(*text), wanted);
     }
 }
 
-const OF_64_BITS: [(&[u8], Option<u64>); 7] = [
+const OF_64_BITS: &[(&[u8], Option<u64>)] = &[
     (b"18446744073709551615", Some(u64::MAX)),
     (b"18446744073709551616", None),
     (b"0xffff_ffff_ffff_ffff", Some(u64::MAX)),
@@ -163,6 +165,6 @@ const OF_64_BITS: [(&[u8], Option<u64>); 7] = [
 #[test]
 fn numbers_of_64_bits(rt: HostRuntime) {
     for (text, wanted) in OF_64_BITS {
-        assert_eq!(rt; bits_64(text), wanted, "{text:?}");
+        equal(&rt, text, &bits_64(*text), wanted);
     }
 }

@@ -1,4 +1,5 @@
 // Modules written as text, and read again.
+use crate::assertions::{equal, holds};
 use crate::texts::repeated;
 use assembler::assemble;
 use encoder::encode;
@@ -78,7 +79,12 @@ const WHOLE: &str = "(module
 
 #[test]
 fn a_text_is_written_as_it_stands(rt: HostRuntime) -> Result<(), Fail> {
-    assert_eq!(rt; rewritten(rt.alloc(), WHOLE)??.as_str(), WHOLE);
+    equal(
+        &rt,
+        &"text",
+        &rewritten(rt.alloc(), WHOLE)??.as_str(),
+        &WHOLE,
+    );
     Ok(())
 }
 
@@ -190,7 +196,7 @@ fn stays(rt: &impl Abort, a: Global, text: &str) -> Result<(), Fail> {
     let mut spelled = Vec::new(a);
     encode(&tree, &mut spelled)?;
     let again = written_again(a, &tree)?;
-    assert_eq!(rt; again.as_slice(), spelled.as_slice(), "{text}");
+    equal(rt, &text, &again.as_slice(), &spelled.as_slice());
     Ok(())
 }
 
@@ -209,7 +215,7 @@ fn texts_name_their_modules(rt: HostRuntime) -> Result<(), Fail> {
 }
 
 // A function of type 1 of 1 types.
-const UNKNOWN_TYPE: [u8; 24] = [
+const UNKNOWN_TYPE: &[u8] = &[
     0x00, 0x61, 0x73, 0x6D, 0x01, 0x00, 0x00, 0x00, 0x01, 0x04, 0x01, 0x60, 0x00, 0x00, 0x03, 0x02,
     0x01, 0x01, 0x0A, 0x04, 0x01, 0x02, 0x00, 0x0B,
 ];
@@ -227,8 +233,16 @@ fn modules_without_a_text(rt: HostRuntime) -> Result<(), Fail> {
         ],
         200_000,
     )?;
-    assert!(rt; matches!(rewritten(a, long.as_str())?, Err(TextRefusal::TooLong)));
-    let unknown = load(a, &UNKNOWN_TYPE)?;
-    assert!(rt; matches!(text_of(a, &unknown), Err(TextRefusal::Unwritten)));
+    holds(
+        &rt,
+        &"long",
+        matches!(rewritten(a, long.as_str())?, Err(TextRefusal::TooLong)),
+    );
+    let unknown = load(a, UNKNOWN_TYPE)?;
+    holds(
+        &rt,
+        &"unknown",
+        matches!(text_of(a, &unknown), Err(TextRefusal::Unwritten)),
+    );
     Ok(())
 }
