@@ -1,4 +1,5 @@
 // Blocks written and read: of no calls, of a few, of as many as there may be, cut and changed.
+use crate::assertions::{equal, holds};
 use crate::locks::{Turn, are};
 use crate::records_of_calls::position;
 use block::{Block, BlockRefusal, WriteRefusal, read_block, write_block};
@@ -8,6 +9,7 @@ use spec_ledger::Kind::{Counter, Map};
 use spec_ledger::Mode::{Add, Excl, Read};
 use spec_ledger::{Outcome, Receipt, Version};
 use std::alloc::Global;
+use std::process::Abort;
 use wtypes::TrapCode;
 
 /// A position: the call, its receipt and its locks.
@@ -23,14 +25,14 @@ struct Row<'b> {
     bytes: &'b [u8],
 }
 
-const NO_CALLS: [u8; 116] = [
+const NO_CALLS: &[u8] = &[
     87, 66, 76, 75, 1, 0, 0, 0, 1, 1, 1, 1, 1, 1, 1, 1, 1, 1, 1, 1, 1, 1, 1, 1, 1, 1, 1, 1, 1, 1,
     1, 1, 1, 1, 1, 1, 1, 1, 1, 1, 2, 2, 2, 2, 2, 2, 2, 2, 2, 2, 2, 2, 2, 2, 2, 2, 2, 2, 2, 2, 2, 2,
     2, 2, 2, 2, 2, 2, 2, 2, 2, 2, 0, 0, 0, 0, 0, 0, 0, 0, 0, 0, 0, 0, 3, 3, 3, 3, 3, 3, 3, 3, 3, 3,
     3, 3, 3, 3, 3, 3, 3, 3, 3, 3, 3, 3, 3, 3, 3, 3, 3, 3, 3, 3, 3, 3,
 ];
 
-const TWO_BUMPS: [u8; 188] = [
+const TWO_BUMPS: &[u8] = &[
     87, 66, 76, 75, 1, 0, 0, 0, 1, 1, 1, 1, 1, 1, 1, 1, 1, 1, 1, 1, 1, 1, 1, 1, 1, 1, 1, 1, 1, 1,
     1, 1, 1, 1, 1, 1, 1, 1, 1, 1, 2, 2, 2, 2, 2, 2, 2, 2, 2, 2, 2, 2, 2, 2, 2, 2, 2, 2, 2, 2, 2, 2,
     2, 2, 2, 2, 2, 2, 2, 2, 2, 2, 2, 0, 0, 0, 0, 0, 0, 0, 3, 0, 0, 0, 0, 0, 0, 0, 0, 0, 1, 0, 0, 0,
@@ -40,7 +42,7 @@ const TWO_BUMPS: [u8; 188] = [
 ];
 
 /// A call that trapped and has a cell of a map to read and another to write.
-const TWO_LOCKS: [u8; 170] = [
+const TWO_LOCKS: &[u8] = &[
     87, 66, 76, 75, 1, 0, 0, 0, 1, 1, 1, 1, 1, 1, 1, 1, 1, 1, 1, 1, 1, 1, 1, 1, 1, 1, 1, 1, 1, 1,
     1, 1, 1, 1, 1, 1, 1, 1, 1, 1, 2, 2, 2, 2, 2, 2, 2, 2, 2, 2, 2, 2, 2, 2, 2, 2, 2, 2, 2, 2, 2, 2,
     2, 2, 2, 2, 2, 2, 2, 2, 2, 2, 1, 0, 0, 0, 1, 0, 0, 0, 4, 0, 0, 0, 0, 0, 0, 0, 1, 1, 2, 0, 0, 0,
@@ -50,7 +52,7 @@ const TWO_LOCKS: [u8; 170] = [
 ];
 
 /// The block of no calls in version 2.
-const NO_CALLS_TWO: [u8; 116] = [
+const NO_CALLS_TWO: &[u8] = &[
     87, 66, 76, 75, 2, 0, 0, 0, 1, 1, 1, 1, 1, 1, 1, 1, 1, 1, 1, 1, 1, 1, 1, 1, 1, 1, 1, 1, 1, 1,
     1, 1, 1, 1, 1, 1, 1, 1, 1, 1, 2, 2, 2, 2, 2, 2, 2, 2, 2, 2, 2, 2, 2, 2, 2, 2, 2, 2, 2, 2, 2, 2,
     2, 2, 2, 2, 2, 2, 2, 2, 2, 2, 0, 0, 0, 0, 0, 0, 0, 0, 0, 0, 0, 0, 3, 3, 3, 3, 3, 3, 3, 3, 3, 3,
@@ -58,7 +60,7 @@ const NO_CALLS_TWO: [u8; 116] = [
 ];
 
 /// The block of two bumps in version 2, which has the levels that each call entered behind its fuel.
-const TWO_BUMPS_TWO: [u8; 196] = [
+const TWO_BUMPS_TWO: &[u8] = &[
     87, 66, 76, 75, 2, 0, 0, 0, 1, 1, 1, 1, 1, 1, 1, 1, 1, 1, 1, 1, 1, 1, 1, 1, 1, 1, 1, 1, 1, 1,
     1, 1, 1, 1, 1, 1, 1, 1, 1, 1, 2, 2, 2, 2, 2, 2, 2, 2, 2, 2, 2, 2, 2, 2, 2, 2, 2, 2, 2, 2, 2, 2,
     2, 2, 2, 2, 2, 2, 2, 2, 2, 2, 2, 0, 0, 0, 0, 0, 0, 0, 3, 0, 0, 0, 0, 0, 0, 0, 0, 0, 0, 0, 0, 0,
@@ -69,7 +71,7 @@ const TWO_BUMPS_TWO: [u8; 196] = [
 ];
 
 /// The call that trapped, in version 2, where it entered 258 levels.
-const TWO_LOCKS_TWO: [u8; 174] = [
+const TWO_LOCKS_TWO: &[u8] = &[
     87, 66, 76, 75, 2, 0, 0, 0, 1, 1, 1, 1, 1, 1, 1, 1, 1, 1, 1, 1, 1, 1, 1, 1, 1, 1, 1, 1, 1, 1,
     1, 1, 1, 1, 1, 1, 1, 1, 1, 1, 2, 2, 2, 2, 2, 2, 2, 2, 2, 2, 2, 2, 2, 2, 2, 2, 2, 2, 2, 2, 2, 2,
     2, 2, 2, 2, 2, 2, 2, 2, 2, 2, 1, 0, 0, 0, 1, 0, 0, 0, 4, 0, 0, 0, 0, 0, 0, 0, 2, 1, 0, 0, 1, 1,
@@ -103,13 +105,13 @@ const OUT_OF_FUEL: Receipt = Receipt {
     asks: 0,
 };
 
-const ROWS: [Row; 6] = [
+const ROWS: &[Row] = &[
     Row {
         name: "a block of no calls has 116 bytes",
         version: Version::One,
         positions: &[],
         fuel: 0,
-        bytes: &NO_CALLS,
+        bytes: NO_CALLS,
     },
     Row {
         name: "a block of two bumps has 188 bytes in version 1",
@@ -119,21 +121,21 @@ const ROWS: [Row; 6] = [
             (1, ADDED, &[(Counter, 7, Add, 0)]),
         ],
         fuel: 6,
-        bytes: &TWO_BUMPS,
+        bytes: TWO_BUMPS,
     },
     Row {
         name: "locks rise within a position",
         version: Version::One,
         positions: &[(1, TRAPPED, &[(Map, 1, Read, 0), (Map, 2, Excl, 1)])],
         fuel: 4,
-        bytes: &TWO_LOCKS,
+        bytes: TWO_LOCKS,
     },
     Row {
         name: "a block of no calls has 116 bytes in version 2",
         version: Version::Two,
         positions: &[],
         fuel: 0,
-        bytes: &NO_CALLS_TWO,
+        bytes: NO_CALLS_TWO,
     },
     Row {
         name: "a block of two bumps has 196 bytes in version 2",
@@ -143,7 +145,7 @@ const ROWS: [Row; 6] = [
             (1, ADDED, &[(Counter, 7, Add, 0)]),
         ],
         fuel: 6,
-        bytes: &TWO_BUMPS_TWO,
+        bytes: TWO_BUMPS_TWO,
     },
     Row {
         name: "version 2 tells of levels",
@@ -154,7 +156,7 @@ const ROWS: [Row; 6] = [
             &[(Map, 1, Read, 0), (Map, 2, Excl, 1)],
         )],
         fuel: 4,
-        bytes: &TWO_LOCKS_TWO,
+        bytes: TWO_LOCKS_TWO,
     },
 ];
 
@@ -234,14 +236,14 @@ fn refused_fronts(alloc: Global, bytes: &[u8]) -> usize {
 
 #[test]
 fn blocks_are_written_and_read(rt: HostRuntime) {
-    for row in &ROWS {
-        assert!(rt; is_written(rt.alloc(), row), "{}", row.name);
-        assert!(rt; is_read(rt.alloc(), row), "{}", row.name);
-        assert_eq!(rt;
-            refused_fronts(rt.alloc(), row.bytes),
-            row.bytes.len(),
-            "{}",
-            row.name
+    for row in ROWS {
+        holds(&rt, &("written", row.name), is_written(rt.alloc(), row));
+        holds(&rt, &("read", row.name), is_read(rt.alloc(), row));
+        equal(
+            &rt,
+            &row.name,
+            &refused_fronts(rt.alloc(), row.bytes),
+            &row.bytes.len(),
         );
     }
 }
@@ -255,15 +257,22 @@ fn versions_of(alloc: Global, receipt: Receipt) -> Option<(bool, bool)> {
 
 #[test]
 fn version_1_tells_of_no_level(rt: HostRuntime) {
-    assert_eq!(rt; versions_of(rt.alloc(), TRAPPED), Some((true, true)));
-    assert_eq!(rt;
-        versions_of(rt.alloc(), TRAPPED_IN_LEVELS),
-        Some((false, true))
+    equal(
+        &rt,
+        &"no level",
+        &versions_of(rt.alloc(), TRAPPED),
+        &Some((true, true)),
+    );
+    equal(
+        &rt,
+        &"258 levels",
+        &versions_of(rt.alloc(), TRAPPED_IN_LEVELS),
+        &Some((false, true)),
     );
 }
 
 /// Where the fields of a block of no calls begin and end.
-const FIELDS: [(usize, usize); 7] = [
+const FIELDS: &[(usize, usize)] = &[
     (0, 4),
     (4, 8),
     (8, 40),
@@ -281,12 +290,9 @@ fn refusal_of_front(alloc: Global, size: usize) -> Option<BlockRefusal> {
 #[test]
 fn a_front_is_refused_at_the_field_that_it_cuts(rt: HostRuntime) {
     for (begins, ends) in FIELDS {
-        for size in begins..ends {
-            assert_eq!(rt;
-                refusal_of_front(rt.alloc(), size),
-                Some(BlockRefusal::Malformed(begins)),
-                "{size}"
-            );
+        for size in *begins..*ends {
+            let wanted = Some(BlockRefusal::Malformed(*begins));
+            equal(&rt, &size, &refusal_of_front(rt.alloc(), size), &wanted);
         }
     }
 }
@@ -294,32 +300,32 @@ fn a_front_is_refused_at_the_field_that_it_cuts(rt: HostRuntime) {
 /// A byte of a block that is replaced, and the answer.
 type Fault<'b> = (&'b [u8], usize, u8, BlockRefusal);
 
-const THE_FIRST_FAULT_IS_ANSWERED_AT_ITS_FIRST_BYTE: [Fault; 19] = [
-    (&TWO_BUMPS, 3, 0x4c, BlockRefusal::Malformed(0)),
-    (&TWO_BUMPS, 7, 1, BlockRefusal::Malformed(4)),
-    (&TWO_BUMPS, 4, 0, BlockRefusal::Malformed(4)),
-    (&TWO_BUMPS, 4, 3, BlockRefusal::Malformed(4)),
-    (&TWO_BUMPS, 72, 7, BlockRefusal::Malformed(72)),
-    (&TWO_BUMPS, 74, 1, BlockRefusal::TooLarge),
-    (&TWO_BUMPS, 88, 4, BlockRefusal::Malformed(88)),
-    (&TWO_BUMPS, 89, 2, BlockRefusal::Malformed(89)),
-    (&TWO_BUMPS, 90, 9, BlockRefusal::Malformed(90)),
-    (&TWO_BUMPS, 98, 2, BlockRefusal::Malformed(98)),
-    (&TWO_BUMPS, 107, 3, BlockRefusal::Malformed(107)),
-    (&TWO_BUMPS, 124, 9, BlockRefusal::Malformed(124)),
-    (&TWO_BUMPS_TWO, 4, 0, BlockRefusal::Malformed(4)),
-    (&TWO_BUMPS_TWO, 4, 3, BlockRefusal::Malformed(4)),
-    (&TWO_BUMPS_TWO, 72, 6, BlockRefusal::Malformed(72)),
-    (&TWO_BUMPS_TWO, 92, 4, BlockRefusal::Malformed(92)),
-    (&TWO_BUMPS_TWO, 93, 2, BlockRefusal::Malformed(93)),
-    (&TWO_BUMPS_TWO, 94, 9, BlockRefusal::Malformed(94)),
-    (&TWO_BUMPS_TWO, 132, 9, BlockRefusal::Malformed(132)),
+const THE_FIRST_FAULT_IS_ANSWERED_AT_ITS_FIRST_BYTE: &[Fault] = &[
+    (TWO_BUMPS, 3, 0x4c, BlockRefusal::Malformed(0)),
+    (TWO_BUMPS, 7, 1, BlockRefusal::Malformed(4)),
+    (TWO_BUMPS, 4, 0, BlockRefusal::Malformed(4)),
+    (TWO_BUMPS, 4, 3, BlockRefusal::Malformed(4)),
+    (TWO_BUMPS, 72, 7, BlockRefusal::Malformed(72)),
+    (TWO_BUMPS, 74, 1, BlockRefusal::TooLarge),
+    (TWO_BUMPS, 88, 4, BlockRefusal::Malformed(88)),
+    (TWO_BUMPS, 89, 2, BlockRefusal::Malformed(89)),
+    (TWO_BUMPS, 90, 9, BlockRefusal::Malformed(90)),
+    (TWO_BUMPS, 98, 2, BlockRefusal::Malformed(98)),
+    (TWO_BUMPS, 107, 3, BlockRefusal::Malformed(107)),
+    (TWO_BUMPS, 124, 9, BlockRefusal::Malformed(124)),
+    (TWO_BUMPS_TWO, 4, 0, BlockRefusal::Malformed(4)),
+    (TWO_BUMPS_TWO, 4, 3, BlockRefusal::Malformed(4)),
+    (TWO_BUMPS_TWO, 72, 6, BlockRefusal::Malformed(72)),
+    (TWO_BUMPS_TWO, 92, 4, BlockRefusal::Malformed(92)),
+    (TWO_BUMPS_TWO, 93, 2, BlockRefusal::Malformed(93)),
+    (TWO_BUMPS_TWO, 94, 9, BlockRefusal::Malformed(94)),
+    (TWO_BUMPS_TWO, 132, 9, BlockRefusal::Malformed(132)),
 ];
 
 /// The second key made equal to the first, and then less.
-const LOCKS_RISE_WITHIN_A_POSITION: [Fault; 2] = [
-    (&TWO_LOCKS, 117, 1, BlockRefusal::Malformed(112)),
-    (&TWO_LOCKS, 117, 0, BlockRefusal::Malformed(112)),
+const LOCKS_RISE_WITHIN_A_POSITION: &[Fault] = &[
+    (TWO_LOCKS, 117, 1, BlockRefusal::Malformed(112)),
+    (TWO_LOCKS, 117, 0, BlockRefusal::Malformed(112)),
 ];
 
 /// The bytes with some replaced, and others behind them.
@@ -342,36 +348,37 @@ fn refusal(
     read_block(alloc, &changed(alloc, bytes, changes, behind)?).err()
 }
 
+/// The fault is answered so, also where a later one stands behind it.
+fn is_first(rt: &impl Abort, alloc: Global, fault: &Fault) {
+    let (bytes, at, byte, answer) = *fault;
+    let change = (at, byte);
+    let wanted = Some(answer);
+    let alone = refusal(alloc, bytes, &[change], &[]);
+    equal(rt, &change, &alone, &wanted);
+    let with_another = refusal(alloc, bytes, &[change, (187, 9)], &[0]);
+    equal(rt, &("two faults", change), &with_another, &wanted);
+}
+
 #[test]
 fn the_first_fault_is_answered_at_its_first_byte(rt: HostRuntime) {
     let alloc = rt.alloc();
-    for (bytes, at, byte, answer) in THE_FIRST_FAULT_IS_ANSWERED_AT_ITS_FIRST_BYTE {
-        let change = (at, byte);
-        assert_eq!(rt; refusal(alloc, bytes, &[change], &[]), Some(answer), "{at}");
-        // A later fault changes nothing.
-        assert_eq!(rt;
-            refusal(alloc, bytes, &[change, (187, 9)], &[0]),
-            Some(answer),
-            "{at}"
-        );
+    for fault in THE_FIRST_FAULT_IS_ANSWERED_AT_ITS_FIRST_BYTE {
+        is_first(&rt, alloc, fault);
     }
-    assert_eq!(rt;
-        refusal(alloc, &TWO_BUMPS, &[], &[0]),
-        Some(BlockRefusal::Malformed(188))
-    );
-    assert_eq!(rt;
-        refusal(alloc, &TWO_BUMPS_TWO, &[], &[0]),
-        Some(BlockRefusal::Malformed(196))
-    );
+    for (bytes, behind) in [(TWO_BUMPS, 188), (TWO_BUMPS_TWO, 196)] {
+        let wanted = Some(BlockRefusal::Malformed(behind));
+        equal(&rt, &behind, &refusal(alloc, bytes, &[], &[0]), &wanted);
+    }
 }
 
 #[test]
 fn locks_rise_within_a_position(rt: HostRuntime) {
     for (bytes, at, byte, answer) in LOCKS_RISE_WITHIN_A_POSITION {
-        assert_eq!(rt;
-            refusal(rt.alloc(), bytes, &[(at, byte)], &[]),
-            Some(answer),
-            "{byte}"
+        equal(
+            &rt,
+            &(*at, *byte),
+            &refusal(rt.alloc(), *bytes, &[(*at, *byte)], &[]),
+            &Some(*answer),
         );
     }
 }
@@ -420,8 +427,18 @@ const READ_FLIPS_TWO: u32 = READ_FLIPS + 4 * 2 * 4;
 
 #[test]
 fn a_changed_byte_is_refused_or_reads_as_what_it_spells(rt: HostRuntime) {
-    assert_eq!(rt; all_taken(rt.alloc(), &TWO_BUMPS), Some(READ_FLIPS));
-    assert_eq!(rt; all_taken(rt.alloc(), &TWO_BUMPS_TWO), Some(READ_FLIPS_TWO));
+    equal(
+        &rt,
+        &"version 1",
+        &all_taken(rt.alloc(), TWO_BUMPS),
+        &Some(READ_FLIPS),
+    );
+    equal(
+        &rt,
+        &"version 2",
+        &all_taken(rt.alloc(), TWO_BUMPS_TWO),
+        &Some(READ_FLIPS_TWO),
+    );
 }
 
 /// A block of so many positions of calls out of fuel.
@@ -443,28 +460,35 @@ fn sizes(alloc: Global, version: Version, size: u32) -> Option<(usize, usize, u3
     Some((bytes.len(), read.positions().len(), last))
 }
 
+/// What is answered to a block of so many positions, of which no byte is there.
+fn refusal_of_count(alloc: Global, count: &[u8]) -> Option<BlockRefusal> {
+    refusal(alloc, NO_CALLS.get(..72)?, &[], count)
+}
+
 #[test]
 fn positions_are_limited_to_65535(rt: HostRuntime) {
     let alloc = rt.alloc();
-    assert_eq!(rt;
-        sizes(alloc, Version::One, 65_535),
-        Some((116 + 17 * 65_535, 65_535, 65_534))
-    );
-    assert_eq!(rt;
-        sizes(alloc, Version::Two, 65_535),
-        Some((116 + 21 * 65_535, 65_535, 65_534))
-    );
-    assert!(rt; block_of(alloc, Version::One, 65_536).is_none());
-    assert!(rt; block_of(alloc, Version::Two, 65_536).is_none());
+    for (version, bytes) in [
+        (Version::One, 116 + 17 * 65_535),
+        (Version::Two, 116 + 21 * 65_535),
+    ] {
+        let wanted = Some((bytes, 65_535, 65_534));
+        equal(&rt, &bytes, &sizes(alloc, version, 65_535), &wanted);
+        let more = block_of(alloc, version, 65_536);
+        holds(&rt, &("one more", bytes), more.is_none());
+    }
     // One more is too large, also where its bytes are not there.
-    let head = &NO_CALLS[..72];
-    assert_eq!(rt;
-        refusal(alloc, head, &[], &[0, 0, 1, 0]),
-        Some(BlockRefusal::TooLarge)
+    equal(
+        &rt,
+        &"65,536",
+        &refusal_of_count(alloc, &[0, 0, 1, 0]),
+        &Some(BlockRefusal::TooLarge),
     );
-    assert_eq!(rt;
-        refusal(alloc, head, &[], &[255, 255, 0, 0]),
-        Some(BlockRefusal::Malformed(72))
+    equal(
+        &rt,
+        &"65,535",
+        &refusal_of_count(alloc, &[255, 255, 0, 0]),
+        &Some(BlockRefusal::Malformed(72)),
     );
 }
 
@@ -479,13 +503,13 @@ fn keeps_a_beginning(alloc: Global, block: &Block, failing: u64) -> bool {
         put == Err(WriteRefusal::Write)
             && Some(sink.bytes()) == TWO_BUMPS.get(..16 * failing as usize)
     } else {
-        put == Ok(()) && sink.bytes() == TWO_BUMPS.as_slice()
+        put == Ok(()) && sink.bytes() == TWO_BUMPS
     }
 }
 
 /// The first number of pieces after which a sink has not kept a beginning of the block.
 fn lost_after(alloc: Global) -> Option<u64> {
-    let block = read_block(alloc, &TWO_BUMPS).ok()?;
+    let block = read_block(alloc, TWO_BUMPS).ok()?;
     for failing in 0..13 {
         if !keeps_a_beginning(alloc, &block, failing) {
             return Some(failing);
@@ -496,11 +520,11 @@ fn lost_after(alloc: Global) -> Option<u64> {
 
 #[test]
 fn a_sink_that_fails_has_taken_a_beginning(rt: HostRuntime) {
-    assert_eq!(rt; lost_after(rt.alloc()), Some(13));
+    equal(&rt, &"pieces", &lost_after(rt.alloc()), &Some(13));
 }
 
 /// Digests of 0 and the record of call 0 twice.
-const SMALL: [u8; 188] = [
+const SMALL: &[u8] = &[
     87, 66, 76, 75, 1, 0, 0, 0, 0, 0, 0, 0, 0, 0, 0, 0, 0, 0, 0, 0, 0, 0, 0, 0, 0, 0, 0, 0, 0, 0,
     0, 0, 0, 0, 0, 0, 0, 0, 0, 0, 0, 0, 0, 0, 0, 0, 0, 0, 0, 0, 0, 0, 0, 0, 0, 0, 0, 0, 0, 0, 0, 0,
     0, 0, 0, 0, 0, 0, 0, 0, 0, 0, 2, 0, 0, 0, 0, 0, 0, 0, 3, 0, 0, 0, 0, 0, 0, 0, 0, 0, 1, 0, 0, 0,
@@ -511,11 +535,11 @@ const SMALL: [u8; 188] = [
 
 /// The block is read and written, or one of the two wants memory and has put nothing.
 fn wants_memory_alone(alloc: Global) -> bool {
-    match read_block(alloc, &SMALL) {
+    match read_block(alloc, SMALL) {
         Ok(read) => {
             let mut sink = MemorySink::new(alloc, 188, Failures::none());
             match write_block(alloc, &read, &mut sink) {
-                Ok(()) => sink.bytes() == SMALL.as_slice(),
+                Ok(()) => sink.bytes() == SMALL,
                 Err(_) => sink.bytes().is_empty(),
             }
         }
@@ -526,5 +550,5 @@ fn wants_memory_alone(alloc: Global) -> bool {
 /// It passes whichever allocation fails.
 #[test]
 fn want_of_memory_is_the_only_other_answer(rt: HostRuntime) {
-    assert!(rt; wants_memory_alone(rt.alloc()));
+    holds(&rt, &"memory alone", wants_memory_alone(rt.alloc()));
 }

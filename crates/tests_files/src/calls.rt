@@ -1,6 +1,7 @@
 // Lists of calls, written and hashed.
 ghost use Rattle.std.specs.Prelude.{IfSome, length, ◌<◌};
 
+use crate::assertions::holds;
 use block::{WriteRefusal, digest_calls, write_calls};
 use call::Call;
 use codec::{Failures, MemorySink};
@@ -18,7 +19,7 @@ struct Row<'b> {
     digest: &'b str,
 }
 
-const ROWS: [Row; 2] = [
+const ROWS: &[Row] = &[
     Row {
         name: "no calls",
         calls: &[],
@@ -27,13 +28,13 @@ const ROWS: [Row; 2] = [
     },
     Row {
         name: "two calls",
-        calls: &TWO_CALLS,
+        calls: TWO_CALLS,
         bytes: "5742434c0100000002000000000000000400000062756d70020000007e07000000000000007efbffffffffffffff6400000000000000010000000100000066010000007fffffffffffffffffffffffff",
         digest: "fedc2adb468286bd0b3ffe6cf31467dff93eda798b74c83cad321291f1b08192",
     },
 ];
 
-const TWO_CALLS: [Asked; 2] = [
+const TWO_CALLS: &[Asked] = &[
     (0, "bump", &[Value::I64(7), Value::I64(-5)], 100),
     (1, "f", &[Value::I32(-1)], u64::MAX),
 ];
@@ -53,7 +54,10 @@ fn calls(alloc: Global, asked: &[Asked]) -> Option<Vec<Call>>
 
 /// The text is the hexadecimal digits of the bytes.
 fn is_hex(alloc: Global, bytes: &[u8], text: &str) -> bool {
-    hex::encode(alloc, bytes).is_ok_and(|digits| digits.as_str() == text)
+    match hex::encode(alloc, bytes) {
+        Ok(digits) => digits.as_str() == text,
+        Err(_) => false,
+    }
 }
 
 /// A sink that takes pieces of 7 bytes and fails after so many: how it ends, and what it has taken.
@@ -88,15 +92,15 @@ fn is_hashed(alloc: Global, row: &Row) -> bool {
 
 #[test]
 fn calls_are_written_and_hashed(rt: HostRuntime) {
-    for row in &ROWS {
-        assert!(rt; is_written(rt.alloc(), row), "{}", row.name);
-        assert!(rt; is_hashed(rt.alloc(), row), "{}", row.name);
+    for row in ROWS {
+        holds(&rt, &("written", row.name), is_written(rt.alloc(), row));
+        holds(&rt, &("hashed", row.name), is_hashed(rt.alloc(), row));
     }
 }
 
 /// The calls are cut short after two pieces.
 fn is_cut(alloc: Global) -> bool {
-    match put(alloc, &TWO_CALLS, Failures::after(2)) {
+    match put(alloc, TWO_CALLS, Failures::after(2)) {
         Some((put, bytes)) => put == Err(WriteRefusal::Write) && bytes.len() == 14,
         None => false,
     }
@@ -104,5 +108,5 @@ fn is_cut(alloc: Global) -> bool {
 
 #[test]
 fn a_sink_that_fails_cuts_the_calls(rt: HostRuntime) {
-    assert!(rt; is_cut(rt.alloc()));
+    holds(&rt, &"after two pieces", is_cut(rt.alloc()));
 }

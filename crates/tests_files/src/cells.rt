@@ -1,4 +1,5 @@
 // Two lists of cells, read.
+use crate::assertions::holds;
 use crate::locks::lock;
 use records::Fault;
 use spec_ledger::Kind::{self, Counter, Map};
@@ -22,7 +23,7 @@ struct Row<'b> {
     answer: Result<&'b [Value], Fault>,
 }
 
-const ROWS: [Row; 3] = [
+const ROWS: &[Row] = &[
     Row {
         name: "cells of both kinds",
         changes: &[],
@@ -80,7 +81,7 @@ fn is_answered(alloc: Global, row: &Row) -> bool {
 
 #[test]
 fn cells_are_read(rt: HostRuntime) {
-    for row in &ROWS {
-        assert!(rt; is_answered(rt.alloc(), row), "{}", row.name);
+    for row in ROWS {
+        holds(&rt, &row.name, is_answered(rt.alloc(), row));
     }
 }

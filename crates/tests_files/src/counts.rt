@@ -1,5 +1,6 @@
 // Counts and lengths at the edge of their range, of which the bytes are not there: each is refused in a heap of a few kilobytes, so no
 // memory is taken for what is counted before its bytes are there.
+use crate::assertions::equal;
 use block::{BlockRefusal, read_block};
 use linked_list_allocator::LocalHeap;
 use loader::{LoadRefusal, load};
@@ -15,7 +16,7 @@ const HEAP: usize = 4_096;
 type ModuleRow = (&'static str, &'static [u8], LoadRefusal);
 
 /// Each count and length of a module is 2^32 - 1, at the end of its section.
-const MODULES: [ModuleRow; 20] = [
+const MODULES: &[ModuleRow] = &[
     (
         "the bytes of a section",
         &[0x01, 0xFF, 0xFF, 0xFF, 0xFF, 0x0F],
@@ -143,7 +144,12 @@ fn module_refusal(alloc: Global, bytes: &[u8]) -> Result<Option<LoadRefusal>, Fa
 #[test]
 fn counts_of_modules(rt: HostRuntime) -> Result<(), Fail> {
     for (name, bytes, wanted) in MODULES {
-        assert_eq!(rt; module_refusal(rt.alloc(), bytes)?, Some(wanted), "{name}");
+        equal(
+            &rt,
+            name,
+            &module_refusal(rt.alloc(), *bytes)?,
+            &Some(*wanted),
+        );
     }
     Ok(())
 }
@@ -151,7 +157,7 @@ fn counts_of_modules(rt: HostRuntime) -> Result<(), Fail> {
 /// The bytes after a world's version, and the refusal.
 type WorldRow = (&'static str, &'static [u8], ReadRefusal);
 
-const WORLDS: [WorldRow; 8] = [
+const WORLDS: &[WorldRow] = &[
     (
         "2^32 - 1 contracts",
         &[255, 255, 255, 255],
@@ -205,7 +211,12 @@ fn world_refusal(alloc: Global, bytes: &[u8]) -> Result<Option<ReadRefusal>, Fai
 #[test]
 fn counts_of_worlds(rt: HostRuntime) -> Result<(), Fail> {
     for (name, bytes, wanted) in WORLDS {
-        assert_eq!(rt; world_refusal(rt.alloc(), bytes)?, Some(wanted), "{name}");
+        equal(
+            &rt,
+            name,
+            &world_refusal(rt.alloc(), *bytes)?,
+            &Some(*wanted),
+        );
     }
     Ok(())
 }
@@ -213,7 +224,7 @@ fn counts_of_worlds(rt: HostRuntime) -> Result<(), Fail> {
 /// The bytes after a block's digests, and the refusal.
 type BlockRow = (&'static str, &'static [u8], BlockRefusal);
 
-const BLOCKS: [BlockRow; 6] = [
+const BLOCKS: &[BlockRow] = &[
     (
         "2^32 - 1 positions",
         &[255, 255, 255, 255],
@@ -262,7 +273,12 @@ fn block_refusal(alloc: Global, bytes: &[u8]) -> Result<Option<BlockRefusal>, Fa
 #[test]
 fn counts_of_blocks(rt: HostRuntime) -> Result<(), Fail> {
     for (name, bytes, wanted) in BLOCKS {
-        assert_eq!(rt; block_refusal(rt.alloc(), bytes)?, Some(wanted), "{name}");
+        equal(
+            &rt,
+            name,
+            &block_refusal(rt.alloc(), *bytes)?,
+            &Some(*wanted),
+        );
     }
     Ok(())
 }

@@ -1,4 +1,5 @@
 // Graphs of orders, and orders played to their end.
+use crate::assertions::{equal, holds};
 use crate::locks::{Taken, touched_by};
 use lock_profile::turns;
 use ration::Ration;
@@ -15,7 +16,7 @@ struct Row<'b> {
     waves: &'b [u32],
 }
 
-const ROWS: [Row; 9] = [
+const ROWS: &[Row] = &[
     Row {
         name: "no positions have no edges",
         order: &[],
@@ -103,10 +104,10 @@ const ROWS: [Row; 9] = [
 ];
 
 /// A position that reads a counter.
-const READS: [Taken; 1] = [(Counter, 7, Read)];
+const READS: &[Taken] = &[(Counter, 7, Read)];
 
 /// A position that adds to it.
-const ADDS: [Taken; 1] = [(Counter, 7, Add)];
+const ADDS: &[Taken] = &[(Counter, 7, Add)];
 
 /// How many positions of a crowd read the counter, and how many add to it.
 const HALF: usize = 32_767;
@@ -115,10 +116,10 @@ const HALF: usize = 32_767;
 fn crowd<'b>(alloc: Global) -> Option<Vec<&'b [Taken]>> {
     let mut order: Vec<&[Taken]> = Vec::new(alloc);
     for _ in 0..HALF {
-        order.push(&READS).ok()?;
+        order.push(READS).ok()?;
     }
     for _ in 0..HALF {
-        order.push(&ADDS).ok()?;
+        order.push(ADDS).ok()?;
     }
     Some(order)
 }
@@ -132,17 +133,28 @@ fn waves(alloc: Global, order: &[&[Taken]]) -> Option<Vec<u32>> {
 
 /// The readers of a crowd are one wave, and the others the next.
 fn are_two_waves(waves: &[u32]) -> bool {
+    for (position, wave) in waves.iter().enumerate() {
+        if *wave != u32::from(position >= HALF) {
+            return false;
+        }
+    }
     waves.len() == 2 * HALF
-        && waves
-            .iter()
-            .enumerate()
-            .all(|(position, wave)| *wave == u32::from(position >= HALF))
+}
+
+/// Whether a crowd has two waves, its readers and the others.
+fn crowd_is_two_waves(alloc: Global) -> Option<bool> {
+    let waves = waves(alloc, &crowd(alloc)?)?;
+    Some(are_two_waves(&waves))
 }
 
 #[test]
 fn two_groups_are_two_waves(rt: HostRuntime) {
-    let waves = crowd(rt.alloc()).and_then(|order| waves(rt.alloc(), &order));
-    assert!(rt; waves.is_some_and(|waves| are_two_waves(&waves)));
+    equal(
+        &rt,
+        &"a crowd",
+        &crowd_is_two_waves(rt.alloc()),
+        &Some(true),
+    );
 }
 
 /// The graph of an order.
@@ -178,8 +190,8 @@ fn is_graph(alloc: Global, row: &Row) -> bool {
 
 #[test]
 fn graphs_of_orders(rt: HostRuntime) {
-    for row in &ROWS {
-        assert!(rt; is_graph(rt.alloc(), row), "{}", row.name);
+    for row in ROWS {
+        holds(&rt, &row.name, is_graph(rt.alloc(), row));
     }
 }
 
@@ -191,7 +203,7 @@ struct Game<'b> {
     ends: &'b [(u32, Result<&'b [u32], EndRefusal>)],
 }
 
-const GAMES: [Game; 3] = [
+const GAMES: &[Game] = &[
     Game {
         name: "a position is ready when its predecessor has ended",
         order: &[
@@ -222,7 +234,7 @@ const GAMES: [Game; 3] = [
     },
     Game {
         name: "the last of a group frees all of the next",
-        order: &[&READS, &READS, &READS, &ADDS, &ADDS, &ADDS, &READS],
+        order: &[READS, READS, READS, ADDS, ADDS, ADDS, READS],
         ready: &[0, 1, 2],
         ends: &[
             (2, Ok(&[])),
@@ -271,8 +283,8 @@ fn is_played(alloc: Global, game: &Game) -> bool {
 
 #[test]
 fn orders_played_to_their_end(rt: HostRuntime) {
-    for game in &GAMES {
-        assert!(rt; is_played(rt.alloc(), game), "{}", game.name);
+    for game in GAMES {
+        holds(&rt, &game.name, is_played(rt.alloc(), game));
     }
 }
 
@@ -296,7 +308,7 @@ fn crowd_is_played(alloc: Global) -> Option<bool> {
 
 #[test]
 fn two_groups_played_to_their_end(rt: HostRuntime) {
-    assert!(rt; crowd_is_played(rt.alloc()) == Some(true));
+    equal(&rt, &"a crowd", &crowd_is_played(rt.alloc()), &Some(true));
 }
 
 /// What is answered is what the game says, or memory is refused: then it is refused again, since the board is unchanged. None where
@@ -328,17 +340,23 @@ fn is_played_in<A: Allocator + Copy>(alloc: A, game: &Game) -> Option<bool> {
     Some(true)
 }
 
+/// The same with so many blocks of memory.
+fn played_in_blocks(alloc: Global, game: &Game, blocks: u64) -> Option<bool> {
+    let ration = Ration::new(alloc, blocks);
+    is_played_in(&ration, game)
+}
+
 /// No game of this file takes more blocks of memory.
 const BLOCKS: u64 = 400;
 
 #[test]
 fn memory_refused_at_each_block(rt: HostRuntime) {
-    for game in &GAMES {
+    for game in GAMES {
         for blocks in 0..BLOCKS {
-            let ration = Ration::new(rt.alloc(), blocks);
-            assert!(rt; is_played_in(&ration, game) != Some(false), "{}", game.name);
+            let played = played_in_blocks(rt.alloc(), game, blocks);
+            holds(&rt, &(game.name, blocks), played != Some(false));
         }
-        let ration = Ration::new(rt.alloc(), BLOCKS);
-        assert!(rt; is_played_in(&ration, game) == Some(true), "{}", game.name);
+        let played = played_in_blocks(rt.alloc(), game, BLOCKS);
+        equal(&rt, &game.name, &played, &Some(true));
     }
 }

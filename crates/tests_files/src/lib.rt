@@ -3,6 +3,8 @@
 #![tactic(auto)]
 
 #[cfg(test)]
+mod assertions;
+#[cfg(test)]
 mod blocks;
 #[cfg(test)]
 mod calls;
@@ -22,4 +24,5 @@ mod numbers;
 mod profiles;
 #[cfg(test)]
 mod records_of_calls;
+#[cfg(test)]
 mod refusals;

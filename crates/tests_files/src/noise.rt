@@ -2,6 +2,7 @@
 // each reader answers, and where it names a place, the bytes have it.
 ghost use Rattle.std.specs.Prelude.{◌<◌};
 
+use crate::assertions::equal;
 use block::{BlockRefusal, read_block};
 use lexer::{LexRefusal, tokens};
 use loader::{LoadRefusal, load};
@@ -117,12 +118,17 @@ fn fault(
 
 #[test]
 fn two_thousand_small_files(rt: HostRuntime) -> Result<(), AllocError> {
-    assert_eq!(rt; fault(rt.alloc(), 500, 0, 293)?, None);
+    equal(&rt, &"small files", &fault(rt.alloc(), 500, 0, 293)?, &None);
     Ok(())
 }
 
 #[test]
 fn a_million_bytes(rt: HostRuntime) -> Result<(), AllocError> {
-    assert_eq!(rt; fault(rt.alloc(), 1, 1_000_000, 1)?, None);
+    equal(
+        &rt,
+        &"a large file",
+        &fault(rt.alloc(), 1, 1_000_000, 1)?,
+        &None,
+    );
     Ok(())
 }

@@ -1,4 +1,5 @@
 // Numbers of fields, read and written.
+use crate::assertions::equal;
 use records::{Fault, append_u32, append_u64, read_byte, read_front, read_tag, read_u32, read_u64};
 use std::alloc::Global;
 
@@ -51,7 +52,7 @@ fn read(field: Field, bytes: &[u8]) -> Answer<'_> {
 /// A field, the bytes that it is read from, and the answer.
 type Row<'b> = (Field, &'b [u8], Answer<'b>);
 
-const NUMBERS_HAVE_THEIR_LOW_BYTE_FIRST: [Row; 4] = [
+const NUMBERS_HAVE_THEIR_LOW_BYTE_FIRST: &[Row] = &[
     (
         Field::U32,
         &[1, 2, 3, 4, 5, 6, 7, 8, 9],
@@ -74,14 +75,14 @@ const NUMBERS_HAVE_THEIR_LOW_BYTE_FIRST: [Row; 4] = [
     ),
 ];
 
-const A_FIELD_PAST_THE_END_IS_AT_FAULT_WHERE_IT_BEGINS: [Row; 4] = [
+const A_FIELD_PAST_THE_END_IS_AT_FAULT_WHERE_IT_BEGINS: &[Row] = &[
     (Field::Byte, &[], Err(Fault::Malformed(0))),
     (Field::U32, &[1, 2, 3], Err(Fault::Malformed(3))),
     (Field::U64, &[1, 2, 3, 4, 5, 6, 7], Err(Fault::Malformed(7))),
     (Field::Front(3), &[1, 2], Err(Fault::Malformed(2))),
 ];
 
-const A_TAG_IS_THE_NUMBER_THAT_IT_HAS_TO_BE: [Row; 3] = [
+const A_TAG_IS_THE_NUMBER_THAT_IT_HAS_TO_BE: &[Row] = &[
     (Field::Tag(1), &[1, 0, 0, 0, 9], Ok((Value::Nothing, &[9]))),
     (Field::Tag(1), &[2, 0, 0, 0, 9], Err(Fault::Malformed(5))),
     (Field::Tag(1), &[1, 0, 0], Err(Fault::Malformed(3))),
@@ -100,12 +101,24 @@ fn fault<'b>(rows: &[Row<'b>]) -> Option<Row<'b>> {
 
 #[test]
 fn fields_are_read(rt: HostRuntime) {
-    assert_eq!(rt; fault(&NUMBERS_HAVE_THEIR_LOW_BYTE_FIRST), None);
-    assert_eq!(rt;
-        fault(&A_FIELD_PAST_THE_END_IS_AT_FAULT_WHERE_IT_BEGINS),
-        None
+    equal(
+        &rt,
+        &"numbers",
+        &fault(NUMBERS_HAVE_THEIR_LOW_BYTE_FIRST),
+        &None,
     );
-    assert_eq!(rt; fault(&A_TAG_IS_THE_NUMBER_THAT_IT_HAS_TO_BE), None);
+    equal(
+        &rt,
+        &"past the end",
+        &fault(A_FIELD_PAST_THE_END_IS_AT_FAULT_WHERE_IT_BEGINS),
+        &None,
+    );
+    equal(
+        &rt,
+        &"tags",
+        &fault(A_TAG_IS_THE_NUMBER_THAT_IT_HAS_TO_BE),
+        &None,
+    );
 }
 
 /// Both numbers, one behind the other.
@@ -118,13 +131,7 @@ fn written(alloc: Global, short: u32, long: u64) -> Option<Vec<u8>> {
 
 #[test]
 fn numbers_are_written_with_their_low_byte_first(rt: HostRuntime) {
-    match written(rt.alloc(), 0x0403_0201, 0x0807_0605_0403_0201) {
-        Some(out) => {
-            assert_eq!(rt;
-                out.as_slice(),
-                [1, 2, 3, 4, 1, 2, 3, 4, 5, 6, 7, 8].as_slice()
-            );
-        }
-        None => assert!(rt; false, "no memory"),
-    }
+    let out = written(rt.alloc(), 0x0403_0201, 0x0807_0605_0403_0201);
+    let wanted = [1, 2, 3, 4, 1, 2, 3, 4, 5, 6, 7, 8];
+    equal(&rt, &"both", &out.as_deref(), &Some(wanted.as_slice()));
 }

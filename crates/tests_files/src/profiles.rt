@@ -1,4 +1,5 @@
 // Lock profiles of orders, and lists of locks that are none.
+use crate::assertions::{equal, holds};
 use crate::locks::{Taken, Turn, are, profile, touched, touched_by};
 use lock_profile::{Profile, turns};
 use spec_ledger::Kind::{Counter, Map};
@@ -12,7 +13,7 @@ struct Order<'b> {
     profiles: &'b [&'b [Turn]],
 }
 
-const ORDERS: [Order; 3] = [
+const ORDERS: &[Order] = &[
     Order {
         name: "two calls that add are one group",
         taken: &[&[(Counter, 7, Add)], &[(Counter, 7, Add)]],
@@ -64,25 +65,25 @@ fn has_turns(alloc: Global, order: &Order) -> bool {
 
 #[test]
 fn turns_of_orders(rt: HostRuntime) {
-    for order in &ORDERS {
-        assert!(rt; has_turns(rt.alloc(), order), "{}", order.name);
+    for order in ORDERS {
+        holds(&rt, &order.name, has_turns(rt.alloc(), order));
     }
 }
 
-const LOCKS_THAT_DO_NOT_RISE: [&[Taken]; 2] = [
+const LOCKS_THAT_DO_NOT_RISE: &[&[Taken]] = &[
     &[(Counter, 7, Add), (Map, 1, Read)],
     &[(Counter, 7, Add), (Counter, 7, Read)],
 ];
 
 #[test]
 fn locks_that_do_not_rise_are_no_map(rt: HostRuntime) {
-    for locks in &LOCKS_THAT_DO_NOT_RISE {
-        assert!(rt; touched(rt.alloc(), *locks).is_none(), "{locks:?}");
+    for locks in LOCKS_THAT_DO_NOT_RISE {
+        holds(&rt, locks, touched(rt.alloc(), *locks).is_none());
     }
 }
 
 /// Entries, and whether their locks rise.
-const PROFILES: [(&[Turn], bool); 4] = [
+const PROFILES: &[(&[Turn], bool)] = &[
     (&[(Map, 1, Read, 2), (Counter, 7, Add, 0)], true),
     (&[(Counter, 7, Add, 0), (Map, 1, Read, 2)], false),
     (&[(Map, 1, Read, 2), (Map, 1, Read, 2)], false),
@@ -100,7 +101,7 @@ fn rises(alloc: Global, locks: &[Turn]) -> Option<bool> {
 
 #[test]
 fn a_profile_has_each_lock_once_in_their_order(rt: HostRuntime) {
-    for (locks, rise) in &PROFILES {
-        assert_eq!(rt; rises(rt.alloc(), *locks), Some(*rise), "{locks:?}");
+    for (locks, rise) in PROFILES {
+        equal(&rt, locks, &rises(rt.alloc(), *locks), &Some(*rise));
     }
 }

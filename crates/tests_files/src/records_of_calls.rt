@@ -1,4 +1,5 @@
 // Values, receipts, entries, lock profiles and positions, read and written.
+use crate::assertions::{equal, holds};
 use crate::locks::{Turn, are, entry, profile};
 use records::{
     Fault, Position, append_entry, append_position, append_profile, append_receipt, append_value,
@@ -24,7 +25,7 @@ const RECORD_TWO: [u8; 40] = [
     0, 0, 0, 1, 0, 0, 0, 0,
 ];
 
-const VALUES: [(Value, &[u8]); 4] = [
+const VALUES: &[(Value, &[u8])] = &[
     (Value::I32(-2), &[0x7f, 0xfe, 0xff, 0xff, 0xff]),
     (Value::I32(i32::MIN), &[0x7f, 0, 0, 0, 0x80]),
     (Value::I64(5), &[0x7e, 5, 0, 0, 0, 0, 0, 0, 0]),
@@ -50,15 +51,20 @@ fn is_value(alloc: Global, value: Value, bytes: &[u8]) -> bool {
 
 #[test]
 fn a_value_is_a_type_byte_and_its_bits(rt: HostRuntime) {
-    for (value, bytes) in &VALUES {
-        assert!(rt; is_value(rt.alloc(), *value, *bytes), "{value:?}");
+    for (value, bytes) in VALUES {
+        holds(&rt, value, is_value(rt.alloc(), *value, *bytes));
     }
-    assert_eq!(rt; read_value(&[]), Err(Fault::Malformed(0)));
-    assert_eq!(rt; read_value(&[0x7d, 0, 0, 0, 0]), Err(Fault::Malformed(5)));
+    equal(&rt, &"no byte", &read_value(&[]), &Err(Fault::Malformed(0)));
+    equal(
+        &rt,
+        &"no type",
+        &read_value(&[0x7d, 0, 0, 0, 0]),
+        &Err(Fault::Malformed(5)),
+    );
 }
 
 /// Outcomes, and what stands behind the fuel.
-const OUTCOMES: [(Outcome, &[u8]); 8] = [
+const OUTCOMES: &[(Outcome, &[u8])] = &[
     (Outcome::Returned(None), &[0, 0]),
     (
         Outcome::Returned(Some(Value::I32(1))),
@@ -76,7 +82,7 @@ const OUTCOMES: [(Outcome, &[u8]); 8] = [
 ];
 
 /// What a receipt with 258 of fuel has in front of its outcome: the version, the levels, and the bytes.
-const FRONTS: [(Version, u32, &[u8]); 3] = [
+const FRONTS: &[(Version, u32, &[u8])] = &[
     (Version::One, 0, &[2, 1, 0, 0, 0, 0, 0, 0]),
     (Version::Two, 0, &[2, 1, 0, 0, 0, 0, 0, 0, 0, 0, 0, 0]),
     (Version::Two, 772, &[2, 1, 0, 0, 0, 0, 0, 0, 4, 3, 0, 0]),
@@ -100,49 +106,57 @@ fn is_receipt(alloc: Global, front: &(Version, u32, &[u8]), outcome: Outcome, ta
 
 #[test]
 fn a_receipt_has_a_kind_and_what_the_kind_has(rt: HostRuntime) {
-    for (outcome, tail) in &OUTCOMES {
-        for front in &FRONTS {
-            assert!(rt;
+    for (outcome, tail) in OUTCOMES {
+        for front in FRONTS {
+            holds(
+                &rt,
+                &(*outcome, *front),
                 is_receipt(rt.alloc(), front, *outcome, *tail),
-                "{outcome:?}"
             );
         }
     }
 }
 
+/// The bytes of a receipt that is out of fuel: in version 2 with two levels, and in version 1 with four bytes behind it.
+const LEVELS: &[u8] = &[0, 0, 0, 0, 0, 0, 0, 0, 2, 0, 0, 0, 2];
+
+const OUT_OF_FUEL: Receipt = Receipt {
+    outcome: Outcome::OutOfFuel,
+    used: 0,
+    asks: 0,
+};
+
+/// The same of a call that entered two levels.
+const ASKED: Receipt = Receipt {
+    outcome: Outcome::OutOfFuel,
+    used: 0,
+    asks: 2,
+};
+
+/// A version, how many of the bytes are there, and the answer.
+type Front = (Version, usize, Result<(Receipt, &'static [u8]), Fault>);
+
 /// In version 2 the levels stand where version 1 has the kind, and are at fault where they are cut.
+const FRONTS_OF_LEVELS: &[Front] = &[
+    (Version::One, 13, Ok((OUT_OF_FUEL, &[0, 0, 0, 2]))),
+    (Version::Two, 13, Ok((ASKED, &[]))),
+    (Version::Two, 8, Err(Fault::Malformed(0))),
+    (Version::Two, 9, Err(Fault::Malformed(1))),
+    (Version::Two, 10, Err(Fault::Malformed(2))),
+    (Version::Two, 11, Err(Fault::Malformed(3))),
+];
+
 #[test]
 fn version_2_tells_of_levels_behind_the_fuel(rt: HostRuntime) {
-    let bytes = [0, 0, 0, 0, 0, 0, 0, 0, 2, 0, 0, 0, 2];
-    let out_of_fuel = Receipt {
-        outcome: Outcome::OutOfFuel,
-        used: 0,
-        asks: 0,
-    };
-    let asked = Receipt {
-        outcome: Outcome::OutOfFuel,
-        used: 0,
-        asks: 2,
-    };
-    assert_eq!(rt;
-        read_receipt(Version::One, &bytes),
-        Ok((out_of_fuel, [0, 0, 0, 2].as_slice()))
-    );
-    assert_eq!(rt;
-        read_receipt(Version::Two, &bytes),
-        Ok((asked, [].as_slice()))
-    );
-    for size in 8..12 {
-        assert_eq!(rt;
-            read_receipt(Version::Two, &bytes[..size]),
-            Err(Fault::Malformed(size - 8)),
-            "{size}"
-        );
+    for (version, size, answer) in FRONTS_OF_LEVELS {
+        let front = LEVELS.get(..*size).unwrap_or(NOTHING);
+        let found = read_receipt(*version, front);
+        equal(&rt, &(*version, *size), &found, answer);
     }
 }
 
 /// What stands behind the fuel of a receipt, and how many bytes are left where it is at fault.
-const CODES_THAT_MEAN_NOTHING: [(&[u8], usize); 8] = [
+const CODES_THAT_MEAN_NOTHING: &[(&[u8], usize)] = &[
     (&[0, 0, 0, 0, 0, 0, 0, 0, 4, 0], 2),
     (&[0, 0, 0, 0, 0, 0, 0, 0, 0, 2], 1),
     (&[0, 0, 0, 0, 0, 0, 0, 0, 0, 1, 0x7d, 0, 0, 0, 0], 5),
@@ -155,11 +169,12 @@ const CODES_THAT_MEAN_NOTHING: [(&[u8], usize); 8] = [
 
 #[test]
 fn a_code_that_means_nothing_is_at_fault(rt: HostRuntime) {
-    for (bytes, left) in &CODES_THAT_MEAN_NOTHING {
-        assert_eq!(rt;
-            read_receipt(Version::One, *bytes),
-            Err(Fault::Malformed(*left)),
-            "{bytes:?}"
+    for (bytes, left) in CODES_THAT_MEAN_NOTHING {
+        equal(
+            &rt,
+            bytes,
+            &read_receipt(Version::One, *bytes),
+            &Err(Fault::Malformed(*left)),
         );
     }
 }
@@ -178,7 +193,7 @@ struct Changed<'b> {
     answer: Result<Turn, Fault>,
 }
 
-const AN_ENTRY_HAS_18_BYTES: [Changed; 4] = [
+const AN_ENTRY_HAS_18_BYTES: &[Changed] = &[
     Changed {
         name: "as it is written",
         before: None,
@@ -229,10 +244,14 @@ fn writes_entry(alloc: Global, turn: Turn, bytes: &[u8]) -> bool {
 
 #[test]
 fn an_entry_has_18_bytes(rt: HostRuntime) {
-    assert!(rt; writes_entry(rt.alloc(), ADDED, &ENTRY));
-    assert!(rt; writes_entry(rt.alloc(), ADDED, &RECORD[18..]));
-    for row in &AN_ENTRY_HAS_18_BYTES {
-        assert!(rt; is_answered(row), "{}", row.name);
+    holds(&rt, &"alone", writes_entry(rt.alloc(), ADDED, &ENTRY));
+    holds(
+        &rt,
+        &"in a record",
+        writes_entry(rt.alloc(), ADDED, &RECORD[18..]),
+    );
+    for row in AN_ENTRY_HAS_18_BYTES {
+        holds(&rt, &row.name, is_answered(row));
     }
 }
 
@@ -241,7 +260,7 @@ const LOW: Turn = (Map, 9, Excl, 4);
 const HIGH: Turn = (Counter, 7, Read, 0);
 
 /// Bytes of lock profiles, and the entries or the fault.
-const PROFILES: [(&str, &[u8], Result<&[Turn], Fault>); 3] = [
+const PROFILES: &[(&str, &[u8], Result<&[Turn], Fault>)] = &[
     (
         "two locks that rise",
         &[
@@ -291,10 +310,14 @@ fn writes_profile(alloc: Global, turns: &[Turn], bytes: &[u8]) -> bool {
 
 #[test]
 fn a_profile_has_its_locks_rising(rt: HostRuntime) {
-    for (name, bytes, answer) in &PROFILES {
-        assert!(rt; is_profile(rt.alloc(), *bytes, *answer), "{name}");
+    for (name, bytes, answer) in PROFILES {
+        holds(&rt, name, is_profile(rt.alloc(), *bytes, *answer));
         if let Ok(turns) = answer {
-            assert!(rt; writes_profile(rt.alloc(), *turns, *bytes), "{name}");
+            holds(
+                &rt,
+                &("written", *name),
+                writes_profile(rt.alloc(), *turns, *bytes),
+            );
         }
     }
 }
@@ -354,12 +377,21 @@ fn a_position_is_its_call_its_receipt_and_its_profile(rt: HostRuntime) {
     ];
     for (version, record) in records {
         let alloc = rt.alloc();
-        assert!(rt; writes_position(alloc, version, 0, ADDER, &[ADDED], record));
-        assert!(rt; is_position(alloc, version, record, 0, ADDER, &[ADDED]));
+        holds(
+            &rt,
+            &("written", record),
+            writes_position(alloc, version, 0, ADDER, &[ADDED], record),
+        );
+        holds(
+            &rt,
+            &("read", record),
+            is_position(alloc, version, record, 0, ADDER, &[ADDED]),
+        );
         for size in 0..record.len() {
-            assert!(rt;
+            holds(
+                &rt,
+                &size,
                 read_position(version, alloc, &record[..size]).is_err(),
-                "{size}"
             );
         }
     }
@@ -382,10 +414,11 @@ fn a_rejection_without_a_meaning_has_no_position(rt: HostRuntime) {
             used: 0,
             asks: 0,
         };
-        assert_eq!(rt;
-            position(rt.alloc(), 1, receipt, &[]).is_some(),
-            there,
-            "{code}"
+        equal(
+            &rt,
+            &code,
+            &position(rt.alloc(), 1, receipt, &[]).is_some(),
+            &there,
         );
     }
 }
