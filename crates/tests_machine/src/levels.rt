@@ -1,10 +1,12 @@
 // Calls that ask for exports of contracts. The values, the operations and the marks are those of the same bytes in a JavaScript engine, with
 // host functions written there; the fuel is counted by hand.
+use crate::assertions::equal;
 use crate::programs::{FALLING_AT_THE_START, STARTING_BY_ASKING};
-use crate::runs::{make_turn, run, started};
+use crate::runs::{assert_turns, contracts_of, run, unfinished};
+use interp::finished::Finished;
 use interp::turns::Turn;
 use link::deployed::Deployed;
-use samples::{ASKING, PROBING, call, deployed};
+use samples::{ASKING, PROBING, call};
 use spec_ledger::{Op, Outcome, Place, Reply, Step};
 use std::alloc::Global;
 use std::process::Abort;
@@ -14,13 +16,16 @@ use wtypes::{TrapCode, Value};
 // The contracts: the one that asks itself, two that ask whom their arguments say, one whose start function asks the first one, and one whose
 // start function traps. There are no others.
 fn contracts(alloc: Global) -> Result<Vec<Deployed<Global>>, Fail> {
-    let mut contracts = Vec::new(alloc);
-    contracts.push(deployed(alloc, &ASKING)?)?;
-    contracts.push(deployed(alloc, &PROBING)?)?;
-    contracts.push(deployed(alloc, &PROBING)?)?;
-    contracts.push(deployed(alloc, &STARTING_BY_ASKING)?)?;
-    contracts.push(deployed(alloc, &FALLING_AT_THE_START)?)?;
-    Ok(contracts)
+    contracts_of(
+        alloc,
+        &[
+            &ASKING,
+            &PROBING,
+            &PROBING,
+            &STARTING_BY_ASKING,
+            &FALLING_AT_THE_START,
+        ],
+    )
 }
 
 const SEVEN: Place = Place {
@@ -101,39 +106,19 @@ struct Row<'b> {
     trace: &'b [Step],
 }
 
-fn is_same(trace: &[Step], other: &[Step]) -> bool {
-    trace == other
+fn assert_finished(rt: &impl Abort, finished: &Finished<'_, Global>, row: &Row) {
+    let place = (row.entry, row.args, row.fuel);
+    equal(rt, &place, &finished.outcome(), &row.outcome);
+    equal(rt, &place, &finished.used(), &row.used);
+    equal(rt, &place, &finished.asks(), &row.levels);
+    equal(rt, &place, &finished.trace(), &row.trace);
 }
 
 fn assert_row(rt: &impl Abort, alloc: Global, row: &Row) -> Result<(), Fail> {
     let contracts = contracts(alloc)?;
     let call = call(alloc, row.contract, row.entry, row.args, row.fuel)?;
     let finished = run(alloc, &contracts, &call)?;
-    let Row {
-        entry,
-        args,
-        fuel,
-        ..
-    } = row;
-    assert_eq!(rt;
-        finished.outcome(),
-        row.outcome,
-        "of {entry} {args:?}, fuel {fuel}"
-    );
-    assert_eq!(rt;
-        finished.used(),
-        row.used,
-        "of {entry} {args:?}, fuel {fuel}"
-    );
-    assert_eq!(rt;
-        finished.asks(),
-        row.levels,
-        "of {entry} {args:?}, fuel {fuel}"
-    );
-    assert!(rt;
-        is_same(finished.trace(), row.trace),
-        "another trace of {entry} {args:?}, fuel {fuel}"
-    );
+    assert_finished(rt, &finished, row);
     Ok(())
 }
 
@@ -319,7 +304,7 @@ fn assert_probe(rt: &impl Abort, alloc: Global, probe: &Probe) -> Result<(), Fai
     assert_row(rt, alloc, &row)
 }
 
-const PROBES: [Probe; 32] = [
+static PROBES: [Probe; 32] = [
     // each kind of status
     (
         "probe",
@@ -576,58 +561,51 @@ fn assert_told(
 ) -> Result<(), Fail> {
     let contracts = contracts(alloc)?;
     let call = call(alloc, 0, name, args, fuel)?;
-    let machine = started(alloc, &contracts, &call)?;
-    let mut machine = machine.finish().err().ok_or("no end before a turn")?;
-    'turns: for (number, turn) in turns.iter().enumerate() {
-        assert_eq!(rt; make_turn(&mut machine), *turn, "of {name}, turn {number}");
-    }
+    let mut machine = unfinished(alloc, &contracts, &call)?;
+    assert_turns(rt, &mut machine, turns);
     Ok(())
 }
+
+const TURNS_OF_TRY: [Turn; 15] = [
+    Turn::Stepped,
+    Turn::Stepped,
+    Turn::Host(Op::Add(SEVEN, 10)),
+    Turn::Stepped,
+    Turn::Stepped,
+    Turn::Stepped,
+    Turn::Enter,
+    Turn::Stepped,
+    Turn::Stepped,
+    Turn::Host(Op::Add(SEVEN, 1)),
+    Turn::Stepped,
+    Turn::Leave(false),
+    Turn::Stepped,
+    Turn::Stepped,
+    Turn::Done(Outcome::Returned(Some(Value::I64(0)))),
+];
+
+// The fuel is out two levels inside.
+const TURNS_OF_DEEP: [Turn; 14] = [
+    Turn::Stepped,
+    Turn::Stepped,
+    Turn::Stepped,
+    Turn::Enter,
+    Turn::Stepped,
+    Turn::Stepped,
+    Turn::Stepped,
+    Turn::Enter,
+    Turn::Stepped,
+    Turn::Stepped,
+    Turn::Leave(false),
+    Turn::Leave(false),
+    Turn::Done(Outcome::OutOfFuel),
+    Turn::Done(Outcome::OutOfFuel),
+];
 
 #[test]
 fn turns_are_told_with_their_levels(rt: HostRuntime) -> Result<(), Fail> {
     let alloc = rt.alloc();
-    let tried = [
-        Turn::Stepped,
-        Turn::Stepped,
-        Turn::Host(Op::Add(SEVEN, 10)),
-        Turn::Stepped,
-        Turn::Stepped,
-        Turn::Stepped,
-        Turn::Enter,
-        Turn::Stepped,
-        Turn::Stepped,
-        Turn::Host(Op::Add(SEVEN, 1)),
-        Turn::Stepped,
-        Turn::Leave(false),
-        Turn::Stepped,
-        Turn::Stepped,
-        Turn::Done(Outcome::Returned(Some(Value::I64(0)))),
-    ];
-    assert_told(
-        &rt,
-        alloc,
-        "try",
-        &[Value::I32(1), Value::I64(7)],
-        100,
-        &tried,
-    )?;
-    // the fuel is out two levels inside
-    let deep = [
-        Turn::Stepped,
-        Turn::Stepped,
-        Turn::Stepped,
-        Turn::Enter,
-        Turn::Stepped,
-        Turn::Stepped,
-        Turn::Stepped,
-        Turn::Enter,
-        Turn::Stepped,
-        Turn::Stepped,
-        Turn::Leave(false),
-        Turn::Leave(false),
-        Turn::Done(Outcome::OutOfFuel),
-        Turn::Done(Outcome::OutOfFuel),
-    ];
-    assert_told(&rt, alloc, "deep", &[Value::I64(7)], 10, &deep)
+    let args = [Value::I32(1), Value::I64(7)];
+    assert_told(&rt, alloc, "try", &args, 100, &TURNS_OF_TRY)?;
+    assert_told(&rt, alloc, "deep", &[Value::I64(7)], 10, &TURNS_OF_DEEP)
 }
