@@ -1,4 +1,5 @@
 // The worked examples of a book, by lists of events.
+use crate::assertions::holds;
 use crate::books::{
     ADD_3, ADD_5, CONFLICT, COUNTER_SEVEN, DIFFERS, MAP_ONE, NOT_ENTERED, NOTHING, ONE, PUT_9,
     RETURNED, SEVEN, TOTAL_1, TRAPPED, is_closed,
@@ -22,7 +23,7 @@ struct List<'b> {
     entries: &'b [(u32, Outcome)],
 }
 
-const LISTS: [List; 3] = [
+const LISTS: &[List] = &[
     List {
         name: "a failed adder is committed after another",
         events: &[
@@ -151,8 +152,8 @@ fn is_answered(alloc: Global, list: &List) -> bool {
 
 #[test]
 fn books_by_lists_of_events(rt: HostRuntime) {
-    for list in &LISTS {
-        assert!(rt; is_answered(rt.alloc(), list), "{}", list.name);
+    for list in LISTS {
+        holds(&rt, &list.name, is_answered(rt.alloc(), list));
     }
 }
 
@@ -172,7 +173,7 @@ struct Order<'b> {
     told: &'b [Told<'b>],
 }
 
-const ORDERS: [Order; 2] = [
+const ORDERS: &[Order] = &[
     Order {
         name: "an adder is committed, and after it a call that looks at the sum, adds to it and traps",
         events: &[
@@ -266,24 +267,25 @@ fn tells(entry: &Entry, told: &Told) -> bool {
             .all(|(lock, mode)| entry.mode(*lock) == *mode)
 }
 
+/// The entries say this.
+fn are_told(entries: &[Entry], told: &[Told]) -> bool {
+    entries.len() == told.len()
+        && entries
+            .iter()
+            .zip(told.iter())
+            .all(|(entry, told)| tells(entry, told))
+}
+
 fn tell_the_order(alloc: Global, order: &Order) -> bool {
     match Book::play(alloc, Cells::new(alloc), order.events) {
-        Ok((book, _answers)) => {
-            let closed = book.close();
-            closed.entries.len() == order.told.len()
-                && closed
-                    .entries
-                    .iter()
-                    .zip(order.told.iter())
-                    .all(|(entry, told)| tells(entry, told))
-        }
+        Ok((book, _answers)) => are_told(&book.close().entries, order.told),
         Err(_) => false,
     }
 }
 
 #[test]
 fn orders_are_read_from_entries(rt: HostRuntime) {
-    for order in &ORDERS {
-        assert!(rt; tell_the_order(rt.alloc(), order), "{}", order.name);
+    for order in ORDERS {
+        holds(&rt, &order.name, tell_the_order(rt.alloc(), order));
     }
 }

@@ -1,4 +1,6 @@
 // The worked examples of a book, by its calls.
+use crate::assertions::equal;
+use boost::attempt::Entry;
 use boost::book::{
     BeginRefusal, Book, Closed, CommitRefusal, EnterRefusal, LeaveRefusal, OpRefusal, Run, Ticket,
 };
@@ -86,7 +88,7 @@ struct Row<'b> {
     entries: &'b [(u32, Outcome)],
 }
 
-const ROWS: [Row; 15] = [
+const ROWS: &[Row] = &[
     Row {
         name: "a cell that holds zero is there until it is undone",
         calls: 1,
@@ -589,45 +591,69 @@ const ROWS: [Row; 15] = [
 /// The tickets of the calls.
 type Hands = [Option<Ticket>; 3];
 
+/// Begins the call, whose hand takes the ticket. None where it has no hand.
+fn begin(book: &mut Book, hands: &mut Hands, call: u32) -> Option<Answer> {
+    match book.begin(call) {
+        Ok(ticket) => {
+            *hands.get_mut(call as usize)? = Some(ticket);
+            Some(Answer::Begun)
+        }
+        Err(refusal) => Some(Answer::BeginRefused(refusal)),
+    }
+}
+
+/// Does the operation.
+fn operate(book: &mut Book, ticket: &Ticket, op: Op) -> Answer {
+    match book.op(ticket, op) {
+        Ok(reply) => Answer::Replied(reply),
+        Err(refusal) => Answer::OpRefused(refusal),
+    }
+}
+
+/// Enters a level.
+fn enter(book: &mut Book, ticket: &Ticket) -> Answer {
+    match book.enter(ticket) {
+        Ok(()) => Answer::Entered,
+        Err(refusal) => Answer::EnterRefused(refusal),
+    }
+}
+
+/// Leaves a level.
+fn leave(book: &mut Book, ticket: &Ticket, keep: bool) -> Answer {
+    match book.leave(ticket, keep) {
+        Ok(()) => Answer::Left,
+        Err(refusal) => Answer::LeaveRefused(refusal),
+    }
+}
+
+/// Commits the attempt of the ticket in the hand, which keeps it where that is refused. None where the hand is empty.
+fn commit(book: &mut Book, hand: &mut Option<Ticket>, run: &Run) -> Option<Answer> {
+    match book.commit(hand.take()?, run) {
+        Ok(position) => Some(Answer::Committed(position)),
+        Err((ticket, refusal)) => {
+            *hand = Some(ticket);
+            Some(Answer::CommitRefused(refusal))
+        }
+    }
+}
+
+/// The ticket in the call's hand.
+fn ticket_of(hands: &Hands, call: u32) -> Option<&Ticket> {
+    hands.get(call as usize)?.as_ref()
+}
+
 /// Does an event for the ticket in the call's hand. None where there is none.
 fn answer_to(book: &mut Book, hands: &mut Hands, event: &Event) -> Option<Answer> {
     match event {
-        Begin(call) => match book.begin(*call) {
-            Ok(ticket) => {
-                *hands.get_mut(*call as usize)? = Some(ticket);
-                Some(Answer::Begun)
-            }
-            Err(refusal) => Some(Answer::BeginRefused(refusal)),
-        },
-        Event::Op(call, op) => {
-            let ticket = hands.get(*call as usize)?.as_ref()?;
-            match book.op(ticket, *op) {
-                Ok(reply) => Some(Answer::Replied(reply)),
-                Err(refusal) => Some(Answer::OpRefused(refusal)),
-            }
-        }
-        Enter(call) => match book.enter(hands.get(*call as usize)?.as_ref()?) {
-            Ok(()) => Some(Answer::Entered),
-            Err(refusal) => Some(Answer::EnterRefused(refusal)),
-        },
-        Leave(call, keep) => match book.leave(hands.get(*call as usize)?.as_ref()?, *keep) {
-            Ok(()) => Some(Answer::Left),
-            Err(refusal) => Some(Answer::LeaveRefused(refusal)),
-        },
+        Begin(call) => begin(book, hands, *call),
+        Event::Op(call, op) => Some(operate(book, ticket_of(hands, *call)?, *op)),
+        Enter(call) => Some(enter(book, ticket_of(hands, *call)?)),
+        Leave(call, keep) => Some(leave(book, ticket_of(hands, *call)?, *keep)),
         Undo(call) => {
             book.undo(hands.get_mut(*call as usize)?.take()?);
             Some(Answer::Undone)
         }
-        Commit(call, run) => {
-            let hand = hands.get_mut(*call as usize)?;
-            match book.commit(hand.take()?, run) {
-                Ok(position) => Some(Answer::Committed(position)),
-                Err((ticket, refusal)) => {
-                    *hand = Some(ticket);
-                    Some(Answer::CommitRefused(refusal))
-                }
-            }
-        }
+        Commit(call, run) => commit(book, hands.get_mut(*call as usize)?, run),
     }
 }
 
@@ -662,7 +688,7 @@ fn act_again(book: &mut Book, hands: &mut Hands, event: &Event) -> Option<Answer
 }
 
 /// The cells with these numbers. No counter is at 0.
-fn cells_of(alloc: Global, held: &[(Lock, u64)]) -> Option<Cells> {
+pub(crate) fn cells_of(alloc: Global, held: &[(Lock, u64)]) -> Option<Cells> {
     let mut cells = Cells::new(alloc);
     for (lock, value) in held {
         if *value == 0 {
@@ -678,11 +704,11 @@ fn open(alloc: Global, opening: &[(Lock, u64)], calls: u32) -> Option<Book> {
     Book::open(alloc, cells_of(alloc, opening)?, calls).ok()
 }
 
-/// The book of a row, opened once more where memory was refused.
-fn open_again(alloc: Global, row: &Row) -> Option<Book> {
-    match open(alloc, row.opening, row.calls) {
+/// As [`open`], once more where memory was refused.
+pub(crate) fn open_again(alloc: Global, opening: &[(Lock, u64)], calls: u32) -> Option<Book> {
+    match open(alloc, opening, calls) {
         Some(book) => Some(book),
-        None => open(alloc, row.opening, row.calls),
+        None => open(alloc, opening, calls),
     }
 }
 
@@ -721,6 +747,13 @@ fn done(alloc: Global, row: &Row, book: &mut Book) -> usize {
     done
 }
 
+/// The entries are those of these calls.
+pub(crate) fn are_entries(entries: &[Entry], calls: &[(u32, Outcome)]) -> bool {
+    entries.len() == calls.len()
+        && entries.iter().zip(calls.iter()).all(|(entry, (call, outcome))| entry.call() == *call
+            && entry.outcome() == *outcome)
+}
+
 /// The closed book has these cells and committed calls.
 pub(crate) fn is_closed(
     closed: &Closed,
@@ -730,15 +763,12 @@ pub(crate) fn is_closed(
 ) -> bool {
     closed.opening.entries().eq(opening.iter().copied())
         && closed.cells.entries().eq(cells.iter().copied())
-        && closed.entries.len() == entries.len()
-        && closed.entries.iter().zip(entries.iter()).all(|(entry, (call, outcome))| entry.call()
-            == *call
-            && entry.outcome() == *outcome)
+        && are_entries(&closed.entries, entries)
 }
 
 /// How many acts are as the row says, and whether the closed book is.
 fn played(alloc: Global, row: &Row) -> Option<(usize, bool)> {
-    let mut book = open_again(alloc, row)?;
+    let mut book = open_again(alloc, row.opening, row.calls)?;
     let done = done(alloc, row, &mut book);
     let closed = book.close();
     Some((
@@ -749,12 +779,8 @@ fn played(alloc: Global, row: &Row) -> Option<(usize, bool)> {
 
 #[test]
 fn books_by_their_calls(rt: HostRuntime) {
-    for row in &ROWS {
-        assert_eq!(rt;
-            played(rt.alloc(), row),
-            Some((row.acts.len(), true)),
-            "{}",
-            row.name
-        );
+    for row in ROWS {
+        let wanted = Some((row.acts.len(), true));
+        equal(&rt, &row.name, &played(rt.alloc(), row), &wanted);
     }
 }

@@ -1,4 +1,5 @@
 // Operations on cells, taken back and settled, and the order of cells.
+use crate::assertions::{equal, holds};
 use spec_ledger::Kind::{self, Counter, Map};
 use std::alloc::Global;
 use storage::{Cells, Inverse, Lock, Op, Place, Reply};
@@ -34,7 +35,7 @@ struct Row<'b> {
     acts: &'b [(Op, Reply)],
 }
 
-const ROWS: [Row; 2] = [
+const ROWS: &[Row] = &[
     Row {
         name: "zero in a map cell is there",
         acts: &[
@@ -70,8 +71,8 @@ fn replies(alloc: Global, acts: &[(Op, Reply)]) -> bool {
 
 #[test]
 fn operations_get_their_replies(rt: HostRuntime) {
-    for row in &ROWS {
-        assert!(rt; replies(rt.alloc(), row.acts), "{}", row.name);
+    for row in ROWS {
+        holds(&rt, &row.name, replies(rt.alloc(), row.acts));
     }
 }
 
@@ -87,7 +88,12 @@ fn put_taken_back(alloc: Global) -> Option<(Inverse, Reply)> {
 #[test]
 fn a_put_is_taken_back(rt: HostRuntime) {
     let wanted = (Inverse::Restore(ONE, None), Reply::I32(0));
-    assert_eq!(rt; put_taken_back(rt.alloc()), Some(wanted));
+    equal(
+        &rt,
+        &"a put taken back",
+        &put_taken_back(rt.alloc()),
+        &Some(wanted),
+    );
 }
 
 /// Whether there is no entry of a counter that is back at 0, and what it holds once that stands.
@@ -102,7 +108,12 @@ fn back_at_zero(alloc: Global) -> Option<(bool, Option<u64>)> {
 
 #[test]
 fn a_counter_at_zero_has_no_entry(rt: HostRuntime) {
-    assert_eq!(rt; back_at_zero(rt.alloc()), Some((true, None)));
+    equal(
+        &rt,
+        &"a counter at zero",
+        &back_at_zero(rt.alloc()),
+        &Some((true, None)),
+    );
 }
 
 /// Four cells, put in another order than theirs.
@@ -134,5 +145,5 @@ fn entries_are_in_the_order_of_locks(rt: HostRuntime) {
         (cell(Counter, 1), 4),
         (cell(Counter, 9), 6),
     ];
-    assert!(rt; are_listed(rt.alloc(), &wanted));
+    holds(&rt, &"the entries", are_listed(rt.alloc(), &wanted));
 }

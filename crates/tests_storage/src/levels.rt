@@ -39,19 +39,23 @@ enum Tried {
     Wrong,
 }
 
+/// Does an operation. None where something else than memory is refused; else whether memory was.
+fn lacks_memory<A: Allocator + Copy>(book: &mut Book<A>, ticket: &Ticket, op: Op) -> Option<bool> {
+    match book.op(ticket, op) {
+        Ok(_) => Some(false),
+        Err(OpRefusal::NoMemory) => Some(true),
+        Err(_) => None,
+    }
+}
+
 /// Does operations until memory is refused. None where something else is refused; else whether memory was.
 fn act<A: Allocator + Copy>(book: &mut Book<A>, ticket: &Ticket) -> Option<bool> {
     for key in 0..OPS {
         let place = Place { contract: 0, key };
-        match book.op(ticket, Op::Put(place, key)) {
-            Ok(_) => (),
-            Err(OpRefusal::NoMemory) => return Some(true),
-            Err(_) => return None,
-        }
-        match book.op(ticket, Op::Add(SEVEN, 1)) {
-            Ok(_) => (),
-            Err(OpRefusal::NoMemory) => return Some(true),
-            Err(_) => return None,
+        if lacks_memory(book, ticket, Op::Put(place, key))?
+            || lacks_memory(book, ticket, Op::Add(SEVEN, 1))?
+        {
+            return Some(true);
         }
     }
     Some(false)
@@ -81,6 +85,20 @@ fn ascend<A: Allocator + Copy>(book: &mut Book<A>, ticket: &Ticket, entered: usi
     book.leave(ticket, false).is_ok() && book.leave(ticket, false) == Err(LeaveRefusal::NotEntered)
 }
 
+/// Enters levels and leaves them, in a call that has added 5.
+fn entered_and_left<A: Allocator + Copy>(book: &mut Book<A>, ticket: &Ticket) -> Tried {
+    let Some((entered, refused)) = descend(book, ticket) else {
+        return Tried::Wrong;
+    };
+    if entered == 0 {
+        return Tried::NotEntered;
+    }
+    if !ascend(book, ticket, entered) || book.cell(COUNTER_SEVEN) != Some(5) {
+        return Tried::Wrong;
+    }
+    if refused { Tried::Refused } else { Tried::Done }
+}
+
 /// A call that adds 5, enters levels and leaves them, with so many blocks of memory.
 fn end_of_try(heap: Global, blocks: u64) -> Tried {
     let ration = Ration::new(heap, blocks);
@@ -93,16 +111,7 @@ fn end_of_try(heap: Global, blocks: u64) -> Tried {
     if book.op(&ticket, Op::Add(SEVEN, 5)).is_err() {
         return Tried::NotEntered;
     }
-    let Some((entered, refused)) = descend(&mut book, &ticket) else {
-        return Tried::Wrong;
-    };
-    if entered == 0 {
-        return Tried::NotEntered;
-    }
-    if !ascend(&mut book, &ticket, entered) || book.cell(COUNTER_SEVEN) != Some(5) {
-        return Tried::Wrong;
-    }
-    if refused { Tried::Refused } else { Tried::Done }
+    entered_and_left(&mut book, &ticket)
 }
 
 /// How many tries were refused memory in a level, up to the first that was refused none. None where one went wrong.

@@ -1,8 +1,9 @@
 // Attempts of a book under numbers that are given, the traces that it lends, and begins that are taken back.
+use crate::assertions::equal;
+use crate::books::{are_entries, open_again};
 use boost::book::{BeginAsRefusal, Book, OpRefusal, Ticket};
 use spec_ledger::{Kind, Lock, Op, Outcome, Place, Reply, Step};
 use std::alloc::Global;
-use storage::Cells;
 use wtypes::TrapCode;
 
 const SEVEN: Place = Place {
@@ -54,7 +55,7 @@ struct Row<'b> {
     entries: &'b [(u32, Outcome)],
 }
 
-const ROWS: [Row; 6] = [
+const ROWS: &[Row] = &[
     Row {
         name: "a count follows the number that is given",
         acts: &[
@@ -234,42 +235,35 @@ fn is_done(book: &mut Book, hands: &mut Hands, what: Act) -> Option<bool> {
     }
 }
 
-/// A book of two calls over no cells, opened once more where memory was refused.
+/// A book of two calls over no cells.
 fn open(alloc: Global) -> Option<Book> {
-    match Book::open(alloc, Cells::new(alloc), 2) {
-        Ok(book) => Some(book),
-        Err(_) => Book::open(alloc, Cells::new(alloc), 2).ok(),
+    open_again(alloc, &[], 2)
+}
+
+/// The number of the first act that is not as the row says, or of all of them.
+fn done(book: &mut Book, hands: &mut Hands, acts: &[Act]) -> usize {
+    let mut done = 0usize;
+    for what in acts {
+        if is_done(book, hands, *what) != Some(true) {
+            return done;
+        }
+        done = done.saturating_add(1);
     }
+    done
 }
 
 /// How many acts are as the row says, and whether the closed book has its entries.
 fn played(alloc: Global, row: &Row) -> Option<(usize, bool)> {
     let lent = begin(&mut open(alloc)?, 0, 0).ok()?;
     let mut book = open(alloc)?;
-    let mut hands = [None, None, Some(lent)];
-    let mut done = 0usize;
-    for what in row.acts {
-        if is_done(&mut book, &mut hands, *what) != Some(true) {
-            return Some((done, false));
-        }
-        done = done.saturating_add(1);
-    }
-    let closed = book.close();
-    let has_entries = closed.entries.len() == row.entries.len()
-        && closed.entries.iter().zip(row.entries.iter()).all(|(entry, (call, outcome))| entry.call()
-            == *call
-            && entry.outcome() == *outcome);
-    Some((done, has_entries))
+    let done = done(&mut book, &mut [None, None, Some(lent)], row.acts);
+    Some((done, are_entries(&book.close().entries, row.entries)))
 }
 
 #[test]
 fn books_under_given_numbers(rt: HostRuntime) {
-    for row in &ROWS {
-        assert_eq!(rt;
-            played(rt.alloc(), row),
-            Some((row.acts.len(), true)),
-            "{}",
-            row.name
-        );
+    for row in ROWS {
+        let wanted = Some((row.acts.len(), true));
+        equal(&rt, &row.name, &played(rt.alloc(), row), &wanted);
     }
 }

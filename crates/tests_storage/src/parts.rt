@@ -1,11 +1,12 @@
 // The shards of a book put together: each a book of its own, beside a journal that is the book of all.
+use crate::assertions::equal;
+use crate::books::cells_of;
 use boost::attempt::Entry;
 use boost::book::{Book, Closed};
 use shard_parts::{CloseRefusal, Part, close, home, is_part};
 use spec_ledger::Step::{Dropped, Kept, Opened};
 use spec_ledger::{Kind, Lock, Op, Outcome, Place, Reply, Step};
 use std::alloc::Global;
-use storage::Cells;
 use wtypes::TrapCode;
 
 const SEVEN: Place = Place {
@@ -85,7 +86,7 @@ const HOMES: [(Lock, u32, u32); 8] = [
 #[test]
 fn homes_of_locks(rt: HostRuntime) {
     for (lock, shards, shard) in &HOMES {
-        assert_eq!(rt; home(*lock, *shards), *shard);
+        equal(&rt, &(lock, shards), &home(*lock, *shards), shard);
     }
 }
 
@@ -120,7 +121,12 @@ const PARTS: [(&[Step], &[Step], u32, bool); 13] = [
 #[test]
 fn parts_of_traces(rt: HostRuntime) {
     for (own, trace, shard, answer) in &PARTS {
-        assert_eq!(rt; is_part(own, trace, *shard, 2), *answer);
+        equal(
+            &rt,
+            &(own, trace, shard),
+            &is_part(own, trace, *shard, 2),
+            answer,
+        );
     }
 }
 
@@ -158,7 +164,7 @@ const EVEN: [Did; 3] = [
 
 const ODD: [Did; 2] = [(0, &[OP_7], RETURNED), (2, &[SEE_7], RETURNED)];
 
-const ROWS: [Row; 12] = [
+const ROWS: &[Row] = &[
     Row {
         name: "one shard is the book",
         opening: &[(COUNTER_SEVEN, 1)],
@@ -274,18 +280,6 @@ const ROWS: [Row; 12] = [
     },
 ];
 
-/// The cells of a list, which has no 0.
-fn cells_of(alloc: Global, list: &[(Lock, u64)]) -> Option<Cells> {
-    let mut cells = Cells::new(alloc);
-    for (lock, value) in list {
-        if *value == 0 {
-            return None;
-        }
-        cells.insert(*lock, *value).ok()?;
-    }
-    Some(cells)
-}
-
 /// A book over these cells in which these calls are committed.
 fn book_of(alloc: Global, opening: &[(Lock, u64)], calls: &[Did]) -> Option<Book> {
     let mut book = Book::open(alloc, cells_of(alloc, opening)?, 3).ok()?;
@@ -338,7 +332,7 @@ fn is_closed(alloc: Global, row: &Row) -> Option<bool> {
 
 #[test]
 fn shards_put_together(rt: HostRuntime) {
-    for row in &ROWS {
-        assert_eq!(rt; is_closed(rt.alloc(), row), Some(true), "{}", row.name);
+    for row in ROWS {
+        equal(&rt, &row.name, &is_closed(rt.alloc(), row), &Some(true));
     }
 }

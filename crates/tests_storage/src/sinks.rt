@@ -1,4 +1,5 @@
 // Sinks in memory, whole and failing.
+use crate::assertions::holds;
 use codec::{Failures, MemorySink, put_all};
 use std::alloc::Global;
 
@@ -23,17 +24,15 @@ fn keeps(
 fn takes_all_in_pieces(rt: HostRuntime) {
     for piece in [0, 1, 3, 100] {
         let puts: [&[u8]; 3] = [b"one line\n", b"", b"two\n"];
-        assert!(rt;
-            keeps(
-                rt.alloc(),
-                piece,
-                Failures::none(),
-                &puts,
-                false,
-                b"one line\ntwo\n"
-            ),
-            "pieces of {piece}"
+        let kept = keeps(
+            rt.alloc(),
+            piece,
+            Failures::none(),
+            &puts,
+            false,
+            b"one line\ntwo\n",
         );
+        holds(&rt, &("pieces of", piece), kept);
     }
 }
 
@@ -43,16 +42,14 @@ const FAILING: [(u64, &[u8]); 4] = [(0, b""), (1, b"abc"), (2, b"abcdef"), (3, b
 #[test]
 fn keeps_a_beginning_after_a_failure(rt: HostRuntime) {
     for (calls, kept) in FAILING {
-        assert!(rt;
-            keeps(
-                rt.alloc(),
-                3,
-                Failures::after(calls),
-                &[b"abcdefg"],
-                calls < 3,
-                kept
-            ),
-            "after {calls} calls"
+        let is_kept = keeps(
+            rt.alloc(),
+            3,
+            Failures::after(calls),
+            &[b"abcdefg"],
+            calls < 3,
+            kept,
         );
+        holds(&rt, &("calls", calls), is_kept);
     }
 }

@@ -1,6 +1,7 @@
 // What the calls of a table of locks may hold at once.
 ghost use Rattle.std.specs.Prelude.{◌≡◌, length};
 
+use crate::assertions::holds;
 use abstract_locks::{LockRefusal, Mode, Table};
 use spec_ledger::Kind;
 use std::alloc::Global;
@@ -69,5 +70,5 @@ fn are_answered(alloc: Global) -> bool {
 
 #[test]
 fn adds_are_side_by_side_until_one_reads(rt: HostRuntime) {
-    assert!(rt; are_answered(rt.alloc()));
+    holds(&rt, &"the acts", are_answered(rt.alloc()));
 }
