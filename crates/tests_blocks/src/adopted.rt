@@ -4,6 +4,7 @@ ghost use Rattle.spec_ledger.specs.declared.Version.TheVariants.{Two};
 ghost use Rattle.interp.specs.Lent.{setting_view};
 ghost use Rattle.publish.specs.Adoption.{AreMade, IsMade};
 
+use crate::assertions::holds;
 use crate::runs::{EIGHT, Held, REFUSED, RETURNED_5, RETURNED_10, SEVEN, STOPPED, hold_locks};
 use crate::settings::{Asked, Cell, calls, cells, contracts, hold};
 use boost::book::{Book, Run};
@@ -53,7 +54,7 @@ const ONE_KEY: [Asked; 2] = [
     (0, "run", &[Value::I64(7)], 10),
 ];
 
-const ROWS: [Row; 10] = [
+const ROWS: &[Row] = &[
     Row {
         name: "the runs of a book in its order",
         calls: &TWO_KEYS,
@@ -298,15 +299,27 @@ fn adopt<'a>(
     }
 }
 
+/// What is published of the book of a row by its runs; or that it is not adopted.
+fn adopted_over(
+    alloc: Global,
+    contracts: &[Deployed<Global>],
+    calls: &[Call],
+    row: &Row,
+) -> Option<Option<Published>>
+    requires { length calls.now < 2 ^ 32 }
+{
+    let cells = Cells::new(alloc);
+    let book = book(alloc, contracts, calls, row.committed)?;
+    let (runs, touched) = all_handed(alloc, contracts, calls, row.handed)?;
+    adopt(
+        alloc, contracts, calls, &cells, row.fuel, book, &runs, touched,
+    )
+}
+
 fn adopted(alloc: Global, row: &Row) -> Option<Option<Published>> {
     let contracts = contracts(alloc, true)?;
     let calls = calls(alloc, row.calls)?;
-    let cells = Cells::new(alloc);
-    let book = book(alloc, &contracts, &calls, row.committed)?;
-    let (runs, touched) = all_handed(alloc, &contracts, &calls, row.handed)?;
-    adopt(
-        alloc, &contracts, &calls, &cells, row.fuel, book, &runs, touched,
-    )
+    adopted_over(alloc, &contracts, &calls, row)
 }
 
 fn is_wanted(published: &Published, wanted: &Wanted) -> bool {
@@ -328,7 +341,7 @@ fn is_adopted(alloc: Global, row: &Row) -> bool {
 
 #[test]
 fn books_adopted(rt: HostRuntime) {
-    for row in &ROWS {
-        assert!(rt; is_adopted(rt.alloc(), row), "{}", row.name);
+    for row in ROWS {
+        holds(&rt, &row.name, is_adopted(rt.alloc(), row));
     }
 }

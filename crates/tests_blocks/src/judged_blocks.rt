@@ -1,4 +1,5 @@
 // Blocks that fit their calls or do not: with a byte changed, cut, and in orders within the fuel and beyond it.
+use crate::assertions::{equal, holds};
 use crate::settings::{Asked, calls, world};
 use block::{Block, Position, digest_calls, write_block};
 use block_judge::Unfit::{NoMemory, Rejected};
@@ -12,7 +13,7 @@ use world::{World, digest_world};
 use wtypes::Value;
 
 /// The block of version 1 of `peek(1)` and `set(1, 9)`, in this order, over no cells.
-const READ_THEN_WRITTEN: [u8; 188] = [
+static READ_THEN_WRITTEN: [u8; 188] = [
     0x57, 0x42, 0x4c, 0x4b, 0x01, 0x00, 0x00, 0x00, 0xdd, 0xc5, 0xe3, 0xd4, 0x88, 0xf3, 0x84, 0x4c,
     0xdf, 0x73, 0x1c, 0x6e, 0x2f, 0xcd, 0xb2, 0x13, 0xa1, 0xee, 0xa2, 0x31, 0x3f, 0x8f, 0xc0, 0xba,
     0xf8, 0xaa, 0xaf, 0xed, 0x8b, 0x7d, 0x0b, 0x92, 0x60, 0xcd, 0x16, 0xff, 0xd3, 0xe9, 0x82, 0x4c,
@@ -28,7 +29,7 @@ const READ_THEN_WRITTEN: [u8; 188] = [
 ];
 
 /// The same in version 2.
-const READ_THEN_WRITTEN_IN_2: [u8; 196] = [
+static READ_THEN_WRITTEN_IN_2: [u8; 196] = [
     0x57, 0x42, 0x4c, 0x4b, 0x02, 0x00, 0x00, 0x00, 0xdd, 0xc5, 0xe3, 0xd4, 0x88, 0xf3, 0x84, 0x4c,
     0xdf, 0x73, 0x1c, 0x6e, 0x2f, 0xcd, 0xb2, 0x13, 0xa1, 0xee, 0xa2, 0x31, 0x3f, 0x8f, 0xc0, 0xba,
     0xf8, 0xaa, 0xaf, 0xed, 0x8b, 0x7d, 0x0b, 0x92, 0x60, 0xcd, 0x16, 0xff, 0xd3, 0xe9, 0x82, 0x4c,
@@ -84,7 +85,7 @@ fn second_turn(profiles: &[Profile]) -> Option<u32> {
 }
 
 /// A byte of the block that is replaced, and the verdict.
-const CHANGES: [(usize, u8, Result<(), Unfit>); 24] = [
+const CHANGES: &[(usize, u8, Result<(), Unfit>)] = &[
     (0, 0x58, Err(Rejected(Reason::Malformed))),
     (4, 0, Err(Rejected(Reason::Malformed))),
     (4, 2, Err(Rejected(Reason::Malformed))),
@@ -123,34 +124,21 @@ fn changed(alloc: Global, at: usize, byte: u8) -> Result<(), Unfit> {
 
 #[test]
 fn one_changed_byte(rt: HostRuntime) {
-    assert!(rt; has(rt.alloc(), &READ_THEN_WRITTEN, Version::One, &[0, 1], 7, 1));
-    assert!(rt;
-        has(
-            rt.alloc(),
-            &READ_THEN_WRITTEN_IN_2,
-            Version::Two,
-            &[0, 1],
-            7,
-            1
-        )
-    );
+    let (one, two) = (Version::One, Version::Two);
+    let has_one = has(rt.alloc(), &READ_THEN_WRITTEN, one, &[0, 1], 7, 1);
+    holds(&rt, &one, has_one);
+    let has_two = has(rt.alloc(), &READ_THEN_WRITTEN_IN_2, two, &[0, 1], 7, 1);
+    holds(&rt, &two, has_two);
     for (at, byte, verdict) in CHANGES {
-        assert_eq!(rt;
-            changed(rt.alloc(), at, byte),
-            verdict,
-            "byte {at} is {byte}"
-        );
+        equal(&rt, &(at, byte), &changed(rt.alloc(), *at, *byte), verdict);
     }
 }
 
 #[test]
 fn a_front_is_no_block(rt: HostRuntime) {
     for size in 0..READ_THEN_WRITTEN.len() {
-        assert_eq!(rt;
-            judged(rt.alloc(), &[], 0, &READ_THEN_WRITTEN[..size]),
-            Err(Rejected(Reason::Malformed)),
-            "{size}"
-        );
+        let found = judged(rt.alloc(), &[], 0, &READ_THEN_WRITTEN[..size]);
+        equal(&rt, &size, &found, &Err(Rejected(Reason::Malformed)));
     }
 }
 
@@ -211,7 +199,7 @@ fn ordered(alloc: Global, order: &[u32]) -> Result<(), Unfit> {
     judged(alloc, &THREE_BUMPS, 100, bytes.bytes())
 }
 
-const ORDERS: [(&[u32], Result<(), Unfit>); 9] = [
+const ORDERS: &[(&[u32], Result<(), Unfit>)] = &[
     (&[0, 2], Ok(())),
     (&[1, 2], Ok(())),
     (&[2, 0], Ok(())),
@@ -226,11 +214,11 @@ const ORDERS: [(&[u32], Result<(), Unfit>); 9] = [
 #[test]
 fn orders_within_the_fuel(rt: HostRuntime) {
     for (order, verdict) in ORDERS {
-        assert_eq!(rt; ordered(rt.alloc(), order), verdict, "{order:?}");
+        equal(&rt, order, &ordered(rt.alloc(), *order), verdict);
     }
 }
 
-const REASONS: [(Reason, u8, Option<u32>); 9] = [
+const REASONS: &[(Reason, u8, Option<u32>)] = &[
     (Reason::Malformed, 1, None),
     (Reason::WrongWorld, 2, None),
     (Reason::WrongCalls, 3, None),
@@ -245,10 +233,7 @@ const REASONS: [(Reason, u8, Option<u32>); 9] = [
 #[test]
 fn reasons_have_their_numbers(rt: HostRuntime) {
     for (reason, number, place) in REASONS {
-        assert_eq!(rt;
-            (reason.number(), reason.place()),
-            (number, place),
-            "{reason:?}"
-        );
+        let found = (reason.number(), reason.place());
+        equal(&rt, reason, &found, &(*number, *place));
     }
 }

@@ -2,6 +2,7 @@
 // contract 1 whom its argument says.
 ghost use Rattle.std.specs.Prelude.{◌≡◌, IfSome};
 
+use crate::assertions::{self, equal};
 use crate::settings::{Asked, Cell, calls, cells, hold, lock};
 use block::{Block, write_block};
 use call::Call;
@@ -58,7 +59,7 @@ const NOT_ENTERED: Receipt = Receipt {
     asks: 0,
 };
 
-const ROWS: [Row; 11] = [
+const ROWS: &[Row] = &[
     Row {
         name: "a level is kept",
         cells: &[],
@@ -265,14 +266,10 @@ fn is_run(alloc: Global, row: &Row, version: Version) -> bool {
 
 #[test]
 fn calls_that_ask(rt: HostRuntime) {
-    for row in &ROWS {
-        for version in [Version::One, Version::Two] {
-            assert!(rt;
-                is_run(rt.alloc(), row, version),
-                "{}, {version:?}",
-                row.name
-            );
-        }
+    for row in ROWS {
+        let (one, two) = (Version::One, Version::Two);
+        assertions::holds(&rt, &(row.name, one), is_run(rt.alloc(), row, one));
+        assertions::holds(&rt, &(row.name, two), is_run(rt.alloc(), row, two));
     }
 }
 
@@ -331,11 +328,8 @@ fn sizes(alloc: Global, one: i32, other: i32) -> Option<(Option<usize>, Option<u
 #[test]
 fn levels_are_told_in_version_2_alone(rt: HostRuntime) {
     for (one, other, first, second) in SIZES {
-        assert_eq!(rt;
-            sizes(rt.alloc(), one, other),
-            Some((first, second)),
-            "{one}, {other}"
-        );
+        let found = sizes(rt.alloc(), one, other);
+        equal(&rt, &(one, other), &found, &Some((first, second)));
     }
 }
 
@@ -358,7 +352,7 @@ const STORED: Receipt = Receipt {
     asks: 2,
 };
 
-const REPLAYS: [Replay; 4] = [
+const REPLAYS: &[Replay] = &[
     Replay {
         name: "a dropped level adds nothing",
         call: TRY_BAD,
@@ -393,12 +387,15 @@ const REPLAYS: [Replay; 4] = [
     },
 ];
 
-/// The receipt of the replay, and whether the cells after it are those of the row.
-fn replayed(alloc: Global, row: &Replay) -> Option<(Option<Receipt>, bool)> {
-    let contracts = contracts(alloc)?;
-    let calls = calls(alloc, &[row.call])?;
+/// The receipt of the replay of a call that ran alone, and whether the cells after it are those of the row.
+fn replayed_after(
+    alloc: Global,
+    contracts: &[Deployed<Global>],
+    call: &Call,
+    row: &Replay,
+) -> Option<(Option<Receipt>, bool)> {
     let mut before = cells(alloc, row.ran_over)?;
-    let run = run_alone(alloc, &contracts, calls.first()?, &mut before, Version::Two).ok()?;
+    let run = run_alone(alloc, contracts, call, &mut before, Version::Two).ok()?;
     let mut cells = cells(alloc, row.cells)?;
     let found = replay(alloc, &run, &mut cells).ok()?;
     Some((
@@ -407,14 +404,17 @@ fn replayed(alloc: Global, row: &Replay) -> Option<(Option<Receipt>, bool)> {
     ))
 }
 
+/// The receipt of the replay, and whether the cells after it are those of the row.
+fn replayed(alloc: Global, row: &Replay) -> Option<(Option<Receipt>, bool)> {
+    let contracts = contracts(alloc)?;
+    let calls = calls(alloc, &[row.call])?;
+    replayed_after(alloc, &contracts, calls.first()?, row)
+}
+
 #[test]
 fn levels_are_replayed(rt: HostRuntime) {
-    for row in &REPLAYS {
-        assert_eq!(rt;
-            replayed(rt.alloc(), row),
-            Some((row.receipt, true)),
-            "{}",
-            row.name
-        );
+    for row in REPLAYS {
+        let wanted = Some((row.receipt, true));
+        equal(&rt, &row.name, &replayed(rt.alloc(), row), &wanted);
     }
 }

@@ -4,6 +4,8 @@
 #[cfg(test)]
 mod adopted;
 #[cfg(test)]
+mod assertions;
+#[cfg(test)]
 mod judged_blocks;
 #[cfg(test)]
 mod levels;

@@ -1,4 +1,5 @@
 // The locks of traces with marks.
+use crate::assertions;
 use crate::runs::{Held, holds};
 use serial::touched_by;
 use spec_ledger::Mode::{Add, Excl, Read};
@@ -29,7 +30,7 @@ struct Row<'b> {
     locks: &'b [Held],
 }
 
-const ROWS: [Row; 5] = [
+const ROWS: &[Row] = &[
     Row {
         name: "a mark asks for nothing",
         trace: &[Opened, Opened, Kept, Dropped],
@@ -66,7 +67,7 @@ fn is_held(alloc: Global, row: &Row) -> bool {
 
 #[test]
 fn locks_of_traces_with_marks(rt: HostRuntime) {
-    for row in &ROWS {
-        assert!(rt; is_held(rt.alloc(), row), "{}", row.name);
+    for row in ROWS {
+        assertions::holds(&rt, &row.name, is_held(rt.alloc(), row));
     }
 }

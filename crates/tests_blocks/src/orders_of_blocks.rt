@@ -1,6 +1,7 @@
 // Orders of two calls of the example contract, run into blocks.
 ghost use Rattle.std.specs.Prelude.{◌≡◌, IfSome, length};
 
+use crate::assertions::holds;
 use crate::settings::{Cell, hold, is_hex, lock, world};
 use block::{Block, Position, write_block};
 use call::Call;
@@ -30,7 +31,7 @@ struct Row<'b> {
     after: &'b [(Cell, Option<u64>)],
 }
 
-const ROWS: [Row; 9] = [
+const ROWS: &[Row] = &[
     Row {
         name: "two bumps commute",
         cells: &[],
@@ -182,17 +183,17 @@ fn is_outcome(
     }
 }
 
+/// The row has a block of this version with these digits, and after it the cells of the row.
+fn is_row(alloc: Global, row: &Row, version: Version, bytes: &str) -> bool {
+    is_outcome(alloc, outcome(alloc, row, version), bytes, row.after)
+}
+
 #[test]
 fn orders_of_two_calls(rt: HostRuntime) {
-    for row in &ROWS {
-        for (version, bytes) in [(Version::One, row.one), (Version::Two, row.two)] {
-            let ran = outcome(rt.alloc(), row, version);
-            assert!(rt;
-                is_outcome(rt.alloc(), ran, bytes, row.after),
-                "{}, {version:?}",
-                row.name
-            );
-        }
+    for row in ROWS {
+        let (one, two) = (Version::One, Version::Two);
+        holds(&rt, &(row.name, one), is_row(rt.alloc(), row, one, row.one));
+        holds(&rt, &(row.name, two), is_row(rt.alloc(), row, two, row.two));
     }
 }
 
@@ -213,12 +214,14 @@ fn mined_of_none(alloc: Global) -> Option<(Block, World)> {
 
 #[test]
 fn no_calls_change_nothing(rt: HostRuntime) {
-    let first = outcome_of_none(rt.alloc(), Version::One);
-    assert!(rt; is_outcome(rt.alloc(), first, NO_CALLS[0], &[]));
-    let second = outcome_of_none(rt.alloc(), Version::Two);
-    assert!(rt; is_outcome(rt.alloc(), second, NO_CALLS[1], &[]));
-    let mined = mined_of_none(rt.alloc());
-    assert!(rt; is_outcome(rt.alloc(), mined, NO_CALLS[1], &[]));
+    let alloc = rt.alloc();
+    let [one, two] = NO_CALLS;
+    let first = is_outcome(alloc, outcome_of_none(alloc, Version::One), one, &[]);
+    holds(&rt, &Version::One, first);
+    let second = is_outcome(alloc, outcome_of_none(alloc, Version::Two), two, &[]);
+    holds(&rt, &Version::Two, second);
+    let mined = is_outcome(alloc, mined_of_none(alloc), two, &[]);
+    holds(&rt, &"mined", mined);
 }
 
 const RETURNED: Receipt = Receipt {
@@ -269,15 +272,16 @@ fn sealed(alloc: Global, version: Version) -> Option<(Block, World)> {
     seal(alloc, &before, &calls, &[0, 1], core, version).ok()
 }
 
+/// The sealed block of this version has these digits, and after it the counter is not there.
+fn is_sealed(alloc: Global, version: Version, bytes: &str) -> bool {
+    is_outcome(alloc, sealed(alloc, version), bytes, &[(COUNTER, None)])
+}
+
 #[test]
 fn what_ran_elsewhere_is_sealed(rt: HostRuntime) {
-    for (version, bytes) in [(Version::One, SEALED[0]), (Version::Two, SEALED[1])] {
-        let made = sealed(rt.alloc(), version);
-        assert!(rt;
-            is_outcome(rt.alloc(), made, bytes, &[(COUNTER, None)]),
-            "{version:?}"
-        );
-    }
+    let [one, two] = SEALED;
+    holds(&rt, &Version::One, is_sealed(rt.alloc(), Version::One, one));
+    holds(&rt, &Version::Two, is_sealed(rt.alloc(), Version::Two, two));
 }
 
 /// There is one position: of call 5, which added to counter 7 in turn 0.
@@ -305,5 +309,5 @@ fn stand_in_the_order(alloc: Global) -> bool {
 
 #[test]
 fn positions_stand_in_the_order(rt: HostRuntime) {
-    assert!(rt; stand_in_the_order(rt.alloc()));
+    holds(&rt, &"the position", stand_in_the_order(rt.alloc()));
 }

@@ -4,6 +4,7 @@ ghost use Rattle.spec_ledger.specs.declared.Version.TheVariants.{Two};
 ghost use Rattle.interp.specs.Lent.{setting_view};
 ghost use Rattle.publish.specs.Publication.{IsSameJob};
 
+use crate::assertions::holds;
 use crate::runs::{EIGHT, Held, REFUSED, RETURNED_5, RETURNED_10, SEVEN, STOPPED, hold_locks};
 use crate::settings::{Asked, Cell, calls, cells, contracts, hold};
 use call::Call;
@@ -53,7 +54,7 @@ const THREE_CALLS: [Asked; 3] = [
     (0, "run", &[Value::I64(7)], 40),
 ];
 
-const ROWS: [Row; 9] = [
+const ROWS: &[Row] = &[
     Row {
         name: "a sweep takes what fits in rising number",
         module: false,
@@ -311,7 +312,7 @@ fn is_published(alloc: Global, row: &Row) -> bool {
 
 #[test]
 fn orders_published(rt: HostRuntime) {
-    for row in &ROWS {
-        assert!(rt; is_published(rt.alloc(), row), "{}", row.name);
+    for row in ROWS {
+        holds(&rt, &row.name, is_published(rt.alloc(), row));
     }
 }

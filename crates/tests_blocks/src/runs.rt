@@ -1,11 +1,19 @@
 // Calls of the first module, and calls of contracts that are not there, one after another.
+ghost use Rattle.std.specs.Prelude.{◌≡◌};
+ghost use Rattle.std.specs.FinMap as finite;
+
+use crate::assertions::{self, equal};
 use crate::settings::{Asked, Cell, calls, cells, contracts, hold, lock};
+use call::Call;
+use interp::finished::Finished;
+use link::deployed::Deployed;
 use lock_profile::Touched;
 use serial::{Core, execute, replay, run_alone, serial_core};
 use spec_ledger::Kind::Counter;
 use spec_ledger::Mode::{self, Add, Excl};
 use spec_ledger::{Outcome, Receipt, Version};
 use std::alloc::Global;
+use storage::Cells;
 use wtypes::Value;
 
 /// A counter of contract 0 that is held, and the mode.
@@ -51,7 +59,7 @@ pub const SEVEN: Cell = (0, Counter, 7);
 
 pub const EIGHT: Cell = (0, Counter, 8);
 
-const ROWS: [Row; 5] = [
+const ROWS: &[Row] = &[
     Row {
         name: "two keys",
         module: true,
@@ -159,52 +167,74 @@ fn is_run(alloc: Global, row: &Row) -> bool {
 
 #[test]
 fn orders_of_calls(rt: HostRuntime) {
-    for row in &ROWS {
-        assert!(rt; is_run(rt.alloc(), row), "{}", row.name);
+    for row in ROWS {
+        assertions::holds(&rt, &row.name, is_run(rt.alloc(), row));
     }
 }
 
 const RUN: [Asked; 1] = [(0, "run", &[Value::I64(7)], 100)];
 
 /// The outcome of a run alone over a counter at 3, and the counter after it.
-fn alone(alloc: Global) -> Option<(Outcome, Option<u64>)> {
-    let contracts = contracts(alloc, true)?;
-    let calls = calls(alloc, &RUN)?;
+fn alone_over(
+    alloc: Global,
+    contracts: &[Deployed<Global>],
+    call: &Call,
+) -> Option<(Outcome, Option<u64>)> {
     let mut cells = cells(alloc, &[(SEVEN, 3)])?;
-    let outcome = run_alone(alloc, &contracts, calls.first()?, &mut cells, Version::Two)
+    let outcome = run_alone(alloc, contracts, call, &mut cells, Version::Two)
         .ok()?
         .outcome();
     Some((outcome, cells.get(lock(SEVEN))))
 }
 
+/// As [`alone_over`], of the call over the contract of the first module.
+fn alone(alloc: Global) -> Option<(Outcome, Option<u64>)> {
+    let contracts = contracts(alloc, true)?;
+    let calls = calls(alloc, &RUN)?;
+    alone_over(alloc, &contracts, calls.first()?)
+}
+
 #[test]
 fn a_run_alone_leaves_the_cells(rt: HostRuntime) {
     let returned = Outcome::Returned(Some(Value::I64(8)));
-    assert_eq!(rt; alone(rt.alloc()), Some((returned, Some(3))));
+    equal(
+        &rt,
+        &"the run",
+        &alone(rt.alloc()),
+        &Some((returned, Some(3))),
+    );
 }
 
 /// A receipt, if there is one, and the counter after it.
 type Step = (Option<Receipt>, Option<u64>);
 
+/// A replay of the run: its receipt where the replies are those of the cells, and the counter after it.
+fn replay_of(alloc: Global, run: &Finished<'_, Global>, cells: &mut Cells) -> Option<Step>
+    requires { cells.old.unsettled ≡ finite.empty }
+    ensures { cells.new.unsettled ≡ finite.empty }
+{
+    let executed = replay(alloc, run, cells).ok()?;
+    Some((
+        executed.map(|executed| executed.receipt),
+        cells.get(lock(SEVEN)),
+    ))
+}
+
 /// A run that was made over no cells: replayed over no cells, replayed once more, and its call executed after it.
+fn replayed_over(alloc: Global, contracts: &[Deployed<Global>], call: &Call) -> Option<[Step; 3]> {
+    let mut cells = cells(alloc, &[])?;
+    let run = run_alone(alloc, contracts, call, &mut cells, Version::Two).ok()?;
+    let first = replay_of(alloc, &run, &mut cells)?;
+    let second = replay_of(alloc, &run, &mut cells)?;
+    let third = execute(alloc, contracts, call, &mut cells, Version::Two).ok()?;
+    Some([first, second, (Some(third.receipt), cells.get(lock(SEVEN)))])
+}
+
+/// As [`replayed_over`], of the call over the contract of the first module.
 fn replayed(alloc: Global) -> Option<[Step; 3]> {
     let contracts = contracts(alloc, true)?;
     let calls = calls(alloc, &RUN)?;
-    let call = calls.first()?;
-    let mut cells = cells(alloc, &[])?;
-    let run = run_alone(alloc, &contracts, call, &mut cells, Version::Two).ok()?;
-    let first = replay(alloc, &run, &mut cells).ok()?;
-    let first = (
-        first.map(|executed| executed.receipt),
-        cells.get(lock(SEVEN)),
-    );
-    let second = replay(alloc, &run, &mut cells).ok()?;
-    let second = (
-        second.map(|executed| executed.receipt),
-        cells.get(lock(SEVEN)),
-    );
-    let third = execute(alloc, &contracts, call, &mut cells, Version::Two).ok()?;
-    Some([first, second, (Some(third.receipt), cells.get(lock(SEVEN)))])
+    replayed_over(alloc, &contracts, calls.first()?)
 }
 
 #[test]
@@ -214,5 +244,5 @@ fn a_run_is_replayed_where_its_replies_are_those_of_the_cells(rt: HostRuntime) {
         (None, Some(5)),
         (Some(RETURNED_10), Some(10)),
     ];
-    assert_eq!(rt; replayed(rt.alloc()), Some(wanted));
+    equal(&rt, &"the steps", &replayed(rt.alloc()), &Some(wanted));
 }

@@ -1,6 +1,7 @@
 // A memory that grows by 256 pages, in blocks of the two versions.
 ghost use Rattle.std.specs.Prelude.{◌≡◌, IfSome, length};
 
+use crate::assertions::{equal, holds};
 use crate::orders_of_blocks::spells;
 use crate::settings::world_of;
 use block::Block;
@@ -26,7 +27,7 @@ struct Row<'b> {
     bytes: &'b str,
 }
 
-const ROWS: [Row; 2] = [
+const ROWS: &[Row] = &[
     Row {
         version: Version::One,
         receipt: Receipt {
@@ -89,8 +90,8 @@ fn is_grown(alloc: Global, row: &Row) -> bool {
 
 #[test]
 fn memory_grows_by_the_version(rt: HostRuntime) {
-    for row in &ROWS {
-        assert!(rt; is_grown(rt.alloc(), row), "{:?}", row.version);
+    for row in ROWS {
+        holds(&rt, &row.version, is_grown(rt.alloc(), row));
     }
 }
 
@@ -113,11 +114,14 @@ const OF_VERSION_3: &str =
 
 #[test]
 fn blocks_of_two_versions_fit(rt: HostRuntime) {
-    for row in &ROWS {
-        assert_eq!(rt; judged(rt.alloc(), row.bytes), Ok(()), "{:?}", row.version);
+    for row in ROWS {
+        equal(&rt, &row.version, &judged(rt.alloc(), row.bytes), &Ok(()));
     }
-    assert_eq!(rt;
-        judged(rt.alloc(), OF_VERSION_3),
-        Err(Unfit::Rejected(Reason::Malformed))
+    let malformed = Err(Unfit::Rejected(Reason::Malformed));
+    equal(
+        &rt,
+        &"version 3",
+        &judged(rt.alloc(), OF_VERSION_3),
+        &malformed,
     );
 }

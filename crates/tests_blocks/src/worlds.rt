@@ -1,4 +1,5 @@
 // Worlds written and hashed.
+use crate::assertions::{equal, holds};
 use crate::settings::{Cell, cells, hold, is_hex, world};
 use block::WriteRefusal;
 use codec::{Failures, MemorySink};
@@ -28,7 +29,7 @@ const FILLED: [(Cell, u64); 5] = [
     ((0, Map, 1), 10),
 ];
 
-const ROWS: [Row; 2] = [
+const ROWS: &[Row] = &[
     Row {
         name: "an empty world has 28 bytes",
         contracts: 0,
@@ -108,8 +109,8 @@ fn is_world(alloc: Global, row: &Row) -> bool {
 
 #[test]
 fn worlds_are_written_and_hashed(rt: HostRuntime) {
-    for row in &ROWS {
-        assert!(rt; is_world(rt.alloc(), row), "{}", row.name);
+    for row in ROWS {
+        holds(&rt, &row.name, is_world(rt.alloc(), row));
     }
 }
 
@@ -123,5 +124,6 @@ fn cut(alloc: Global) -> Option<(Result<(), WriteRefusal>, usize)> {
 
 #[test]
 fn a_sink_that_fails_has_taken_a_beginning(rt: HostRuntime) {
-    assert_eq!(rt; cut(rt.alloc()), Some((Err(WriteRefusal::Write), 200)));
+    let wanted = Some((Err(WriteRefusal::Write), 200));
+    equal(&rt, &"what was taken", &cut(rt.alloc()), &wanted);
 }

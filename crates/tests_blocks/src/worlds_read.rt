@@ -1,4 +1,5 @@
 // Worlds read from bytes, cut, changed and with each kind of fault.
+use crate::assertions::{equal, holds};
 use crate::settings::{Cell, hold};
 use samples::EXAMPLE;
 use std::alloc::Global;
@@ -79,7 +80,7 @@ struct Row<'b> {
     cells: &'b [(Cell, Option<u64>)],
 }
 
-const ROWS: [Row; 3] = [
+const ROWS: &[Row] = &[
     Row {
         name: "no contract and no cell",
         world: Sample {
@@ -132,14 +133,14 @@ fn is_read(alloc: Global, row: &Row) -> bool {
 
 #[test]
 fn reads_worlds(rt: HostRuntime) {
-    for row in &ROWS {
-        assert_eq!(rt;
-            size(rt.alloc(), &row.world),
-            Some(row.size),
-            "{}",
-            row.name
+    for row in ROWS {
+        equal(
+            &rt,
+            &row.name,
+            &size(rt.alloc(), &row.world),
+            &Some(row.size),
         );
-        assert!(rt; is_read(rt.alloc(), row), "{}", row.name);
+        holds(&rt, &row.name, is_read(rt.alloc(), row));
     }
 }
 
@@ -157,7 +158,7 @@ fn front_read(alloc: Global) -> Option<usize> {
 
 #[test]
 fn every_proper_front_is_refused(rt: HostRuntime) {
-    assert_eq!(rt; front_read(rt.alloc()), Some(333));
+    equal(&rt, &"the first front", &front_read(rt.alloc()), &Some(333));
 }
 
 /// The bytes are those of the world that they are read as, or no world.
@@ -189,7 +190,8 @@ fn refused_or_read(alloc: Global, change: u8) -> Option<usize> {
 #[test]
 fn a_changed_byte_is_refused_or_read(rt: HostRuntime) {
     for change in [0x01, 0x02, 0x10, 0x80, 0xff] {
-        assert_eq!(rt; refused_or_read(rt.alloc(), change), Some(333), "{change}");
+        let count = refused_or_read(rt.alloc(), change);
+        equal(&rt, &change, &count, &Some(333));
     }
 }
 
@@ -247,18 +249,16 @@ fn a_contract_is_at_fault_at_its_length(rt: HostRuntime) {
         UNTYPED.as_slice(),
         OTHER_TYPE.as_slice(),
     ] {
-        assert_eq!(rt;
-            refusal_of(rt.alloc(), 1, module, 0, &[]),
-            malformed,
-            "{module:?}"
-        );
+        let found = refusal_of(rt.alloc(), 1, module, 0, &[]);
+        equal(&rt, &module, &found, &malformed);
     }
     let malformed = Some(ReadRefusal::Malformed(217));
-    assert_eq!(rt; refusal_of(rt.alloc(), 2, &EXAMPLE, 217, &[202]), malformed);
+    let found = refusal_of(rt.alloc(), 2, &EXAMPLE, 217, &[202]);
+    equal(&rt, &"the second contract", &found, &malformed);
 }
 
 /// Bytes of the filled world from a place on, those behind it, and the refusal.
-const FAULTS: [(usize, &[u8], &[u8], ReadRefusal); 12] = [
+const FAULTS: &[(usize, &[u8], &[u8], ReadRefusal)] = &[
     (0, &[0x57, 0x42, 0x57, 0x45], &[], ReadRefusal::Malformed(0)),
     (4, &[2], &[], ReadRefusal::Malformed(4)),
     (8, &[27], &[], ReadRefusal::Malformed(8)),
@@ -276,7 +276,7 @@ const FAULTS: [(usize, &[u8], &[u8], ReadRefusal); 12] = [
 #[test]
 fn the_first_fault_is_answered(rt: HostRuntime) {
     for (at, new, behind, wanted) in FAULTS {
-        let answer = refusal(rt.alloc(), &FILLED, at, new, behind);
-        assert_eq!(rt; answer, Some(wanted), "{at}");
+        let answer = refusal(rt.alloc(), &FILLED, *at, *new, *behind);
+        equal(&rt, &(at, new), &answer, &Some(*wanted));
     }
 }
