@@ -1,4 +1,5 @@
 // An operation that is held inside its shard keeps no other shard closed.
+use crate::assertions::holds;
 use crate::books::{RETURNED, adding, at, cell};
 use boost::book::Run;
 use shards::{Gate, Shards};
@@ -95,6 +96,7 @@ fn both_are_inside<R: Threads + Wait + Sync>(rt: &R, alloc: Global) -> Result<bo
 
 #[test]
 fn one_shard_is_held_and_the_other_answers(rt: HostRuntime) -> Result<(), Fail> {
-    assert!(rt; both_are_inside(&rt, rt.alloc())?);
+    let are_inside = both_are_inside(&rt, rt.alloc())?;
+    holds(&rt, &"both are inside", are_inside);
     Ok(())
 }

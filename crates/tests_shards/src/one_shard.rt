@@ -1,4 +1,5 @@
 // One shard of a book.
+use crate::assertions::equal;
 use boost::book::{CommitRefusal, EnterRefusal, LeaveRefusal, OpRefusal};
 use shard::{EndRefusal, Shard};
 use spec_ledger::{Op, Outcome, Place, Reply, Step};
@@ -79,7 +80,7 @@ const WAITS: Answer = Answer::Op(Err(OpRefusal::Conflict));
 
 const IS_0: Answer = Answer::Op(Ok(Reply::I64(0)));
 
-const TWO_BUMPS: [(Act, Answer); 11] = [
+const TWO_BUMPS: &[(Act, Answer)] = &[
     (Act::Op(0, 4, ADD_3), DONE),
     (Act::Op(1, 0, Op::Add(SEVEN, 5)), DONE),
     (Act::Look(0, 4, &ADDED_3), Answer::Look(Ok(()))),
@@ -105,7 +106,7 @@ const TWO_BUMPS: [(Act, Answer); 11] = [
     (Act::Op(2, 0, TOTAL), STALE),
 ];
 
-const REFUSED_FIRST: [(Act, Answer); 9] = [
+const REFUSED_FIRST: &[(Act, Answer)] = &[
     (Act::Op(0, 0, ADD_3), DONE),
     (Act::Op(1, 9, TOTAL), WAITS),
     // an earlier attempt of the call lives
@@ -134,7 +135,7 @@ const ENTERED: Answer = Answer::Enter(Ok(()));
 
 const LEFT: Answer = Answer::Leave(Ok(()));
 
-const LEVELS: [(Act, Answer); 18] = [
+const LEVELS: &[(Act, Answer)] = &[
     (Act::Enter(0, 0), Answer::Enter(Err(EnterRefusal::Stale))),
     (
         Act::Leave(0, 0, true),
@@ -167,11 +168,11 @@ const LEVELS: [(Act, Answer); 18] = [
 
 #[test]
 fn a_shard_answers_as_said(rt: HostRuntime) -> Result<(), Fail> {
-    assert!(rt; first_other(rt.alloc(), &TWO_BUMPS)?.is_none(), "two bumps");
-    assert!(rt;
-        first_other(rt.alloc(), &REFUSED_FIRST)?.is_none(),
-        "a first operation that is refused"
-    );
-    assert!(rt; first_other(rt.alloc(), &LEVELS)?.is_none(), "levels");
+    let other = first_other(rt.alloc(), TWO_BUMPS)?;
+    equal(&rt, &"two bumps", &other, &None);
+    let other = first_other(rt.alloc(), REFUSED_FIRST)?;
+    equal(&rt, &"a first operation that is refused", &other, &None);
+    let other = first_other(rt.alloc(), LEVELS)?;
+    equal(&rt, &"levels", &other, &None);
     Ok(())
 }

@@ -1,4 +1,5 @@
 // What two shards leave is one book, or is refused where one of them did other things than the journal says.
+use crate::assertions::holds;
 use crate::books::{RETURNED, TRAPPED, adding, at, cell};
 use boost::attempt::Entry;
 use boost::book::{Closed, OpRefusal};
@@ -106,7 +107,7 @@ fn is_told(alloc: Global, lie: Lie) -> Result<bool, Fail> {
     }
 }
 
-const LIES: [Lie; 6] = [
+const LIES: &[Lie] = &[
     Lie::None,
     Lie::Undone,
     Lie::Outcome,
@@ -118,7 +119,8 @@ const LIES: [Lie; 6] = [
 #[test]
 fn a_shard_that_lies_is_told(rt: HostRuntime) -> Result<(), Fail> {
     for (row, lie) in LIES.iter().enumerate() {
-        assert!(rt; is_told(rt.alloc(), *lie)?, "row {row}");
+        let is_told = is_told(rt.alloc(), *lie)?;
+        holds(&rt, &row, is_told);
     }
     Ok(())
 }

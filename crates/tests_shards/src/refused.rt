@@ -1,4 +1,5 @@
 // Each block of memory is refused once. What was refused is as it was, so the same done again comes to what it does without a refusal.
+use crate::assertions::holds;
 use crate::books::{COUNTS, Came, played};
 use crate::scripts::GROWTHS;
 use ration::Ration;
@@ -35,7 +36,7 @@ fn refused_in_turn<R: Wait>(rt: &R, heap: Global, shards: u32) -> Option<u64> {
 fn each_growth_is_refused_in_turn(rt: HostRuntime) -> Result<(), Fail> {
     for shards in &COUNTS {
         let blocks = refused_in_turn(&rt, rt.alloc(), *shards);
-        assert!(rt; blocks > Some(10), "{shards} shards, {blocks:?}");
+        holds(&rt, &(shards, blocks), blocks > Some(10));
     }
     Ok(())
 }
