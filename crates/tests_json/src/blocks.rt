@@ -1,12 +1,13 @@
 //! Blocks as JSON: texts compared whole with those that Python's `json` makes of the lines that `show` prints, its members sorted.
 
+use crate::assertions::holds;
 use block::read_block;
 use calls_text::read_calls;
 use show_json::block_json;
 use std::alloc::Global;
 
 /// No positions, in version 1.
-const NO_CALLS: [u8; 116] = [
+const NO_CALLS: &[u8] = &[
     87, 66, 76, 75, 1, 0, 0, 0, 1, 1, 1, 1, 1, 1, 1, 1, 1, 1, 1, 1, 1, 1, 1, 1, 1, 1, 1, 1, 1, 1,
     1, 1, 1, 1, 1, 1, 1, 1, 1, 1, 2, 2, 2, 2, 2, 2, 2, 2, 2, 2, 2, 2, 2, 2, 2, 2, 2, 2, 2, 2, 2, 2,
     2, 2, 2, 2, 2, 2, 2, 2, 2, 2, 0, 0, 0, 0, 0, 0, 0, 0, 0, 0, 0, 0, 3, 3, 3, 3, 3, 3, 3, 3, 3, 3,
@@ -25,7 +26,7 @@ const NO_CALLS_JSON: &str = "\
     \"positions\":[],\"version\":1}";
 
 /// A read of a counter, then a trap and an addition side by side, and a call that was not started, of the calls `CALLS`.
-const FOUR: [u8; 303] = [
+const FOUR: &[u8] = &[
     87, 66, 76, 75, 2, 0, 0, 0, 1, 1, 1, 1, 1, 1, 1, 1, 1, 1, 1, 1, 1, 1, 1, 1, 1, 1, 1, 1, 1, 1,
     1, 1, 1, 1, 1, 1, 1, 1, 1, 1, 61, 8, 53, 59, 18, 28, 23, 92, 218, 95, 82, 50, 202, 83, 104,
     114, 143, 22, 243, 105, 52, 31, 205, 16, 152, 229, 246, 13, 92, 82, 31, 81, 4, 0, 0, 0, 1, 0,
@@ -115,7 +116,7 @@ const FOUR_ODD: &str = "\
     {\"asks\":0,\"call\":2,\"called\":{\"args\":[{\"type\":\"i32\",\"value\":\"3\"}],\"contract\":2,\"entry\":\"\u{e9}\u{20ac}\u{1f600}/\"},\"code\":6,\"fuel\":\"0\",\"locks\":[],\"outcome\":\"rejected\",\"position\":3,\"value\":null,\"wave\":0}],\"version\":2}";
 
 /// A forged block: the turns of a cell go back in the order.
-const BACK: [u8; 187] = [
+const BACK: &[u8] = &[
     87, 66, 76, 75, 1, 0, 0, 0, 1, 1, 1, 1, 1, 1, 1, 1, 1, 1, 1, 1, 1, 1, 1, 1, 1, 1, 1, 1, 1, 1,
     1, 1, 1, 1, 1, 1, 1, 1, 1, 1, 2, 2, 2, 2, 2, 2, 2, 2, 2, 2, 2, 2, 2, 2, 2, 2, 2, 2, 2, 2, 2, 2,
     2, 2, 2, 2, 2, 2, 2, 2, 2, 2, 2, 0, 0, 0, 0, 0, 0, 0, 5, 0, 0, 0, 0, 0, 0, 0, 0, 0, 1, 0, 0, 0,
@@ -138,7 +139,7 @@ const BACK_JSON: &str = "\
     {\"asks\":0,\"call\":1,\"called\":null,\"code\":null,\"fuel\":\"7\",\"locks\":[{\"contract\":0,\"key\":\"1\",\"kind\":\"map\",\"mode\":\"excl\",\"turn\":0}],\"outcome\":\"out-of-fuel\",\"position\":1,\"value\":null,\"wave\":null}],\"version\":1}";
 
 /// Numbers that are as great as they can be.
-const WIDE: [u8; 210] = [
+const WIDE: &[u8] = &[
     87, 66, 76, 75, 2, 0, 0, 0, 254, 254, 254, 254, 254, 254, 254, 254, 254, 254, 254, 254, 254,
     254, 254, 254, 254, 254, 254, 254, 254, 254, 254, 254, 254, 254, 254, 254, 254, 254, 254, 254,
     10, 10, 10, 10, 10, 10, 10, 10, 10, 10, 10, 10, 10, 10, 10, 10, 10, 10, 10, 10, 10, 10, 10, 10,
@@ -167,14 +168,14 @@ const WIDE_JSON: &str = "\
 /// A block, the text of its calls or nothing, and its text.
 type Row<'a> = (&'a str, &'a [u8], &'a str, &'a str);
 
-const ROWS: [Row; 7] = [
-    ("no calls", &NO_CALLS, "", NO_CALLS_JSON),
-    ("four positions", &FOUR, "", FOUR_JSON),
-    ("with their calls", &FOUR, CALLS, FOUR_CALLED),
-    ("with one of their calls", &FOUR, FIRST_CALL, FOUR_FIRST),
-    ("names with escapes", &FOUR, ODD_CALLS, FOUR_ODD),
-    ("turns that go back", &BACK, "", BACK_JSON),
-    ("great numbers", &WIDE, "", WIDE_JSON),
+const ROWS: &[Row] = &[
+    ("no calls", NO_CALLS, "", NO_CALLS_JSON),
+    ("four positions", FOUR, "", FOUR_JSON),
+    ("with their calls", FOUR, CALLS, FOUR_CALLED),
+    ("with one of their calls", FOUR, FIRST_CALL, FOUR_FIRST),
+    ("names with escapes", FOUR, ODD_CALLS, FOUR_ODD),
+    ("turns that go back", BACK, "", BACK_JSON),
+    ("great numbers", WIDE, "", WIDE_JSON),
 ];
 
 /// The text of a block. None where memory is refused, or where the bytes are no block or the text spells no calls.
@@ -187,8 +188,8 @@ fn shown(alloc: Global, bytes: &[u8], text: &str) -> Option<String> {
     block_json(alloc, &block, Some(calls.as_slice())).ok()
 }
 
-fn is_shown(alloc: Global, row: Row) -> bool {
-    let (_, bytes, calls, text) = row;
+fn is_shown(alloc: Global, row: &Row) -> bool {
+    let (_, bytes, calls, text) = *row;
     match shown(alloc, bytes, calls) {
         None => false,
         Some(json) => json.as_str() == text,
@@ -199,6 +200,6 @@ fn is_shown(alloc: Global, row: Row) -> bool {
 fn blocks_have_their_texts(rt: HostRuntime) {
     let alloc = rt.alloc();
     for row in ROWS {
-        assert!(rt; is_shown(alloc, row), "{}", row.0);
+        holds(&rt, &row.0, is_shown(alloc, row));
     }
 }

@@ -1,6 +1,7 @@
 //! Modules as JSON: texts compared whole with those that Python's `json` makes of what a reader of modules written in Python finds in the same
 //! bytes, its members sorted.
 
+use crate::assertions::holds;
 use loader::load;
 use samples::FIRST_MODULE;
 use show_json::module_json;
@@ -52,7 +53,7 @@ const FIRST_JSON: &str = "\
 /// The bytes of a module, and its text.
 type Row<'a> = (&'a str, &'a [u8], &'a str);
 
-const ROWS: [Row; 3] = [
+const ROWS: &[Row] = &[
     ("of each", OF_EACH, OF_EACH_JSON),
     ("rooms", ROOMS, ROOMS_JSON),
     ("the first", &FIRST_MODULE, FIRST_JSON),
@@ -64,8 +65,8 @@ fn shown(alloc: Global, bytes: &[u8]) -> Option<String> {
     module_json(alloc, bytes.len(), &tree).ok()
 }
 
-fn is_shown(alloc: Global, row: Row) -> bool {
-    let (_, bytes, text) = row;
+fn is_shown(alloc: Global, row: &Row) -> bool {
+    let (_, bytes, text) = *row;
     match shown(alloc, bytes) {
         None => false,
         Some(json) => json.as_str() == text,
@@ -76,6 +77,6 @@ fn is_shown(alloc: Global, row: Row) -> bool {
 fn modules_have_their_texts(rt: HostRuntime) {
     let alloc = rt.alloc();
     for row in ROWS {
-        assert!(rt; is_shown(alloc, row), "{}", row.0);
+        holds(&rt, &row.0, is_shown(alloc, row));
     }
 }

@@ -1,6 +1,7 @@
 //! Worlds as JSON: texts compared whole with those that Python's `json` makes of what a reader of worlds written in Python finds in the same
 //! bytes, its members sorted.
 
+use crate::assertions::holds;
 use samples::FIRST_MODULE;
 use show_json::world_json;
 use std::alloc::Global;
@@ -40,7 +41,7 @@ const WORLD_JSON: &str = "\
 /// The bytes of a world, each list behind the other, and its text.
 type Row<'a> = (&'a str, [&'a [u8]; 3], &'a str);
 
-const ROWS: [Row; 2] = [
+const ROWS: &[Row] = &[
     ("empty", [EMPTY, &[], &[]], EMPTY_JSON),
     (
         "a contract and cells",
@@ -59,8 +60,8 @@ fn shown(alloc: Global, parts: [&[u8]; 3]) -> Option<String> {
     world_json(alloc, &world).ok()
 }
 
-fn is_shown(alloc: Global, row: Row) -> bool {
-    let (_, parts, text) = row;
+fn is_shown(alloc: Global, row: &Row) -> bool {
+    let (_, parts, text) = *row;
     match shown(alloc, parts) {
         None => false,
         Some(json) => json.as_str() == text,
@@ -71,6 +72,6 @@ fn is_shown(alloc: Global, row: Row) -> bool {
 fn worlds_have_their_texts(rt: HostRuntime) {
     let alloc = rt.alloc();
     for row in ROWS {
-        assert!(rt; is_shown(alloc, row), "{}", row.0);
+        holds(&rt, &row.0, is_shown(alloc, row));
     }
 }
