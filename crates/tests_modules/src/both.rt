@@ -1,3 +1,4 @@
+use crate::assertions::{equal, holds};
 use crate::loading::HEADER;
 use bumpalo::Bump;
 use encoder::encode;
@@ -28,7 +29,8 @@ type Row<'b> = (&'b [u8], &'b [u8]);
 
 fn come_back(rt: &impl Abort, a: Global, rows: &[Row]) -> Result<(), Fail> {
     for (bytes, wanted) in rows {
-        assert_eq!(rt; shortest(a, *bytes)?.as_slice(), *wanted, "{bytes:?}");
+        let found = shortest(a, *bytes)?;
+        equal(rt, bytes, &found.as_slice(), wanted);
     }
     Ok(())
 }
@@ -90,22 +92,24 @@ fn is_example<A: Allocator>(module: &Module<A>) -> bool {
 fn in_an_arena(rt: HostRuntime) -> Result<(), Fail> {
     let arena = Bump::new(rt.alloc());
     let module = load(&arena, &EXAMPLE)?;
-    assert!(rt; is_example(&module));
+    holds(&rt, &"the example", is_example(&module));
     let mut out = Vec::new(&arena);
     encode(&module, &mut out)?;
-    assert_eq!(rt; out.as_slice(), EXAMPLE.as_slice());
+    equal(&rt, &"its bytes", &out.as_slice(), &EXAMPLE.as_slice());
     Ok(())
+}
+
+// How many functions the example has in the heap.
+fn functions_in(heap: &LocalHeap) -> Result<usize, LoadRefusal> {
+    Ok(load(heap, &EXAMPLE)?.funcs.len())
 }
 
 // How many functions the example has in a heap of this size, which is given back.
 fn in_heap(rt: &impl Abort, a: Global, size: usize) -> Result<Result<usize, LoadRefusal>, Fail> {
     let heap = LocalHeap::new(a, size)?;
     let before = heap.used();
-    let answer = match load(&heap, &EXAMPLE) {
-        Ok(module) => Ok(module.funcs.len()),
-        Err(refusal) => Err(refusal),
-    };
-    assert_eq!(rt; heap.used(), before, "{size}");
+    let answer = functions_in(&heap);
+    equal(rt, &size, &heap.used(), &before);
     Ok(answer)
 }
 
@@ -117,17 +121,17 @@ fn in_heaps_of_fixed_size(rt: HostRuntime) -> Result<(), Fail> {
     for step in 1..200 {
         match in_heap(&rt, rt.alloc(), 100 * step)? {
             Ok(functions) => {
-                assert_eq!(rt; functions, 6);
+                equal(&rt, &("functions", step), &functions, &6);
                 loaded = loaded.saturating_add(1);
             }
             Err(refusal) => {
-                assert_eq!(rt; refusal, LoadRefusal::NoMemory);
-                assert_eq!(rt; loaded, 0);
+                equal(&rt, &step, &refusal, &LoadRefusal::NoMemory);
+                equal(&rt, &("loaded before", step), &loaded, &0);
                 refused = refused.saturating_add(1);
             }
         }
     }
-    assert!(rt; refused > 0 && loaded > 0);
+    holds(&rt, &(refused, loaded), refused > 0 && loaded > 0);
     Ok(())
 }
 
@@ -137,10 +141,8 @@ fn bytes_before_stay(rt: HostRuntime) -> Result<(), Fail> {
     let module = load(rt.alloc(), &HEADER)?;
     let mut bytes = [7, 9].to_vec(rt.alloc())?;
     encode(&module, &mut bytes)?;
-    assert_eq!(rt;
-        bytes.as_slice(),
-        [7, 9, 0x00, 0x61, 0x73, 0x6D, 0x01, 0x00, 0x00, 0x00].as_slice()
-    );
+    let wanted = [7, 9, 0x00, 0x61, 0x73, 0x6D, 0x01, 0x00, 0x00, 0x00];
+    equal(&rt, &"the bytes", &bytes.as_slice(), &wanted.as_slice());
     Ok(())
 }
 
@@ -151,8 +153,9 @@ fn a_full_buffer_is_as_it_was(rt: HostRuntime) -> Result<(), Fail> {
     let heap = LocalHeap::new(rt.alloc(), 150)?;
     let mut bytes = Vec::new(&heap);
     bytes.push(7)?;
-    assert!(rt; encode(&module, &mut bytes).is_err());
-    assert_eq!(rt; bytes.as_slice(), [7].as_slice());
+    let is_refused = encode(&module, &mut bytes).is_err();
+    holds(&rt, &"a refusal", is_refused);
+    equal(&rt, &"the buffer", &bytes.as_slice(), &[7].as_slice());
     Ok(())
 }
 
@@ -187,16 +190,25 @@ fn refusal<A: Allocator + Clone>(a: A, bytes: &[u8]) -> Option<LoadRefusal> {
     load(a, bytes).err()
 }
 
+// The module is of 128 nested blocks, and is spelled by these bytes.
+fn assert_nested<A: Allocator>(
+    rt: &impl Abort,
+    a: Global,
+    module: &Module<A>,
+    bytes: &Vec<u8, Global>,
+) -> Result<(), Fail> {
+    holds(rt, &"nested", is_nested(module));
+    equal(rt, &"its bytes", &encoded(a, module)?, bytes);
+    Ok(())
+}
+
 // 128 nested blocks are loaded in this allocator, and there and copied to the machine's memory they are spelled by the same bytes.
 fn are_copied_out<A: Allocator + Clone>(rt: &impl Abort, a: Global, other: A) -> Result<(), Fail> {
     let bytes = nested(a, 128)?;
     let module = load(other, &bytes)?;
-    assert!(rt; is_nested(&module));
-    assert_eq!(rt; encoded(a, &module)?, bytes);
+    assert_nested(rt, a, &module, &bytes)?;
     let copied = module.copy_in(a)?;
-    assert!(rt; is_nested(&copied));
-    assert_eq!(rt; encoded(a, &copied)?, bytes);
-    Ok(())
+    assert_nested(rt, a, &copied, &bytes)
 }
 
 // 128 nested blocks in the machine's memory, in an arena, in a heap and as a copy are one tree; 129 are refused.
@@ -214,7 +226,7 @@ fn nested_blocks_in_a_heap(rt: HostRuntime) -> Result<(), Fail> {
     let heap = LocalHeap::new(rt.alloc(), 100_000)?;
     are_copied_out(&rt, rt.alloc(), &heap)?;
     let copied = load(rt.alloc(), &bytes)?.copy_in(&heap)?;
-    assert!(rt; is_nested(&copied));
+    holds(&rt, &"the copy", is_nested(&copied));
     Ok(())
 }
 
@@ -223,7 +235,7 @@ fn deeper_blocks_under_each_allocator(rt: HostRuntime) -> Result<(), Fail> {
     let bytes = nested(rt.alloc(), 129)?;
     let arena = Bump::new(rt.alloc());
     let too_large = Some(LoadRefusal::TooLarge(Limit::Nesting));
-    assert_eq!(rt; refusal(rt.alloc(), &bytes), too_large);
-    assert_eq!(rt; refusal(&arena, &bytes), too_large);
+    equal(&rt, &"memory", &refusal(rt.alloc(), &bytes), &too_large);
+    equal(&rt, &"an arena", &refusal(&arena, &bytes), &too_large);
     Ok(())
 }

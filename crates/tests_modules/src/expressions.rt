@@ -1,3 +1,4 @@
+use crate::assertions::{equal, holds};
 use expr_reader::{LoadRefusal, read_expr};
 use module_tree::instr::Instr;
 use module_tree::limit::Limit;
@@ -63,9 +64,9 @@ fn holds_of(body: &[Instr<Global>]) -> [(&'static str, bool); 5] {
 #[test]
 fn a_body_with_each_kind_of_instruction(rt: HostRuntime) -> Result<(), Fail> {
     let (body, next) = read_expr(rt.alloc(), &EACH_KIND, 0, 25)?;
-    assert_eq!(rt; next, 24);
-    for (what, holds) in holds_of(&body) {
-        assert!(rt; holds, "{what}");
+    equal(&rt, &"next", &next, &24);
+    for (what, is) in holds_of(&body) {
+        holds(&rt, &what, is);
     }
     Ok(())
 }
@@ -83,10 +84,15 @@ const EXTENSIONS: [(u32, CvtOp); 5] = [
 fn a_body_of_extensions(rt: HostRuntime) -> Result<(), Fail> {
     let bytes = [0xC0, 0xC1, 0xC2, 0xC3, 0xC4, 0x0B];
     let (body, next) = read_expr(rt.alloc(), &bytes, 0, 6)?;
-    assert_eq!(rt; (body.len(), next), (5, 6));
+    equal(
+        &rt,
+        &"the length and what is next",
+        &(body.len(), next),
+        &(5, 6),
+    );
     for (instr, (ordinal, op)) in body.iter().zip(EXTENSIONS) {
         let plain = PlainInstr::Convert(op);
-        assert!(rt; is_plain(Some(instr), ordinal, plain), "{op:?}");
+        holds(&rt, &op, is_plain(Some(instr), ordinal, plain));
     }
     Ok(())
 }
@@ -102,7 +108,7 @@ fn refusal(a: Global, bytes: &[u8]) -> Result<Option<LoadRefusal>, Fail> {
 /// Bytes, and how they are refused.
 type Row<'b> = (&'b [u8], Option<LoadRefusal>);
 
-const REFUSALS: [Row; 13] = [
+const REFUSALS: &[Row] = &[
     // the input's end
     (&[0x01], Some(LoadRefusal::Malformed(1))),
     // an unknown instruction
@@ -145,7 +151,8 @@ const REFUSALS: [Row; 13] = [
 #[test]
 fn which_refusal_is_answered(rt: HostRuntime) -> Result<(), Fail> {
     for (bytes, wanted) in REFUSALS {
-        assert_eq!(rt; refusal(rt.alloc(), bytes)?, wanted, "{bytes:?}");
+        let found = refusal(rt.alloc(), *bytes)?;
+        equal(&rt, bytes, &found, wanted);
     }
     Ok(())
 }
@@ -160,13 +167,16 @@ fn nested(a: Global, blocks: usize) -> Result<Option<LoadRefusal>, Fail> {
     refusal(a, &bytes)
 }
 
+const LEVELS: [(usize, Option<LoadRefusal>); 2] = [
+    (128, None),
+    (129, Some(LoadRefusal::TooLarge(Limit::Nesting))),
+];
+
 #[test]
 fn nesting_has_a_limit(rt: HostRuntime) -> Result<(), Fail> {
-    for (blocks, wanted) in [
-        (128, None),
-        (129, Some(LoadRefusal::TooLarge(Limit::Nesting))),
-    ] {
-        assert_eq!(rt; nested(rt.alloc(), blocks)?, wanted, "{blocks}");
+    for (blocks, wanted) in &LEVELS {
+        let found = nested(rt.alloc(), *blocks)?;
+        equal(&rt, blocks, &found, wanted);
     }
     Ok(())
 }

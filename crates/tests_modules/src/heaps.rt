@@ -1,54 +1,77 @@
 // Trees and working memory in heaps of fixed size.
-use crate::verdict::Verdict::{Deployed, NoMemory};
+use crate::assertions::{equal, holds};
+use crate::verdict::Verdict::{self, Deployed, NoMemory};
 use crate::verdict::verdict_in;
 use link::deploy::deploy;
+use link::deployed::Deployed as Contract;
 use link::refusal::LinkRefusal;
 use linked_list_allocator::LocalHeap;
 use loader::load;
 use samples::{EXAMPLE, deployed, typed};
 use std::alloc::{AllocError, Global};
+use std::process::Abort;
 use std::test::Fail;
+use typing::valid::Valid;
 use wtypes::HostCall;
+
+// The example in the second heap, by a copy of it that was linked in the first heap.
+fn copied_twice<'h>(
+    a: Global,
+    first: &LocalHeap,
+    second: &'h LocalHeap,
+) -> Result<Contract<&'h LocalHeap>, Fail> {
+    let copy = typed(a, &EXAMPLE)?.copy_in(first)?;
+    let deployed = deploy(&first, copy).ok().ok_or("not linked")?;
+    Ok(deployed.copy_in(second)?)
+}
+
+const HOSTS: [HostCall; 4] = [HostCall::Add, HostCall::Total, HostCall::Get, HostCall::Put];
+
+fn assert_example(rt: &impl Abort, contract: &Contract<&LocalHeap>) {
+    equal(rt, &"functions", &contract.module().funcs.len(), &6);
+    equal(rt, &"exports", &contract.module().exports.len(), &6);
+    equal(rt, &"hosts", &contract.hosts(), &HOSTS.as_slice());
+    equal(rt, &"import 3", &contract.import(3), &Some(HostCall::Put));
+    equal(rt, &"import 4", &contract.import(4), &None);
+}
 
 #[test]
 fn copies(rt: HostRuntime) -> Result<(), Fail> {
-    let a = rt.alloc();
-    let first = LocalHeap::new(a, 1_048_576)?;
-    let second = LocalHeap::new(a, 1_048_576)?;
-    let copy = typed(a, &EXAMPLE)?.copy_in(&first)?;
-    let deployed = deploy(&&first, copy).ok().ok_or("not linked")?;
-    let again = deployed.copy_in(&second)?;
-    drop(deployed);
-    assert_eq!(rt; first.used(), 0);
-    assert_eq!(rt; again.module().funcs.len(), 6);
-    assert_eq!(rt; again.module().exports.len(), 6);
-    assert_eq!(rt;
-        again.hosts(),
-        [HostCall::Add, HostCall::Total, HostCall::Get, HostCall::Put].as_slice()
-    );
-    assert_eq!(rt; again.import(3), Some(HostCall::Put));
-    assert_eq!(rt; again.import(4), None);
+    let first = LocalHeap::new(rt.alloc(), 1_048_576)?;
+    let second = LocalHeap::new(rt.alloc(), 1_048_576)?;
+    let again = copied_twice(rt.alloc(), &first, &second)?;
+    equal(&rt, &"used in the first heap", &first.used(), &0);
+    assert_example(&rt, &again);
     Ok(())
+}
+
+// Whether the contract is copied into a heap of so many bytes, which is empty again behind it.
+fn is_copied(
+    rt: &impl Abort,
+    a: Global,
+    contract: &Contract<Global>,
+    bytes: usize,
+) -> Result<bool, Fail> {
+    let heap = LocalHeap::new(a, bytes)?;
+    let is_copied = contract.copy_in(&heap).is_ok();
+    equal(rt, &("used of", bytes), &heap.used(), &0);
+    Ok(is_copied)
 }
 
 // A refused copy leaves the heap empty.
 #[test]
 fn copies_in_small_heaps(rt: HostRuntime) -> Result<(), Fail> {
-    let a = rt.alloc();
-    let deployed = deployed(a, &EXAMPLE)?;
+    let deployed = deployed(rt.alloc(), &EXAMPLE)?;
     let mut refused = 0u32;
     let mut copied = 0u32;
     for size in 4..512usize {
-        let heap = LocalHeap::new(a, 16 * size)?;
-        let is_copied = deployed.copy_in(&heap).is_ok();
-        assert_eq!(rt; heap.used(), 0);
-        if is_copied {
+        if is_copied(&rt, rt.alloc(), &deployed, 16 * size)? {
             copied = copied.saturating_add(1);
         } else {
             refused = refused.saturating_add(1);
         }
     }
-    assert!(rt; refused > 0 && copied > 0);
+    holds(&rt, &(refused, copied), refused > 0 && copied > 0);
     Ok(())
 }
 
@@ -65,36 +88,48 @@ fn filled(a: Global, heap: &LocalHeap) -> Result<Vec<Vec<u8, &LocalHeap>>, Alloc
     Ok(blocks)
 }
 
+// The example in the heap, and why it is not linked while all the heap is taken.
+fn unlinked<'h>(
+    a: Global,
+    heap: &'h LocalHeap,
+) -> Result<(Valid<&'h LocalHeap>, LinkRefusal), Fail> {
+    let copy = typed(a, &EXAMPLE)?.copy_in(heap)?;
+    let _blocks = filled(a, heap)?;
+    Ok(deploy(&heap, copy).err().ok_or("deployed")?)
+}
+
 // A module that is refused for memory is deployed once there is some.
 #[test]
 fn host_calls_without_room(rt: HostRuntime) -> Result<(), Fail> {
-    let a = rt.alloc();
-    let heap = LocalHeap::new(a, 8_192)?;
-    let copy = typed(a, &EXAMPLE)?.copy_in(&heap)?;
-    let blocks = filled(a, &heap)?;
-    let (valid, refusal) = deploy(&&heap, copy).err().ok_or("deployed")?;
-    assert_eq!(rt; refusal, LinkRefusal::NoMemory);
-    drop(blocks);
-    assert!(rt; deploy(&&heap, valid).is_ok());
+    let heap = LocalHeap::new(rt.alloc(), 8_192)?;
+    let (valid, refusal) = unlinked(rt.alloc(), &heap)?;
+    equal(&rt, &"a full heap", &refusal, &LinkRefusal::NoMemory);
+    let is_deployed = deploy(&&heap, valid).is_ok();
+    holds(&rt, &"some room", is_deployed);
     Ok(())
+}
+
+// What is answered to the example where the check works in a heap of so many bytes, which is empty again behind it.
+fn verdict_by(rt: &impl Abort, a: Global, bytes: usize) -> Result<Verdict, Fail> {
+    let heap = LocalHeap::new(a, bytes)?;
+    let verdict = verdict_in(a, &&heap, load(a, &EXAMPLE)?);
+    equal(rt, &("used of", bytes), &heap.used(), &0);
+    Ok(verdict)
 }
 
 #[test]
 fn working_memory_in_small_heaps(rt: HostRuntime) -> Result<(), Fail> {
-    let a = rt.alloc();
     let mut refused = 0u32;
     let mut passed = 0u32;
     for size in 4..256usize {
-        let heap = LocalHeap::new(a, 16 * size)?;
-        let verdict = verdict_in(a, &&heap, load(a, &EXAMPLE)?);
-        assert_eq!(rt; heap.used(), 0);
+        let verdict = verdict_by(&rt, rt.alloc(), 16 * size)?;
         if verdict == NoMemory {
             refused = refused.saturating_add(1);
         } else {
-            assert_eq!(rt; verdict, Deployed);
+            equal(&rt, &size, &verdict, &Deployed);
             passed = passed.saturating_add(1);
         }
     }
-    assert!(rt; refused > 0 && passed > 0);
+    holds(&rt, &(refused, passed), refused > 0 && passed > 0);
     Ok(())
 }

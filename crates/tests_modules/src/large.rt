@@ -51,12 +51,10 @@ fn two_types(a: Global, params: u32) -> Result<Vec<u8>, AllocError> {
     Ok(types)
 }
 
-// Unreachable calls of a function with 500,000 parameters.
-#[test]
-fn calls(rt: HostRuntime) -> Result<(), Fail> {
-    let a = rt.alloc();
+// Two functions: one of so many calls of the second, which are unreachable, and that one.
+fn many_calls(a: Global, count: u32) -> Result<Vec<u8>, Fail> {
     let mut body = b"\x00\x00".to_vec(a)?;
-    for _ in 0..250_000 {
+    for _ in 0..count {
         body.extend_from_slice(b"\x10\x01")?;
     }
     body.push(0x0B)?;
@@ -64,26 +62,35 @@ fn calls(rt: HostRuntime) -> Result<(), Fail> {
     write_u32(&mut code, u32::try_from(body.len())?)?;
     code.extend_from_slice(&body)?;
     code.extend_from_slice(b"\x02\x00\x0B")?;
+    Ok(code)
+}
+
+// The two types with so many parameters, and the sections of functions of these types and of their code.
+fn functions(a: Global, params: u32, funcs: &[u8], code: &[u8]) -> Result<Vec<u8>, Fail> {
     let mut sections = Vec::new(a);
-    put_section(&mut sections, 1, &two_types(a, 500_000)?)?;
-    put_section(&mut sections, 3, b"\x02\x00\x01")?;
-    put_section(&mut sections, 10, &code)?;
-    judge(&rt, a, &[(&sections, Deployed)])
+    put_section(&mut sections, 1, &two_types(a, params)?)?;
+    put_section(&mut sections, 3, funcs)?;
+    put_section(&mut sections, 10, code)?;
+    Ok(sections)
+}
+
+// Unreachable calls of a function with 500,000 parameters.
+#[test]
+fn calls(rt: HostRuntime) -> Result<(), Fail> {
+    let code = many_calls(rt.alloc(), 250_000)?;
+    let sections = functions(rt.alloc(), 500_000, b"\x02\x00\x01", &code)?;
+    judge(&rt, rt.alloc(), &[(&sections, Deployed)])
 }
 
 // 4,096 functions with 900,000 parameters.
 #[test]
 fn parameters(rt: HostRuntime) -> Result<(), Fail> {
-    let a = rt.alloc();
-    let mut funcs = b"\x80\x20".to_vec(a)?;
-    let mut code = b"\x80\x20".to_vec(a)?;
+    let mut funcs = b"\x80\x20".to_vec(rt.alloc())?;
+    let mut code = b"\x80\x20".to_vec(rt.alloc())?;
     for _ in 0..4096 {
         funcs.push(1)?;
         code.extend_from_slice(b"\x02\x00\x0B")?;
     }
-    let mut sections = Vec::new(a);
-    put_section(&mut sections, 1, &two_types(a, 900_000)?)?;
-    put_section(&mut sections, 3, &funcs)?;
-    put_section(&mut sections, 10, &code)?;
-    judge(&rt, a, &[(&sections, Deployed)])
+    let sections = functions(rt.alloc(), 900_000, &funcs, &code)?;
+    judge(&rt, rt.alloc(), &[(&sections, Deployed)])
 }

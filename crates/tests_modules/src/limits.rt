@@ -3,6 +3,7 @@ ghost use Rattle.spec_syntax.specs.Limits.{counts_from};
 ghost use Rattle.module_tree.specs.View.{ordinals};
 ghost use Rattle.module_tree.specs.ModuleView.{all_numbered, func_ordinals, data_ordinals};
 
+use crate::assertions::equal;
 use module_limits::{Lists, Unsealed, seal};
 use module_tree::instr::Instr;
 use module_tree::module::{DataSegment, Func};
@@ -158,16 +159,13 @@ type Row = (Limit, u32, Option<Unsealed>);
 
 fn refuses(rt: &impl Abort, a: Global, rows: &[Row]) -> Result<(), Fail> {
     for (limit, count, wanted) in rows {
-        assert_eq!(rt;
-            refusal_at(a, *limit, *count)?,
-            *wanted,
-            "{count} {limit:?}"
-        );
+        let found = refusal_at(a, *limit, *count)?;
+        equal(rt, &(count, limit), &found, wanted);
     }
     Ok(())
 }
 
-const EXACTLY: [Row; 8] = [
+const EXACTLY: &[Row] = &[
     (Limit::Functions, 4096, None),
     (Limit::Functions, 4097, Some(Unsealed::TooLarge)),
     (Limit::Locals, 1024, None),
@@ -180,23 +178,23 @@ const EXACTLY: [Row; 8] = [
 
 #[test]
 fn each_limit_is_met_exactly(rt: HostRuntime) -> Result<(), Fail> {
-    refuses(&rt, rt.alloc(), &EXACTLY)
+    refuses(&rt, rt.alloc(), EXACTLY)
 }
 
 // The spelling has 18 bytes beside those of the segment.
-const SIZES: [Row; 2] = [
+const SIZES: &[Row] = &[
     (Limit::Bytes, 1_048_576 - 18, None),
     (Limit::Bytes, 1_048_576 - 17, Some(Unsealed::TooLarge)),
 ];
 
 #[test]
 fn bytes_are_those_of_the_shortest_spelling(rt: HostRuntime) -> Result<(), Fail> {
-    refuses(&rt, rt.alloc(), &SIZES)
+    refuses(&rt, rt.alloc(), SIZES)
 }
 
-const DEEP: [Row; 1] = [(Limit::Levels, 5_000, Some(Unsealed::TooLarge))];
+const DEEP: &[Row] = &[(Limit::Levels, 5_000, Some(Unsealed::TooLarge))];
 
 #[test]
 fn deep_trees_are_judged(rt: HostRuntime) -> Result<(), Fail> {
-    refuses(&rt, rt.alloc(), &DEEP)
+    refuses(&rt, rt.alloc(), DEEP)
 }

@@ -1,3 +1,4 @@
+use crate::assertions::{equal, holds};
 use loader::LoadRefusal::{self, Malformed, TooLarge, Unsupported};
 use loader::load;
 use module_tree::limit::Limit;
@@ -36,7 +37,8 @@ fn refusal_of_both(
 // Behind this front each row's bytes are refused as it says.
 fn refuses(rt: &impl Abort, a: Global, front: &[u8], rows: &[Row]) -> Result<(), Fail> {
     for (back, wanted) in rows {
-        assert_eq!(rt; refusal_of_both(a, front, *back)?, *wanted, "{back:?}");
+        let found = refusal_of_both(a, front, *back)?;
+        equal(rt, back, &found, wanted);
     }
     Ok(())
 }
@@ -48,7 +50,7 @@ pub fn put_section(bytes: &mut Vec<u8, Global>, id: u8, content: &[u8]) -> Resul
     bytes.extend_from_slice(content)
 }
 
-const WHOLE: [Row; 5] = [
+const WHOLE: &[Row] = &[
     (&[0x00, 0x61, 0x73, 0x6D, 0x01, 0x00, 0x00, 0x00], None),
     (
         &[0x00, 0x61, 0x73, 0x6D, 0x01, 0x00, 0x00],
@@ -68,10 +70,10 @@ const WHOLE: [Row; 5] = [
 
 #[test]
 fn the_header_and_what_follows_it(rt: HostRuntime) -> Result<(), Fail> {
-    refuses(&rt, rt.alloc(), &[], &WHOLE)
+    refuses(&rt, rt.alloc(), &[], WHOLE)
 }
 
-const ONE_FUNCTION: [Row; 6] = [
+const ONE_FUNCTION: &[Row] = &[
     (
         &[0x0A, 0x07, 0x01, 0x05, 0x00, 0x41, 0x80, 0x00, 0x0B],
         None,
@@ -100,10 +102,10 @@ const ONE_FUNCTION: [Row; 6] = [
 
 #[test]
 fn one_function_and_its_faults(rt: HostRuntime) -> Result<(), Fail> {
-    refuses(&rt, rt.alloc(), &WITHOUT_CODE, &ONE_FUNCTION)
+    refuses(&rt, rt.alloc(), &WITHOUT_CODE, ONE_FUNCTION)
 }
 
-const TYPES: [Row; 2] = [
+const TYPES: &[Row] = &[
     (
         &[0x01, 0x05, 0x01, 0x60, 0x00, 0x01, 0x7D],
         Some(Unsupported(14)),
@@ -116,10 +118,10 @@ const TYPES: [Row; 2] = [
 
 #[test]
 fn floating_point_types(rt: HostRuntime) -> Result<(), Fail> {
-    refuses(&rt, rt.alloc(), &HEADER, &TYPES)
+    refuses(&rt, rt.alloc(), &HEADER, TYPES)
 }
 
-const ORDERS: [Row; 4] = [
+const ORDERS: &[Row] = &[
     // memories before tables
     (&[0x05, 0x01, 0x00, 0x04, 0x01, 0x00], Some(Malformed(11))),
     // two sections of types
@@ -134,10 +136,10 @@ const ORDERS: [Row; 4] = [
 
 #[test]
 fn order_of_sections(rt: HostRuntime) -> Result<(), Fail> {
-    refuses(&rt, rt.alloc(), &HEADER, &ORDERS)
+    refuses(&rt, rt.alloc(), &HEADER, ORDERS)
 }
 
-const ENDS: [Row; 4] = [
+const ENDS: &[Row] = &[
     // a byte left over
     (&[0x01, 0x02, 0x00, 0x00], Some(Malformed(11))),
     // an item past its section
@@ -153,10 +155,10 @@ const ENDS: [Row; 4] = [
 
 #[test]
 fn ends_of_sections(rt: HostRuntime) -> Result<(), Fail> {
-    refuses(&rt, rt.alloc(), &HEADER, &ENDS)
+    refuses(&rt, rt.alloc(), &HEADER, ENDS)
 }
 
-const NUMBERS: [Row; 3] = [
+const NUMBERS: &[Row] = &[
     // 0 in five bytes
     (&[0x04, 0x05, 0x80, 0x80, 0x80, 0x80, 0x00], None),
     // unused bits that are set
@@ -173,10 +175,10 @@ const NUMBERS: [Row; 3] = [
 
 #[test]
 fn spellings_of_numbers(rt: HostRuntime) -> Result<(), Fail> {
-    refuses(&rt, rt.alloc(), &HEADER, &NUMBERS)
+    refuses(&rt, rt.alloc(), &HEADER, NUMBERS)
 }
 
-const NAMES: [Row; 5] = [
+const NAMES: &[Row] = &[
     // of an import
     (
         &[0x02, 0x06, 0x01, 0x01, 0xFF, 0x00, 0x00, 0x00],
@@ -200,7 +202,7 @@ const NAMES: [Row; 5] = [
 
 #[test]
 fn names_are_text(rt: HostRuntime) -> Result<(), Fail> {
-    refuses(&rt, rt.alloc(), &HEADER, &NAMES)
+    refuses(&rt, rt.alloc(), &HEADER, NAMES)
 }
 
 // One custom section in a module of so many bytes.
@@ -211,10 +213,16 @@ fn of_size(a: Global, size: usize) -> Result<Option<LoadRefusal>, AllocError> {
     Ok(refusal(a, &bytes))
 }
 
+const SIZES: [(usize, Option<LoadRefusal>); 2] = [
+    (1_048_576, None),
+    (1_048_577, Some(TooLarge(Limit::Bytes))),
+];
+
 #[test]
 fn at_most_1048576_bytes(rt: HostRuntime) -> Result<(), Fail> {
-    for (size, wanted) in [(1_048_576, None), (1_048_577, Some(TooLarge(Limit::Bytes)))] {
-        assert_eq!(rt; of_size(rt.alloc(), size)?, wanted, "{size}");
+    for (size, wanted) in &SIZES {
+        let found = of_size(rt.alloc(), *size)?;
+        equal(&rt, size, &found, wanted);
     }
     Ok(())
 }
@@ -234,15 +242,16 @@ fn functions(a: Global, count: u32) -> Result<usize, Fail> {
     Ok(load(a, &bytes)?.funcs.len())
 }
 
-const TOO_MANY_FUNCTIONS: [Row; 1] = [(
+const TOO_MANY_FUNCTIONS: &[Row] = &[(
     &[0x03, 0x03, 0x81, 0x20, 0x00],
     Some(TooLarge(Limit::Functions)),
 )];
 
 #[test]
 fn at_most_4096_functions(rt: HostRuntime) -> Result<(), Fail> {
-    assert_eq!(rt; functions(rt.alloc(), 4096)?, 4096);
-    refuses(&rt, rt.alloc(), &HEADER, &TOO_MANY_FUNCTIONS)
+    let found = functions(rt.alloc(), 4096)?;
+    equal(&rt, &"functions", &found, &4096);
+    refuses(&rt, rt.alloc(), &HEADER, TOO_MANY_FUNCTIONS)
 }
 
 // How a function with this entry of code is refused.
@@ -256,7 +265,7 @@ fn refusal_of_entry(a: Global, entry: &[u8]) -> Result<Option<LoadRefusal>, Allo
 }
 
 // A function's locals and its end, and how they are refused.
-const LOCALS: [Row; 5] = [
+const LOCALS: &[Row] = &[
     (&[0x01, 0x80, 0x08, 0x7F, 0x0B], None),
     (
         &[0x01, 0x81, 0x08, 0x7F, 0x0B],
@@ -277,7 +286,8 @@ const LOCALS: [Row; 5] = [
 #[test]
 fn at_most_1024_locals(rt: HostRuntime) -> Result<(), Fail> {
     for (entry, wanted) in LOCALS {
-        assert_eq!(rt; refusal_of_entry(rt.alloc(), entry)?, wanted, "{entry:?}");
+        let found = refusal_of_entry(rt.alloc(), *entry)?;
+        equal(&rt, entry, &found, wanted);
     }
     Ok(())
 }
@@ -292,10 +302,16 @@ fn nested(a: Global, blocks: usize) -> Result<Option<LoadRefusal>, AllocError> {
     refusal_of_entry(a, &entry)
 }
 
+const LEVELS: [(usize, Option<LoadRefusal>); 2] = [
+    (128, None),
+    (129, Some(TooLarge(Limit::Nesting))),
+];
+
 #[test]
 fn at_most_128_levels_of_blocks(rt: HostRuntime) -> Result<(), Fail> {
-    for (blocks, wanted) in [(128, None), (129, Some(TooLarge(Limit::Nesting)))] {
-        assert_eq!(rt; nested(rt.alloc(), blocks)?, wanted, "{blocks}");
+    for (blocks, wanted) in &LEVELS {
+        let found = nested(rt.alloc(), *blocks)?;
+        equal(&rt, blocks, &found, wanted);
     }
     Ok(())
 }
@@ -311,10 +327,16 @@ fn labels(a: Global, count: u32) -> Result<Option<LoadRefusal>, AllocError> {
     refusal_of_entry(a, &entry)
 }
 
+const LABELS: [(u32, Option<LoadRefusal>); 2] = [
+    (1024, None),
+    (1025, Some(TooLarge(Limit::Labels))),
+];
+
 #[test]
 fn at_most_1024_labels(rt: HostRuntime) -> Result<(), Fail> {
-    for (count, wanted) in [(1024, None), (1025, Some(TooLarge(Limit::Labels)))] {
-        assert_eq!(rt; labels(rt.alloc(), count)?, wanted, "{count}");
+    for (count, wanted) in &LABELS {
+        let found = labels(rt.alloc(), *count)?;
+        equal(&rt, count, &found, wanted);
     }
     Ok(())
 }
@@ -332,6 +354,6 @@ fn is_answer(front: usize, answer: Option<LoadRefusal>) -> bool {
 fn fronts_of_the_example_contract(rt: HostRuntime) {
     for front in 0..202 {
         let answer = refusal(rt.alloc(), &EXAMPLE[..front]);
-        assert!(rt; is_answer(front, answer), "{front}: {answer:?}");
+        holds(&rt, &(front, answer), is_answer(front, answer));
     }
 }

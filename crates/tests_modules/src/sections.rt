@@ -1,3 +1,4 @@
+use crate::assertions::{equal, holds};
 use crate::loading::{HEADER, put_section};
 use loader::load;
 use module_tree::instr::Instr;
@@ -38,11 +39,11 @@ fn is_named(module: &Module<Global>, place: usize, name: &str) -> bool {
 
 #[test]
 fn the_first_module(rt: HostRuntime) -> Result<(), Fail> {
-    assert_eq!(rt; FIRST_MODULE.len(), 82);
+    equal(&rt, &"bytes", &FIRST_MODULE.len(), &82);
     let module = load(rt.alloc(), &FIRST_MODULE)?;
-    assert_eq!(rt; sizes(&module), [2, 2, 1, 0, 0, 0, 1, 0, 0]);
-    assert_eq!(rt; size_of_body(&module), Some(7));
-    assert!(rt; is_named(&module, 1, "total"));
+    equal(&rt, &"sizes", &sizes(&module), &[2, 2, 1, 0, 0, 0, 1, 0, 0]);
+    equal(&rt, &"the body", &size_of_body(&module), &Some(7));
+    holds(&rt, &"import 1", is_named(&module, 1, "total"));
     Ok(())
 }
 
@@ -160,10 +161,10 @@ fn holds_of(module: &Module<Global>) -> [(&'static str, bool); 7] {
 
 fn has_descriptions(rt: &impl Abort, module: &Module<Global>) {
     for (import, desc) in module.imports.iter().zip(IMPORTS) {
-        assert_eq!(rt; import.desc, desc);
+        equal(rt, &"an import", &import.desc, &desc);
     }
     for (export, desc) in module.exports.iter().zip(EXPORTS) {
-        assert_eq!(rt; export.desc, desc);
+        equal(rt, &"an export", &export.desc, &desc);
     }
 }
 
@@ -171,10 +172,10 @@ fn has_descriptions(rt: &impl Abort, module: &Module<Global>) {
 fn each_section(rt: HostRuntime) -> Result<(), Fail> {
     let bytes = with_sections(rt.alloc(), &EACH)?;
     let module = load(rt.alloc(), &bytes)?;
-    assert_eq!(rt; sizes(&module), [1, 4, 1, 1, 1, 1, 4, 1, 1]);
+    equal(&rt, &"sizes", &sizes(&module), &[1, 4, 1, 1, 1, 1, 4, 1, 1]);
     has_descriptions(&rt, &module);
-    for (what, holds) in holds_of(&module) {
-        assert!(rt; holds, "{what}");
+    for (what, is) in holds_of(&module) {
+        holds(&rt, &what, is);
     }
     Ok(())
 }
@@ -197,7 +198,7 @@ const WITH_CUSTOM: [(u8, &[u8]); 8] = [
 fn custom_sections_anywhere(rt: HostRuntime) -> Result<(), Fail> {
     let bytes = with_sections(rt.alloc(), &WITH_CUSTOM)?;
     let module = load(rt.alloc(), &bytes)?;
-    assert_eq!(rt; sizes(&module), [1, 0, 1, 0, 0, 0, 0, 0, 0]);
-    assert_eq!(rt; size_of_body(&module), Some(1));
+    equal(&rt, &"sizes", &sizes(&module), &[1, 0, 1, 0, 0, 0, 0, 0, 0]);
+    equal(&rt, &"the body", &size_of_body(&module), &Some(1));
     Ok(())
 }

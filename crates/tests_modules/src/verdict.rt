@@ -1,4 +1,5 @@
 // What is answered to a module.
+use crate::assertions::equal;
 use crate::loading::HEADER;
 use body_typing::scope::TypeRefusal;
 use link::deploy::deploy;
@@ -68,7 +69,8 @@ pub type Row<'b> = (&'b [u8], Verdict);
 /// Each row is answered as it has to be.
 pub fn judge(rt: &impl Abort, a: Global, rows: &[Row]) -> Result<(), Fail> {
     for (sections, verdict) in rows {
-        assert_eq!(rt; verdict_of(a, *sections)?, *verdict, "{sections:?}");
+        let found = verdict_of(a, *sections)?;
+        equal(rt, sections, &found, verdict);
     }
     Ok(())
 }
