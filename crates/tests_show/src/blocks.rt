@@ -1,4 +1,5 @@
 // Blocks as text, compared whole with lines that were made by hand and by another program; blocks that are cut, and calls that are not theirs.
+use crate::assertions::holds;
 use block::{Block, Position, write_block};
 use call::Call;
 use calls_text::read_calls;
@@ -11,7 +12,7 @@ use wblock_line::{Answer, Fault};
 use wblock_show::{Form, Showing, show_block, show_file_block};
 
 /// No positions, in version 1.
-pub(crate) const NO_CALLS: [u8; 116] = [
+pub(crate) const NO_CALLS: &[u8] = &[
     87, 66, 76, 75, 1, 0, 0, 0, 1, 1, 1, 1, 1, 1, 1, 1, 1, 1, 1, 1, 1, 1, 1, 1, 1, 1, 1, 1, 1, 1,
     1, 1, 1, 1, 1, 1, 1, 1, 1, 1, 2, 2, 2, 2, 2, 2, 2, 2, 2, 2, 2, 2, 2, 2, 2, 2, 2, 2, 2, 2, 2, 2,
     2, 2, 2, 2, 2, 2, 2, 2, 2, 2, 0, 0, 0, 0, 0, 0, 0, 0, 0, 0, 0, 0, 3, 3, 3, 3, 3, 3, 3, 3, 3, 3,
@@ -31,7 +32,7 @@ speed-up at most -
 ";
 
 /// A read of a counter, then a trap and an addition side by side, and a call that was not started, of the calls `CALLS`.
-pub(crate) const FOUR: [u8; 303] = [
+pub(crate) const FOUR: &[u8] = &[
     87, 66, 76, 75, 2, 0, 0, 0, 1, 1, 1, 1, 1, 1, 1, 1, 1, 1, 1, 1, 1, 1, 1, 1, 1, 1, 1, 1, 1, 1,
     1, 1, 1, 1, 1, 1, 1, 1, 1, 1, 61, 8, 53, 59, 18, 28, 23, 92, 218, 95, 82, 50, 202, 83, 104,
     114, 143, 22, 243, 105, 52, 31, 205, 16, 152, 229, 246, 13, 92, 82, 31, 81, 4, 0, 0, 0, 1, 0,
@@ -88,7 +89,7 @@ rejected 6 1
 ";
 
 /// A forged block: the turns of a cell go back in the order.
-pub(crate) const BACK: [u8; 187] = [
+pub(crate) const BACK: &[u8] = &[
     87, 66, 76, 75, 1, 0, 0, 0, 1, 1, 1, 1, 1, 1, 1, 1, 1, 1, 1, 1, 1, 1, 1, 1, 1, 1, 1, 1, 1, 1,
     1, 1, 1, 1, 1, 1, 1, 1, 1, 1, 2, 2, 2, 2, 2, 2, 2, 2, 2, 2, 2, 2, 2, 2, 2, 2, 2, 2, 2, 2, 2, 2,
     2, 2, 2, 2, 2, 2, 2, 2, 2, 2, 2, 0, 0, 0, 0, 0, 0, 0, 5, 0, 0, 0, 0, 0, 0, 0, 0, 0, 1, 0, 0, 0,
@@ -115,7 +116,7 @@ out-of-fuel 1
 ";
 
 /// Eleven cells that several positions read, one of them by three.
-pub(crate) const ELEVEN: [u8; 596] = [
+pub(crate) const ELEVEN: &[u8] = &[
     87, 66, 76, 75, 2, 0, 0, 0, 1, 1, 1, 1, 1, 1, 1, 1, 1, 1, 1, 1, 1, 1, 1, 1, 1, 1, 1, 1, 1, 1,
     1, 1, 1, 1, 1, 1, 1, 1, 1, 1, 2, 2, 2, 2, 2, 2, 2, 2, 2, 2, 2, 2, 2, 2, 2, 2, 2, 2, 2, 2, 2, 2,
     2, 2, 2, 2, 2, 2, 2, 2, 2, 2, 3, 0, 0, 0, 0, 0, 0, 0, 10, 0, 0, 0, 0, 0, 0, 0, 0, 0, 0, 0, 0,
@@ -164,7 +165,7 @@ returned 3
 ";
 
 /// A forged block, of which the second position names a fifth call of the four.
-pub(crate) const FAR: [u8; 160] = [
+pub(crate) const FAR: &[u8] = &[
     87, 66, 76, 75, 2, 0, 0, 0, 1, 1, 1, 1, 1, 1, 1, 1, 1, 1, 1, 1, 1, 1, 1, 1, 1, 1, 1, 1, 1, 1,
     1, 1, 1, 1, 1, 1, 1, 1, 1, 1, 61, 8, 53, 59, 18, 28, 23, 92, 218, 95, 82, 50, 202, 83, 104,
     114, 143, 22, 243, 105, 52, 31, 205, 16, 152, 229, 246, 13, 92, 82, 31, 81, 2, 0, 0, 0, 0, 0,
@@ -184,22 +185,22 @@ pub(crate) const CALLS: &str = "\
 /// A block, the text of its calls or nothing, whether it is shown, and what is printed.
 type Row<'a> = (&'a str, &'a [u8], &'a str, bool, &'a str);
 
-const ROWS: [Row; 9] = [
-    ("no calls", &NO_CALLS, "", true, NO_CALLS_TEXT),
-    ("four positions", &FOUR, "", true, FOUR_TEXT),
-    ("with their calls", &FOUR, CALLS, true, FOUR_CALLED),
-    ("turns that go back", &BACK, "", true, BACK_TEXT),
-    ("eleven shared cells", &ELEVEN, "", true, ELEVEN_TEXT),
+const ROWS: &[Row] = &[
+    ("no calls", NO_CALLS, "", true, NO_CALLS_TEXT),
+    ("four positions", FOUR, "", true, FOUR_TEXT),
+    ("with their calls", FOUR, CALLS, true, FOUR_CALLED),
+    ("turns that go back", BACK, "", true, BACK_TEXT),
+    ("eleven shared cells", ELEVEN, "", true, ELEVEN_TEXT),
     (
         "other calls",
-        &FOUR,
+        FOUR,
         "0 50 total i64:7\n",
         false,
         "refused calls 3\n",
     ),
     (
         "a call that is not there",
-        &FAR,
+        FAR,
         CALLS,
         false,
         "refused calls 4 1\n",
@@ -241,8 +242,8 @@ fn shown(alloc: Global, bytes: &[u8], text: &str) -> Option<Told> {
     Some(told(alloc, answer))
 }
 
-fn is_told(alloc: Global, row: Row) -> bool {
-    let (_, bytes, calls, done, text) = row;
+fn is_told(alloc: Global, row: &Row) -> bool {
+    let (_, bytes, calls, done, text) = *row;
     match shown(alloc, bytes, calls) {
         None => false,
         Some((is_done, line, _)) => is_done == done && line.as_str() == text,
@@ -263,10 +264,10 @@ fn is_refused(alloc: Global, bytes: &[u8]) -> bool {
 fn blocks_have_their_texts(rt: HostRuntime) {
     let alloc = rt.alloc();
     for row in ROWS {
-        assert!(rt; is_told(alloc, row), "{}", row.0);
+        holds(&rt, &row.0, is_told(alloc, row));
     }
     for cut in 0..FOUR.len() {
-        assert!(rt; is_refused(alloc, &FOUR[..cut]), "{cut}");
+        holds(&rt, &cut, is_refused(alloc, &FOUR[..cut]));
     }
 }
 
@@ -338,7 +339,7 @@ fn most_are_shown(alloc: Global) -> bool {
 
 #[test]
 fn the_most_positions_are_shown(rt: HostRuntime) {
-    assert!(rt; most_are_shown(rt.alloc()));
+    holds(&rt, &"the most positions", most_are_shown(rt.alloc()));
 }
 
 /// What the command says of these names, over files that hold a block, its calls and a text that is no calls.
@@ -349,7 +350,7 @@ fn is_done<'a>(
     wanted: Option<(bool, &str)>,
 ) -> bool {
     let mut files = MemoryFiles::new(alloc, usize::MAX, Failures::none());
-    if files.hold("block", &FOUR).is_err()
+    if files.hold("block", FOUR).is_err()
         || files.hold("calls", CALLS.as_bytes()).is_err()
         || files.hold("no calls", b"0 0").is_err()
     {
@@ -373,7 +374,7 @@ fn is_done<'a>(
 /// The names of a block and of calls, and what is printed of them, if there are such files.
 type Named<'a> = (&'a str, Option<&'a str>, Option<(bool, &'a str)>);
 
-const NAMES: [Named; 5] = [
+const NAMES: &[Named] = &[
     ("block", None, Some((true, FOUR_TEXT))),
     ("block", Some("calls"), Some((true, FOUR_CALLED))),
     (
@@ -389,6 +390,7 @@ const NAMES: [Named; 5] = [
 fn files_are_shown(rt: HostRuntime) {
     let alloc = rt.alloc();
     for (block, calls, wanted) in NAMES {
-        assert!(rt; is_done(alloc, block, calls, wanted), "{block}");
+        let is_done = is_done(alloc, *block, *calls, *wanted);
+        holds(&rt, &(block, calls), is_done);
     }
 }

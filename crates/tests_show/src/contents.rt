@@ -1,5 +1,6 @@
 //! What is in a file: texts compared whole, of modules whose bytes were checked by another engine, and of a world written by hand.
 
+use crate::assertions::equal;
 use codec::Failures;
 use samples::FIRST_MODULE;
 use std::alloc::{AllocError, Global};
@@ -69,7 +70,7 @@ counter 0:9 2
 /// Bytes, each list behind the other, and what is shown of them.
 type Row<'a> = (&'a [&'a [u8]], &'a str);
 
-const ROWS: [Row; 9] = [
+const ROWS: &[Row] = &[
     (&[OF_EACH], OF_EACH_TEXT),
     (&[ROOMS], ROOMS_TEXT),
     (&[WORLD_HEAD, &FIRST_MODULE, WORLD_CELLS], WORLD_TEXT),
@@ -112,9 +113,10 @@ fn shown(alloc: Global, bytes: &[u8]) -> Result<String, Fail> {
 #[test]
 fn shows_what_is_there(rt: HostRuntime) -> Result<(), Fail> {
     let alloc = rt.alloc();
-    for (parts, text) in &ROWS {
-        let bytes = joined(alloc, parts)?;
-        assert_eq!(rt; shown(alloc, bytes.as_slice())?.as_str(), *text);
+    for (row, (parts, text)) in ROWS.iter().enumerate() {
+        let bytes = joined(alloc, *parts)?;
+        let found = shown(alloc, bytes.as_slice())?;
+        equal(&rt, &row, &found.as_str(), text);
     }
     Ok(())
 }

@@ -1,5 +1,6 @@
 //! Pictures of whole blocks: compared with lines that were made by hand, read as XML, and no larger than they may be.
 
+use crate::assertions::{equal, holds};
 use crate::blocks::{BACK, ELEVEN, FOUR, NO_CALLS};
 use crate::pictures::{crowd, positions};
 use block::{Block, read_block};
@@ -19,10 +20,10 @@ struct Row<'a> {
     drawn: &'a str,
 }
 
-const ROWS: [Row; 4] = [
+const ROWS: &[Row] = &[
     Row {
         name: "no calls",
-        bytes: &NO_CALLS,
+        bytes: NO_CALLS,
         boxes: 0,
         lines: 0,
         size: "<svg xmlns=\"http://www.w3.org/2000/svg\" width=\"720\" height=\"140\" viewBox=\"0 0 720 140\">\n",
@@ -38,7 +39,7 @@ const ROWS: [Row; 4] = [
     },
     Row {
         name: "four positions",
-        bytes: &FOUR,
+        bytes: FOUR,
         boxes: 4,
         lines: 2,
         size: "<svg xmlns=\"http://www.w3.org/2000/svg\" width=\"720\" height=\"220\" viewBox=\"0 0 720 220\">\n",
@@ -74,7 +75,7 @@ wave 0</title><rect width=\"56\" height=\"18\"/><text x=\"5\" y=\"13\">X 3</text
     // waves and lines are by the modes in the order, and what is told of a lock is what the block publishes
     Row {
         name: "turns that go back",
-        bytes: &BACK,
+        bytes: BACK,
         boxes: 2,
         lines: 1,
         size: "<svg xmlns=\"http://www.w3.org/2000/svg\" width=\"720\" height=\"180\" viewBox=\"0 0 720 180\">\n",
@@ -101,7 +102,7 @@ map 0:1 excl turn 0</title><rect width=\"150\" height=\"18\"/><text x=\"5\" y=\"
     // five of its eleven shared locks are told
     Row {
         name: "eleven shared cells",
-        bytes: &ELEVEN,
+        bytes: ELEVEN,
         boxes: 3,
         lines: 0,
         size: "<svg xmlns=\"http://www.w3.org/2000/svg\" width=\"720\" height=\"292\" viewBox=\"0 0 720 292\">\n",
@@ -192,12 +193,12 @@ fn is_as_told(alloc: Global, row: &Row) -> bool {
 #[test]
 fn blocks_are_drawn(rt: HostRuntime) {
     for row in ROWS {
-        assert!(rt; is_as_told(rt.alloc(), &row), "{}", row.name);
+        holds(&rt, &row.name, is_as_told(rt.alloc(), row));
     }
 }
 
 /// What is not XML, and what is.
-const TEXTS: [(&str, Option<bool>); 9] = [
+const TEXTS: &[(&str, Option<bool>)] = &[
     ("<a><b c=\"d\">e</b><f/></a>\n", Some(true)),
     ("<a></a>", Some(false)),
     ("<a></a>\n<b></b>\n", Some(false)),
@@ -212,7 +213,7 @@ const TEXTS: [(&str, Option<bool>); 9] = [
 #[test]
 fn other_texts_are_no_xml(rt: HostRuntime) {
     for (text, wanted) in TEXTS {
-        assert!(rt; is_xml(rt.alloc(), text) == wanted, "{text}");
+        equal(&rt, text, &is_xml(rt.alloc(), *text), wanted);
     }
 }
 
@@ -227,7 +228,7 @@ fn crowd_drawn(alloc: Global, adders: usize, readers: usize) -> Option<String> {
 /// How many positions add and how many read; how many boxes and lines are drawn, and what is told of it.
 type Crowd<'a> = (usize, usize, usize, usize, &'a str);
 
-const CROWDS: [Crowd; 3] = [
+const CROWDS: &[Crowd] = &[
     (
         80,
         50,
@@ -264,7 +265,7 @@ fn is_bounded(alloc: Global, row: &Crowd) -> bool {
 #[test]
 fn pictures_are_bounded(rt: HostRuntime) {
     for row in CROWDS {
-        assert!(rt; is_bounded(rt.alloc(), &row), "{}", row.4);
+        holds(&rt, &row.4, is_bounded(rt.alloc(), row));
     }
 }
 
@@ -280,6 +281,6 @@ fn is_whole_or_none(alloc: Global, row: &Row) -> bool {
 #[test]
 fn no_part_of_a_picture_is_given(rt: HostRuntime) {
     for row in ROWS {
-        assert!(rt; is_whole_or_none(rt.alloc(), &row), "{}", row.name);
+        holds(&rt, &row.name, is_whole_or_none(rt.alloc(), row));
     }
 }

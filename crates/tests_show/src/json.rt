@@ -1,5 +1,6 @@
 //! What the command says of a file of each kind as JSON, by its name; what is refused is refused as it is where text is asked for.
 
+use crate::assertions::holds;
 use crate::named::{ROWS, Row, Shown, files_of, is_wanted};
 use std::alloc::Global;
 use std::test::Fail;
@@ -57,7 +58,7 @@ const WORLD_JSON: &str = "\
     \"memories\":[],\"number\":0,\"start\":null,\"tables\":[]}],\
     \"digest\":\"adafd99a936010bb270b404d65c7410fd4f129d21c1d8ba3f65ee769e21e014a\",\"kind\":\"world\"}\n";
 
-const TEXTS: [Row; 4] = [
+const TEXTS: &[Row] = &[
     ("block", None, Shown::Text(BLOCK_JSON)),
     ("block", Some("calls"), Shown::Text(CALLED_JSON)),
     ("world", None, Shown::Text(WORLD_JSON)),
@@ -84,20 +85,12 @@ fn is_text(row: &Row) -> bool {
 fn each_kind_of_file_is_told(rt: HostRuntime) -> Result<(), Fail> {
     let mut files = files_of(rt.alloc())?;
     for row in TEXTS {
-        assert!(rt;
-            is_told(rt.alloc(), &mut files, &row),
-            "{} {:?}",
-            row.0,
-            row.1
-        );
+        let is_told = is_told(rt.alloc(), &mut files, row);
+        holds(&rt, &("as JSON", row.0, row.1), is_told);
     }
     for row in ROWS {
-        assert!(rt;
-            is_text(&row) || is_told(rt.alloc(), &mut files, &row),
-            "{} {:?}",
-            row.0,
-            row.1
-        );
+        let is_told = is_text(row) || is_told(rt.alloc(), &mut files, row);
+        holds(&rt, &(row.0, row.1), is_told);
     }
     Ok(())
 }

@@ -1,5 +1,6 @@
 //! What the command says of a file of each kind, by its name.
 
+use crate::assertions::holds;
 use crate::blocks::{CALLS, FAR, FOUR, FOUR_CALLED, FOUR_TEXT, told};
 use crate::contents::{WORLD_CELLS, WORLD_HEAD, WORLD_TEXT, joined};
 use codec::Failures;
@@ -34,7 +35,7 @@ data 0
 /// The file that is shown, the calls that are named with it, and what is shown.
 pub(crate) type Row<'a> = (&'a str, Option<&'a str>, Shown<'a>);
 
-pub(crate) const ROWS: [Row; 15] = [
+pub(crate) const ROWS: &[Row] = &[
     ("block", None, Shown::Text(FOUR_TEXT)),
     ("block", Some("calls"), Shown::Text(FOUR_CALLED)),
     ("world", None, Shown::Text(WORLD_TEXT)),
@@ -113,8 +114,8 @@ pub(crate) const ROWS: [Row; 15] = [
 pub(crate) fn files_of(alloc: Global) -> Result<MemoryFiles, Fail> {
     let mut files = MemoryFiles::new(alloc, 1_000, Failures::none());
     let world = joined(alloc, &[WORLD_HEAD, &FIRST_MODULE, WORLD_CELLS])?;
-    files.hold("block", &FOUR)?;
-    files.hold("forged", &FAR)?;
+    files.hold("block", FOUR)?;
+    files.hold("forged", FAR)?;
     files.hold("world", world.as_slice())?;
     files.hold("module", &FIRST_MODULE)?;
     files.hold("calls", CALLS.as_bytes())?;
@@ -163,12 +164,8 @@ fn is_shown(alloc: Global, files: &mut MemoryFiles, row: &Row) -> bool {
 fn each_kind_of_file_is_shown(rt: HostRuntime) -> Result<(), Fail> {
     let mut files = files_of(rt.alloc())?;
     for row in ROWS {
-        assert!(rt;
-            is_shown(rt.alloc(), &mut files, &row),
-            "{} {:?}",
-            row.0,
-            row.1
-        );
+        let is_shown = is_shown(rt.alloc(), &mut files, row);
+        holds(&rt, &(row.0, row.1), is_shown);
     }
     Ok(())
 }
@@ -192,7 +189,7 @@ wave 0</title><rect width=\"56\" height=\"18\"/><text x=\"5\" y=\"13\">X 3</text
 ";
 
 /// Files, and what comes of each where its picture is asked for.
-const PICTURES: [(&str, Drawn); 8] = [
+const PICTURES: &[(&str, Drawn)] = &[
     ("block", Drawn::Picture(LAST_BOX)),
     (
         "world",
@@ -273,7 +270,8 @@ fn is_drawn(alloc: Global, files: &mut MemoryFiles, file: &str, wanted: Drawn) -
 fn a_block_alone_is_drawn(rt: HostRuntime) -> Result<(), Fail> {
     let mut files = files_of(rt.alloc())?;
     for (file, wanted) in PICTURES {
-        assert!(rt; is_drawn(rt.alloc(), &mut files, file, wanted), "{file}");
+        let is_drawn = is_drawn(rt.alloc(), &mut files, *file, *wanted);
+        holds(&rt, file, is_drawn);
     }
     Ok(())
 }

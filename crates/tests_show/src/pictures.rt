@@ -2,6 +2,7 @@
 
 ghost use Rattle.std.specs.Prelude.{IfSome, length, ◌<◌, ◌^◌};
 
+use crate::assertions::holds;
 use block::Position;
 use block_figures::SharedLock;
 use block_picture::{Edge, Scene, edges_of, picture_of};
@@ -34,14 +35,14 @@ struct Row<'a> {
 }
 
 /// Three positions that write a cell, and one that reads it.
-const CHAIN: [Place; 4] = [
+const CHAIN: &[Place] = &[
     (Outcome::Returned(None), 10, 0, &[(Map, 1, Excl)]),
     (Outcome::Returned(None), 10, 0, &[(Map, 1, Excl)]),
     (Outcome::Returned(None), 10, 0, &[(Map, 1, Excl)]),
     (Outcome::Returned(None), 10, 0, &[(Map, 1, Read)]),
 ];
 
-const ROWS: [Row; 4] = [
+const ROWS: &[Row] = &[
     // nothing is drawn of a block of no calls
     Row {
         order: &[],
@@ -173,7 +174,7 @@ counter 0:0 add turn 0
     },
     // a chain, wider than the least picture
     Row {
-        order: &CHAIN,
+        order: CHAIN,
         hottest: &[],
         size: "<svg xmlns=\"http://www.w3.org/2000/svg\" width=\"824\" height=\"164\" viewBox=\"0 0 824 164\">\n",
         count: "<text class=\"name\" x=\"24\" y=\"26\">4 positions in 4 waves</text>\n",
@@ -317,7 +318,7 @@ fn is_drawn(alloc: Global, row: &Row) -> bool {
 #[test]
 fn blocks_have_their_pictures(rt: HostRuntime) {
     for row in ROWS {
-        assert!(rt; is_drawn(rt.alloc(), &row), "{}", row.count);
+        holds(&rt, &row.count, is_drawn(rt.alloc(), row));
     }
 }
 
@@ -342,7 +343,7 @@ pub(crate) fn crowd<'a>(alloc: Global, adders: usize, readers: usize) -> Option<
 /// How many positions add and how many read; and of the picture the counts, what is drawn of them, and the last box.
 type Crowd<'a> = (usize, usize, &'a str, &'a str, &'a str);
 
-const CROWDS: [Crowd; 4] = [
+const CROWDS: &[Crowd] = &[
     // the most lines
     (
         80,
@@ -410,7 +411,7 @@ fn is_cut(alloc: Global, row: &Crowd) -> bool {
 #[test]
 fn what_is_left_out_is_told(rt: HostRuntime) {
     for row in CROWDS {
-        assert!(rt; is_cut(rt.alloc(), &row), "{}", row.2);
+        holds(&rt, &row.2, is_cut(rt.alloc(), row));
     }
 }
 
@@ -430,7 +431,7 @@ const THIRD: Edge = Edge {
 };
 
 /// How many of the first positions of the chain there are to be edges between, and these edges.
-const BETWEEN: [(u32, &[Edge]); 6] = [
+const BETWEEN: &[(u32, &[Edge])] = &[
     (0, &[]),
     (1, &[]),
     (2, &[FIRST]),
@@ -441,7 +442,7 @@ const BETWEEN: [(u32, &[Edge]); 6] = [
 
 /// Whether these are all the edges between so many first positions of the chain.
 fn are_between(alloc: Global, positions: u32, wanted: &[Edge]) -> bool {
-    let edges = graph(alloc, &CHAIN).and_then(|graph| edges_of(alloc, &graph, positions).ok());
+    let edges = graph(alloc, CHAIN).and_then(|graph| edges_of(alloc, &graph, positions).ok());
     match edges {
         None => false,
         Some(edges) => edges.all && edges.list.as_slice() == wanted,
@@ -451,6 +452,7 @@ fn are_between(alloc: Global, positions: u32, wanted: &[Edge]) -> bool {
 #[test]
 fn edges_go_between_the_first_positions(rt: HostRuntime) {
     for (positions, edges) in BETWEEN {
-        assert!(rt; are_between(rt.alloc(), positions, edges), "{positions}");
+        let are_between = are_between(rt.alloc(), *positions, *edges);
+        holds(&rt, positions, are_between);
     }
 }
