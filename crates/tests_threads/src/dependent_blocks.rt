@@ -1,5 +1,6 @@
 // Blocks whose calls wait for one another, and which run while others are held. A verdict is proved to be right whatever the workers do; that they
 // run each call as soon as it may start, and that no call of an honest block is run again, is shown here.
+use crate::assertions::holds;
 use crate::given::{CallRow, Calls, CellRow, give, written};
 use crate::meetings::Meeting;
 use crate::mined_blocks::mined;
@@ -7,6 +8,7 @@ use crate::mined_rows::{How, OF_EXAMPLE};
 use crate::verdicts::found;
 use spec_ledger::Kind::{Counter, Map};
 use std::alloc::Global;
+use std::process::Abort;
 use std::sync::Wait;
 use std::test::Fail;
 use std::thread::Threads;
@@ -55,6 +57,18 @@ fn is_as_said<R: Threads + Wait + Sync>(rt: &R, alloc: Global, row: &Row) -> Res
     Ok(mined.left.is_empty() && judged == Ok((true, 0)))
 }
 
+/// Each row comes to what it says.
+fn are_as_said<R: Threads + Wait + Sync + Abort>(
+    rt: &R,
+    alloc: Global,
+    rows: &[Row],
+) -> Result<(), Fail> {
+    for row in rows {
+        holds(rt, &row.name, is_as_said(rt, alloc, row)?);
+    }
+    Ok(())
+}
+
 /// Two writers, and a call that reads what the first one wrote.
 const THREE: [CallRow; 3] = [
     (0, "set", &[I64(1), I64(1)], 100),
@@ -64,7 +78,7 @@ const THREE: [CallRow; 3] = [
 
 const AFTER_THREE: [CellRow; 3] = [(0, Map, 1, 1), (0, Map, 2, 2), (0, Map, 3, 1)];
 
-const ROWS: [Row; 5] = [
+const ROWS: &[Row] = &[
     Row {
         name: "a call starts when the one that it waits for has ended, though another one is held",
         modules: OF_EXAMPLE,
@@ -118,13 +132,10 @@ const ROWS: [Row; 5] = [
 
 #[test]
 fn calls_that_wait_for_others(rt: HostRuntime) -> Result<(), Fail> {
-    for row in &ROWS {
-        assert!(rt; is_as_said(&rt, rt.alloc(), row)?, "{}", row.name);
-    }
-    Ok(())
+    are_as_said(&rt, rt.alloc(), ROWS)
 }
 
-const CHAINS: [Row; 3] = [
+const CHAINS: &[Row] = &[
     Row {
         name: "one worker",
         modules: OF_EXAMPLE,
@@ -153,10 +164,7 @@ const CHAINS: [Row; 3] = [
 
 #[test]
 fn one_long_chain(rt: HostRuntime) -> Result<(), Fail> {
-    for row in &CHAINS {
-        assert!(rt; is_as_said(&rt, rt.alloc(), row)?, "{}", row.name);
-    }
-    Ok(())
+    are_as_said(&rt, rt.alloc(), CHAINS)
 }
 
 /// A module whose `look` gives the total of the counter of its key, and whose `bump` adds its second argument to that of its first.
@@ -169,17 +177,16 @@ const COUNTER: [u8; 91] = [
     0x01, 0x10, 0x00, 0x0B, 0x06, 0x00, 0x20, 0x00, 0x10, 0x01, 0x0B,
 ];
 
-const LOOKS_AND_BUMPS: Row = Row {
+const LOOKS_AND_BUMPS: &[Row] = &[Row {
     name: "each adder waits for each reader",
     modules: &[&COUNTER],
-    calls: Calls::LooksAndBumps(2_000),
+    calls: Calls::LooksAndBumps(500),
     workers: 4,
     meeting: None,
-    after: &[(0, Counter, 1, 2_000)],
-};
+    after: &[(0, Counter, 1, 500)],
+}];
 
 #[test]
 fn each_adder_waits_for_each_reader(rt: HostRuntime) -> Result<(), Fail> {
-    assert!(rt; is_as_said(&rt, rt.alloc(), &LOOKS_AND_BUMPS)?);
-    Ok(())
+    are_as_said(&rt, rt.alloc(), LOOKS_AND_BUMPS)
 }

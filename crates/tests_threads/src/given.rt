@@ -2,7 +2,7 @@
 use block::{Block, write_block};
 use call::Call;
 use codec::{Failures, MemorySink};
-use samples::deployed;
+use samples::{Unfit, call, deployed};
 use spec_ledger::{Kind, Lock};
 use std::alloc::{Allocator, Global};
 use std::test::Fail;
@@ -89,27 +89,20 @@ fn count(calls: &Calls) -> u32 {
     }
 }
 
-/// The call of this number.
-fn call_at(alloc: Global, calls: &Calls, number: u32) -> Result<Call, Fail> {
+/// The call of this number, or why there is none.
+fn call_at(alloc: Global, calls: &Calls, number: u32) -> Result<Call, Unfit> {
     match calls {
-        Calls::These(rows) => {
-            let (contract, entry, args, fuel) = *rows.get(number as usize).ok_or("a row")?;
-            Ok(samples::call(alloc, contract, entry, args, fuel)?)
-        }
-        Calls::Runs(_, keys) => {
-            let key = number.checked_rem(*keys).ok_or("some key")?;
-            Ok(samples::call(alloc, 0, "run", &[I64(i64::from(key))], 7)?)
-        }
-        Calls::Chain(_) => {
-            Ok(samples::call(alloc, 0, "set", &[I64(1), I64(i64::from(number))], 100)?)
-        }
-        Calls::LooksAndBumps(each) => {
-            if number < *each {
-                Ok(samples::call(alloc, 0, "look", &[I64(1)], 100)?)
-            } else {
-                Ok(samples::call(alloc, 0, "bump", &[I64(1), I64(1)], 100)?)
-            }
-        }
+        Calls::These(rows) => match rows.get(number as usize) {
+            Some((contract, entry, args, fuel)) => call(alloc, *contract, entry, args, *fuel),
+            None => Err(Unfit::NotACall),
+        },
+        Calls::Runs(_, keys) => match number.checked_rem(*keys) {
+            Some(key) => call(alloc, 0, "run", &[I64(i64::from(key))], 7),
+            None => Err(Unfit::NotACall),
+        },
+        Calls::Chain(_) => call(alloc, 0, "set", &[I64(1), I64(i64::from(number))], 100),
+        Calls::LooksAndBumps(each) if number < *each => call(alloc, 0, "look", &[I64(1)], 100),
+        Calls::LooksAndBumps(_) => call(alloc, 0, "bump", &[I64(1), I64(1)], 100),
     }
 }
 

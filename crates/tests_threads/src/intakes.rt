@@ -3,8 +3,10 @@ ghost use Rattle.std.specs.Prelude.{◌≡◌, ◌<◌, length};
 ghost use Rattle.std.specs.List.{All};
 ghost use Rattle.intake.specs.Intakes.{IsSeatOf};
 
+use crate::assertions::{equal, holds};
 use intake::{Intake, Seat};
 use std::alloc::Global;
+use std::process::Abort;
 use std::sync::Wait;
 use std::sync::atomic::{AtomicU64, Ordering};
 use std::test::Fail;
@@ -29,7 +31,7 @@ struct Row {
     left: u64,
 }
 
-const ROWS: [Row; 3] = [
+const ROWS: &[Row] = &[
     Row {
         name: "two seats",
         calls: 2,
@@ -135,12 +137,17 @@ fn is_as_said<R: Wait>(rt: &R, alloc: Global, row: &Row) -> Result<bool, Fail> {
     Ok(intake.close(seats) == row.left && all)
 }
 
-#[test]
-fn seats_answer_as_said(rt: HostRuntime) -> Result<(), Fail> {
-    for row in &ROWS {
-        assert!(rt; is_as_said(&rt, rt.alloc(), row)?, "{}", row.name);
+/// Each intake answers as its row says.
+fn are_as_said<R: Wait + Abort>(rt: &R, alloc: Global, rows: &[Row]) -> Result<(), Fail> {
+    for row in rows {
+        holds(rt, &row.name, is_as_said(rt, alloc, row)?);
     }
     Ok(())
+}
+
+#[test]
+fn seats_answer_as_said(rt: HostRuntime) -> Result<(), Fail> {
+    are_as_said(&rt, rt.alloc(), ROWS)
 }
 
 /// What the threads did together.
@@ -195,9 +202,12 @@ fn drawn_by_eight<R: Threads + Wait + Sync>(
 
 #[test]
 fn eight_threads(rt: HostRuntime) -> Result<(), Fail> {
-    assert_eq!(rt;
-        drawn_by_eight(&rt, rt.alloc())?,
-        (49_995_000, Some(20_000))
+    let drawn = drawn_by_eight(&rt, rt.alloc())?;
+    equal(
+        &rt,
+        &"numbers, and fuel",
+        &drawn,
+        &(49_995_000, Some(20_000)),
     );
     Ok(())
 }

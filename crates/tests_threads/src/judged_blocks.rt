@@ -1,6 +1,7 @@
 // Blocks of few calls, as they are made and with single things changed, and what validating says of them.
 ghost use Rattle.std.specs.Prelude.{◌≡◌, IfOk};
 
+use crate::assertions::{equal, holds};
 use crate::given::{CellRow, Given, world_of, written};
 use crate::meetings::Meeting;
 use crate::mined_rows::OF_EXAMPLE;
@@ -185,12 +186,20 @@ fn changed(version: Version, edits: &[Edit], at: usize, byte: u8) -> Option<u8> 
     Some(byte)
 }
 
+/// Whether each change is of bytes that are there.
+fn are_within(version: Version, edits: &[Edit], size: usize) -> bool {
+    for edit in edits {
+        let (_, to, _) = change(version, edit);
+        if to > size {
+            return false;
+        }
+    }
+    true
+}
+
 /// The bytes of a block of this version after these changes.
 fn edited(alloc: Global, bytes: &[u8], version: Version, edits: &[Edit]) -> Result<Vec<u8>, Fail> {
-    if edits
-        .iter()
-        .any(|edit| change(version, edit).1 > bytes.len())
-    {
+    if !are_within(version, edits, bytes.len()) {
         return Err(Fail::from("no such byte"));
     }
     let mut kept = Vec::new(alloc);
@@ -232,7 +241,7 @@ pub(crate) fn are_judged_so<R: Threads + Wait + Sync + Abort>(
     for (row, (source, versions, edits, expected)) in rows.iter().enumerate() {
         for version in versions.iter() {
             let found = reason(rt, alloc, *source, *version, *edits)?;
-            assert_eq!(rt; found, *expected, "row {row}, {version:?}");
+            equal(rt, &(row, *version), &found, expected);
         }
     }
     Ok(())
@@ -295,7 +304,7 @@ fn is_accepted<R: Threads + Wait + Sync>(
     Ok(verdict == Ok((true, 0)) && unheld == Ok((true, 0)) && has_size)
 }
 
-const ACCEPTED: [Accepted; 8] = [
+const ACCEPTED: &[Accepted] = &[
     Accepted {
         name: "no calls",
         source: NO_CALLS,
@@ -370,22 +379,38 @@ const ACCEPTED: [Accepted; 8] = [
     },
 ];
 
-#[test]
-fn blocks_are_accepted(rt: HostRuntime) -> Result<(), Fail> {
-    for row in &ACCEPTED {
-        for version in BOTH {
-            assert!(rt;
-                is_accepted(&rt, rt.alloc(), row, *version)?,
-                "{} {version:?}",
-                row.name
-            );
-        }
+/// The block of each version is accepted.
+fn is_accepted_in_both<R: Threads + Wait + Sync + Abort>(
+    rt: &R,
+    alloc: Global,
+    row: &Accepted,
+) -> Result<(), Fail> {
+    for version in BOTH {
+        let accepted = is_accepted(rt, alloc, row, *version)?;
+        holds(rt, &(row.name, *version), accepted);
     }
     Ok(())
 }
 
+/// The block of each row is accepted.
+fn are_accepted<R: Threads + Wait + Sync + Abort>(
+    rt: &R,
+    alloc: Global,
+    rows: &[Accepted],
+) -> Result<(), Fail> {
+    for row in rows {
+        is_accepted_in_both(rt, alloc, row)?;
+    }
+    Ok(())
+}
+
+#[test]
+fn blocks_are_accepted(rt: HostRuntime) -> Result<(), Fail> {
+    are_accepted(&rt, rt.alloc(), ACCEPTED)
+}
+
 /// Each field of the block of a reader and a writer, changed.
-const ONE_CHANGED_BYTE: [Changed; 24] = [
+const ONE_CHANGED_BYTE: &[Changed] = &[
     (&PEEK_SET, BOTH, &[Edit::Byte(0, 0x58)], Some(Malformed)),
     (&PEEK_SET, BOTH, &[Edit::Byte(4, 3)], Some(Malformed)),
     (&PEEK_SET, BOTH, &[Edit::Byte(8, 0)], Some(WrongWorld)),
@@ -414,10 +439,10 @@ const ONE_CHANGED_BYTE: [Changed; 24] = [
 
 #[test]
 fn one_changed_byte(rt: HostRuntime) -> Result<(), Fail> {
-    are_judged_so(&rt, rt.alloc(), &ONE_CHANGED_BYTE)
+    are_judged_so(&rt, rt.alloc(), ONE_CHANGED_BYTE)
 }
 
-const CHANGED: [Changed; 23] = [
+const CHANGED: &[Changed] = &[
     // a block of no calls, and its version
     (&NO_CALLS, BOTH, &[], None),
     (&NO_CALLS, ONE, &[Edit::OwnByte(4, 2)], None),
@@ -485,5 +510,5 @@ const CHANGED: [Changed; 23] = [
 
 #[test]
 fn changed_blocks(rt: HostRuntime) -> Result<(), Fail> {
-    are_judged_so(&rt, rt.alloc(), &CHANGED)
+    are_judged_so(&rt, rt.alloc(), CHANGED)
 }

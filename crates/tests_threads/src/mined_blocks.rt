@@ -1,4 +1,5 @@
 // Blocks that workers really mined at once, and which workers accept without running a position again.
+use crate::assertions::holds;
 use crate::given::{Given, are_cells, give, written};
 use crate::meetings::{LOOKS, Meet};
 use crate::mined_rows::{How, Locks, Placed, ROWS, Row, is_said};
@@ -7,6 +8,7 @@ use block::{Block, Position};
 use mining::{Mined, mine};
 use spec_ledger::Entry;
 use std::alloc::{Allocator, Global};
+use std::process::Abort;
 use std::sync::Wait;
 use std::test::Fail;
 use std::thread::Threads;
@@ -28,15 +30,35 @@ fn is_placed<A: Allocator>(position: &Position<A>, placed: &Placed) -> bool {
 
 /// Whether these stand at the positions, in this order.
 fn rises<A: Allocator>(positions: &[Position<A>], places: &[Placed]) -> bool {
-    positions
-        .iter()
-        .zip(places.iter())
-        .all(|(position, placed)| is_placed(position, placed))
+    for (at, placed) in places.iter().enumerate() {
+        let Some(position) = positions.get(at) else {
+            return false;
+        };
+        if !is_placed(position, placed) {
+            return false;
+        }
+    }
+    true
 }
 
 /// Whether this stands at some position.
 fn stands<A: Allocator>(positions: &[Position<A>], placed: &Placed) -> bool {
-    positions.iter().any(|position| is_placed(position, placed))
+    for position in positions {
+        if is_placed(position, placed) {
+            return true;
+        }
+    }
+    false
+}
+
+/// Whether each of these stands at some position.
+fn all_stand<A: Allocator>(positions: &[Position<A>], places: &[Placed]) -> bool {
+    for placed in places {
+        if !stands(positions, placed) {
+            return false;
+        }
+    }
+    true
 }
 
 /// Whether what the row says stands in the block.
@@ -48,7 +70,7 @@ fn has_places<A: Allocator>(block: &Block<A>, row: &Row) -> bool {
     if row.in_order {
         rises(positions, row.places)
     } else {
-        row.places.iter().all(|placed| stands(positions, placed))
+        all_stand(positions, row.places)
     }
 }
 
@@ -105,10 +127,19 @@ fn is_mined<R: Threads + Wait + Sync>(rt: &R, alloc: Global, row: &Row) -> Resul
     )
 }
 
-#[test]
-fn blocks_are_mined_as_said(rt: HostRuntime) -> Result<(), Fail> {
-    for row in &ROWS {
-        assert!(rt; is_mined(&rt, rt.alloc(), row)?, "{}", row.name);
+/// What is mined is what each row says.
+fn are_mined<R: Threads + Wait + Sync + Abort>(
+    rt: &R,
+    alloc: Global,
+    rows: &[Row],
+) -> Result<(), Fail> {
+    for row in rows {
+        holds(rt, &row.name, is_mined(rt, alloc, row)?);
     }
     Ok(())
+}
+
+#[test]
+fn blocks_are_mined_as_said(rt: HostRuntime) -> Result<(), Fail> {
+    are_mined(&rt, rt.alloc(), ROWS)
 }

@@ -2,13 +2,15 @@
 // come to one after another in the order that is mined.
 ghost use Rattle.std.specs.Prelude.{◌<◌};
 
+use crate::assertions::holds;
 use crate::given::{Calls, Given, are_cells, cell, give};
 use crate::meetings::{LOOKS, Meet, Meeting};
 use crate::mined_rows::{FIRST, How, Placed, ROWS, Row, is_said};
 use mining::{MinedCore, mine_core};
-use serial::serial_core;
+use serial::{Core, serial_core};
 use spec_ledger::{Kind, Version};
 use std::alloc::Global;
+use std::process::Abort;
 use std::sync::Wait;
 use std::test::Fail;
 use std::thread::Threads;
@@ -59,6 +61,26 @@ fn mined<R: Threads + Wait + Sync>(
     Ok(mined)
 }
 
+/// Whether the calls touched the same locks in the same modes at each position.
+fn have_same_locks(alone: &Core, mined: &MinedCore) -> bool {
+    for (at, touched) in alone.touched.iter().enumerate() {
+        let Some(other) = mined.touched.get(at) else {
+            return false;
+        };
+        if touched.held() != other.held() {
+            return false;
+        }
+    }
+    true
+}
+
+/// Whether calls came to the same.
+fn are_same(alone: &Core, mined: &MinedCore) -> bool {
+    alone.receipts == mined.receipts
+        && have_same_locks(alone, mined)
+        && alone.cells.entries().eq(mined.cells.entries())
+}
+
 /// Whether what was mined is what its calls come to one after another in its order.
 fn is_serial(alloc: Global, given: &Given, mined: &MinedCore) -> Result<bool, Fail> {
     let order = mined.order.as_slice();
@@ -74,10 +96,7 @@ fn is_serial(alloc: Global, given: &Given, mined: &MinedCore) -> Result<bool, Fa
         order,
         Version::Two,
     )?;
-    let same_cells = alone.cells.entries().eq(mined.cells.entries());
-    let mut locks = alone.touched.iter().zip(mined.touched.iter());
-    let same_locks = locks.all(|(one, other)| one.held() == other.held());
-    Ok(alone.receipts == mined.receipts && same_locks && same_cells)
+    Ok(are_same(&alone, mined))
 }
 
 /// Whether this stands at a position of what was mined. None where there is no such position.
@@ -93,14 +112,28 @@ fn stands(mined: &MinedCore, in_order: bool, at: usize, placed: &Placed) -> bool
     if in_order {
         return is_placed(mined, at, placed) == Some(true);
     }
-    (0..mined.order.len()).any(|at| is_placed(mined, at, placed) == Some(true))
+    for at in 0..mined.order.len() {
+        if is_placed(mined, at, placed) == Some(true) {
+            return true;
+        }
+    }
+    false
+}
+
+/// Whether each of these stands at its position, or at any.
+fn all_stand(mined: &MinedCore, in_order: bool, places: &[Placed]) -> bool {
+    for (at, placed) in places.iter().enumerate() {
+        if !stands(mined, in_order, at, placed) {
+            return false;
+        }
+    }
+    true
 }
 
 /// Whether what was mined is what the row says.
 fn is_as_said(mined: &MinedCore, row: &Row) -> bool {
-    let mut places = row.places.iter().enumerate();
     mined.order.len() == row.places.len()
-        && places.all(|(at, placed)| stands(mined, row.in_order, at, placed))
+        && all_stand(mined, row.in_order, row.places)
         && row.by_workers == Some(mined.by_workers)
         && mined.fuel == row.used
         && mined.left.as_slice() == row.left
@@ -124,18 +157,33 @@ fn is_mined<R: Threads + Wait + Sync>(
     )
 }
 
-#[test]
-fn the_number_of_shards_changes_nothing(rt: HostRuntime) -> Result<(), Fail> {
-    for row in &ROWS {
-        for shards in &COUNTS {
-            assert!(rt;
-                is_mined(&rt, rt.alloc(), row, *shards)?,
-                "{}, {shards}",
-                row.name
-            );
-        }
+/// What is mined with the book in each number of shards is what the row says.
+fn is_mined_by_each<R: Threads + Wait + Sync + Abort>(
+    rt: &R,
+    alloc: Global,
+    row: &Row,
+) -> Result<(), Fail> {
+    for shards in COUNTS {
+        holds(rt, &(row.name, shards), is_mined(rt, alloc, row, shards)?);
     }
     Ok(())
+}
+
+/// What is mined is what each row says.
+fn are_mined<R: Threads + Wait + Sync + Abort>(
+    rt: &R,
+    alloc: Global,
+    rows: &[Row],
+) -> Result<(), Fail> {
+    for row in rows {
+        is_mined_by_each(rt, alloc, row)?;
+    }
+    Ok(())
+}
+
+#[test]
+fn the_number_of_shards_changes_nothing(rt: HostRuntime) -> Result<(), Fail> {
+    are_mined(&rt, rt.alloc(), ROWS)
 }
 
 /// So many calls, at so many keys in turn, and what they come to.
@@ -185,7 +233,7 @@ fn is_spread<R: Threads + Wait + Sync>(
     )
 }
 
-const SPREADS: [Spread; 2] = [
+const SPREADS: &[Spread] = &[
     // 14 limits of 7 are within 100
     Spread {
         name: "four workers over five counters",
@@ -221,16 +269,35 @@ const SPREADS: [Spread; 2] = [
     },
 ];
 
-#[test]
-fn many_calls_are_mined_as_said(rt: HostRuntime) -> Result<(), Fail> {
-    for spread in &SPREADS {
-        for shards in &COUNTS {
-            assert!(rt;
-                is_spread(&rt, rt.alloc(), spread, *shards)?,
-                "{}, {shards}",
-                spread.name
-            );
-        }
+/// What is mined with the book in each number of shards is what is said.
+fn is_spread_by_each<R: Threads + Wait + Sync + Abort>(
+    rt: &R,
+    alloc: Global,
+    spread: &Spread,
+) -> Result<(), Fail> {
+    for shards in COUNTS {
+        holds(
+            rt,
+            &(spread.name, shards),
+            is_spread(rt, alloc, spread, shards)?,
+        );
     }
     Ok(())
+}
+
+/// What is mined is what each of them says.
+fn are_spread<R: Threads + Wait + Sync + Abort>(
+    rt: &R,
+    alloc: Global,
+    spreads: &[Spread],
+) -> Result<(), Fail> {
+    for spread in spreads {
+        is_spread_by_each(rt, alloc, spread)?;
+    }
+    Ok(())
+}
+
+#[test]
+fn many_calls_are_mined_as_said(rt: HostRuntime) -> Result<(), Fail> {
+    are_spread(&rt, rt.alloc(), SPREADS)
 }

@@ -226,7 +226,7 @@ const PUT_63: Entry = Entry {
     turn: 0,
 };
 
-pub(crate) const ROWS: [Row; 15] = [
+pub(crate) const ROWS: &[Row] = &[
     Row {
         name: "one worker commits each call",
         modules: FIRST,

@@ -1,4 +1,5 @@
 // What a pace is told.
+use crate::assertions::equal;
 use pace::{NoPace, Pace, Step};
 use std::sync::atomic::{AtomicU64, Ordering};
 
@@ -37,6 +38,11 @@ fn each_step_is_told(rt: HostRuntime) {
     };
     walk(&log);
     walk(&NoPace);
-    assert_eq!(rt; log.told.load(Ordering::SeqCst), 7);
-    assert_eq!(rt; log.committed.load(Ordering::SeqCst), 3);
+    equal(&rt, &"steps told", &log.told.load(Ordering::SeqCst), &7);
+    equal(
+        &rt,
+        &"the call committed",
+        &log.committed.load(Ordering::SeqCst),
+        &3,
+    );
 }

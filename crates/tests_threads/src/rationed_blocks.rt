@@ -2,6 +2,7 @@
 // clause says that refused memory ends in `NoMemory`, or ends at all. Here each block of memory that a mining asks for is the first
 // that is refused, and all after it are refused too: each time the call answers `NoMemory`, and no worker waits for one that gave
 // up. A refusal that was passed over would show only where no memory is asked for afterwards.
+use crate::assertions::{equal, holds};
 use crate::given::{Calls, Given, are_cells, give, world_of};
 use crate::meetings::{FEW_LOOKS, LOOKS, Meet, Meeting};
 use crate::mined_blocks::is_as_said;
@@ -78,11 +79,12 @@ const MOVERS: Row = Row {
 
 /// Whether the calls of a block stand in rising number.
 fn is_rising<A: Allocator>(mined: &Mined<A>) -> bool {
-    let positions = mined.block.positions();
-    positions
-        .iter()
-        .enumerate()
-        .all(|(place, position)| position.call() as usize == place)
+    for (place, position) in mined.block.positions().iter().enumerate() {
+        if position.call() as usize != place {
+            return false;
+        }
+    }
+    true
 }
 
 /// How many blocks of memory were left before the calls were mined, how many after it, and whether the calls met. None after it: memory was refused.
@@ -179,19 +181,20 @@ fn times_mined<R: Threads + Wait + Sync>(rt: &R, alloc: Global, row: &Row) -> Re
 
 #[test]
 fn a_want_of_memory_anywhere_is_that_of_the_call(rt: HostRuntime) -> Result<(), Fail> {
-    assert_eq!(rt; otherwise_with(&rt, rt.alloc(), &MIXED)?, None);
+    let blocks = otherwise_with(&rt, rt.alloc(), &MIXED)?;
+    equal(&rt, &"blocks of memory", &blocks, &None);
     Ok(())
 }
 
 #[test]
 fn two_workers_want_memory(rt: HostRuntime) -> Result<(), Fail> {
-    assert!(rt; times_mined(&rt, rt.alloc(), &MIXED)? > 0);
+    holds(&rt, &"mined", times_mined(&rt, rt.alloc(), &MIXED)? > 0);
     Ok(())
 }
 
 // With ample memory each of two movers refuses the other, and both run alone when the workers have ended.
 #[test]
 fn calls_that_run_alone_want_memory(rt: HostRuntime) -> Result<(), Fail> {
-    assert!(rt; times_mined(&rt, rt.alloc(), &MOVERS)? > 0);
+    holds(&rt, &"mined", times_mined(&rt, rt.alloc(), &MOVERS)? > 0);
     Ok(())
 }

@@ -1,12 +1,13 @@
 // Every block of memory that a call asks for, refused in turn: alone, and with all that are asked for after it. The answer is want of
 // memory, or the one without a refusal, and what was lent is as it was. Which of the two it is has no clause, nor that a worker whose
 // fellow was refused comes to its end.
+use crate::assertions::holds;
 use crate::given::{CellRow, are_cells, world_of, written};
 use crate::judged_blocks::{Entries, Source, calling, make};
 use crate::mined_rows::OF_EXAMPLE;
 use crate::verdicts::{Judged, told};
 use assembler::{AsmRefusal, assemble};
-use block::{BlockRefusal, read_block};
+use block::{Block, BlockRefusal, read_block};
 use block_judge::Reason;
 use body_typing::scope::TypeRefusal;
 use call::Call;
@@ -31,6 +32,7 @@ use std::sync::Wait;
 use std::test::Fail;
 use std::thread::Threads;
 use typing::check::check;
+use typing::valid::Valid;
 use validator::validate_in;
 use world::{World, encode_world};
 use world_reader::{ReadRefusal, read_world};
@@ -149,22 +151,21 @@ fn refused(is_as_it_was: bool) -> Came {
     }
 }
 
-/// Whether these bytes spell the module.
-fn is_module<A: Allocator>(heap: Global, module: &Module<A>, spelled: &[u8]) -> Result<bool, Fail> {
+/// Whether these bytes spell the module. Not so where memory from `heap` is refused.
+fn is_module<A: Allocator>(heap: Global, module: &Module<A>, spelled: &[u8]) -> bool {
     let mut bytes = Vec::new(heap);
-    encode(module, &mut bytes).or(Err("no memory"))?;
-    Ok(bytes.as_slice() == spelled)
+    encode(module, &mut bytes).is_ok() && bytes.as_slice() == spelled
 }
 
 /// Whether the module is the example contract's.
-fn is_example<A: Allocator>(heap: Global, module: &Module<A>) -> Result<bool, Fail> {
+fn is_example<A: Allocator>(heap: Global, module: &Module<A>) -> bool {
     is_module(heap, module, &EXAMPLE)
 }
 
-fn load_in<A: Allocator + Copy>(heap: Global, alloc: A) -> Result<Came, Fail> {
+fn load_in<A: Allocator + Copy>(heap: Global, alloc: A) -> Came {
     match load(alloc, &EXAMPLE) {
-        Ok(module) => Ok(answered(is_example(heap, &module)?)),
-        Err(refusal) => Ok(refused(refusal == LoadRefusal::NoMemory)),
+        Ok(module) => answered(is_example(heap, &module)),
+        Err(refusal) => refused(refusal == LoadRefusal::NoMemory),
     }
 }
 
@@ -175,64 +176,100 @@ fn tokens_in<A: Allocator + Copy>(heap: Global, alloc: A) -> Result<Came, Fail> 
     }
 }
 
-fn assemble_in<A: Allocator + Copy>(heap: Global, alloc: A) -> Result<Came, Fail> {
+fn assemble_in<A: Allocator + Copy>(heap: Global, alloc: A) -> Came {
     match assemble(alloc, TEXT) {
-        Ok(module) => Ok(answered(is_example(heap, &module)?)),
-        Err(refusal) => Ok(refused(refusal == AsmRefusal::NoMemory)),
+        Ok(module) => answered(is_example(heap, &module)),
+        Err(refusal) => refused(refusal == AsmRefusal::NoMemory),
+    }
+}
+
+fn checked<A: Allocator + Copy>(heap: Global, alloc: A, tree: Module<Global>) -> Came {
+    match check(&alloc, tree) {
+        Ok(valid) => answered(is_example(heap, valid.module())),
+        Err((tree, TypeRefusal::NoMemory)) => refused(is_example(heap, &tree)),
+        Err(_) => Came::Other,
     }
 }
 
 // The tree is in another heap.
 fn check_in<A: Allocator + Copy>(heap: Global, alloc: A) -> Result<Came, Fail> {
-    match check(&alloc, load(heap, &EXAMPLE)?) {
-        Ok(valid) => Ok(answered(is_example(heap, valid.module())?)),
-        Err((tree, TypeRefusal::NoMemory)) => Ok(refused(is_example(heap, &tree)?)),
-        Err(_) => Ok(Came::Other),
+    let tree = load(heap, &EXAMPLE)?;
+    Ok(checked(heap, alloc, tree))
+}
+
+fn deployed<A: Allocator + Copy>(heap: Global, alloc: A, valid: Valid<A>) -> Came {
+    match deploy(&alloc, valid) {
+        Ok(contract) => answered(is_example(heap, contract.module())),
+        Err((valid, LinkRefusal::NoMemory)) => refused(is_example(heap, valid.module())),
+        Err(_) => Came::Other,
     }
 }
 
 fn deploy_in<A: Allocator + Copy>(heap: Global, lent: A, alloc: A) -> Result<Came, Fail> {
-    match deploy(&alloc, typed(lent, &EXAMPLE)?) {
-        Ok(contract) => Ok(answered(is_example(heap, contract.module())?)),
-        Err((valid, LinkRefusal::NoMemory)) => Ok(refused(is_example(heap, valid.module())?)),
-        Err(_) => Ok(Came::Other),
-    }
+    let valid = typed(lent, &EXAMPLE)?;
+    Ok(deployed(heap, alloc, valid))
 }
 
 /// Whether this is the world of the contract of these bytes and of the cells that are lent.
-fn is_lent<A: Allocator + Copy>(
-    heap: Global,
-    world: &World<A>,
-    module: &[u8],
-) -> Result<bool, Fail> {
+fn is_lent<A: Allocator + Copy>(heap: Global, world: &World<A>, module: &[u8]) -> bool {
     let contracts = world.contracts();
     let Some(contract) = contracts.first() else {
-        return Ok(false);
+        return false;
     };
-    Ok(
-        contracts.len() == 1
-            && is_module(heap, contract.module(), module)?
-            && are_cells(world.cells(), &CELLS),
-    )
+    contracts.len() == 1
+        && is_module(heap, contract.module(), module)
+        && are_cells(world.cells(), &CELLS)
+}
+
+/// The bytes of the world of the example contract and of the cells that are lent.
+fn lent_bytes(heap: Global) -> Result<Vec<u8>, Fail> {
+    let lent = world_of(heap, OF_EXAMPLE, &CELLS)?;
+    match encode_world(heap, &lent) {
+        Ok(bytes) => Ok(bytes),
+        Err(_) => Err(Fail::from("no memory")),
+    }
+}
+
+fn world_read<A: Allocator + Copy>(heap: Global, alloc: A, bytes: &[u8]) -> Came {
+    match read_world(alloc, bytes) {
+        Ok(world) => answered(is_lent(heap, &world, &EXAMPLE)),
+        Err(refusal) => refused(refusal == ReadRefusal::NoMemory),
+    }
 }
 
 fn read_world_in<A: Allocator + Copy>(heap: Global, alloc: A) -> Result<Came, Fail> {
-    let lent = world_of(heap, OF_EXAMPLE, &CELLS)?;
-    let Ok(bytes) = encode_world(heap, &lent) else {
-        return Err(Fail::from("no memory"));
-    };
-    match read_world(alloc, &bytes) {
-        Ok(world) => Ok(answered(is_lent(heap, &world, &EXAMPLE)?)),
-        Err(refusal) => Ok(refused(refusal == ReadRefusal::NoMemory)),
+    let bytes = lent_bytes(heap)?;
+    Ok(world_read(heap, alloc, &bytes))
+}
+
+fn block_read<A: Allocator + Copy>(
+    heap: Global,
+    lent: A,
+    alloc: A,
+    bytes: &[u8],
+) -> Result<Came, Fail> {
+    match read_block(alloc, bytes) {
+        Ok(block) => Ok(answered(written(heap, lent, &block)?.as_slice() == bytes)),
+        Err(refusal) => Ok(refused(refusal == BlockRefusal::NoMemory)),
     }
 }
 
 fn read_block_in<A: Allocator + Copy>(heap: Global, lent: A, alloc: A) -> Result<Came, Fail> {
     let made = make(heap, &PEEK_THEN_SET.source, Version::Two)?;
-    match read_block(alloc, &made.bytes) {
-        Ok(block) => Ok(answered(written(heap, lent, &block)? == made.bytes)),
-        Err(refusal) => Ok(refused(refusal == BlockRefusal::NoMemory)),
-    }
+    block_read(heap, lent, alloc, &made.bytes)
+}
+
+/// Whether these are the bytes of a block, and these cells are in the world after it.
+fn is_right<A: Allocator + Copy>(
+    heap: Global,
+    lent: A,
+    block: &Block<A>,
+    next: &World<A>,
+    bytes: &[u8],
+    after: &[CellRow],
+) -> Result<bool, Fail> {
+    let is_same = written(heap, lent, block)?.as_slice() == bytes;
+    Ok(is_same && are_cells(next.cells(), after))
 }
 
 /// Whether two calls that run one after another come to their block and to these cells. None: memory was refused.
@@ -249,11 +286,10 @@ fn ran<A: Allocator + Copy>(
     };
     let first = calling(heap, first)?;
     let calls = [first, calling(heap, second)?];
-    let Ok((block, next)) = run(alloc, world, &calls, &[0, 1]) else {
-        return Ok(None);
-    };
-    let is_same = written(heap, lent, &block)?.as_slice() == bytes;
-    Ok(Some(is_same && are_cells(next.cells(), sample.after)))
+    match run(alloc, world, &calls, &[0, 1]) {
+        Ok((block, next)) => { Ok(Some(is_right(heap, lent, &block, &next, bytes, sample.after)?)) }
+        Err(_) => Ok(None),
+    }
 }
 
 /// What has to be said of the block, and of the one with another receipt.
@@ -280,6 +316,24 @@ fn is_judged_so<R: Threads + Wait + Sync, A: Allocator + Copy + Send + Sync>(
     }
 }
 
+/// The bytes of the block that two workers mine of these calls. None: memory was refused.
+fn mined_bytes<R: Threads + Wait + Sync, A: Allocator + Copy + Send + Sync>(
+    rt: &R,
+    heap: Global,
+    lent: A,
+    alloc: A,
+    world: &World<A>,
+    calls: &[Call],
+) -> Result<Option<Vec<u8>>, Fail> {
+    if calls.len() > 2 {
+        return Err(Fail::from("too many calls"));
+    }
+    match mine_in(rt, alloc, world, calls, 1_000, 2, 2, &NoPace) {
+        Ok(mined) => Ok(Some(written(heap, lent, &mined.block)?)),
+        Err(_) => Ok(None),
+    }
+}
+
 /// Whether two workers accept the block that two workers mine of these calls, with these cells after it. None: memory was refused.
 fn mined<R: Threads + Wait + Sync, A: Allocator + Copy + Send + Sync>(
     rt: &R,
@@ -290,13 +344,9 @@ fn mined<R: Threads + Wait + Sync, A: Allocator + Copy + Send + Sync>(
     calls: &[Call],
     after: &[CellRow],
 ) -> Result<Option<bool>, Fail> {
-    if calls.len() > 2 {
-        return Err(Fail::from("too many calls"));
-    }
-    let Ok(mined) = mine_in(rt, alloc, world, calls, 1_000, 2, 2, &NoPace) else {
+    let Some(bytes) = mined_bytes(rt, heap, lent, alloc, world, calls)? else {
         return Ok(None);
     };
-    let bytes = written(heap, lent, &mined.block)?;
     let accepted = is_judged_so(rt, lent, world, calls, &bytes, after, ACCEPTED);
     Ok(Some(accepted == Some(true)))
 }
@@ -324,7 +374,7 @@ fn worked<R: Threads + Wait + Sync, A: Allocator + Copy + Send + Sync>(
         Work::Validate => is_judged_so(rt, alloc, &world, calls, bytes, after, ACCEPTED),
         Work::Reject => is_judged_so(rt, alloc, &world, calls, bytes, after, DEVIATES),
     };
-    let is_lent = is_lent(heap, &world, sample.module)?;
+    let is_lent = is_lent(heap, &world, sample.module);
     match is_right {
         Some(is_right) => Ok(answered(is_lent && is_right)),
         None => Ok(refused(is_lent)),
@@ -341,7 +391,7 @@ enum Ask {
 }
 
 /// What is asked of a session one after another, the turns made after it, and the first byte of memory there.
-const ASKS: [(Ask, u64, u8); 6] = [
+const ASKS: &[(Ask, u64, u8)] = &[
     (Ask::Step(2), 2, 0),
     (Ask::Break, 2, 0),
     (Ask::Cont, 4, 0),
@@ -366,6 +416,14 @@ fn goes<A: Allocator + Copy>(session: &mut Session<'_, A>, ask: Ask) -> Result<(
     Ok(())
 }
 
+/// What comes of looking at a session, which has to have made so many turns and to have this first byte of memory.
+fn looked_at<A: Allocator + Copy>(session: &Session<'_, A>, turns: u64, byte: u8) -> Came {
+    match session.bytes(0, 1) {
+        Ok(bytes) => answered(session.turns() == turns && bytes.as_slice() == [byte].as_slice()),
+        Err(refusal) => refused(refusal == Refusal::NoMemory),
+    }
+}
+
 /// What comes of an ask. A session that wants memory is as it was.
 fn shown<A: Allocator + Copy>(
     session: &mut Session<'_, A>,
@@ -375,12 +433,7 @@ fn shown<A: Allocator + Copy>(
 ) -> Came {
     let before = (session.turns(), session.place());
     match goes(session, ask) {
-        Ok(()) => match session.bytes(0, 1) {
-            Ok(bytes) => answered(
-                session.turns() == turns && bytes.as_slice() == [byte].as_slice(),
-            ),
-            Err(refusal) => refused(refusal == Refusal::NoMemory),
-        },
+        Ok(()) => looked_at(session, turns, byte),
         Err(refusal) => {
             let is_same = before == (session.turns(), session.place());
             refused(is_same && refusal == Refusal::NoMemory)
@@ -391,7 +444,7 @@ fn shown<A: Allocator + Copy>(
 /// What comes of all asks, up to the first that does not come to what it has to.
 fn all_shown<A: Allocator + Copy>(session: &mut Session<'_, A>) -> Came {
     for (ask, turns, byte) in ASKS {
-        let came = shown(session, ask, turns, byte);
+        let came = shown(session, *ask, *turns, *byte);
         if !matches!(came, Came::AsEver) {
             return came;
         }
@@ -420,9 +473,9 @@ fn came_of<R: Threads + Wait + Sync, A: Allocator + Copy + Send + Sync>(
     asked: Asked,
 ) -> Result<Came, Fail> {
     match asked {
-        Asked::Load => load_in(heap, alloc),
+        Asked::Load => Ok(load_in(heap, alloc)),
         Asked::Tokens => tokens_in(heap, alloc),
-        Asked::Assemble => assemble_in(heap, alloc),
+        Asked::Assemble => Ok(assemble_in(heap, alloc)),
         Asked::Check => check_in(heap, alloc),
         Asked::Deploy => deploy_in(heap, lent, alloc),
         Asked::ReadWorld => read_world_in(heap, alloc),
@@ -485,7 +538,7 @@ fn refused_in_turn<R: Threads + Wait + Sync>(
 /// A call, and the least number of blocks that it wants.
 type Row = (Asked, u32);
 
-const ROWS: [Row; 12] = [
+const ROWS: &[Row] = &[
     (Asked::Load, 10),
     (Asked::Tokens, 1),
     (Asked::Assemble, 10),
@@ -500,7 +553,7 @@ const ROWS: [Row; 12] = [
     (Asked::Debug, 10),
 ];
 
-const ROWS_OF_LEVELS: [Row; 4] = [
+const ROWS_OF_LEVELS: &[Row] = &[
     (Asked::OfLevels(Work::Run), 20),
     (Asked::OfLevels(Work::Mine), 20),
     (Asked::OfLevels(Work::Validate), 20),
@@ -516,10 +569,8 @@ fn are_refused_in_turn<R: Threads + Wait + Sync + Abort>(
     for (asked, least) in rows {
         for which in [Refusing::One, Refusing::AllAfter] {
             let wanted = refused_in_turn(rt, heap, *asked, which)?;
-            assert!(rt;
-                matches!(wanted, Ok(times) if times >= *least),
-                "{asked:?}, {which:?}: {wanted:?}"
-            );
+            let is_right = matches!(wanted, Ok(times) if times >= *least);
+            holds(rt, &(*asked, which, wanted), is_right);
         }
     }
     Ok(())
@@ -527,10 +578,10 @@ fn are_refused_in_turn<R: Threads + Wait + Sync + Abort>(
 
 #[test]
 fn each_block_is_refused_in_turn(rt: HostRuntime) -> Result<(), Fail> {
-    are_refused_in_turn(&rt, rt.alloc(), &ROWS)
+    are_refused_in_turn(&rt, rt.alloc(), ROWS)
 }
 
 #[test]
 fn each_block_is_refused_in_turn_of_calls_that_ask(rt: HostRuntime) -> Result<(), Fail> {
-    are_refused_in_turn(&rt, rt.alloc(), &ROWS_OF_LEVELS)
+    are_refused_in_turn(&rt, rt.alloc(), ROWS_OF_LEVELS)
 }

@@ -1,4 +1,5 @@
 // Threads that share a book, and really meet in it.
+use crate::assertions::{equal, holds};
 use crate::meetings::{LOOKS, hold};
 use boost::book::{
     BeginRefusal, Book, Closed, CommitRefusal, EnterRefusal, LeaveRefusal, OpRefusal, Run, Ticket,
@@ -6,6 +7,7 @@ use boost::book::{
 use shared_book::SharedBook;
 use spec_ledger::{Kind, Lock, Mode, Op, Outcome, Place, Reply, Step};
 use std::alloc::Global;
+use std::process::Abort;
 use std::sync::Wait;
 use std::sync::atomic::{AtomicU64, Ordering};
 use std::test::Fail;
@@ -161,7 +163,7 @@ const ENTERED: Answer = Answer::Entered(Ok(()));
 const LEFT: Answer = Answer::Left(Ok(()));
 
 /// Which of two books is asked what, for which call, one after another, and what is answered.
-const SCRIPT: [(bool, u32, Asked, Answer); 25] = [
+const SCRIPT: &[(bool, u32, Asked, Answer)] = &[
     (
         true,
         2,
@@ -279,7 +281,13 @@ fn played<R: Wait>(rt: &R, alloc: Global) -> Result<(Option<usize>, bool), Fail>
 
 #[test]
 fn each_call_and_each_refusal_through_the_lock(rt: HostRuntime) -> Result<(), Fail> {
-    assert_eq!(rt; played(&rt, rt.alloc())?, (None, true));
+    let played = played(&rt, rt.alloc())?;
+    equal(
+        &rt,
+        &"the first other row, and what is left",
+        &played,
+        &(None, true),
+    );
     Ok(())
 }
 
@@ -302,7 +310,9 @@ struct Meeting {
     name: &'static str,
     /// What the counter begins with.
     opening: Option<u64>,
-    parts: [Part; 2],
+    /// What the threads of call 0 and of call 1 do.
+    first: Part,
+    second: Part,
     /// Whether call 0 is committed first. Else either may be.
     in_order: bool,
     /// How each call holds the counter, where this is said.
@@ -332,33 +342,31 @@ const ADD_5: Act = Act::Asks(Asked::Do(Op::Add(SUM, 5)), DONE);
 
 const BEGINS: Act = Act::Asks(Asked::Begin, BEGUN);
 
-const MEETINGS: [Meeting; 3] = [
+const MEETINGS: &[Meeting] = &[
     // each puts its own cell, adds to the common counter, and commits when two attempts have come this far
     Meeting {
         name: "two attempts are live at once",
         opening: None,
-        parts: [
-            (
-                &[
-                    BEGINS,
-                    Act::Asks(Asked::Do(PUT_0), DONE),
-                    ADD_5,
-                    Act::Tells,
-                    Act::Waits(2),
-                ],
-                &[Step::Did(PUT_0, Reply::Nothing), ADDED_5],
-            ),
-            (
-                &[
-                    BEGINS,
-                    Act::Asks(Asked::Do(PUT_1), DONE),
-                    ADD_5,
-                    Act::Tells,
-                    Act::Waits(2),
-                ],
-                &[Step::Did(PUT_1, Reply::Nothing), ADDED_5],
-            ),
-        ],
+        first: (
+            &[
+                BEGINS,
+                Act::Asks(Asked::Do(PUT_0), DONE),
+                ADD_5,
+                Act::Tells,
+                Act::Waits(2),
+            ],
+            &[Step::Did(PUT_0, Reply::Nothing), ADDED_5],
+        ),
+        second: (
+            &[
+                BEGINS,
+                Act::Asks(Asked::Do(PUT_1), DONE),
+                ADD_5,
+                Act::Tells,
+                Act::Waits(2),
+            ],
+            &[Step::Did(PUT_1, Reply::Nothing), ADDED_5],
+        ),
         in_order: false,
         mode: None,
         sum: Some(10),
@@ -368,31 +376,29 @@ const MEETINGS: [Meeting; 3] = [
     Meeting {
         name: "a level is dropped beside an adder",
         opening: Some(100),
-        parts: [
-            (
-                &[
-                    BEGINS,
-                    ADD_5,
-                    Act::Asks(Asked::Enter, ENTERED),
-                    Act::Asks(Asked::Do(Op::Add(SUM, 20)), DONE),
-                    Act::Tells,
-                    Act::Waits(2),
-                    Act::Asks(Asked::Leave(false), LEFT),
-                    Act::Tells,
-                ],
-                &[ADDED_5, Step::Opened, ADDED_20, Step::Dropped],
-            ),
-            (
-                &[
-                    BEGINS,
-                    Act::Waits(1),
-                    Act::Asks(Asked::Do(Op::Add(SUM, 3)), DONE),
-                    Act::Tells,
-                    Act::Waits(3),
-                ],
-                &[ADDED_3],
-            ),
-        ],
+        first: (
+            &[
+                BEGINS,
+                ADD_5,
+                Act::Asks(Asked::Enter, ENTERED),
+                Act::Asks(Asked::Do(Op::Add(SUM, 20)), DONE),
+                Act::Tells,
+                Act::Waits(2),
+                Act::Asks(Asked::Leave(false), LEFT),
+                Act::Tells,
+            ],
+            &[ADDED_5, Step::Opened, ADDED_20, Step::Dropped],
+        ),
+        second: (
+            &[
+                BEGINS,
+                Act::Waits(1),
+                Act::Asks(Asked::Do(Op::Add(SUM, 3)), DONE),
+                Act::Tells,
+                Act::Waits(3),
+            ],
+            &[ADDED_3],
+        ),
         in_order: false,
         mode: Some(Mode::Add),
         sum: Some(108),
@@ -402,31 +408,29 @@ const MEETINGS: [Meeting; 3] = [
     Meeting {
         name: "a call is refused while another lives",
         opening: None,
-        parts: [
-            (
-                &[
-                    BEGINS,
-                    Act::Asks(Asked::Do(Op::Put(HOT, 9)), DONE),
-                    Act::Tells,
-                    Act::Waits(2),
-                ],
-                &[Step::Did(Op::Put(HOT, 9), Reply::Nothing)],
-            ),
-            (
-                &[
-                    BEGINS,
-                    ADD_5,
-                    Act::Waits(1),
-                    Act::Asks(Asked::Do(Op::Get(HOT)), CONFLICT),
-                    Act::Asks(Asked::Undo, Answer::Undone),
-                    Act::Tells,
-                    Act::Waits(3),
-                    BEGINS,
-                    Act::Asks(Asked::Do(Op::Get(HOT)), Answer::Did(Ok(Reply::I64(9)))),
-                ],
-                &[Step::Did(Op::Get(HOT), Reply::I64(9))],
-            ),
-        ],
+        first: (
+            &[
+                BEGINS,
+                Act::Asks(Asked::Do(Op::Put(HOT, 9)), DONE),
+                Act::Tells,
+                Act::Waits(2),
+            ],
+            &[Step::Did(Op::Put(HOT, 9), Reply::Nothing)],
+        ),
+        second: (
+            &[
+                BEGINS,
+                ADD_5,
+                Act::Waits(1),
+                Act::Asks(Asked::Do(Op::Get(HOT)), CONFLICT),
+                Act::Asks(Asked::Undo, Answer::Undone),
+                Act::Tells,
+                Act::Waits(3),
+                BEGINS,
+                Act::Asks(Asked::Do(Op::Get(HOT)), Answer::Did(Ok(Reply::I64(9)))),
+            ],
+            &[Step::Did(Op::Get(HOT), Reply::I64(9))],
+        ),
         in_order: true,
         mode: None,
         sum: None,
@@ -461,9 +465,12 @@ fn does<R: Wait>(
     call: u32,
     number: usize,
 ) -> Option<u32> {
-    let meetings: &[Meeting] = &MEETINGS;
-    let [first, second] = meetings.get(number)?.parts;
-    let (acts, trace) = if call == 0 { first } else { second };
+    let meeting = MEETINGS.get(number)?;
+    let (acts, trace) = if call == 0 {
+        meeting.first
+    } else {
+        meeting.second
+    };
     let mut hand = None;
     for act in acts {
         if !goes(rt, book, told, &mut hand, call, *act) {
@@ -515,12 +522,21 @@ fn meet<R: Threads + Wait + Sync>(
     Ok(has_positions(meeting, positions) && is_left(&closed, meeting))
 }
 
-#[test]
-fn calls_of_two_threads_meet(rt: HostRuntime) -> Result<(), Fail> {
-    for (number, meeting) in MEETINGS.iter().enumerate() {
-        assert!(rt; meet(&rt, rt.alloc(), number, meeting)?, "{}", meeting.name);
+/// Two threads come to what they have to in each meeting.
+fn all_meet<R: Threads + Wait + Sync + Abort>(
+    rt: &R,
+    alloc: Global,
+    meetings: &[Meeting],
+) -> Result<(), Fail> {
+    for (number, meeting) in meetings.iter().enumerate() {
+        holds(rt, &meeting.name, meet(rt, alloc, number, meeting)?);
     }
     Ok(())
+}
+
+#[test]
+fn calls_of_two_threads_meet(rt: HostRuntime) -> Result<(), Fail> {
+    all_meet(&rt, rt.alloc(), MEETINGS)
 }
 
 /// A call that was committed: where, which, and what its operations were answered.
@@ -700,6 +716,6 @@ fn has_one_order<R: Threads + Wait + Sync>(rt: &R, alloc: Global) -> Result<bool
 
 #[test]
 fn the_calls_of_many_threads_have_one_order(rt: HostRuntime) -> Result<(), Fail> {
-    assert!(rt; has_one_order(&rt, rt.alloc())?);
+    holds(&rt, &"one order", has_one_order(&rt, rt.alloc())?);
     Ok(())
 }

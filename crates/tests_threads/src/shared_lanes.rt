@@ -1,7 +1,9 @@
 // Lanes of positions. That a position comes out no more often than it was put in is in their types; that one which a lane holds is found, and where
 // it is looked for first, is shown here.
+use crate::assertions::{equal, holds};
 use lanes::{Lane, Thief, lanes};
 use std::alloc::Global;
+use std::process::Abort;
 use std::sync::atomic::{AtomicU64, Ordering};
 use std::test::Fail;
 use std::thread;
@@ -24,7 +26,7 @@ struct Row {
     asked: &'static [(usize, Asked)],
 }
 
-const ROWS: [Row; 4] = [
+const ROWS: &[Row] = &[
     Row {
         name: "first in, first out at both ends",
         workers: 2,
@@ -84,24 +86,41 @@ fn answers(pair: &mut (Lane, Thief), asked: &Asked) -> bool {
     }
 }
 
+/// Whether the worker at this place, which there has to be, answers as it has to.
+fn answers_at(pairs: &mut [(Lane, Thief)], worker: usize, asked: &Asked) -> bool {
+    match pairs.get_mut(worker) {
+        Some(pair) => answers(pair, asked),
+        None => false,
+    }
+}
+
+/// Whether workers answer as they have to, one after another.
+fn all_answer(pairs: &mut [(Lane, Thief)], asked: &[(usize, Asked)]) -> bool {
+    for (worker, asked) in asked {
+        if !answers_at(pairs, *worker, asked) {
+            return false;
+        }
+    }
+    true
+}
+
 /// Whether lanes answer as a row says.
 fn is_as_said(alloc: Global, row: &Row) -> Result<bool, Fail> {
     let mut pairs = lanes(alloc, row.workers)?;
-    for (worker, asked) in row.asked {
-        let pair = pairs.get_mut(*worker).ok_or("a worker")?;
-        if !answers(pair, asked) {
-            return Ok(false);
-        }
+    Ok(all_answer(&mut pairs, row.asked))
+}
+
+/// Lanes answer as each row says.
+fn are_as_said(rt: &impl Abort, alloc: Global, rows: &[Row]) -> Result<(), Fail> {
+    for row in rows {
+        holds(rt, &row.name, is_as_said(alloc, row)?);
     }
-    Ok(true)
+    Ok(())
 }
 
 #[test]
 fn lanes_answer_as_said(rt: HostRuntime) -> Result<(), Fail> {
-    for row in &ROWS {
-        assert!(rt; is_as_said(rt.alloc(), row)?, "{}", row.name);
-    }
-    Ok(())
+    are_as_said(&rt, rt.alloc(), ROWS)
 }
 
 /// How many positions the workers share: more than a lane has room for at first.
@@ -134,30 +153,44 @@ fn find_all(pair: (Lane, Thief), found: &AtomicU64) -> u64 {
     sum
 }
 
+/// Puts the shared positions into the first lane. Not so where there is none, or memory is refused.
+fn fill_first(pairs: &mut [(Lane, Thief)]) -> bool {
+    let Some((lane, _)) = pairs.first_mut() else {
+        return false;
+    };
+    for position in 0..SHARED {
+        if lane.push(position).is_err() {
+            return false;
+        }
+    }
+    true
+}
+
+/// What these add up to.
+fn sum_of(parts: &[u64]) -> u64 {
+    let mut sum: u64 = 0;
+    for part in parts {
+        sum = sum.wrapping_add(*part);
+    }
+    sum
+}
+
 /// What the positions of one lane add up to, found by so many workers at once.
 fn sum_found<R: Threads + Sync>(rt: &R, alloc: Global, workers: u32) -> Result<u64, Fail> {
     let mut pairs = lanes(alloc, workers)?;
-    let (lane, _) = pairs.first_mut().ok_or("a worker")?;
-    for position in 0..SHARED {
-        lane.push(position).or(Err("refused"))?;
+    if !fill_first(&mut pairs) {
+        return Err(Fail::from("no worker, or refused"));
     }
     let found = AtomicU64::new(0);
     let sums = thread::map_vec(rt, pairs, &|pair: (Lane, Thief)| find_all(pair, &found))?;
-    let mut sum: u64 = 0;
-    for part in &sums {
-        sum = sum.wrapping_add(*part);
-    }
-    Ok(sum)
+    Ok(sum_of(&sums))
 }
 
 #[test]
 fn many_workers_find_each_position_once(rt: HostRuntime) -> Result<(), Fail> {
     for workers in [1, 2, 4, 64] {
-        assert_eq!(rt;
-            sum_found(&rt, rt.alloc(), workers)?,
-            499_500,
-            "{workers} workers"
-        );
+        let sum = sum_found(&rt, rt.alloc(), workers)?;
+        equal(&rt, &(workers, "workers"), &sum, &499_500);
     }
     Ok(())
 }

@@ -1,8 +1,11 @@
 // A block is run by the rules of its own version: a memory of one page that is to grow by 256 grows in version 2 alone.
+use crate::assertions::holds;
 use crate::judged_blocks::{Changed, Edit, Entries, ONE, Source, TWO, are_judged_so, make};
+use block::Block;
 use block_judge::Reason::{Deviates, Malformed};
 use spec_ledger::{Outcome, Receipt, Version};
 use std::alloc::Global;
+use std::process::Abort;
 use std::test::Fail;
 use wtypes::Value;
 
@@ -26,7 +29,7 @@ struct Row {
     place: usize,
 }
 
-const ROWS: [Row; 2] = [
+const ROWS: &[Row] = &[
     Row {
         version: Version::One,
         value: -1,
@@ -43,8 +46,22 @@ const ROWS: [Row; 2] = [
 
 /// Whether the value stands at its place.
 fn has_value(bytes: &[u8], row: &Row) -> bool {
-    let value = row.value.to_le_bytes();
-    value.iter().enumerate().all(|(at, byte)| bytes.get(row.place.wrapping_add(at)) == Some(byte))
+    let mut place = row.place;
+    for byte in &row.value.to_le_bytes() {
+        if bytes.get(place) != Some(byte) {
+            return false;
+        }
+        place = place.wrapping_add(1);
+    }
+    true
+}
+
+/// Whether a block has this receipt at its first position.
+fn begins_with(block: &Block, receipt: Receipt) -> bool {
+    match block.positions().first() {
+        Some(position) => position.receipt() == receipt,
+        None => false,
+    }
 }
 
 /// Whether the block is what the row says.
@@ -55,23 +72,27 @@ fn is_as_said(alloc: Global, row: &Row) -> Result<bool, Fail> {
         used: 2,
         asks: 0,
     };
-    let first = made.block.positions().first();
     Ok(
-        first.is_some_and(|position| position.receipt() == receipt)
+        begins_with(&made.block, receipt)
             && made.bytes.len() == row.size
             && has_value(&made.bytes, row),
     )
 }
 
-#[test]
-fn memory_grows_by_the_version(rt: HostRuntime) -> Result<(), Fail> {
-    for row in &ROWS {
-        assert!(rt; is_as_said(rt.alloc(), row)?, "{:?}", row.version);
+/// Each block is what its row says.
+fn are_as_said(rt: &impl Abort, alloc: Global, rows: &[Row]) -> Result<(), Fail> {
+    for row in rows {
+        holds(rt, &row.version, is_as_said(alloc, row)?);
     }
     Ok(())
 }
 
-const CHANGED: [Changed; 10] = [
+#[test]
+fn memory_grows_by_the_version(rt: HostRuntime) -> Result<(), Fail> {
+    are_as_said(&rt, rt.alloc(), ROWS)
+}
+
+const CHANGED: &[Changed] = &[
     (&GROWS, ONE, &[], None),
     (&GROWS, TWO, &[], None),
     // the value of the other version
@@ -108,5 +129,5 @@ const CHANGED: [Changed; 10] = [
 
 #[test]
 fn each_block_is_judged_by_its_version(rt: HostRuntime) -> Result<(), Fail> {
-    are_judged_so(&rt, rt.alloc(), &CHANGED)
+    are_judged_so(&rt, rt.alloc(), CHANGED)
 }
