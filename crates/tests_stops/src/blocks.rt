@@ -1,6 +1,7 @@
 // Blocks of the example contract, of which workers are stopped.
 ghost use Rattle.std.specs.Prelude.{◌≤◌, IfOk, length};
 
+use crate::assertions::{equal, holds};
 use crate::stopping::{Stopping, Stops};
 use block::{Block, write_block};
 use block_judge::Reason;
@@ -14,6 +15,7 @@ use samples::example;
 use serial::serial_core;
 use spec_ledger::{Outcome, Receipt, Version};
 use std::alloc::{Allocator, Global};
+use std::process::Abort;
 use std::sync::Wait;
 use std::test::Fail;
 use std::thread::Threads;
@@ -154,7 +156,9 @@ fn are_bumped(block: &Block) -> bool {
 /// What two calls come to that a miner is stopped at.
 #[derive(Drop)]
 struct Came {
-    mined: Mined,
+    order: Vec<u32>,
+    /// How many calls the workers committed.
+    by_workers: u32,
     /// How many workers were stopped.
     stopped: u64,
 }
@@ -178,35 +182,177 @@ fn bumps_at<R: Threads + Wait + Sync>(
         return Err(Fail::from("rejected"));
     }
     Ok(Came {
-        mined,
+        order: order_of(alloc, &mined.block)?,
+        by_workers: mined.by_workers,
         stopped: pace.stopped(),
     })
+}
+
+/// How many workers are stopped so, of so many that mine the two bumps.
+fn stops_of_bumps<R: Threads + Wait + Sync>(
+    rt: &R,
+    alloc: Global,
+    workers: u32,
+    stopping: Stopping,
+) -> Result<u64, Fail> {
+    Ok(bumps_at(rt, alloc, workers, stopping)?.stopped)
+}
+
+/// So many workers that mine the two bumps are stopped at each of their steps, and at no later one.
+fn bumps_are_stopped<R: Threads + Wait + Sync + Abort>(
+    rt: &R,
+    alloc: Global,
+    workers: u32,
+) -> Result<(), Fail> {
+    for step in 0..=8 {
+        let one = stops_of_bumps(rt, alloc, workers, Stopping::At(step))?;
+        equal(
+            rt,
+            &(workers, "workers, at step", step),
+            &one,
+            &u64::from(step < 8),
+        );
+        let all = stops_of_bumps(rt, alloc, workers, Stopping::From(step))?;
+        equal(
+            rt,
+            &(workers, "workers, from step", step),
+            &(all > 0),
+            &(step < 8),
+        );
+    }
+    Ok(())
 }
 
 // a bump has four steps: its attempt, its operation, its commit, and that it was committed
 #[test]
 fn a_stop_at_each_step_of_two_bumps(rt: HostRuntime) -> Result<(), Fail> {
-    for workers in 1..=2 {
-        for step in 0..=8 {
-            let one = bumps_at(&rt, rt.alloc(), workers, Stopping::At(step))?;
-            let stops = u64::from(step < 8);
-            assert_eq!(rt; one.stopped, stops, "{step}");
-            let all = bumps_at(&rt, rt.alloc(), workers, Stopping::From(step))?;
-            assert_eq!(rt; all.stopped > 0, step < 8, "{step}");
-        }
-    }
+    bumps_are_stopped(&rt, rt.alloc(), 1)?;
+    bumps_are_stopped(&rt, rt.alloc(), 2)
+}
+
+/// So many workers that stop at once leave all to the caller.
+fn all_is_left<R: Threads + Wait + Sync + Abort>(
+    rt: &R,
+    alloc: Global,
+    workers: u32,
+) -> Result<(), Fail> {
+    let came = bumps_at(rt, alloc, workers, Stopping::Attempts)?;
+    equal(rt, &(workers, "workers, by them"), &came.by_workers, &0);
+    equal(
+        rt,
+        &(workers, "workers, the order"),
+        &came.order.as_slice(),
+        &[0u32, 1].as_slice(),
+    );
     Ok(())
 }
 
 #[test]
 fn workers_that_stop_at_once_leave_all_to_the_caller(rt: HostRuntime) -> Result<(), Fail> {
     for workers in 1..=4 {
-        let came = bumps_at(&rt, rt.alloc(), workers, Stopping::Attempts)?;
-        assert_eq!(rt; came.mined.by_workers, 0);
-        assert_eq!(rt;
-            order_of(rt.alloc(), &came.mined.block)?.as_slice(),
-            [0u32, 1].as_slice()
-        );
+        all_is_left(&rt, rt.alloc(), workers)?;
+    }
+    Ok(())
+}
+
+/// The bytes of the block that one worker mines of these calls.
+fn mined_bytes<R: Threads + Wait + Sync>(
+    rt: &R,
+    alloc: Global,
+    world: &World,
+    calls: &[Call],
+) -> Result<Vec<u8>, Fail>
+    requires { length calls.now ≤ 65535 }
+{
+    let mined = mined_at(rt, alloc, world, calls, 1, &NoPace)?;
+    written(alloc, &mined.block)
+}
+
+/// These bytes with another last one.
+fn with_another_end(alloc: Global, bytes: &[u8]) -> Result<Vec<u8>, Fail> {
+    let mut other = bytes.to_vec(alloc)?;
+    let Some(last) = other.last_mut() else {
+        return Err(Fail::from("no byte"));
+    };
+    *last = last.wrapping_add(1);
+    Ok(other)
+}
+
+/// So many workers that are stopped so give the verdict on the bytes that has to come.
+fn is_judged_so<R: Threads + Wait + Sync + Abort>(
+    rt: &R,
+    alloc: Global,
+    world: &World,
+    calls: &[Call],
+    bytes: &[u8],
+    workers: u32,
+    stopping: Stopping,
+    wanted: Option<Reason>,
+) -> Result<(), Fail>
+    requires { length calls.now ≤ 65535 }
+{
+    let found = reason_at(
+        rt,
+        alloc,
+        world,
+        calls,
+        bytes,
+        workers,
+        &Stops::new(stopping),
+    )?;
+    equal(rt, &(workers, "workers", stopping), &found, &wanted);
+    Ok(())
+}
+
+/// So many workers that are stopped at each of their steps give the verdict on the bytes that comes without a stop.
+fn is_judged_alike<R: Threads + Wait + Sync + Abort>(
+    rt: &R,
+    alloc: Global,
+    world: &World,
+    calls: &[Call],
+    bytes: &[u8],
+    workers: u32,
+) -> Result<(), Fail>
+    requires { length calls.now ≤ 65535 }
+{
+    let plain = reason_at(rt, alloc, world, calls, bytes, workers, &NoPace)?;
+    for step in 0..=4 {
+        is_judged_so(
+            rt,
+            alloc,
+            world,
+            calls,
+            bytes,
+            workers,
+            Stopping::At(step),
+            plain,
+        )?;
+        is_judged_so(
+            rt,
+            alloc,
+            world,
+            calls,
+            bytes,
+            workers,
+            Stopping::From(step),
+            plain,
+        )?;
+    }
+    Ok(())
+}
+
+/// One worker and two that are stopped give the verdicts on the block of the two bumps, and on one that ends otherwise, that come without a stop.
+fn bumps_are_judged_alike<R: Threads + Wait + Sync + Abort>(
+    rt: &R,
+    alloc: Global,
+) -> Result<(), Fail> {
+    let world = world_of(alloc)?;
+    let calls = calls_of(alloc, &BUMPS)?;
+    let good = mined_bytes(rt, alloc, &world, &calls)?;
+    let bad = with_another_end(alloc, &good)?;
+    for workers in 1..=2 {
+        is_judged_alike(rt, alloc, &world, &calls, &good, workers)?;
+        is_judged_alike(rt, alloc, &world, &calls, &bad, workers)?;
     }
     Ok(())
 }
@@ -214,27 +360,7 @@ fn workers_that_stop_at_once_leave_all_to_the_caller(rt: HostRuntime) -> Result<
 // of a bump a validator's worker has two steps: its attempt and its operation
 #[test]
 fn a_stopped_validator_gives_the_same_verdict(rt: HostRuntime) -> Result<(), Fail> {
-    let alloc = rt.alloc();
-    let world = world_of(alloc)?;
-    let calls = calls_of(alloc, &BUMPS)?;
-    let mined = mined_at(&rt, alloc, &world, &calls, 1, &NoPace)?;
-    let good = written(alloc, &mined.block)?;
-    let mut bad = good.to_vec(alloc)?;
-    let place = bad.last_mut().ok_or("a byte")?;
-    *place = place.wrapping_add(1);
-    for workers in 1..=2 {
-        for bytes in [&good, &bad] {
-            let plain = reason_at(&rt, alloc, &world, &calls, bytes, workers, &NoPace)?;
-            for step in 0..=4 {
-                for stopping in [Stopping::At(step), Stopping::From(step)] {
-                    let pace = Stops::new(stopping);
-                    let found = reason_at(&rt, alloc, &world, &calls, bytes, workers, &pace)?;
-                    assert!(rt; found == plain, "{step}");
-                }
-            }
-        }
-    }
-    Ok(())
+    bumps_are_judged_alike(&rt, rt.alloc())
 }
 
 const ENTRIES: [&str; 4] = ["bump", "both", "move", "fail"];
@@ -274,10 +400,19 @@ fn is_stopped_well<R: Threads + Wait + Sync>(
     Ok(reason.is_none() && is_serial(alloc, &world, &calls, &mined)?)
 }
 
-#[test]
-fn random_blocks_with_stops_are_serial(rt: HostRuntime) -> Result<(), Fail> {
-    for seed in 0..50 {
-        assert!(rt; is_stopped_well(&rt, rt.alloc(), seed)?, "{seed}");
+/// Random calls of so many seeds come to serial blocks.
+fn are_stopped_well<R: Threads + Wait + Sync + Abort>(
+    rt: &R,
+    alloc: Global,
+    seeds: u64,
+) -> Result<(), Fail> {
+    for seed in 0..seeds {
+        holds(rt, &seed, is_stopped_well(rt, alloc, seed)?);
     }
     Ok(())
+}
+
+#[test]
+fn random_blocks_with_stops_are_serial(rt: HostRuntime) -> Result<(), Fail> {
+    are_stopped_well(&rt, rt.alloc(), 50)
 }

@@ -1,12 +1,14 @@
 // Workers that are stopped in the midst of calls that ask for exports of a contract: with levels open, and with levels dropped.
 ghost use Rattle.std.specs.Prelude.{◌≤◌, IfOk, length};
 
+use crate::assertions::holds;
 use crate::blocks::{is_serial, mined_at, reason_at, written};
 use crate::stopping::{Stopping, Stops};
 use call::Call;
 use pace::NoPace;
 use samples::{PROBING, deployed};
 use std::alloc::Global;
+use std::process::Abort;
 use std::sync::Wait;
 use std::test::Fail;
 use std::thread::Threads;
@@ -65,18 +67,36 @@ fn is_stopped_well<R: Threads + Wait + Sync>(
     Ok((is_good, pace.stopped().wrapping_add(again.stopped())))
 }
 
+/// How many workers of so many are stopped so. What they mine is a serial block, and accepted.
+fn stops_at<R: Threads + Wait + Sync + Abort>(
+    rt: &R,
+    alloc: Global,
+    workers: u32,
+    stopping: Stopping,
+) -> Result<u64, Fail> {
+    let (is_good, times) = is_stopped_well(rt, alloc, workers, stopping)?;
+    holds(rt, &(workers, "workers", stopping), is_good);
+    Ok(times)
+}
+
+/// So many workers are stopped many times, alone and with all that come after, at each of their steps.
+fn are_stopped<R: Threads + Wait + Sync + Abort>(
+    rt: &R,
+    alloc: Global,
+    workers: u32,
+) -> Result<(), Fail> {
+    let mut stopped = 0u64;
+    for step in 0..STEPS {
+        let one = stops_at(rt, alloc, workers, Stopping::At(step))?;
+        let all = stops_at(rt, alloc, workers, Stopping::From(step))?;
+        stopped = stopped.wrapping_add(one).wrapping_add(all);
+    }
+    holds(rt, &(workers, "workers, stops", stopped), stopped > 30);
+    Ok(())
+}
+
 #[test]
 fn a_stop_at_each_step_of_calls_that_ask(rt: HostRuntime) -> Result<(), Fail> {
-    for workers in 1..=2 {
-        let mut stopped = 0u64;
-        for step in 0..STEPS {
-            for stopping in [Stopping::At(step), Stopping::From(step)] {
-                let (is_good, times) = is_stopped_well(&rt, rt.alloc(), workers, stopping)?;
-                assert!(rt; is_good, "{workers} workers, step {step}");
-                stopped = stopped.wrapping_add(times);
-            }
-        }
-        assert!(rt; stopped > 30, "{stopped} stops");
-    }
-    Ok(())
+    are_stopped(&rt, rt.alloc(), 1)?;
+    are_stopped(&rt, rt.alloc(), 2)
 }

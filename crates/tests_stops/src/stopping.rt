@@ -3,7 +3,7 @@ use pace::{Pace, Step};
 use std::sync::atomic::{AtomicU64, Ordering};
 
 /// At which steps workers stop. Steps are counted from 0 as they are asked about, over all workers.
-#[derive(Clone, Copy)]
+#[derive(Clone, Copy, Debug)]
 pub(crate) enum Stopping {
     /// At this one alone.
     At(u64),

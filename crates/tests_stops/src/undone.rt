@@ -1,9 +1,11 @@
 // A worker that is stopped in an attempt takes it back before it ends: the other worker, whose call meets that attempt, commits its own.
+use crate::assertions::equal;
 use crate::blocks::{Row, calls_of, order_of, world_of};
 use mining::{Mined, mine_in};
 use pace::{Pace, Step};
 use ration::Ration;
 use std::alloc::Global;
+use std::process::Abort;
 use std::sync::Wait;
 use std::sync::atomic::{AtomicBool, AtomicU64, Ordering};
 use std::test::Fail;
@@ -83,15 +85,15 @@ impl Pace for StopAt<'_> {
 }
 
 /// Calls of which the first holds a cell that the second writes, where the first one's worker is stopped.
-const ROWS: [([Row; 2], Step); 2] = [
+const ROWS: &[(&[Row], Step)] = &[
     // it has written the cell, and is about to be committed
     (
-        [("set", [1, 20]), ("set", [1, 30])],
+        &[("set", [1, 20]), ("set", [1, 30])],
         Step::Commit { call: 0 },
     ),
     // it has read the cell, and is about to write another one
     (
-        [("move", [1, 2]), ("set", [1, 30])],
+        &[("move", [1, 2]), ("set", [1, 30])],
         Step::Op { call: 0, n: 1 },
     ),
 ];
@@ -124,15 +126,28 @@ fn stopped_at<R: Threads + Wait + Sync>(
     Ok((by_workers, order_of(alloc, &block)?))
 }
 
+/// The worker of the first call, which is stopped at this step, takes its attempt back: the second call stands first, and it alone is committed by a worker.
+fn takes_its_attempt_back<R: Threads + Wait + Sync + Abort>(
+    rt: &R,
+    alloc: Global,
+    rows: &[Row],
+    step: Step,
+) -> Result<(), Fail> {
+    let (by_workers, order) = stopped_at(rt, alloc, rows, step)?;
+    equal(rt, &("by workers", step), &by_workers, &1);
+    equal(
+        rt,
+        &("the order", step),
+        &order.as_slice(),
+        &[1u32, 0].as_slice(),
+    );
+    Ok(())
+}
+
 #[test]
 fn a_stopped_worker_takes_its_attempt_back(rt: HostRuntime) -> Result<(), Fail> {
     for (rows, step) in ROWS {
-        let (by_workers, order) = stopped_at(&rt, rt.alloc(), &rows, step)?;
-        assert_eq!(rt;
-            (by_workers, order.as_slice()),
-            (1, [1u32, 0].as_slice()),
-            "{step:?}"
-        );
+        takes_its_attempt_back(&rt, rt.alloc(), rows, *step)?;
     }
     Ok(())
 }
