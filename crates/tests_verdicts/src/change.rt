@@ -41,7 +41,7 @@ pub enum Change {
 }
 
 /// The kinds.
-pub const CHANGES: [Change; 15] = [
+pub const CHANGES: &[Change] = &[
     Change::Receipt,
     Change::Asks,
     Change::Turn,

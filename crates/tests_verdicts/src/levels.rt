@@ -1,5 +1,6 @@
 // Random blocks whose calls ask for exports of contracts, with levels in levels: workers mine the block that is written by hand of the same order,
 // byte for byte, and it is accepted. With one thing changed it gets the verdict that is given by hand.
+use crate::assertions::{equal, holds};
 use crate::calls::{nested_calls, nested_cells};
 use crate::plain_executor::Contracts;
 use crate::random::Random;
@@ -87,8 +88,39 @@ fn reject_other_levels<R: Threads + Wait + Sync + Abort>(
             break;
         };
         let found = compare(rt, alloc, given, given.fuel, &other, counts)?;
-        assert_eq!(rt; found, Some(Reason::Deviates(at)));
+        equal(rt, &("position", at), &found, &Some(Reason::Deviates(at)));
     }
+    Ok(())
+}
+
+/// The bytes of the block that workers mine, which are those that are written by hand.
+fn mined_as_sealed<R: Threads + Wait + Sync + Abort>(
+    rt: &R,
+    alloc: Global,
+    given: &Given,
+    seed: u32,
+) -> Result<Vec<u8>, Fail> {
+    let bytes = mined(rt, alloc, given)?;
+    let order = order_of(alloc, &bytes)?;
+    let by_hand = sealed(alloc, given, &order)?;
+    equal(rt, &("mined, seed", seed), &bytes, &by_hand);
+    Ok(bytes)
+}
+
+/// The block of another order is accepted.
+fn accept_another_order<R: Threads + Wait + Sync + Abort>(
+    rt: &R,
+    alloc: Global,
+    given: &Given,
+    seed: u32,
+    random: &mut Random,
+    counts: &mut Counts,
+) -> Result<(), Fail> {
+    let numbers = shuffled(alloc, CALLS, random)?;
+    let order = fitting(alloc, given, &numbers)?;
+    let other = sealed(alloc, given, &order)?;
+    let found = compare(rt, alloc, given, given.fuel, &other, counts)?;
+    equal(rt, &("another order, seed", seed), &found, &None);
     Ok(())
 }
 
@@ -101,17 +133,10 @@ fn judge_one<R: Threads + Wait + Sync + Abort>(
 ) -> Result<u64, Fail> {
     let mut random = Random::new(seed);
     let given = nested_given(alloc, &mut random)?;
-    let bytes = mined(rt, alloc, &given)?;
-    let order = order_of(alloc, &bytes)?;
-    assert_eq!(rt; bytes, sealed(alloc, &given, &order)?, "of {seed}");
+    let bytes = mined_as_sealed(rt, alloc, &given, seed)?;
     judge_bytes(rt, alloc, &given, &bytes, &mut random, counts)?;
     reject_other_levels(rt, alloc, &given, &bytes, counts)?;
-    // the block of another order
-    let numbers = shuffled(alloc, CALLS, &mut random)?;
-    let order = fitting(alloc, &given, &numbers)?;
-    let other = sealed(alloc, &given, &order)?;
-    let found = compare(rt, alloc, &given, given.fuel, &other, counts)?;
-    assert_eq!(rt; found, None, "of {seed}");
+    accept_another_order(rt, alloc, &given, seed, &mut random, counts)?;
     levels_of(alloc, &bytes)
 }
 
@@ -127,7 +152,7 @@ fn judge_from<R: Threads + Wait + Sync + Abort>(
         let more = judge_one(rt, alloc, first.wrapping_add(seed), &mut counts)?;
         levels = levels.wrapping_add(more);
     }
-    assert!(rt; levels > 100, "{levels} levels");
+    holds(rt, &("levels", levels), levels > 100);
     Ok(())
 }
 

@@ -104,7 +104,7 @@ const STORE: Code = (
     Given::Told,
 );
 
-const CODES: [Code; 9] = [
+const CODES: &[Code] = &[
     PROBE, COUNT, FALL, DIVIDE, ENDLESS, SPOIL, BOTH, BLANK, STORE,
 ];
 
@@ -112,7 +112,7 @@ const CODES: [Code; 9] = [
 fn named(name: &str) -> Option<Code> {
     for code in CODES {
         if code.0 == name {
-            return Some(code);
+            return Some(*code);
         }
     }
     None

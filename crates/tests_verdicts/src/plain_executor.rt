@@ -33,11 +33,11 @@ enum Doing {
     Trap,
 }
 
-const BUMP: [Doing; 3] = [Doing::Nothing, Doing::Nothing, Doing::Add];
+const BUMP: &[Doing] = &[Doing::Nothing, Doing::Nothing, Doing::Add];
 
-const FAIL: [Doing; 4] = [Doing::Nothing, Doing::Nothing, Doing::Add, Doing::Trap];
+const FAIL: &[Doing] = &[Doing::Nothing, Doing::Nothing, Doing::Add, Doing::Trap];
 
-const BOTH: [Doing; 5] = [
+const BOTH: &[Doing] = &[
     Doing::Nothing,
     Doing::Nothing,
     Doing::Add,
@@ -45,35 +45,43 @@ const BOTH: [Doing; 5] = [
     Doing::Total,
 ];
 
-const PEEK: [Doing; 4] = [Doing::Nothing, Doing::Get, Doing::Nothing, Doing::Trap];
+const PEEK: &[Doing] = &[Doing::Nothing, Doing::Get, Doing::Nothing, Doing::Trap];
 
-const SET: [Doing; 3] = [Doing::Nothing, Doing::Nothing, Doing::Put];
+const SET: &[Doing] = &[Doing::Nothing, Doing::Nothing, Doing::Put];
 
-const MOVE: [Doing; 4] = [Doing::Nothing, Doing::Nothing, Doing::Get, Doing::PutGot];
+const MOVE: &[Doing] = &[Doing::Nothing, Doing::Nothing, Doing::Get, Doing::PutGot];
 
 /// The instructions of a function of this name.
-fn doings(alloc: Global, name: &str) -> Result<Option<Vec<Doing>>, AllocError> {
-    let doings = match name {
-        "bump" => BUMP.to_vec(alloc)?,
-        "fail" => FAIL.to_vec(alloc)?,
-        "both" => BOTH.to_vec(alloc)?,
-        "peek" => PEEK.to_vec(alloc)?,
-        "set" => SET.to_vec(alloc)?,
-        "move" => MOVE.to_vec(alloc)?,
-        _ => return Ok(None),
-    };
-    Ok(Some(doings))
+fn doings(name: &str) -> Option<&'static [Doing]> {
+    match name {
+        "bump" => Some(BUMP),
+        "fail" => Some(FAIL),
+        "both" => Some(BOTH),
+        "peek" => Some(PEEK),
+        "set" => Some(SET),
+        "move" => Some(MOVE),
+        _ => None,
+    }
+}
+
+/// Whether these are of the one type that the functions take.
+fn are_taken(args: &[Value]) -> bool {
+    for value in args {
+        if !matches!(value, Value::I64(_)) {
+            return false;
+        }
+    }
+    true
 }
 
 /// The code with which a call of the example contract is refused before it runs.
 fn refusal(call: &Call, known: bool) -> Option<u8> {
     let count = if call.entry() == "peek" { 1 } else { 2 };
-    let of_type = |value: &Value| matches!(value, Value::I64(_));
     if !known {
         Some(1)
     } else if call.args().len() != count {
         Some(3)
-    } else if !call.args().iter().all(of_type) {
+    } else if !are_taken(call.args()) {
         Some(4)
     } else {
         None
@@ -179,7 +187,11 @@ impl Run<'_> {
             }
             self.act(*doing)?;
         }
-        let result = (call.entry() == "both").then(|| Value::I64(self.got.cast_signed()));
+        let result = if call.entry() == "both" {
+            Some(Value::I64(self.got.cast_signed()))
+        } else {
+            None
+        };
         Ok(Receipt {
             outcome: Outcome::Returned(result),
             used,
@@ -223,11 +235,11 @@ fn refused(alloc: Global, code: u8) -> Ran {
 
 /// Executes a call of the example contract. The cells change only where it returns.
 fn execute_example(alloc: Global, call: &Call, cells: &mut Stored) -> Result<Ran, AllocError> {
-    let found = doings(alloc, call.entry())?;
+    let found = doings(call.entry());
     if let Some(code) = refusal(call, found.is_some()) {
         return Ok(refused(alloc, code));
     }
-    let doings = found.unwrap_or(Vec::new(alloc));
+    let doings = found.unwrap_or(&[]);
     let mut run = Run {
         before: cells,
         written: BTreeMap::new(alloc),
@@ -236,7 +248,7 @@ fn execute_example(alloc: Global, call: &Call, cells: &mut Stored) -> Result<Ran
         number: bits(call, 1),
         got: 0,
     };
-    let receipt = run.execute(call, &doings)?;
+    let receipt = run.execute(call, doings)?;
     let Run { written, held, .. } = run;
     if matches!(receipt.outcome, Outcome::Returned(_)) {
         put_all(cells, &written)?;

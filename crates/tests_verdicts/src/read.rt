@@ -139,8 +139,8 @@ impl<'a> Reader<'a> {
         let mut entries: Vec<Entry> = Vec::new(alloc);
         for _ in 0..self.u32() {
             let entry = self.entry();
-            if entries.last().is_some_and(|last| last.lock >= entry.lock) {
-                self.is_good = false;
+            if let Some(last) = entries.last() {
+                self.is_good = self.is_good && last.lock < entry.lock;
             }
             if !self.is_good {
                 break;

@@ -1,6 +1,7 @@
 // Random blocks, and what is said of them.
 ghost use Rattle.std.specs.Prelude.{◌≤◌};
 
+use crate::assertions::equal;
 use crate::calls::{random_calls, random_cells};
 use crate::change::{CHANGES, Change, change_block, change_bytes};
 use crate::plain_executor::Contracts;
@@ -237,7 +238,7 @@ pub fn compare<R: Threads + Wait + Sync + Abort>(
 ) -> Result<Option<Reason>, Fail> {
     let expected = judge(alloc, &given.world, &given.calls, fuel, bytes)?;
     let found = validated(rt, alloc, given, fuel, bytes)?;
-    assert_eq!(rt; found, expected);
+    equal(rt, &("bytes", bytes.len()), &found, &expected);
     count(counts, found);
     Ok(found)
 }
@@ -252,7 +253,7 @@ fn judge_changed<R: Threads + Wait + Sync + Abort>(
     counts: &mut Counts,
 ) -> Result<(), Fail> {
     for change in CHANGES {
-        let other = changed(alloc, bytes, change, random)?;
+        let other = changed(alloc, bytes, *change, random)?;
         compare(rt, alloc, given, given.fuel, &other, counts)?;
     }
     Ok(())
@@ -312,7 +313,7 @@ fn judge_from<R: Threads + Wait + Sync + Abort>(
     for seed in 0..BLOCKS {
         judge_one(rt, alloc, first.wrapping_add(seed), &mut counts)?;
     }
-    if counts.iter().any(|times| *times == 0) {
+    if counts.contains(&0) {
         return Err(Fail::from("a verdict is missing"));
     }
     Ok(())

@@ -20,11 +20,23 @@ fn order_of(alloc: Global, places: &[Place]) -> Result<Vec<u32>, AllocError> {
     Ok(order)
 }
 
+/// Whether a number stands before this position.
+fn stands_before(order: &[u32], position: usize, number: u32) -> bool {
+    for (at, other) in order.iter().enumerate() {
+        if at >= position {
+            return false;
+        }
+        if *other == number {
+            return true;
+        }
+    }
+    false
+}
+
 /// The least position whose number is not below the number of calls, or stood before.
 fn bad_number(calls: &[Call], order: &[u32]) -> Option<u32> {
     for (at, number) in order.iter().enumerate() {
-        let stood = order.iter().take(at).any(|before| before == number);
-        if *number as usize >= calls.len() || stood {
+        if *number as usize >= calls.len() || stands_before(order, at, *number) {
             return u32::try_from(at).ok();
         }
     }
@@ -43,9 +55,9 @@ fn rest_of(calls: &[Call], order: &[u32], fuel: u64) -> Option<u64> {
 /// The least call left out whose limit is not above what remains.
 fn room(calls: &[Call], order: &[u32], rest: u64) -> Option<u32> {
     for (number, call) in calls.iter().enumerate() {
-        let is_left = !order.iter().any(|ordered| *ordered as usize == number);
-        if is_left && call.fuel() <= rest {
-            return u32::try_from(number).ok();
+        let number = u32::try_from(number).ok()?;
+        if call.fuel() <= rest && !order.contains(&number) {
+            return Some(number);
         }
     }
     None

@@ -3,6 +3,7 @@ ghost use Rattle.std.specs.Prelude.{◌≡◌, ◌<◌, ◌+◌, IfSome, All, le
 ghost use Rattle.spec_ledger.specs.Order.{limits_of};
 ghost use Rattle.spec_block.specs.Worlds.{limits};
 
+use crate::assertions::equal;
 use crate::random::Random;
 use crate::rows::{CALLS, Given, fitting, random_given, shuffled, validated, written};
 use crate::sealed::seal;
@@ -62,22 +63,30 @@ fn judge_order<R: Threads + Wait + Sync + Abort>(
 ) -> Result<(), Fail> {
     let bytes = executed(alloc, given, order, version)?;
     let sealed = seal(alloc, &given.world, &given.calls, order, version)?;
-    assert_eq!(rt; bytes, write(alloc, &sealed)?);
-    assert_eq!(rt; validated(rt, alloc, given, given.fuel, &bytes)?, None);
+    equal(rt, &("bytes", version), &bytes, &write(alloc, &sealed)?);
+    let found = validated(rt, alloc, given, given.fuel, &bytes)?;
+    equal(rt, &("verdict", version), &found, &None);
     Ok(())
+}
+
+/// Makes a block of each version, and judges it.
+fn judge_seed<R: Threads + Wait + Sync + Abort>(
+    rt: &R,
+    alloc: Global,
+    seed: u32,
+) -> Result<(), Fail> {
+    let mut random = Random::new(seed);
+    let given = random_given(alloc, &mut random)?;
+    let numbers = shuffled(alloc, CALLS, &mut random)?;
+    let order = fitting(alloc, &given, &numbers)?;
+    judge_order(rt, alloc, &given, &order, Version::One)?;
+    judge_order(rt, alloc, &given, &order, Version::Two)
 }
 
 #[test]
 fn random_blocks_of_both_versions_are_accepted(rt: HostRuntime) -> Result<(), Fail> {
-    let alloc = rt.alloc();
     for seed in 0..BLOCKS {
-        let mut random = Random::new(seed);
-        let given = random_given(alloc, &mut random)?;
-        let numbers = shuffled(alloc, CALLS, &mut random)?;
-        let order = fitting(alloc, &given, &numbers)?;
-        for version in [Version::One, Version::Two] {
-            judge_order(&rt, alloc, &given, &order, version)?;
-        }
+        judge_seed(&rt, rt.alloc(), seed)?;
     }
     Ok(())
 }
