@@ -5,7 +5,7 @@ ghost use Rattle.std.specs.FinMap as finite;
 ghost use Rattle.spec_ledger.specs.declared.Version.TheVariants.{Two};
 ghost use Rattle.interp.specs.Lent.{setting_view};
 ghost use Rattle.publish.specs.Publication.{MayFollow, HasTaken, IsSameJob, HasGoneOn, Sweep, limits, AreLeft, fuel_used};
-ghost use Rattle.publish.specs.Adoption.{AreMade, MayFollowBy, ran_by};
+ghost use Rattle.publish.specs.Adoption.{AreMade, IsMade, MayFollowBy, ran_by};
 ghost use Rattle.spec_ledger.specs.Book.{GetsReplies, IsDefined, settled};
 ghost use Rattle.spec_ledger.specs.Order.{IsAdmissible};
 ghost use Rattle.spec_execution.specs.Serial.{Serial};
@@ -79,6 +79,22 @@ pub fn take_run<'a, A: Allocator + Copy>(
     ensures same { IsSameJob publishing.old publishing.new }
 {
     publishing.take_run(call, finished)
+}
+
+/// As [`publish::Publishing::take_made`].
+pub fn take_made<'a, A: Allocator + Copy>(
+    publishing: &mut Publishing<'a, A>,
+    run: &MadeRun<'_, A>,
+    locks: Touched<A>,
+) -> Result<bool, NoMemory>
+    requires { IsMade publishing.old.setting publishing.old.calls run.now locks }
+    ensures answer { IfOk result (λ taken. IsTrue taken ↔ (MayFollow publishing.old run.now.call × GetsReplies run.now.finished.trace publishing.old.cells)) }
+    ensures taken { result ≡ Ok true → HasTaken publishing.old run.now.call publishing.new }
+    ensures left { result ≡ Ok false → publishing.new ≡ publishing.old }
+    ensures err { OnErr result (publishing.new ≡ publishing.old) }
+    ensures same { IsSameJob publishing.old publishing.new }
+{
+    publishing.take_made(run, locks)
 }
 
 /// As [`publish::Publishing::take_alone`].

@@ -20,6 +20,7 @@ use Rattle.serial_block.proofs.Crossing.{crosses, vec_send, contract_sync, cells
 use Rattle.mining.proofs.brake.Brake.TheSendSync as brake
 use Rattle.mining.specs.contracts.attempt.Committed as committed_row
 use Rattle.mining.specs.contracts.attempt.Job as job_row
+use Rattle.mining.specs.contracts.on_copies.CopyJob as copy_job_row
 use Rattle.mining.specs.contracts.worker.Worked as worked_row
 
 module _ (B : RattleType) (g : Ghosts B.Denot) (send : IsSend B) (sync : IsSync B) (frees : Frees g g.dealloc_token) where
@@ -59,6 +60,22 @@ module _ (B : RattleType) (g : Ghosts B.Denot) (send : IsSend B) (sync : IsSync 
                 (as_row_sync (row_field (ShrRef a.mir a.lft P)) (shr_sync a.mir a.lft P pace), (search crosses depth 60 fits 100000, (search (crosses, brake.the_sync) depth 60 fits 100000, tt))),
               ),
             ),
+          ),
+        ),
+      )
+
+  -- and the job of those that run calls over copies
+  pub copy_job_sync : (a : NamedLft) (P : RattleType) → IsSync P → IsSync (copy_job_row.the_row a B P g)
+  copy_job_sync a P pace =
+      let contract = contract_sync B g send sync frees in
+      let cells = cells_sync B g send sync frees in
+      declared_sync (copy_job_row.the_type a B P g) (
+        as_row_sync (row_field B) sync,
+        (
+          search (crosses, contract) depth 60 fits 100000,
+          (
+            search crosses depth 60 fits 100000,
+            (search (crosses, cells) depth 60 fits 100000, (search (crosses, intake_sync) depth 60 fits 100000, (as_row_sync (row_field (ShrRef a.mir a.lft P)) (shr_sync a.mir a.lft P pace), tt))),
           ),
         ),
       )

@@ -2,7 +2,9 @@
 use Rattle.std.proofs.Common.{◌≡◌, ℕ, List, [], ◌∷◌, ◌++◌, Some, slice_get, IfOk, sym, ap, ◌∙◌, subst}
 use Rattle.std.specs.declared.result.Result.{Result}
 use Rattle.std.specs.declared.result.Result.TheVariants.{Ok, Err}
-use Rattle.std.proofs.lemmas.List.Elements.{All-append, All-cons, All-nil}
+use Rattle.std.specs.List.Sorted.{IsPermutation}
+use Rattle.std.proofs.ByRecursion.{all_shuffled}
+use Rattle.std.proofs.lemmas.List.Elements.{All-append, All-cons, All-nil, All-from_recursion, recursion_from_All}
 use Rattle.spec_execution.specs.Configuration.{Setting}
 use Rattle.spec_execution.specs.Run.{ContractCall}
 use Rattle.interp.specs.Played.{Played}
@@ -20,3 +22,7 @@ more_runs setting calls xs ys zs is a b = subst (AreAllRuns setting calls) (sym 
 
 pub one_more_run : {A : Type 0} (setting : Setting) (calls : List ContractCall) (xs zs : List (Committed A)) (x : Committed A) → zs ≡ xs ++ x ∷ [] → AreAllRuns setting calls xs → IsCommitted setting calls x → AreAllRuns setting calls zs
 one_more_run setting calls xs zs x is all one = more_runs setting calls xs (x ∷ []) zs is all (All-cons (IsCommitted setting calls) x [] one (All-nil (IsCommitted setting calls)))
+
+-- the same runs in another order
+pub shuffled_runs : {A : Type 0} (setting : Setting) (calls : List ContractCall) (xs ys : List (Committed A)) → IsPermutation xs ys → AreAllRuns setting calls xs → AreAllRuns setting calls ys
+shuffled_runs setting calls xs ys same all = All-from_recursion (IsCommitted setting calls) ys (all_shuffled (IsCommitted setting calls) xs ys same (recursion_from_All (IsCommitted setting calls) xs all))

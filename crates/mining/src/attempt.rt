@@ -41,10 +41,10 @@ pub(crate) struct Job<'s, 'a, A: Allocator, P: Pace> {
     pub(crate) brake: &'s Brake,
 }
 
-/// A run that was committed.
+/// A run that a worker hands back: one that was committed, or one over a copy of the cells.
 #[derive(Drop)]
 pub(crate) struct Committed<'a, A: Allocator> {
-    /// The position that the book answered.
+    /// The position that the book answered, or how many runs its worker had made before over its copy.
     pub(crate) position: u32,
     /// The number of the call.
     pub(crate) call: u32,
@@ -73,7 +73,7 @@ enum Stop {
 }
 
 /// Tells the pace a step, and answers whether the worker stops there.
-fn told<P: Pace>(pace: &P, step: Step) -> bool {
+pub(crate) fn told<P: Pace>(pace: &P, step: Step) -> bool {
     pace.at(step);
     pace.stops(step)
 }

@@ -6,6 +6,7 @@
 mod attempt;
 mod brake;
 mod mined_core;
+mod on_copies;
 mod outcome;
 mod sample;
 mod worker;
@@ -50,8 +51,9 @@ pub struct Mined<A: Allocator = Global> {
 /// at most so often; the calls that it tried in vain run alone when the workers have ended. The pace is told each step of the
 /// workers, and may stop a worker at any of them: its call, and the calls that nobody drew, then run alone as well. The world is as it was.
 ///
-/// Where 16 of a thousand calls or more, which run alone first and are forgotten, are so short or wait for one another so much that workers do not pay
-/// (`gain`), no worker is started, the pace is told nothing, and all calls run alone.
+/// Of a thousand calls or more 16 run alone first, and are forgotten. Where they are short, workers run the calls each over a copy of the cells, the pace is
+/// told the beginning of each call, and those whose replies are not the ones of the published order run alone. Where they are short and too many cells are
+/// to be copied, or wait for one another so much that workers do not pay (`gain`), no worker is started, the pace is told nothing, and all calls run alone.
 ///
 /// Whatever the workers do at once, the block and the world after it are those of its calls run one after another in its order.
 ///

@@ -12,8 +12,9 @@ ghost use Rattle.mining.specs.Handed.{AreRuns, IsSerialBook};
 
 use crate::attempt::Job;
 use crate::brake::Brake;
+use crate::on_copies::mine_on_copies;
 use crate::outcome::publish;
-use crate::sample::do_workers_pay;
+use crate::sample::{Way, find_way};
 use crate::worker::{Worked, draw_rest, work};
 use boost::book::Closed;
 use call::Call;
@@ -56,7 +57,10 @@ pub struct MinedCore<A: Allocator = Global> {
 /// nobody drew. Then these and the calls that were tried in vain or stopped run alone in rising number, and then each other call
 /// that still has room.
 ///
-/// Where workers do not pay (as far as 16 of a thousand calls or more tell), none is started, and all calls that have room run alone in rising number.
+/// Where calls are short (as far as 16 of a thousand calls or more tell), each worker runs those that it draws over a copy of the cells, and the pace
+/// is told the beginning of each. These runs are published one worker's after another's, each where its replies are those of the cells that are published
+/// so far; the calls of the others run alone in rising number. Where workers do not pay, none is started, and all calls that have room run alone in
+/// rising number.
 ///
 /// The book that the workers share is in so many shards, each behind a lock of its own. Where these are not parts of one book at its end, no run
 /// stands, and all calls that have room run alone in rising number.
@@ -92,20 +96,56 @@ pub fn mine_core<'a, R: Threads + Wait + Sync, A: Allocator + Copy + Send + Sync
     ensures left { IfOk result (λ core. AreLeft core.order.items (length calls.now) core.left.items) }
     ensures by_workers { IfOk result (λ core. core.by_workers ≤ length core.order.items) }
 {
-    if !do_workers_pay(alloc, contracts, cells, calls, workers)? {
-        let none = Vec::new(alloc);
-        let rest = Ok(Vec::new(alloc));
-        return publish(
-            alloc,
-            contracts,
-            calls,
-            cells,
-            block_fuel,
-            Ok(None),
-            none,
-            rest,
-        );
+    match find_way(alloc, contracts, cells, calls, workers)? {
+        Way::Alone => {
+            let none = Vec::new(alloc);
+            let rest = Ok(Vec::new(alloc));
+            publish(
+                alloc,
+                contracts,
+                calls,
+                cells,
+                block_fuel,
+                Ok(None),
+                none,
+                rest,
+            )
+        }
+        Way::OnCopies => mine_on_copies(
+            rt, alloc, contracts, cells, calls, block_fuel, workers, pace,
+        ),
+        Way::OverOneBook => mine_over_book(
+            rt, alloc, contracts, cells, calls, block_fuel, workers, tries, pace, shards,
+        ),
     }
+}
+
+/// Mines by workers over one book, in so many shards.
+fn mine_over_book<'a, R: Threads + Wait + Sync, A: Allocator + Copy + Send + Sync, P: Pace>(
+    rt: &R,
+    alloc: A,
+    contracts: &'a [Contract<A>],
+    cells: &Cells<A>,
+    calls: &'a [Call],
+    block_fuel: u64,
+    workers: u32,
+    tries: u32,
+    pace: &P,
+    shards: u32,
+) -> Result<MinedCore<A>, NoMemory>
+    requires calls { length calls.now ≤ 65535 }
+    requires workers { (1 ≤ workers) × (workers ≤ 64) }
+    requires tries { (1 ≤ tries) × (tries ≤ 16) }
+    requires shards { (1 ≤ shards) × (shards ≤ 16) }
+    ensures serial { IfOk result (λ core. Serial (setting_view Two contracts.now) calls.now core.order.items cells.now.cells (positions core.receipts.items core.touched.items) core.cells.cells) }
+    ensures admissible { IfOk result (λ core. IsAdmissible (limits calls.now) core.order.items block_fuel) }
+    ensures receipts { IfOk result (λ core. length core.receipts.items ≡ length core.order.items) }
+    ensures touched { IfOk result (λ core. length core.touched.items ≡ length core.order.items) }
+    ensures settled { IfOk result (λ core. core.cells.unsettled ≡ finite.empty) }
+    ensures fuel { IfOk result (λ core. core.fuel ≡ fuel_used (positions core.receipts.items core.touched.items)) }
+    ensures left { IfOk result (λ core. AreLeft core.order.items (length calls.now) core.left.items) }
+    ensures by_workers { IfOk result (λ core. core.by_workers ≤ length core.order.items) }
+{
     let count = calls.len() as u32;
     let book = Shards::open(alloc, cells.copy(alloc)?, count, shards, &NoGate)?;
     let Ok((intake, mut seats)) = Intake::open(alloc, count, block_fuel, workers + 1) else {
@@ -127,7 +167,7 @@ pub fn mine_core<'a, R: Threads + Wait + Sync, A: Allocator + Copy + Send + Sync
             brake: &brake,
         };
         let worked = run_workers(rt, &job, seats)?;
-        (worked, draw_rest(rt, &job, own))
+        (worked, draw_rest(rt, alloc, calls, &intake, own))
     };
     let closed = close(book, cells);
     publish(

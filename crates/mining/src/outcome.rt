@@ -1,5 +1,5 @@
 // What the workers handed back is published.
-ghost use Rattle.std.specs.Prelude.{◌≡◌, ◌+◌, ◌<◌, ◌≤◌, ◌^◌, false, IfOk, IfSome, OnOk, All, length};
+ghost use Rattle.std.specs.Prelude.{◌≡◌, ◌+◌, ◌<◌, ◌≤◌, ◌^◌, false, IfOk, IfSome, IsSome, OnOk, All, length};
 ghost use Rattle.std.specs.FinMap as finite;
 ghost use Rattle.spec_ledger.specs.Order.{IsAdmissible};
 ghost use Rattle.spec_execution.specs.Serial.{Serial};
@@ -197,7 +197,7 @@ fn take_runs<'a, A: Allocator + Copy>(
 
 /// Runs calls alone and publishes them, where there is room.
 #[tactic(auto, using(crate::proofs::Jobs::job_itself, crate::proofs::Jobs::job_after, crate::proofs::Jobs::grown))]
-fn take_alone<'a, A: Allocator + Copy>(
+pub(crate) fn take_alone<'a, A: Allocator + Copy>(
     publishing: &mut Publishing<'a, A>,
     calls: &[u32],
 ) -> Result<(), NoMemory>
@@ -311,9 +311,27 @@ pub(crate) fn publish<'a, A: Allocator + Copy>(
     ensures by_workers { IfOk result (λ core. core.by_workers ≤ length core.order.items) }
 {
     let worked = gather(alloc, contracts, calls, parts, rest)?;
-    let (mut publishing, by_workers) = publish_runs(
+    let (publishing, by_workers) = publish_runs(
         alloc, contracts, calls, cells, block_fuel, closed?, worked,
     )?;
+    finish(publishing, by_workers)
+}
+
+/// Publishes the other calls that have room, in rising number, and hands out what was published.
+pub(crate) fn finish<A: Allocator + Copy>(
+    mut publishing: Publishing<'_, A>,
+    by_workers: u32,
+) -> Result<MinedCore<A>, NoMemory>
+    requires { by_workers ≤ length publishing.order }
+    ensures serial { IfOk result (λ core. Serial publishing.entry.setting publishing.entry.calls core.order.items publishing.entry.opening (positions core.receipts.items core.touched.items) core.cells.cells) }
+    ensures admissible { IfOk result (λ core. IsAdmissible (limits publishing.entry.calls) core.order.items publishing.entry.fuel) }
+    ensures receipts { IfOk result (λ core. length core.receipts.items ≡ length core.order.items) }
+    ensures touched { IfOk result (λ core. length core.touched.items ≡ length core.order.items) }
+    ensures settled { IfOk result (λ core. core.cells.unsettled ≡ finite.empty) }
+    ensures fuel { IfOk result (λ core. core.fuel ≡ fuel_used (positions core.receipts.items core.touched.items)) }
+    ensures left { IfOk result (λ core. AreLeft core.order.items (length publishing.entry.calls) core.left.items) }
+    ensures by_workers { IfOk result (λ core. core.by_workers ≤ length core.order.items) }
+{
     publishing.fill()?;
     let published = publishing.close()?;
     Ok(MinedCore {
@@ -325,4 +343,99 @@ pub(crate) fn publish<'a, A: Allocator + Copy>(
         left: published.left,
         by_workers,
     })
+}
+
+/// Publishes a run where it fits what is published, and answers how many calls that adds; else its call is set aside.
+fn take_made<'a, A: Allocator + Copy>(
+    publishing: &mut Publishing<'a, A>,
+    made: Committed<'a, A>,
+    set_aside: &mut Vec<u32, A>,
+) -> Result<u32, NoMemory>
+    requires { IsCommitted publishing.old.setting publishing.old.calls made }
+    ensures same { OnOk result (IsSameJob publishing.old publishing.new) }
+    ensures added { IfOk result (λ added. length publishing.new.order ≡ length publishing.old.order + added) }
+{
+    let Committed {
+        position: _,
+        call,
+        finished,
+        touched: locks,
+    } = made;
+    let taken = publishing.take_made(&MadeRun { call, finished }, locks)?;
+    if !taken {
+        set_aside.push(call)?;
+    }
+    Ok(u32::from(taken))
+}
+
+/// Publishes the runs that fit what is published, the last first, and counts them. The calls of the others are set aside.
+#[tactic(auto, using(crate::proofs::Jobs::job_itself, crate::proofs::Jobs::job_after))]
+fn take_all_made<'a, A: Allocator + Copy>(
+    publishing: &mut Publishing<'a, A>,
+    mut made: Vec<Committed<'a, A>, A>,
+    set_aside: &mut Vec<u32, A>,
+) -> Result<u32, NoMemory>
+    requires { AreAllRuns publishing.old.setting publishing.old.calls made.items }
+    ensures same { OnOk result (IsSameJob publishing.old publishing.new) }
+    ensures taken { IfOk result (λ taken. length publishing.old.order + taken ≤ length publishing.new.order) }
+{
+    let mut taken = 0u32;
+    while let Some(run) = made.pop() {
+        let added = take_made(publishing, run, set_aside)?;
+        taken = taken.saturating_add(added);
+    }
+    Ok(taken)
+}
+
+/// Publishes what a thread handed back of runs over a copy, where memory was not refused before, and answers how many calls that adds. None where memory
+/// was refused, to its worker, here or before.
+fn take_part_made<'a, A: Allocator + Copy>(
+    publishing: &mut Publishing<'a, A>,
+    set_aside: &mut Vec<u32, A>,
+    taken: Option<u32>,
+    part: Result<Worked<'a, A>, NoMemory>,
+) -> Option<u32>
+    requires taken { IfSome taken (λ taken. taken ≤ length publishing.old.order) }
+    requires part { IsSome taken → IfOk part (AreRuns publishing.old.setting publishing.old.calls) }
+    ensures same { IsSome result → IsSameJob publishing.old publishing.new }
+    ensures taken { IfSome result (λ taken. taken ≤ length publishing.new.order) }
+{
+    let (Some(before), Ok(worked)) = (taken, part) else {
+        return None;
+    };
+    let Worked {
+        committed,
+        set_aside: mut stopped,
+    } = worked;
+    let Ok(()) = set_aside.append(&mut stopped) else {
+        return None;
+    };
+    match take_all_made(publishing, committed, set_aside) {
+        Ok(more) => Some(before.saturating_add(more)),
+        Err(_) => None,
+    }
+}
+
+/// Publishes the runs that workers made over copies, one worker's after another's, each where its replies are those of the cells that are published so
+/// far, and counts them. The calls of the others are set aside, and those at which workers were stopped.
+#[tactic(auto, using(crate::proofs::Jobs::job_itself, crate::proofs::Jobs::job_after))]
+pub(crate) fn take_parts<'a, A: Allocator + Copy>(
+    publishing: &mut Publishing<'a, A>,
+    mut parts: Vec<Result<Worked<'a, A>, NoMemory>, A>,
+    set_aside: &mut Vec<u32, A>,
+) -> Result<u32, NoMemory>
+    requires { All (λ part. IfOk part (AreRuns publishing.old.setting publishing.old.calls)) parts.items }
+    ensures same { OnOk result (IsSameJob publishing.old publishing.new) }
+    ensures taken { IfOk result (λ taken. taken ≤ length publishing.new.order) }
+{
+    let mut taken = Some(0u32);
+    while let Some(part) = parts.pop() {
+        taken = take_part_made(publishing, set_aside, taken, part);
+    }
+    // (as in gather)
+    parts.destroy_empty();
+    match taken {
+        Some(taken) => Ok(taken),
+        None => Err(NoMemory),
+    }
 }

@@ -3,7 +3,10 @@
 ghost use Rattle.std.specs.Prelude.{◌≤◌, length};
 
 use call::Call;
-use gain::{MANY, are_long, are_wide, count_waves, least_mean};
+use gain::{
+    MANY, MOST_MEAN_ON_COPIES, are_few, are_long, are_wide, count_waves, least_mean,
+    least_mean_on_copies,
+};
 use link::deployed::Deployed as Contract;
 use lock_profile::turns;
 use publish::{Published, Publishing};
@@ -36,30 +39,49 @@ fn run_samples<'a, A: Allocator + Copy>(
     publishing.close()
 }
 
-/// Whether this many workers are faster on these calls than the caller alone, as far as some of them tell, which are run for that and forgotten. Few
-/// calls are not looked at.
-pub(crate) fn do_workers_pay<'a, A: Allocator + Copy>(
+/// Who runs the calls of a list.
+pub(crate) enum Way {
+    /// The caller, one after another.
+    Alone,
+    /// Workers, each over a copy of the cells.
+    OnCopies,
+    /// Workers over one book.
+    OverOneBook,
+}
+
+/// Who runs these calls fastest with this many workers, as far as some of them tell, which are run for that and forgotten. Few
+/// calls are not looked at: workers run them over one book.
+pub(crate) fn find_way<'a, A: Allocator + Copy>(
     alloc: A,
     contracts: &'a [Contract<A>],
     cells: &Cells<A>,
     calls: &'a [Call],
     workers: u32,
-) -> Result<bool, NoMemory>
+) -> Result<Way, NoMemory>
     requires { length calls.now ≤ 65535 }
 {
     if calls.len() < MANY {
-        return Ok(true);
+        return Ok(Way::OverOneBook);
     }
     let published = run_samples(alloc, contracts, cells, calls)?;
     let count = published.touched.len();
     if count > SAMPLES as usize {
-        return Ok(true);
-    }
-    if !are_long(least_mean(workers), count as u32, published.fuel) {
-        return Ok(false);
+        return Ok(Way::OverOneBook);
     }
     let profiles = turns(alloc, &published.touched)?;
     turns_agree();
-    let waves = waves_of(alloc, &profiles)?;
-    Ok(are_wide(count as u32, count_waves(&waves)))
+    let waves = count_waves(&waves_of(alloc, &profiles)?);
+    if !are_wide(count as u32, waves) {
+        return Ok(Way::Alone);
+    }
+    if are_long(least_mean_on_copies(workers), count as u32, published.fuel)
+        && !are_long(MOST_MEAN_ON_COPIES, count as u32, published.fuel)
+        && are_few(cells.entries().count(), calls.len() as u32, workers)
+    {
+        return Ok(Way::OnCopies);
+    }
+    if are_long(least_mean(workers), count as u32, published.fuel) {
+        return Ok(Way::OverOneBook);
+    }
+    Ok(Way::Alone)
 }

@@ -6,7 +6,8 @@ ghost use Rattle.intake.specs.Intakes.{IsSeatOf};
 ghost use Rattle.mining.specs.Handed.{AreRuns};
 
 use crate::attempt::{Came, Committed, Job, try_call};
-use intake::Seat;
+use call::Call;
+use intake::{Intake, Seat};
 use pace::Pace;
 use spec_ledger::NoMemory;
 use std::alloc::Allocator;
@@ -49,7 +50,7 @@ fn work_on<'a, A: Allocator + Copy, R: Wait, P: Pace>(
 
 /// Takes memory in large pieces, and gives it back: about a worker's share of what many calls keep. The C library lets the heap of a thread grow
 /// page by page, with a call of the system for each, but what it has grown to once it keeps.
-fn make_room<A: Allocator + Copy>(alloc: A, calls: usize) -> Result<(), NoMemory> {
+pub(crate) fn make_room<A: Allocator + Copy>(alloc: A, calls: usize) -> Result<(), NoMemory> {
     let mut pieces: Vec<Vec<u8, A>, A> = Vec::new(alloc);
     for _ in 0..calls / CALLS_OF_A_PIECE {
         pieces.push(Vec::with_capacity(alloc, PIECE)?)?;
@@ -88,21 +89,23 @@ pub(crate) fn work<'a, A: Allocator + Copy, R: Wait, P: Pace>(
 }
 
 /// The calls that nobody drew, since each worker was stopped. A call whose limit cannot be reserved is left out.
-pub(crate) fn draw_rest<A: Allocator + Copy, R: Wait, P: Pace>(
+pub(crate) fn draw_rest<A: Allocator + Copy, R: Wait>(
     rt: &R,
-    job: &Job<'_, '_, A, P>,
+    alloc: A,
+    calls: &[Call],
+    intake: &Intake<A>,
     mut seat: Seat,
 ) -> Result<Vec<u32, A>, NoMemory>
-    requires calls { job.now.intake.now.limits.calls ≡ length job.now.calls.now }
-    requires seat { IsSeatOf job.now.intake.now seat }
+    requires calls { intake.now.limits.calls ≡ length calls.now }
+    requires seat { IsSeatOf intake.now seat }
 {
-    let mut rest = Vec::new(job.alloc);
-    for _ in 0..job.calls.len() {
-        let Some(number) = job.intake.draw(&mut seat) else {
+    let mut rest = Vec::new(alloc);
+    for _ in 0..calls.len() {
+        let Some(number) = intake.draw(&mut seat) else {
             break;
         };
-        let limit = job.calls[number as usize].fuel();
-        if job.intake.reserve(rt, &mut seat, limit) {
+        let limit = calls[number as usize].fuel();
+        if intake.reserve(rt, &mut seat, limit) {
             rest.push(number)?;
         }
     }

@@ -15,7 +15,7 @@ ghost use Rattle.spec_ledger.specs.declared.Version.TheVariants.{Two};
 ghost use Rattle.interp.specs.Lent.{setting_view};
 ghost use Rattle.serial.specs.Positions.{positions};
 ghost use Rattle.publish.specs.Publication.{IsSerialOrder, MayFollow, HasTaken, IsSameJob, HasGoneOn, Sweep, AreLeft, limits, fuel_used};
-ghost use Rattle.publish.specs.Adoption.{AreMade, MayFollowBy, ran_by};
+ghost use Rattle.publish.specs.Adoption.{AreMade, IsMade, MayFollowBy, ran_by};
 
 pub use crate::adopting::MadeRun;
 use crate::adopting::walk;
@@ -25,7 +25,7 @@ use call::Call;
 use interp::finished::Finished;
 use link::deployed::Deployed as Contract;
 use lock_profile::Touched;
-use serial::{execute, replay};
+use serial::{execute, replay, replay_with};
 use spec_ledger::{NoMemory, Receipt, Version};
 use std::alloc::{Allocator, Global};
 use std::marker::Model;
@@ -194,6 +194,31 @@ impl<'a, A: Allocator + Copy> Publishing<'a, A> {
             return Ok(false);
         };
         self.so_far.push(call, finished.call().fuel(), executed);
+        Ok(true)
+    }
+
+    /// Publishes a call by a run of it as [`Publishing::take_run`] does, with the locks that the run asked for.
+    ///
+    /// # Errors
+    ///
+    /// Memory was refused. Nothing has changed.
+    pub fn take_made(&mut self, run: &MadeRun<'_, A>, locks: Touched<A>) -> Result<bool, NoMemory>
+        requires { IsMade self.old.setting self.old.calls run.now locks }
+        ensures answer { IfOk result (λ taken. IsTrue taken ↔ (MayFollow self.old run.now.call × GetsReplies run.now.finished.trace self.old.cells)) }
+        ensures taken { result ≡ Ok true → HasTaken self.old run.now.call self.new }
+        ensures left { result ≡ Ok false → self.new ≡ self.old }
+        ensures err { OnErr result (self.new ≡ self.old) }
+        ensures same { IsSameJob self.old self.new }
+    {
+        if !self.may_follow(run.call) {
+            return Ok(false);
+        }
+        self.so_far.reserve()?;
+        let Some(executed) = replay_with(self.alloc, &run.finished, &mut self.cells, locks)? else {
+            return Ok(false);
+        };
+        self.so_far
+            .push(run.call, run.finished.call().fuel(), executed);
         Ok(true)
     }
 

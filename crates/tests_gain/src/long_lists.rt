@@ -7,11 +7,13 @@ use block::{Block, write_block};
 use call::Call;
 use codec::{Failures, MemorySink};
 use mining::{Mined, mine};
-use pace::NoPace;
+use pace::{NoPace, Pace, Step};
 use samples::{call, deployed};
+use spec_ledger::{Kind, Lock};
 use std::alloc::Global;
 use std::process::Abort;
 use std::sync::Wait;
+use std::sync::atomic::{AtomicU64, Ordering};
 use std::test::Fail;
 use std::thread::Threads;
 use storage::Cells;
@@ -43,6 +45,17 @@ const SPIN: &[u8] = &[
 /// The fuel of a block that has room for all calls.
 const AMPLE: u64 = 100_000_000;
 
+/// Who runs the calls of a list that is mined.
+#[derive(Clone, Copy, Debug, PartialEq)]
+enum Who {
+    /// The caller, one after another.
+    Caller,
+    /// Workers, each over a copy of the cells.
+    OnCopies,
+    /// Workers over one book.
+    OverOneBook,
+}
+
 /// A list of calls of `spin`, and who runs it.
 struct Row {
     name: &'static str,
@@ -50,11 +63,15 @@ struct Row {
     calls: u32,
     /// How many cells they use in turn.
     cells: u32,
+    /// How many cells the world has that no call uses.
+    others: u64,
     /// How many rounds each makes.
     rounds: i64,
     workers: u32,
-    /// How many of them the workers commit, and how many the caller runs when the block is validated.
-    ran: (u32, u32),
+    /// Who mines them.
+    by: Who,
+    /// How many the caller runs when the block is validated.
+    again: u32,
 }
 
 const ROWS: &[Row] = &[
@@ -62,91 +79,259 @@ const ROWS: &[Row] = &[
         name: "few short calls have workers",
         calls: 1_023,
         cells: 1_023,
+        others: 0,
         rounds: 1,
         workers: 4,
-        ran: (1_023, 0),
+        by: Who::OverOneBook,
+        again: 0,
     },
     Row {
         name: "many short calls have none",
         calls: 1_024,
         cells: 1_024,
+        others: 0,
         rounds: 1,
         workers: 4,
-        ran: (0, 1_024),
+        by: Who::Caller,
+        again: 1_024,
     },
     Row {
-        name: "many calls of 798 have none of four",
+        name: "many calls of 249 have none of four",
         calls: 1_024,
         cells: 1_024,
+        others: 0,
+        rounds: 27,
+        workers: 4,
+        by: Who::Caller,
+        again: 1_024,
+    },
+    Row {
+        name: "many calls of 258 have four on copies",
+        calls: 1_024,
+        cells: 1_024,
+        others: 0,
+        rounds: 28,
+        workers: 4,
+        by: Who::OnCopies,
+        again: 1_024,
+    },
+    Row {
+        name: "copies of 4,096 cells for four",
+        calls: 1_024,
+        cells: 1_024,
+        others: 4_096,
+        rounds: 28,
+        workers: 4,
+        by: Who::OnCopies,
+        again: 1_024,
+    },
+    Row {
+        name: "too many cells to be copied for four",
+        calls: 1_024,
+        cells: 1_024,
+        others: 4_097,
+        rounds: 28,
+        workers: 4,
+        by: Who::Caller,
+        again: 1_024,
+    },
+    Row {
+        name: "many calls of 798 have four on copies",
+        calls: 1_024,
+        cells: 1_024,
+        others: 0,
         rounds: 88,
         workers: 4,
-        ran: (0, 1_024),
+        by: Who::OnCopies,
+        again: 1_024,
     },
     Row {
-        name: "many calls of 807 have four",
+        name: "many calls of 807 and too many cells have four over one book",
         calls: 1_024,
         cells: 1_024,
+        others: 4_097,
         rounds: 89,
         workers: 4,
-        ran: (1_024, 0),
+        by: Who::OverOneBook,
+        again: 0,
     },
     Row {
-        name: "many calls of 996 have none of three",
+        name: "many calls of 807 have four on copies",
         calls: 1_024,
         cells: 1_024,
-        rounds: 110,
+        others: 0,
+        rounds: 89,
+        workers: 4,
+        by: Who::OnCopies,
+        again: 0,
+    },
+    Row {
+        name: "many calls of 2,499 have four on copies",
+        calls: 1_024,
+        cells: 1_024,
+        others: 0,
+        rounds: 277,
+        workers: 4,
+        by: Who::OnCopies,
+        again: 0,
+    },
+    Row {
+        name: "many calls of 2,508 have four over one book",
+        calls: 1_024,
+        cells: 1_024,
+        others: 0,
+        rounds: 278,
+        workers: 4,
+        by: Who::OverOneBook,
+        again: 0,
+    },
+    Row {
+        name: "many calls of 492 have none of three",
+        calls: 1_024,
+        cells: 1_024,
+        others: 0,
+        rounds: 54,
         workers: 3,
-        ran: (0, 1_024),
+        by: Who::Caller,
+        again: 1_024,
     },
     Row {
-        name: "many calls of 1,005 have three",
+        name: "many calls of 501 have three on copies",
         calls: 1_024,
         cells: 1_024,
+        others: 0,
+        rounds: 55,
+        workers: 3,
+        by: Who::OnCopies,
+        again: 1_024,
+    },
+    Row {
+        name: "many calls of 1,005 have three on copies",
+        calls: 1_024,
+        cells: 1_024,
+        others: 0,
         rounds: 111,
         workers: 3,
-        ran: (1_024, 0),
+        by: Who::OnCopies,
+        again: 0,
     },
     Row {
-        name: "many calls of 1,491 have none of two",
+        name: "many calls of 996 have none of two",
         calls: 1_024,
         cells: 1_024,
+        others: 0,
+        rounds: 110,
+        workers: 2,
+        by: Who::Caller,
+        again: 1_024,
+    },
+    Row {
+        name: "many calls of 1,005 have two on copies",
+        calls: 1_024,
+        cells: 1_024,
+        others: 0,
+        rounds: 111,
+        workers: 2,
+        by: Who::OnCopies,
+        again: 1_024,
+    },
+    Row {
+        name: "many calls of 1,491 and too many cells have none of two",
+        calls: 1_024,
+        cells: 1_024,
+        others: 8_193,
         rounds: 165,
         workers: 2,
-        ran: (0, 1_024),
+        by: Who::Caller,
+        again: 1_024,
     },
     Row {
-        name: "many calls of 1,500 have two",
+        name: "many calls of 1,500 have two on copies",
         calls: 1_024,
         cells: 1_024,
+        others: 0,
         rounds: 166,
         workers: 2,
-        ran: (1_024, 0),
+        by: Who::OnCopies,
+        again: 0,
     },
     Row {
         name: "many calls of 4,992 have not one",
         calls: 1_024,
         cells: 1_024,
+        others: 0,
         rounds: 554,
         workers: 1,
-        ran: (0, 1_024),
+        by: Who::Caller,
+        again: 1_024,
     },
     Row {
         name: "many calls of 5,001 have one",
         calls: 1_024,
         cells: 1_024,
+        others: 0,
         rounds: 555,
         workers: 1,
-        ran: (1_024, 0),
+        by: Who::OverOneBook,
+        again: 0,
     },
     Row {
         name: "many long calls of one cell have none",
         calls: 1_024,
         cells: 1,
+        others: 0,
         rounds: 111,
         workers: 4,
-        ran: (0, 1_024),
+        by: Who::Caller,
+        again: 1_024,
     },
 ];
+
+/// A pace that counts beginnings of calls and operations, and that may stop each worker at its first step.
+#[derive(Drop)]
+struct Counts {
+    attempts: AtomicU64,
+    ops: AtomicU64,
+    is_stopping: bool,
+}
+
+impl Pace for Counts {
+    fn at(&self, step: Step) {
+        match step {
+            Step::Attempt { .. } => {
+                self.attempts.fetch_add(1, Ordering::SeqCst);
+            }
+            Step::Op { .. } => {
+                self.ops.fetch_add(1, Ordering::SeqCst);
+            }
+            _ => (),
+        }
+    }
+
+    fn stops(&self, _step: Step) -> bool {
+        self.is_stopping
+    }
+}
+
+/// A pace that was told nothing yet.
+fn counting(is_stopping: bool) -> Counts {
+    Counts {
+        attempts: AtomicU64::new(0),
+        ops: AtomicU64::new(0),
+        is_stopping,
+    }
+}
+
+/// Who ran the calls whose steps a pace was told: over copies it is told of beginnings alone.
+fn who_mined(pace: &Counts) -> Who {
+    if pace.attempts.load(Ordering::SeqCst) == 0 {
+        Who::Caller
+    } else if pace.ops.load(Ordering::SeqCst) == 0 {
+        Who::OnCopies
+    } else {
+        Who::OverOneBook
+    }
+}
 
 /// The calls of a row.
 fn calls_of(alloc: Global, row: &Row) -> Result<Vec<Call>, Fail>
@@ -164,14 +349,23 @@ fn calls_of(alloc: Global, row: &Row) -> Result<Vec<Call>, Fail>
     Ok(calls)
 }
 
-/// A world of the contract, with no cells.
-fn world_of(alloc: Global) -> Result<World, Fail> {
+/// A world of the contract, with so many cells that no call uses.
+fn world_of(alloc: Global, others: u64) -> Result<World, Fail> {
     let mut contracts = Vec::new(alloc);
     contracts.push(deployed(alloc, SPIN)?)?;
     if contracts.len() > 1 {
         return Err(Fail::from("more than one contract"));
     }
-    Ok(World::new(contracts, Cells::new(alloc)))
+    let mut cells = Cells::new(alloc);
+    for other in 0..others {
+        let lock = Lock {
+            contract: 0,
+            kind: Kind::Map,
+            key: 1_000_000 + other % 1_000_000,
+        };
+        cells.insert(lock, 1)?;
+    }
+    Ok(World::new(contracts, cells))
 }
 
 /// The bytes of a block.
@@ -191,13 +385,14 @@ fn mined_by<R: Threads + Wait + Sync>(
     world: &World,
     calls: &[Call],
     workers: u32,
+    pace: &Counts,
 ) -> Result<(Vec<u8>, u32), Fail>
     requires { length calls.now ≤ 65535 }
 {
     if workers < 1 || workers > 64 {
         return Err(Fail::from("outside the conditions"));
     }
-    let Ok(mined) = mine(rt, alloc, world, calls, AMPLE, workers, 3, &NoPace) else {
+    let Ok(mined) = mine(rt, alloc, world, calls, AMPLE, workers, 3, pace) else {
         return Err(Fail::from("refused"));
     };
     let Mined {
@@ -231,17 +426,22 @@ fn validated_by<R: Threads + Wait + Sync>(
     })
 }
 
-/// Who runs the calls of a row: how many the workers commit, and how many the caller runs when the block is validated and accepted.
+/// What a list came to: who mined it, how many calls the workers did, and how many the caller ran when the block was validated, or none where it was
+/// rejected.
+type Came = (Who, u32, Option<u32>);
+
+/// What the list of a row comes to, by this pace.
 fn ran<R: Threads + Wait + Sync>(
     rt: &R,
     alloc: Global,
     row: &Row,
-) -> Result<(u32, Option<u32>), Fail> {
+    pace: &Counts,
+) -> Result<Came, Fail> {
     let calls = calls_of(alloc, row)?;
-    let world = world_of(alloc)?;
-    let (bytes, by_workers) = mined_by(rt, alloc, &world, &calls, row.workers)?;
+    let world = world_of(alloc, row.others)?;
+    let (bytes, by_workers) = mined_by(rt, alloc, &world, &calls, row.workers, pace)?;
     let again = validated_by(rt, alloc, &world, &calls, &bytes, row.workers)?;
-    Ok((by_workers, again))
+    Ok((who_mined(pace), by_workers, again))
 }
 
 /// Each row is run by whom it says.
@@ -251,12 +451,12 @@ fn rows_of<R: Abort + Threads + Wait + Sync>(
     rows: &[Row],
 ) -> Result<(), Fail> {
     for row in rows {
-        let (by_workers, again) = row.ran;
+        let by_workers = if row.by == Who::Caller { 0 } else { row.calls };
         equal(
             rt,
             &row.name,
-            &ran(rt, alloc, row)?,
-            &(by_workers, Some(again)),
+            &ran(rt, alloc, row, &counting(false))?,
+            &(row.by, by_workers, Some(row.again)),
         );
     }
     Ok(())
@@ -265,4 +465,34 @@ fn rows_of<R: Abort + Threads + Wait + Sync>(
 #[test]
 fn workers_run_what_they_run_faster(rt: HostRuntime) -> Result<(), Fail> {
     rows_of(&rt, rt.alloc(), ROWS)
+}
+
+/// Two calls on each of 511 cells, and two that have one to themselves.
+const PAIRS: Row = Row {
+    name: "pairs of calls",
+    calls: 1_024,
+    cells: 511,
+    others: 0,
+    rounds: 28,
+    workers: 4,
+    by: Who::OnCopies,
+    again: 1_024,
+};
+
+/// The first call on each cell that is published was run over the cell as it was, so at least one of each pair is a worker's.
+#[test]
+fn runs_over_copies_that_meet_on_a_cell(rt: HostRuntime) -> Result<(), Fail> {
+    let (by, by_workers, again) = ran(&rt, rt.alloc(), &PAIRS, &counting(false))?;
+    equal(&rt, &"by whom", &by, &PAIRS.by);
+    equal(&rt, &"again", &again, &Some(PAIRS.again));
+    equal(&rt, &"some of each", &(by_workers < 511), &false);
+    Ok(())
+}
+
+/// Workers that are stopped at their first calls leave all to the caller.
+#[test]
+fn workers_over_copies_are_stopped(rt: HostRuntime) -> Result<(), Fail> {
+    let came = ran(&rt, rt.alloc(), &PAIRS, &counting(true))?;
+    equal(&rt, &"stopped", &came, &(Who::OnCopies, 0, Some(1_024)));
+    Ok(())
 }

@@ -1,5 +1,5 @@
 use Rattle.mining.proofs.Seats.{last_seat}
-use Rattle.mining.proofs.mined_core.mine_core.Goals as goal
+use Rattle.mining.proofs.mined_core.mine_over_book.Goals as goal
 
 pub run_workers-requires-clause-seats : goal.run_workers-requires-clause-seats
 run_workers-requires-clause-seats g c κs within = (last_seat c.in-Ok.intake c.in-Ok.seats.items c.pop.new.self.items c.in-Some.own c.in-Some.ensures.items c.in-Ok.ensures.seats.1).0

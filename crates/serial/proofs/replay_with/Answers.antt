@@ -1,0 +1,37 @@
+use Rattle.std.proofs.Common.{◌∙◌}
+use Rattle.serial.proofs.Ending.{may_end, ended, taken_back}
+use Rattle.serial.proofs.replay_with.Goals as goal
+
+pub conclude_with-requires-clause-unsettled : goal.conclude_with-requires-clause-unsettled
+conclude_with-requires-clause-unsettled g c = let some = c.act_again.ensures.some in may_end c.args.cells.now c.act_again.new.cells some.trace c.act_again.new.inverses.items some.done c.requires.settled
+
+pub end_all-requires : goal.end_all-requires
+end_all-requires g c = let some = c.act_again.ensures.some in may_end c.args.cells.now c.act_again.new.cells some.trace c.act_again.new.inverses.items some.done c.requires.settled
+
+pub end_all-requires-in-Err : goal.end_all-requires-in-Err
+end_all-requires-in-Err g c = let some = c.act_again.ensures.some in may_end c.args.cells.now c.act_again.new.cells some.trace c.act_again.new.inverses.items some.done c.requires.settled
+
+pub returns-in-Ok-true-clause-settled : goal.returns-in-Ok-true-clause-settled
+returns-in-Ok-true-clause-settled g c =
+    let some = c.act_again.ensures.some in
+    c.conclude_with.ensures.unsettled ∙ ended c.args.cells.now c.act_again.new.cells some.trace c.act_again.new.inverses.items some.done c.requires.settled
+
+pub returns-in-Ok-false-clause-other : goal.returns-in-Ok-false-clause-other
+returns-in-Ok-false-clause-other g c =
+    let some = c.act_again.ensures.some in
+    taken_back c.args.cells.now c.act_again.new.cells some.trace c.act_again.new.inverses.items some.done c.requires.settled c.hold.ensures.cells c.end_all.new.cells c.end_all.ensures.cells c.end_all.ensures.unsettled
+
+pub returns-in-Ok-false-clause-settled : goal.returns-in-Ok-false-clause-settled
+returns-in-Ok-false-clause-settled g c =
+    let some = c.act_again.ensures.some in
+    c.end_all.ensures.unsettled ∙ ended c.args.cells.now c.act_again.new.cells some.trace c.act_again.new.inverses.items some.done c.requires.settled
+
+pub returns-in-Err-clause-settled : goal.returns-in-Err-clause-settled
+returns-in-Err-clause-settled g c =
+    let some = c.act_again.ensures.some in
+    c.end_all-in-Err.ensures.unsettled ∙ ended c.args.cells.now c.act_again.new.cells some.trace c.act_again.new.inverses.items some.done c.requires.settled
+
+pub returns-in-Err-clause-err : goal.returns-in-Err-clause-err
+returns-in-Err-clause-err g c =
+    let some = c.act_again.ensures.some in
+    taken_back c.args.cells.now c.act_again.new.cells some.trace c.act_again.new.inverses.items some.done c.requires.settled c.hold.ensures.cells c.end_all-in-Err.new.cells c.end_all-in-Err.ensures.cells c.end_all-in-Err.ensures.unsettled
