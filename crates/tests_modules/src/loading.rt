@@ -117,10 +117,7 @@ const TYPES: &[Row] = &[
     // no type of a function
     (&[0x01, 0x02, 0x01, 0x61], Some(Malformed(11))),
     // no type of a table
-    (
-        &[0x04, 0x04, 0x01, 0x40, 0x00, 0x00],
-        Some(Malformed(11)),
-    ),
+    (&[0x04, 0x04, 0x01, 0x40, 0x00, 0x00], Some(Malformed(11))),
     // no kind of limits
     (&[0x05, 0x03, 0x01, 0x02, 0x00], Some(Malformed(11))),
     // no kind of a global
