@@ -114,10 +114,31 @@ const TYPES: &[Row] = &[
         &[0x01, 0x05, 0x01, 0x60, 0x00, 0x01, 0x7B],
         Some(Malformed(14)),
     ),
+    // no type of a function
+    (&[0x01, 0x02, 0x01, 0x61], Some(Malformed(11))),
+    // no type of a table
+    (&[0x04, 0x04, 0x01, 0x40, 0x00, 0x00], Some(Malformed(11))),
+    // no kind of limits
+    (&[0x05, 0x03, 0x01, 0x02, 0x00], Some(Malformed(11))),
+    // no kind of a global
+    (
+        &[0x06, 0x06, 0x01, 0x7F, 0x02, 0x41, 0x00, 0x0B],
+        Some(Malformed(12)),
+    ),
+    // no kind of an import
+    (
+        &[0x02, 0x06, 0x01, 0x01, 0x61, 0x01, 0x62, 0x04],
+        Some(Malformed(15)),
+    ),
+    // no kind of an export
+    (
+        &[0x07, 0x05, 0x01, 0x01, 0x61, 0x04, 0x00],
+        Some(Malformed(13)),
+    ),
 ];
 
 #[test]
-fn floating_point_types(rt: HostRuntime) -> Result<(), Fail> {
+fn types_and_kinds_that_are_none(rt: HostRuntime) -> Result<(), Fail> {
     refuses(&rt, rt.alloc(), &HEADER, TYPES)
 }
 
@@ -191,6 +212,11 @@ const NAMES: &[Row] = &[
     ),
     // of a custom section
     (&[0x00, 0x02, 0x01, 0xFF], Some(Malformed(11))),
+    // of a custom section before another section
+    (
+        &[0x00, 0x02, 0x01, 0xFF, 0x01, 0x01, 0x00],
+        Some(Malformed(11)),
+    ),
     // past its section
     (&[0x00, 0x02, 0x02, 0x61, 0x61], Some(Malformed(10))),
     // a letter of two bytes

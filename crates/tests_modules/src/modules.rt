@@ -201,6 +201,12 @@ const ORDER: &[Row] = &[
         b"\x03\x02\x01\x09\x04\x05\x01p\x01\x02\x01\x0a\x04\x01\x02\x00\x0b",
         Broken(None, 0, 1),
     ),
+    // Imports are not counted among the functions' types.
+    // (module (type (func)) (import "m" "n" (func (type 0))) (func (type 9)))
+    (
+        b"\x01\x04\x01`\x00\x00\x02\x07\x01\x01m\x01n\x00\x00\x03\x02\x01\x09\x0a\x04\x01\x02\x00\x0b",
+        Broken(None, 0, 1),
+    ),
     // (module (table 2 1 funcref) (memory 2 1) (table 0 funcref))
     (
         b"\x04\x08\x02p\x01\x02\x01p\x00\x00\x05\x04\x01\x01\x02\x01",

@@ -50,6 +50,32 @@ const UNKNOWN: &[Row] = &[
         UnknownName(57),
     ),
     ("(module (export \"a\" (memory $m)))", UnknownName(28)),
+    // a name of another space
+    (
+        "(module (table $m 1 funcref) (export \"a\" (memory $m)))",
+        UnknownName(49),
+    ),
+    (
+        "(module (memory $m 1) (export \"a\" (table $m)))",
+        UnknownName(41),
+    ),
+    (
+        "(module (func $m) (export \"a\" (global $m)))",
+        UnknownName(38),
+    ),
+    (
+        "(module (memory $m 1) (export \"a\" (func $m)))",
+        UnknownName(40),
+    ),
+    // of the table and of the memory of a segment
+    (
+        "(module (elem $t (offset (i32.const 0)) 0))",
+        UnknownName(14),
+    ),
+    (
+        "(module (data $m (offset (i32.const 0)) \"x\"))",
+        UnknownName(14),
+    ),
 ];
 
 #[test]
@@ -93,6 +119,7 @@ const OUT_OF_RANGE: &[Row] = &[
     ("(module (func call 4294967296))", NumberRange(19)),
     ("(module (memory 0x100000000))", NumberRange(16)),
     ("(module (memory 0 4294967296))", NumberRange(18)),
+    ("(module (memory 4294967296 1))", NumberRange(16)),
     (
         "(module (memory 1) (func i32.const 0 i32.load align=3))",
         NumberRange(46),

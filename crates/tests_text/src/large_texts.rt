@@ -2,7 +2,7 @@
 use crate::assembling::refusal_of;
 use crate::assertions::equal;
 use crate::texts::repeated;
-use assembler::AsmRefusal::{TooLarge, Unexpected};
+use assembler::AsmRefusal::{TooLarge, Unexpected, UnknownName};
 use assembler::{AsmRefusal, Limit};
 use std::alloc::Global;
 use std::process::Abort;
@@ -48,6 +48,14 @@ fn each_limit_is_met_exactly(rt: HostRuntime) -> Result<(), Fail> {
         1_024,
         Limit::Labels,
     )?;
+    // a name that is not there comes before a limit
+    let text = repeated(a, ["(module (start $f)", " ", ")"], 1_048_576)?;
+    equal(
+        &rt,
+        &"a name",
+        &refusal_of(a, &text),
+        &Some(UnknownName(15)),
+    );
     Ok(())
 }
 
