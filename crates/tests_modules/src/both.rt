@@ -43,7 +43,7 @@ fn come_back(rt: &impl Abort, a: Global, rows: &[Row]) -> Result<(), Fail> {
 }
 
 // A function with no instructions, a table of 1 entry, a memory of 1 page, a global that begins with 7, the function in the table, and the byte 42 at
-// address 3: the header, and sections of 6, 4, 6, 5, 8, 9, 6 and 9 bytes.
+// address 3: the header, and sections of 6, 4, 6, 5, 8, 9, 6 and 9 bytes, as `wat2wasm` spells it.
 const EACH_LIST: [u8; 61] = [
     0x00, 0x61, 0x73, 0x6D, 0x01, 0x00, 0x00, 0x00, 0x01, 0x04, 0x01, 0x60, 0x00, 0x00, 0x03, 0x02,
     0x01, 0x00, 0x04, 0x04, 0x01, 0x70, 0x00, 0x01, 0x05, 0x03, 0x01, 0x00, 0x01, 0x06, 0x06, 0x01,
