@@ -65,11 +65,11 @@ module _ (B : RattleType) (g : Ghosts B.Denot) (send : IsSend B) (sync : IsSync 
       )
 
   -- and the job of those that run calls over copies
-  pub copy_job_sync : (a : NamedLft) (P : RattleType) → IsSync P → IsSync (copy_job_row.the_row a B P g)
-  copy_job_sync a P pace =
+  pub copy_job_sync : (a b : NamedLft) (P : RattleType) → IsSync P → IsSync (copy_job_row.the_row a b B P g)
+  copy_job_sync a b P pace =
       let contract = contract_sync B g send sync frees in
       let cells = cells_sync B g send sync frees in
-      declared_sync (copy_job_row.the_type a B P g) (
+      declared_sync (copy_job_row.the_type a b B P g) (
         as_row_sync (row_field B) sync,
         (
           search (crosses, contract) depth 60 fits 100000,

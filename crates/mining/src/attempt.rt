@@ -44,7 +44,7 @@ pub(crate) struct Job<'s, 'a, A: Allocator, P: Pace> {
 /// A run that a worker hands back: one that was committed, or one over a copy of the cells.
 #[derive(Drop)]
 pub(crate) struct Committed<'a, A: Allocator> {
-    /// The position that the book answered, or how many runs its worker had made before over its copy.
+    /// The position that the book answered; 0 of a run over a copy, which has none yet.
     pub(crate) position: u32,
     /// The number of the call.
     pub(crate) call: u32,

@@ -29,20 +29,20 @@ use storage::Cells;
 
 /// What the workers share.
 #[derive(Drop)]
-struct CopyJob<'a, A: Allocator, P: Pace> {
+struct CopyJob<'s, 'a, A: Allocator, P: Pace> {
     alloc: A,
     contracts: &'a [Contract<A>],
     calls: &'a [Call],
     /// The cells that each worker copies.
-    cells: &'a Cells<A>,
-    intake: &'a Intake<A>,
-    pace: &'a P,
+    cells: &'s Cells<A>,
+    intake: &'s Intake<A>,
+    pace: &'s P,
 }
 
 /// Runs a call over a worker's copy, and keeps the run.
 #[tactic(auto, using(crate::proofs::Runs::one_more_run))]
 fn run_call<'a, A: Allocator + Copy, P: Pace>(
-    job: &CopyJob<'a, A, P>,
+    job: &CopyJob<'_, 'a, A, P>,
     copy: &mut Cells<A>,
     call: u32,
     worked: &mut Worked<'a, A>,
@@ -53,7 +53,6 @@ fn run_call<'a, A: Allocator + Copy, P: Pace>(
     ensures settled { copy.new.unsettled ≡ finite.empty }
     ensures runs { OnOk result (AreRuns (setting_view Two job.now.contracts.now) job.now.calls.now worked.new) }
 {
-    let position = worked.committed.len() as u32;
     let (finished, executed) = run(
         job.alloc,
         job.contracts,
@@ -62,7 +61,7 @@ fn run_call<'a, A: Allocator + Copy, P: Pace>(
         Version::Two,
     )?;
     worked.committed.push(Committed {
-        position,
+        position: 0,
         call,
         finished,
         touched: executed.touched,
@@ -74,7 +73,7 @@ fn run_call<'a, A: Allocator + Copy, P: Pace>(
 /// reserved is left out.
 fn run_drawn<'a, A: Allocator + Copy, R: Wait, P: Pace>(
     rt: &R,
-    job: &CopyJob<'a, A, P>,
+    job: &CopyJob<'_, 'a, A, P>,
     mut seat: Seat,
     copy: &mut Cells<A>,
     worked: &mut Worked<'a, A>,
@@ -110,7 +109,7 @@ fn run_drawn<'a, A: Allocator + Copy, R: Wait, P: Pace>(
 #[tactic(auto, using(crate::proofs::Runs::shuffled_runs))]
 fn work_on_copy<'a, A: Allocator + Copy, R: Wait, P: Pace>(
     rt: &R,
-    job: &CopyJob<'a, A, P>,
+    job: &CopyJob<'_, 'a, A, P>,
     seat: Seat,
 ) -> Result<Worked<'a, A>, NoMemory>
     requires calls { job.now.intake.now.limits.calls ≡ length job.now.calls.now }
@@ -131,7 +130,7 @@ fn work_on_copy<'a, A: Allocator + Copy, R: Wait, P: Pace>(
 /// What the workers hand back, one for each seat.
 fn run_on_copies<'a, R: Threads + Wait + Sync, A: Allocator + Copy + Send + Sync, P: Pace>(
     rt: &R,
-    job: &CopyJob<'a, A, P>,
+    job: &CopyJob<'_, 'a, A, P>,
     seats: Vec<Seat, A>,
 ) -> Result<Vec<Result<Worked<'a, A>, NoMemory>, A>, NoMemory>
     requires calls { job.now.intake.now.limits.calls ≡ length job.now.calls.now }
@@ -152,12 +151,17 @@ fn run_on_copies<'a, R: Threads + Wait + Sync, A: Allocator + Copy + Send + Sync
 /// Mines by workers that run calls each over a copy of the cells. Their runs are published one worker's after another's, each where its replies are
 /// those of the cells that are published so far. The calls of the others, those at which workers were stopped and those that nobody drew run alone in
 /// rising number, and then each other call that has room.
-pub(crate) fn mine_on_copies<R: Threads + Wait + Sync, A: Allocator + Copy + Send + Sync, P: Pace>(
+pub(crate) fn mine_on_copies<
+    'a,
+    R: Threads + Wait + Sync,
+    A: Allocator + Copy + Send + Sync,
+    P: Pace,
+>(
     rt: &R,
     alloc: A,
-    contracts: &[Contract<A>],
+    contracts: &'a [Contract<A>],
     cells: &Cells<A>,
-    calls: &[Call],
+    calls: &'a [Call],
     block_fuel: u64,
     workers: u32,
     pace: &P,

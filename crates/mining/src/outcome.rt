@@ -345,6 +345,19 @@ pub(crate) fn finish<A: Allocator + Copy>(
     })
 }
 
+/// Sets a call aside, unless it was taken.
+fn set_down<A: Allocator>(
+    set_aside: &mut Vec<u32, A>,
+    call: u32,
+    taken: bool,
+) -> Result<(), NoMemory> {
+    if taken {
+        return Ok(());
+    }
+    set_aside.push(call)?;
+    Ok(())
+}
+
 /// Publishes a run where it fits what is published, and answers how many calls that adds; else its call is set aside.
 fn take_made<'a, A: Allocator + Copy>(
     publishing: &mut Publishing<'a, A>,
@@ -361,10 +374,9 @@ fn take_made<'a, A: Allocator + Copy>(
         finished,
         touched: locks,
     } = made;
-    let taken = publishing.take_made(&MadeRun { call, finished }, locks)?;
-    if !taken {
-        set_aside.push(call)?;
-    }
+    let run = MadeRun { call, finished };
+    let taken = publishing.take_made(&run, locks)?;
+    set_down(set_aside, call, taken)?;
     Ok(u32::from(taken))
 }
 
@@ -397,6 +409,7 @@ fn take_part_made<'a, A: Allocator + Copy>(
 ) -> Option<u32>
     requires taken { IfSome taken (λ taken. taken ≤ length publishing.old.order) }
     requires part { IsSome taken → IfOk part (AreRuns publishing.old.setting publishing.old.calls) }
+    ensures before { IsSome result → IsSome taken }
     ensures same { IsSome result → IsSameJob publishing.old publishing.new }
     ensures taken { IfSome result (λ taken. taken ≤ length publishing.new.order) }
 {

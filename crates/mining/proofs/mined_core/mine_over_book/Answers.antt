@@ -5,4 +5,4 @@ pub run_workers-requires-clause-seats : goal.run_workers-requires-clause-seats
 run_workers-requires-clause-seats g c κs within = (last_seat c.in-Ok.intake c.in-Ok.seats.items c.pop.new.self.items c.in-Some.own c.in-Some.ensures.items c.in-Ok.ensures.seats.1).0
 
 pub draw_rest-requires-clause-seat : goal.draw_rest-requires-clause-seat
-draw_rest-requires-clause-seat g c κs within = (last_seat c.in-Ok.intake c.in-Ok.seats.items c.pop.new.self.items c.in-Some.own c.in-Some.ensures.items c.in-Ok.ensures.seats.1).1
+draw_rest-requires-clause-seat g c = (last_seat c.in-Ok.intake c.in-Ok.seats.items c.pop.new.self.items c.in-Some.own c.in-Some.ensures.items c.in-Ok.ensures.seats.1).1

@@ -24,8 +24,8 @@ map_vec-requires-sync-F g c κs within =
     let B = rows.A-row g.row.R g.row.A g.row.P in
     let P = rows.P-row g.row.R g.row.A g.row.P in
     let runtime : (ℓ : Lifetime) (κ : Lft) → IsSync (ShrRef ℓ κ (rows.R-row g.row.R g.row.A g.row.P)) = λ ℓ κ. shr_sync ℓ κ _ c.type_bounds.sync-R in
-    let job : (ℓ : Lifetime) (κ : Lft) (a : NamedLft) → IsSync (ShrRef ℓ κ (job_row.the_row a B P g.A.Allocator)) =
-    λ ℓ κ a. shr_sync ℓ κ _ (copy_job_sync B g.A.Allocator c.type_bounds.send-A c.type_bounds.sync-A c.type_bounds.frees-A-Allocator a _ c.type_bounds.sync-P) in
+    let job : (ℓ : Lifetime) (κ : Lft) (a b : NamedLft) → IsSync (ShrRef ℓ κ (job_row.the_row a b B P g.A.Allocator)) =
+    λ ℓ κ a b. shr_sync ℓ κ _ (copy_job_sync B g.A.Allocator c.type_bounds.send-A c.type_bounds.sync-A c.type_bounds.frees-A-Allocator a b _ c.type_bounds.sync-P) in
     search (sendable, runtime, job) depth 60 fits 100000
 
 pub returns : goal.returns

@@ -2,4 +2,4 @@ use Rattle.intake.specs.Intakes.{IsSeatOf}
 use Rattle.mining.proofs.worker.draw_rest.Given as goal
 
 abbrev pub invariant-loop : goal.invariant-loop
-invariant-loop g l = IsSeatOf l.job.intake.now l.seat
+invariant-loop g l = IsSeatOf l.intake l.seat
