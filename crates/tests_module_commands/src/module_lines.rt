@@ -368,7 +368,7 @@ fn tells_the_first_refused_module(rt: HostRuntime) -> Result<(), Fail> {
 
 /// The whole of what is said of a module that imports `get` of `env`.
 const NO_HOST_CALL: &str =
-    "module 0: import 0, `env` `get`: it is no host call; a contract imports functions of the module `boost` alone: `get`, `has`, `put`, `del`, `add`, `total`; this import is (func (param i64) (result i64))";
+    "module 0: import 0, `env` `get`: it is no host call; a contract imports functions of the module `boost` alone: `get`, `has`, `put`, `del`, `add`, `total`, `ask`, `answer`; this import is (func (param i64) (result i64))";
 
 /// After how many calls of the standard error one fails, and what then stands there.
 const UNHEARD: [(Option<u64>, Wanted); 4] = [

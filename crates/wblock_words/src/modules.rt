@@ -75,11 +75,11 @@ fn import_fault(alloc: Global, names: &str, has_call: bool) -> Result<String, Al
     let names = shown(names);
     if has_call {
         return format!(in alloc;
-            ", {names}: it has another type than this host call; `get` and `total` are (param i64) (result i64), `has` and `del` (param i64) (result i32), `put` and `add` (param i64) (param i64)"
+            ", {names}: it has another type than this host call; `get` and `total` are (param i64) (result i64), `has` and `del` (param i64) (result i32), `put` and `add` (param i64) (param i64), `ask` is (param i32) (param i32) (param i64) (result i32), and `answer` (result i64)"
         );
     }
     format!(in alloc;
-        ", {names}: it is no host call; a contract imports functions of the module `boost` alone: `get`, `has`, `put`, `del`, `add`, `total`"
+        ", {names}: it is no host call; a contract imports functions of the module `boost` alone: `get`, `has`, `put`, `del`, `add`, `total`, `ask`, `answer`"
     )
 }
 
