@@ -2,5 +2,6 @@
 #![tactic(auto)]
 
 pub mod judgement;
+pub mod prefixes;
 pub mod publication;
 pub mod sealing;

@@ -1,7 +1,4 @@
-//! Functions of the program's commands under their own contracts alone. Wrong bodies are tried on them.
+//! Functions of the program's commands on blocks under their own contracts alone. Wrong bodies are tried on them.
 #![tactic(auto)]
 
 pub mod blocks;
-pub mod files;
-pub mod modules;
-pub mod refusals;

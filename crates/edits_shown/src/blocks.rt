@@ -1,11 +1,8 @@
-//! A block as text, as a picture, and up to one of its calls.
+//! A block as text and as a picture.
 
-ghost use Rattle.std.specs.Prelude.{◌≡◌, ◌≤◌, IsTrue, IfOk, IfErr, OnOk, MatchOption, length, string_bytes};
-ghost use Rattle.world.specs.Views.{world_view};
-ghost use Rattle.block_judge.specs.Judging.{IfRejected};
+ghost use Rattle.std.specs.Prelude.{◌≡◌, IsTrue, IfOk, IfErr, OnOk, string_bytes};
 ghost use Rattle.block_picture.specs.Drawings.{IsPictureOf};
 ghost use Rattle.block_picture.specs.Pictures.{picture};
-ghost use Rattle.block_prefix.specs.Meeting.{IsVerdictAtLeast, Meets, IsAbsent};
 ghost use Rattle.wblock_line.specs.Answers.{CountsFault, IsOfFile};
 ghost use Rattle.wblock_show.specs.Draws.{DrawsFile};
 ghost use Rattle.wblock_show.specs.Lines.{calls_of};
@@ -13,15 +10,12 @@ ghost use Rattle.wblock_show.specs.Named.{IsNextNamed, ShowsNamed};
 ghost use Rattle.wblock_show.specs.Shows.{HasFew, Shows};
 
 use block::Block;
-use block_judge::Unfit;
 use block_picture::Scene;
-use block_prefix::Met;
 use call::Call;
-use std::alloc::{Allocator, Global};
+use std::alloc::Global;
 use wblock_io::Files;
 use wblock_line::{Answer, Fault};
 use wblock_show::Showing;
-use world::World;
 use wtypes::NoMemory;
 
 /// As [`wblock_show::show_block`].
@@ -79,19 +73,4 @@ pub fn picture_of(alloc: Global, scene: &Scene<'_>) -> Result<String, NoMemory>
     ensures { IfOk result (λ text. string_bytes text ≡ picture scene.now) }
 {
     block_picture::picture_of(alloc, scene)
-}
-
-/// As [`block_prefix::met_by`].
-pub fn met_by<A: Allocator + Copy>(
-    alloc: A,
-    world: &World<A>,
-    calls: &[Call],
-    bytes: &[u8],
-    number: u32,
-) -> Result<Option<Met<A>>, Unfit>
-    requires { length calls.now ≤ 65535 }
-    ensures rejected { IfErr result (λ unfit. IfRejected unfit (IsVerdictAtLeast (world_view world.now) calls.now bytes.now)) }
-    ensures met { IfOk result (λ found. MatchOption found (IsAbsent (world_view world.now) calls.now bytes.now number) (λ met. Meets (world_view world.now) calls.now bytes.now number met.version met.cells.cells)) }
-{
-    block_prefix::met_by(alloc, world, calls, bytes, number)
 }

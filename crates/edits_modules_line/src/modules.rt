@@ -4,6 +4,7 @@ ghost use Rattle.wblock_line.specs.Answers.{CountsFault, IsOfFile};
 ghost use Rattle.wblock_modules.specs.Assembles.{Assembles};
 ghost use Rattle.wblock_modules.specs.Checks.{Checks};
 ghost use Rattle.wblock_modules.specs.Deploys.{Deploys, IsNextModule};
+ghost use Rattle.wblock_modules.specs.Texts.{WritesText};
 
 use std::alloc::Global;
 use wblock_io::Files;
@@ -56,4 +57,20 @@ pub fn deploy_modules<'a, F: Files>(
     ensures next { IfErr result (IsOfFile (λ name. IsTrue F.tells → IsNextModule (F.holds files.old) (map (λ w. w.now) modules.now) name)) }
 {
     wblock_modules::deploy_modules(alloc, files, world, modules)
+}
+
+/// As [`wblock_modules::write_text`].
+pub fn write_text<'a, F: Files>(
+    alloc: Global,
+    files: &mut F,
+    source: &'a str,
+    target: &'a str,
+) -> Result<Answer<'a>, Fault<'a>>
+    ensures answers { IfOk result (λ a. IsTrue F.tells → WritesText (F.holds files.old) source.entry.now target.entry.now a) }
+    ensures kept { IsTrue F.tells → F.holds files.new ≡ F.holds files.old }
+    ensures calm { OnOk result (F.failures files.new ≡ F.failures files.old) }
+    ensures counted { IfErr result (λ f. CountsFault f (F.failures files.old) (F.failures files.new)) }
+    ensures named { IfErr result (IsOfFile (λ name. name ≡ source.entry.now)) }
+{
+    wblock_modules::write_text(alloc, files, source, target)
 }
