@@ -12,7 +12,6 @@ ghost use Rattle.std.specs.List.{All};
 ghost use Rattle.std.specs.FinMap as finite;
 ghost use Rattle.spec_ledger.specs.Cells.{AreCells};
 ghost use Rattle.spec_ledger.specs.Book.{back_all, GetsReplies};
-ghost use Rattle.spec_ledger.specs.Modes.{touched};
 ghost use Rattle.storage.specs.Counts.{AreUnsettled, Store, closed_all};
 ghost use Rattle.spec_execution.specs.Exec.{Executes};
 ghost use Rattle.spec_execution.specs.Serial.{Serial};
@@ -51,32 +50,6 @@ pub struct Executed<A: Allocator = Global> {
     pub touched: Touched<A>,
 }
 
-/// Ends a run whose operations were done on the cells, and which asked for these locks: they stand if it returned, and else are taken back.
-fn conclude_with<A: Allocator + Copy>(
-    finished: &Finished<'_, A>,
-    cells: &mut Cells<A>,
-    inverses: Vec<Inverse, A>,
-    locks: Touched<A>,
-) -> Executed<A>
-    requires unsettled { AreUnsettled inverses.items cells.old.unsettled }
-    requires locks { locks ≡ touched finished.now.trace }
-    ensures executed { (start : Store) → AreDone start finished.now.trace cells.old inverses.items → start.unsettled ≡ finite.empty → AreCells start.cells → Executes finished.now.setting finished.now.call start.cells cells.new.cells result.receipt result.touched }
-    ensures touched { result.touched ≡ touched finished.now.trace }
-    ensures unsettled { cells.new.unsettled ≡ closed_all inverses.items cells.old.unsettled }
-{
-    finished.is_played();
-    let receipt = Receipt {
-        outcome: finished.outcome(),
-        used: finished.used(),
-        asks: finished.asks(),
-    };
-    end_all(cells, inverses, returned(receipt.outcome));
-    Executed {
-        receipt,
-        touched: locks,
-    }
-}
-
 /// Ends a run whose operations were done on the cells: they stand if it returned, and else are taken back. After want of
 /// memory they are taken back.
 fn conclude<A: Allocator + Copy>(
@@ -87,15 +60,21 @@ fn conclude<A: Allocator + Copy>(
 ) -> Result<Executed<A>, NoMemory>
     requires { AreUnsettled inverses.items cells.old.unsettled }
     ensures executed { IfOk result (λ e. (start : Store) → AreDone start finished.now.trace cells.old inverses.items → start.unsettled ≡ finite.empty → AreCells start.cells → Executes finished.now.setting finished.now.call start.cells cells.new.cells e.receipt e.touched) }
-    ensures touched { IfOk result (λ e. e.touched ≡ touched finished.now.trace) }
     ensures err { OnErr result (cells.new.cells ≡ back_all inverses.items cells.old.cells) }
     ensures unsettled { cells.new.unsettled ≡ closed_all inverses.items cells.old.unsettled }
 {
-    let Ok(locks) = touched_by(alloc, finished.trace()) else {
+    finished.is_played();
+    let receipt = Receipt {
+        outcome: finished.outcome(),
+        used: finished.used(),
+        asks: finished.asks(),
+    };
+    let Ok(touched) = touched_by(alloc, finished.trace()) else {
         end_all(cells, inverses, false);
         return Err(NoMemory);
     };
-    Ok(conclude_with(finished, cells, inverses, locks))
+    end_all(cells, inverses, returned(receipt.outcome));
+    Ok(Executed { receipt, touched })
 }
 
 /// Runs a call over the cells, by the rules of this version. Unless it returned they are as before.
@@ -118,32 +97,6 @@ pub fn execute<A: Allocator + Copy>(
     cells.hold();
     let (finished, inverses) = play(alloc, contracts, call, cells, version)?;
     conclude(alloc, &finished, cells, inverses)
-}
-
-/// Runs a call over the cells as [`execute`] does, and answers its run, too.
-///
-/// # Errors
-///
-/// Memory was refused. The cells are as they were.
-pub fn run<'a, A: Allocator + Copy>(
-    alloc: A,
-    contracts: &'a [Contract<A>],
-    call: &'a Call,
-    cells: &mut Cells<A>,
-    version: Version,
-) -> Result<(Finished<'a, A>, Executed<A>), NoMemory>
-    requires { cells.old.unsettled ≡ finite.empty }
-    ensures contracts { IfOk result (λ r. r.0.setting ≡ setting_view version contracts.now) }
-    ensures call { IfOk result (λ r. r.0.call ≡ call.now) }
-    ensures touched { IfOk result (λ r. r.1.touched ≡ touched r.0.trace) }
-    ensures executed { IfOk result (λ r. Executes (setting_view version contracts.now) call.now cells.old.cells cells.new.cells r.1.receipt r.1.touched) }
-    ensures settled { cells.new.unsettled ≡ finite.empty }
-    ensures err { OnErr result (cells.new ≡ cells.old) }
-{
-    cells.hold();
-    let (finished, inverses) = play(alloc, contracts, call, cells, version)?;
-    let executed = conclude(alloc, &finished, cells, inverses)?;
-    Ok((finished, executed))
 }
 
 /// The run of a call alone over the cells, by the rules of this version. The cells are as before.
@@ -192,40 +145,6 @@ pub fn replay<A: Allocator + Copy>(
     let mut inverses = Vec::new(alloc);
     match act_again(alloc, cells, &mut inverses, finished.trace()) {
         Ok(true) => Ok(Some(conclude(alloc, finished, cells, inverses)?)),
-        Ok(false) => {
-            end_all(cells, inverses, false);
-            Ok(None)
-        }
-        Err(_) => {
-            end_all(cells, inverses, false);
-            Err(NoMemory)
-        }
-    }
-}
-
-/// Executes a call as [`replay`] does, by a run of it that asked for these locks.
-///
-/// # Errors
-///
-/// Memory was refused. The cells are as they were.
-pub fn replay_with<A: Allocator + Copy>(
-    alloc: A,
-    finished: &Finished<'_, A>,
-    cells: &mut Cells<A>,
-    locks: Touched<A>,
-) -> Result<Option<Executed<A>>, NoMemory>
-    requires settled { cells.old.unsettled ≡ finite.empty }
-    requires locks { locks ≡ touched finished.now.trace }
-    ensures executed { IfOk result (λ o. IfSome o (λ e. Executes finished.now.setting finished.now.call cells.old.cells cells.new.cells e.receipt e.touched)) }
-    ensures replies { IfOk result (λ o. IsSome o ↔ GetsReplies finished.now.trace cells.old.cells) }
-    ensures other { IfOk result (λ o. IfNone o (cells.new ≡ cells.old)) }
-    ensures settled { cells.new.unsettled ≡ finite.empty }
-    ensures err { OnErr result (cells.new ≡ cells.old) }
-{
-    cells.hold();
-    let mut inverses = Vec::new(alloc);
-    match act_again(alloc, cells, &mut inverses, finished.trace()) {
-        Ok(true) => Ok(Some(conclude_with(finished, cells, inverses, locks))),
         Ok(false) => {
             end_all(cells, inverses, false);
             Ok(None)

@@ -16,7 +16,7 @@ use Rattle.spec_ledger.specs.Cells.{Cells, lock_cmp, lock_of, counter, set_at, u
 use Rattle.spec_ledger.proofs.Types.{types-empty, types-set_at}
 use Rattle.spec_ledger.proofs.Maps.{update_same, is_key, key_itself, get-update}
 use Rattle.spec_ledger.specs.declared.Kind.TheVariants.{Counter}
-use Rattle.spec_ledger.proofs.Ops.{AreCells-back, AreCells-empty}
+use Rattle.spec_ledger.proofs.Ops.{AreCells-back, AreCells-empty, counters_keep}
 use Rattle.storage.specs.Counts.{Counts, opened, count_at, IsUnsettled}
 use Rattle.spec_ledger.proofs.Maps.{get-set_at, lock_cmp_total, lock_cmp-IsAntisymmetric}
 use Rattle.storage.specs.declared.Slot.{Slot}
@@ -192,3 +192,16 @@ IsUnsettled-read (Total p) c i b m e f g = subst (λ x. IsUnsettled x m) (sym e)
 IsUnsettled-read (Put p v) c i b m e f g = cc
 IsUnsettled-read (Del p) c i b m e f g = cc
 IsUnsettled-read (Add p v) c i b m e f g = cc
+
+-- ---- a cell that is emptied
+
+pub AreCells-emptied : (m n : Cells) (k : Lock) → n ≡ set_at m k None → AreCells m → AreCells n
+AreCells-emptied m n k e are = subst AreCells (sym e) (counters_keep m k (λ _. None) (λ _ _. record { fits = omega arith; not_zero = λ none. cc }) are)
+
+pub types_emptied : (m n : Cells) (k : Lock) → n ≡ set_at m k None → AreOfTheirTypes m → AreOfTheirTypes n
+types_emptied m n k e types = subst AreOfTheirTypes (sym e) (types-set_at m k None types (λ v no. cc))
+
+pub none_emptied : (m n : Counts) (k : Lock) → n ≡ set_at m k None → m ≡ finite.empty → n ≡ finite.empty
+none_emptied m n k e none =
+    e ∙ ap (λ x. set_at x k None) none
+    ∙ update_same lock_cmp_total lock_cmp-IsAntisymmetric finite.empty k (λ _. None) (sym (finite.get-empty lock_cmp k))

@@ -3,7 +3,7 @@
 
 mod changes;
 
-ghost use Rattle.std.specs.Prelude.{◌≡◌, ◌+◌, ◌-◌, ◌<◌, ◌≤◌, ◌^◌, ◌%◌, ℕ, Some, None, IsSome, IfOk, OnOk, OnErr, ◌↔◌, IsTrue, if◌then◌else◌, Option, length};
+ghost use Rattle.std.specs.Prelude.{◌≡◌, ◌≢◌, ◌+◌, ◌-◌, ◌<◌, ◌≤◌, ◌^◌, ◌%◌, ℕ, Some, None, IsSome, IfOk, OnOk, OnErr, ◌↔◌, IsTrue, if◌then◌else◌, Option, length};
 ghost use Rattle.std.specs.BTreeMap.{get, IsUnchanged};
 ghost use Rattle.std.specs.Ordering.{eq_by_cmp};
 ghost use Rattle.spec_ledger.specs.declared.Mode.TheVariants.{Read};
@@ -366,6 +366,23 @@ impl<A: Allocator + Copy> Cells<A> {
     {
         fill_slot(&mut self.slots, lock, value)?;
         Ok(())
+    }
+
+    /// Makes a cell hold this number, or none. No counter is put at 0, and nothing is unsettled.
+    pub fn set(&mut self, lock: Lock, cell: Option<u64>) -> Result<(), NoMemory>
+        requires counter { lock.kind ≡ Kind.Counter → cell ≢ Some 0 }
+        requires settled { self.old.unsettled ≡ finite.empty }
+        ensures cells { OnOk result (self.new.cells ≡ set_at self.old.cells lock cell) }
+        ensures settled { self.new.unsettled ≡ finite.empty }
+        ensures err { OnErr result (self.new ≡ self.old) }
+    {
+        match cell {
+            Some(value) => self.insert(lock, value),
+            None => {
+                drop_slot(&mut self.slots, lock);
+                Ok(())
+            }
+        }
     }
 
     /// Does an operation, and says how to take it back. The place that this needs is kept until then.

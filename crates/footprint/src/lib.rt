@@ -1,0 +1,190 @@
+//! Footprints of calls: what a call did with the cell at each lock that it asked for, taken where it runs, and done again over other cells without running
+//! it (Dickerson, Gazzillo, Herlihy, Koskinen, "Adding Concurrency to Smart Contracts", PODC 2017, section 4: a miner runs calls speculatively and
+//! publishes the order in which they stand).
+#![tactic(auto)]
+
+ghost use Rattle.std.specs.Prelude.{◌≡◌, ◌↔◌, Ok, true, false, All, IfOk, IsTrue, OnOk, map};
+ghost use Rattle.std.specs.FinMap as finite;
+ghost use Rattle.spec_ledger.specs.Cells.{number, subtracted};
+ghost use Rattle.spec_footprint.specs.Footprints.{Agrees, IsFootprint, LeavesACell, access_at, access_by, all_left, left, use_of};
+ghost use Rattle.interp.specs.Lent.{setting_view};
+ghost use Rattle.lock_profile.specs.Groups.{pairs};
+
+use call::Call;
+use link::deployed::Deployed as Contract;
+use lock_profile::Held;
+use serial::{Executed, execute};
+use spec_footprint::{Access, an_execution_has_a_footprint};
+use spec_ledger::{Kind, Lock, Mode, NoMemory, Op, Place, Version};
+use std::alloc::{Allocator, Global};
+use storage::Cells;
+
+/// What a call came to, with what it did with cells.
+#[derive(Drop)]
+pub struct Footprint<A: Allocator = Global> {
+    /// Its receipt, and the locks that it asked for.
+    pub executed: Executed<A>,
+    /// What it did with the cell at each of these locks, in their order.
+    pub accesses: Vec<Access, A>,
+}
+
+fn place(lock: Lock) -> Place
+    ensures contract { result.contract ≡ lock.contract }
+    ensures key { result.key ≡ lock.key }
+{
+    Place {
+        contract: lock.contract,
+        key: lock.key,
+    }
+}
+
+fn use_of(kind: Kind, mode: Mode) -> Mode
+    ensures { result ≡ use_of kind mode }
+{
+    match (kind, mode) {
+        (Kind::Map, Mode::Add) => Mode::Excl,
+        (Kind::Map | Kind::Counter, _) => mode,
+    }
+}
+
+/// By how much a counter grew, modulo 2^64.
+fn growth(before: Option<u64>, later: Option<u64>) -> u64
+    ensures { result ≡ number (subtracted (number before) later) }
+{
+    later.unwrap_or(0).wrapping_sub(before.unwrap_or(0))
+}
+
+/// What was done with a cell that is held so, and that held the one before and holds the other later.
+fn access(held: Held, before: Option<u64>, later: Option<u64>) -> Access
+    ensures { result ≡ access_by (use_of held.lock.kind held.mode) held.lock before later }
+{
+    match use_of(held.lock.kind, held.mode) {
+        Mode::Read => Access::Read(held.lock, before),
+        Mode::Add => Access::Added(place(held.lock), growth(before, later)),
+        Mode::Excl => Access::Replaced(held.lock, before, later),
+    }
+}
+
+/// What was done with the cells at these locks between the one store and the other.
+fn accesses<A: Allocator + Copy>(
+    alloc: A,
+    locks: &[Held],
+    before: &Cells<A>,
+    later: &Cells<A>,
+) -> Result<Vec<Access, A>, NoMemory>
+    ensures { IfOk result (λ accesses. accesses.items ≡ map (access_at before.now.cells later.now.cells) (pairs locks.now)) }
+{
+    let mut accesses = Vec::with_capacity(alloc, locks.len())?;
+    for held in locks {
+        let access = access(*held, before.get(held.lock), later.get(held.lock));
+        accesses.push(access)?;
+    }
+    Ok(accesses)
+}
+
+/// Leaves of a cell what an access leaves.
+fn leave<A: Allocator + Copy>(cells: &mut Cells<A>, access: Access) -> Result<(), NoMemory>
+    requires leaves { LeavesACell access }
+    requires settled { cells.old.unsettled ≡ finite.empty }
+    ensures left { OnOk result (cells.new.cells ≡ left access cells.old.cells) }
+    ensures settled { cells.new.unsettled ≡ finite.empty }
+{
+    match access {
+        Access::Read(_, _) => Ok(()),
+        Access::Added(place, amount) => {
+            let (_, inverse) = cells.apply(Op::Add(place, amount))?;
+            cells.settle(inverse);
+            Ok(())
+        }
+        Access::Replaced(lock, _, later) => cells.set(lock, later),
+    }
+}
+
+/// Leaves what accesses leave, one after another.
+fn leave_all<A: Allocator + Copy>(cells: &mut Cells<A>, accesses: &[Access]) -> Result<(), NoMemory>
+    requires leaves { All LeavesACell accesses.now }
+    requires settled { cells.old.unsettled ≡ finite.empty }
+    ensures left { OnOk result (cells.new.cells ≡ all_left accesses.now cells.old.cells) }
+    ensures settled { cells.new.unsettled ≡ finite.empty }
+{
+    for access in accesses {
+        leave(cells, *access)?;
+    }
+    Ok(())
+}
+
+fn agrees<A: Allocator + Copy>(cells: &Cells<A>, access: Access) -> bool
+    ensures { IsTrue result ↔ Agrees cells.now.cells access }
+{
+    match access {
+        Access::Read(lock, cell) | Access::Replaced(lock, cell, _) => cells.get(lock) == cell,
+        Access::Added(_, _) => true,
+    }
+}
+
+/// Whether cells hold what a call found where it made these accesses.
+fn agree<A: Allocator + Copy>(cells: &Cells<A>, accesses: &[Access]) -> bool
+    ensures { IsTrue result ↔ All (Agrees cells.now.cells) accesses.now }
+{
+    for access in accesses {
+        if !agrees(cells, *access) {
+            return false;
+        }
+    }
+    true
+}
+
+/// Runs a call over the cells, by the rules of this version, and takes its footprint. The cells before it are there twice, and both follow.
+///
+/// # Errors
+///
+/// Memory was refused. The cells may have changed.
+pub fn take<A: Allocator + Copy>(
+    alloc: A,
+    contracts: &[Contract<A>],
+    call: &Call,
+    before: &mut Cells<A>,
+    cells: &mut Cells<A>,
+    version: Version,
+) -> Result<Footprint<A>, NoMemory>
+    requires same { before.old.cells ≡ cells.old.cells }
+    requires settled { cells.old.unsettled ≡ finite.empty }
+    requires settled_before { before.old.unsettled ≡ finite.empty }
+    ensures footprint { IfOk result (λ f. IsFootprint (setting_view version contracts.now) call.now f.accesses.items f.executed.receipt f.executed.touched) }
+    ensures accesses { IfOk result (λ f. f.accesses.items ≡ map (access_at cells.old.cells cells.new.cells) (finite.entries f.executed.touched)) }
+    ensures found { IfOk result (λ f. All (Agrees cells.old.cells) f.accesses.items) }
+    ensures left { IfOk result (λ f. cells.new.cells ≡ all_left f.accesses.items cells.old.cells) }
+    ensures same { OnOk result (before.new.cells ≡ cells.new.cells) }
+    ensures settled { cells.new.unsettled ≡ finite.empty }
+    ensures settled_before { before.new.unsettled ≡ finite.empty }
+{
+    cells.hold();
+    an_execution_has_a_footprint();
+    let executed = execute(alloc, contracts, call, cells, version)?;
+    let accesses = accesses(alloc, executed.touched.held(), before, cells)?;
+    leave_all(before, &accesses)?;
+    Ok(Footprint { executed, accesses })
+}
+
+/// Does with cells what a footprint did, where they hold what it found. Answers whether they do.
+///
+/// # Errors
+///
+/// Memory was refused. The cells may have changed.
+pub fn enact<A: Allocator + Copy>(
+    cells: &mut Cells<A>,
+    accesses: &[Access],
+) -> Result<bool, NoMemory>
+    requires leaves { All LeavesACell accesses.now }
+    requires settled { cells.old.unsettled ≡ finite.empty }
+    ensures answer { IfOk result (λ fits. IsTrue fits ↔ All (Agrees cells.old.cells) accesses.now) }
+    ensures left { result ≡ Ok true → cells.new.cells ≡ all_left accesses.now cells.old.cells }
+    ensures same { result ≡ Ok false → cells.new ≡ cells.old }
+    ensures settled { cells.new.unsettled ≡ finite.empty }
+{
+    if !agree(cells, accesses) {
+        return Ok(false);
+    }
+    leave_all(cells, accesses)?;
+    Ok(true)
+}

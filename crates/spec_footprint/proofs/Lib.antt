@@ -1,0 +1,3 @@
+pub mod Likeness
+pub mod Footprints
+mod Rows
