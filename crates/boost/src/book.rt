@@ -308,6 +308,7 @@ impl<A: Allocator + Copy> Book<A> {
         ensures ok { IfOk result (λ position. CommitDone self.old self.new ticket.call ticket.number run.now.trace.now run.now.outcome position) }
         ensures stale { IfErr result (λ e. (e.1 ≡ CommitRefusal.Stale) ↔ IsStale self.old ticket.call ticket.number) }
         ensures differs { IfErr result (λ e. (e.1 ≡ CommitRefusal.Differs) ↔ IsOther self.old ticket.call ticket.number run.now.trace.now) }
+        ensures memory { IfErr result (λ e. e.1 ≢ CommitRefusal.NoMemory) }
         ensures ticket { IfErr result (λ e. e.0 ≡ ticket) }
         ensures err { OnErr result (self.new ≡ self.old) }
     {

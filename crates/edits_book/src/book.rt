@@ -76,6 +76,7 @@ pub fn commit<A: Allocator + Copy>(
     ensures ok { IfOk result (λ position. CommitDone book.old book.new ticket.call ticket.number run.now.trace.now run.now.outcome position) }
     ensures stale { IfErr result (λ e. (e.1 ≡ CommitRefusal.Stale) ↔ IsStale book.old ticket.call ticket.number) }
     ensures differs { IfErr result (λ e. (e.1 ≡ CommitRefusal.Differs) ↔ IsOther book.old ticket.call ticket.number run.now.trace.now) }
+    ensures memory { IfErr result (λ e. e.1 ≢ CommitRefusal.NoMemory) }
     ensures ticket { IfErr result (λ e. e.0 ≡ ticket) }
     ensures err { OnErr result (book.new ≡ book.old) }
 {
