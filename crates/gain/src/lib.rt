@@ -1,6 +1,6 @@
 //! Whether several workers run the calls of a block faster than one thread does: by how many calls there are, how long they are, how many of them
-//! run one after another whoever runs them, and how many cells there are. The bounds were set by measurements (`docs/BENCHMARKS.md`), that of three
-//! workers by those of two and four. No fact rests on them: they decide who runs the calls, never what the calls come to.
+//! run one after another whoever runs them, and how many cells there are. The bounds were set by what `docs/BENCHMARKS.md` has, and by guess where it has
+//! nothing. No fact rests on them: they decide who runs the calls, never what the calls come to.
 #![tactic(auto)]
 
 ghost use Rattle.std.specs.Prelude.{◌≡◌, ◌≤◌, ◌<◌, ◌+◌, ◌*◌, ◌↔◌, ℕ, [], All, Contains, IsTrue};
@@ -8,23 +8,20 @@ ghost use Rattle.std.specs.Prelude.{◌≡◌, ◌≤◌, ◌<◌, ◌+◌, ◌*
 /// From how many calls on it is asked whether workers pay. Fewer are soon run by anyone.
 pub const MANY: usize = 1_024;
 
-/// The mean fuel of a call from which on workers over one book are taken to be faster than those that run calls each over a copy of the cells.
-pub const MOST_MEAN_ON_COPIES: u64 = 2_500;
-
 /// The mean fuel of a call from which on this many workers, each over a copy of the cells, are taken to be faster than one thread, where no call waits for
-/// another: of one worker that of the most.
+/// another.
 pub fn least_mean_on_copies(workers: u32) -> u64
-    ensures one { workers ≤ 1 → result ≡ 2500 }
-    ensures two { workers ≡ 2 → result ≡ 1000 }
-    ensures three { workers ≡ 3 → result ≡ 500 }
-    ensures more { 4 ≤ workers → result ≡ 250 }
-    ensures most { result ≤ 2500 }
+    ensures one { workers ≤ 1 → result ≡ 5000 }
+    ensures two { workers ≡ 2 → result ≡ 64 }
+    ensures three { workers ≡ 3 → result ≡ 32 }
+    ensures more { 4 ≤ workers → result ≡ 16 }
+    ensures most { result ≤ 5000 }
 {
     match workers {
-        0 | 1 => MOST_MEAN_ON_COPIES,
-        2 => 1_000,
-        3 => 500,
-        _ => 250,
+        0 | 1 => 5_000,
+        2 => 64,
+        3 => 32,
+        _ => 16,
     }
 }
 
@@ -60,12 +57,12 @@ pub fn are_wide(calls: u32, waves: u64) -> bool
     2 * waves <= u64::from(calls)
 }
 
-/// Whether there are so few cells, beside so many calls, that a copy of them for each of so many workers costs little: together they
-/// are at most 16 for each call.
+/// Whether there are so few cells, beside so many calls, that copies of them for each of so many workers cost little: one for each worker
+/// has at most 4 cells for each call together.
 pub fn are_few(cells: usize, calls: u32, workers: u32) -> bool
-    ensures { IsTrue result ↔ (cells * workers ≤ 16 * calls) }
+    ensures { IsTrue result ↔ (cells * workers ≤ 4 * calls) }
 {
-    cells as u128 * u128::from(workers) <= 16 * u128::from(calls)
+    cells as u128 * u128::from(workers) <= 4 * u128::from(calls)
 }
 
 /// The number of waves in which calls run that are in these waves, counted from 0: one more than the last.

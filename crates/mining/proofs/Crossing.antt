@@ -10,17 +10,20 @@ use Rattle.std.proofs.CrossingOver as over
 use Rattle.wtypes.specs.contracts.NoMemory as no_memory_row
 use Rattle.lock_profile.specs.contracts.Touched as touched_row
 use Rattle.lock_profile.proofs.Held.TheSendSync as held
+use Rattle.spec_footprint.proofs.Access.TheSendSync as access
+use Rattle.footprint.specs.contracts.Footprint as footprint_row
 use Rattle.intake.specs.contracts.intake.Intake as intake_row
 use Rattle.intake.proofs.intake.Intake.TheSendSync as intake
 use Rattle.shards.specs.contracts.gate.NoGate as gate_row
 use Rattle.shards.specs.contracts.sharded.Shards as book_row
 use Rattle.shards.proofs.gate.NoGate.TheSendSync as gate
 use Rattle.shards.proofs.Crossing as book
-use Rattle.serial_block.proofs.Crossing.{crosses, vec_send, contract_sync, cells_sync, finished_send}
+use Rattle.serial_block.proofs.Crossing.{crosses, vec_send, contract_sync, contracts_send, cells_sync, finished_send}
 use Rattle.mining.proofs.brake.Brake.TheSendSync as brake
 use Rattle.mining.specs.contracts.attempt.Committed as committed_row
 use Rattle.mining.specs.contracts.attempt.Job as job_row
 use Rattle.mining.specs.contracts.on_copies.CopyJob as copy_job_row
+use Rattle.mining.specs.contracts.on_copies.Share as share_row
 use Rattle.mining.specs.contracts.worker.Worked as worked_row
 
 module _ (B : RattleType) (g : Ghosts B.Denot) (send : IsSend B) (sync : IsSync B) (frees : Frees g g.dealloc_token) where
@@ -36,6 +39,16 @@ module _ (B : RattleType) (g : Ghosts B.Denot) (send : IsSend B) (sync : IsSync 
   -- what a worker hands back may go to the thread that joins it
   pub handed_send : (a : NamedLft) → IsSend (result_row.the_row (worked_row.the_row a B g) no_memory_row.the_row)
   handed_send a = search (crosses, worked_send) depth 60 fits 100000
+
+  footprint_send : IsSend (footprint_row.the_row B g)
+  footprint_send = let vec = vec_send B g send sync frees in search (crosses, over.crosses, access.the_send, vec, touched_send) depth 60 fits 100000
+
+  -- and so may what a worker over a copy hands back
+  pub share_send : (a : NamedLft) → IsSend (share_row.the_row a B g)
+  share_send a =
+      let vec = vec_send B g send sync frees in
+      let contracts = contracts_send B g send sync frees in
+      search (crosses, over.crosses, vec, contracts, footprint_send) depth 60 fits 100000
 
   intake_sync : IsSync (intake_row.the_row B g)
   intake_sync = search (crosses, over.crosses, intake.the_sync) depth 60 fits 100000

@@ -1,5 +1,5 @@
 // Workers that run calls each over a copy of the cells, which nobody else changes.
-ghost use Rattle.std.specs.Prelude.{◌≡◌, ◌<◌, ◌≤◌, All, IfOk, OnOk, length};
+ghost use Rattle.std.specs.Prelude.{◌≡◌, ◌+◌, ◌<◌, ◌≤◌, All, IfOk, OnOk, length};
 ghost use Rattle.std.specs.FinMap as finite;
 ghost use Rattle.spec_ledger.specs.Order.{IsAdmissible};
 ghost use Rattle.spec_execution.specs.Serial.{Serial};
@@ -7,19 +7,19 @@ ghost use Rattle.spec_ledger.specs.declared.Version.TheVariants.{Two};
 ghost use Rattle.interp.specs.Lent.{setting_view};
 ghost use Rattle.serial.specs.Positions.{positions};
 ghost use Rattle.intake.specs.Intakes.{IsSeatOf};
-ghost use Rattle.publish.specs.Publication.{AreLeft, limits, fuel_used};
-ghost use Rattle.mining.specs.Handed.{AreRuns};
+ghost use Rattle.publish.specs.Publication.{AreLeft, IsSameJob, limits, fuel_used};
+ghost use Rattle.mining.specs.Shares.{AreAllPrepared, AreOwn, IsPrepared, IsShare};
 
-use crate::attempt::{Committed, told};
+use crate::attempt::told;
 use crate::mined_core::MinedCore;
-use crate::outcome::{finish, take_alone, take_parts};
-use crate::worker::{Worked, draw_rest, make_room};
+use crate::outcome::{finish, take_alone};
+use crate::worker::{draw_rest, make_room};
 use call::Call;
+use footprint::{Footprint, take};
 use intake::{Intake, Seat};
 use link::deployed::Deployed as Contract;
 use pace::{Pace, Step};
 use publish::Publishing;
-use serial::run;
 use spec_ledger::{NoMemory, Version};
 use std::alloc::Allocator;
 use std::sync::Wait;
@@ -39,33 +39,54 @@ struct CopyJob<'s, 'a, A: Allocator, P: Pace> {
     pace: &'s P,
 }
 
-/// Runs a call over a worker's copy, and keeps the run.
-#[tactic(auto, using(crate::proofs::Runs::one_more_run))]
+/// A call that a worker has run over its copy, with its footprint.
+#[derive(Drop)]
+pub(crate) struct Prepared<A: Allocator> {
+    pub(crate) call: u32,
+    pub(crate) footprint: Footprint<A>,
+}
+
+/// What a worker hands back, and the contracts that the calls ran over. (Without the contracts at their side no proof was found that it may go to
+/// another thread.)
+#[derive(Drop)]
+pub(crate) struct Share<'a, A: Allocator> {
+    pub(crate) contracts: &'a [Contract<A>],
+    /// The calls that it ran, the last one first.
+    pub(crate) prepared: Vec<Prepared<A>, A>,
+    /// The call at which it was stopped.
+    pub(crate) set_aside: Vec<u32, A>,
+}
+
+/// A worker's cells: its copy, and the same cells without the call that runs, which follow it.
+#[derive(Drop)]
+struct Own<A: Allocator> {
+    copy: Cells<A>,
+    before: Cells<A>,
+}
+
+/// Runs a call over a worker's copy, and keeps its footprint.
+#[tactic(auto, using(crate::proofs::Shares::one_more_prepared))]
 fn run_call<'a, A: Allocator + Copy, P: Pace>(
     job: &CopyJob<'_, 'a, A, P>,
-    copy: &mut Cells<A>,
+    own: &mut Own<A>,
     call: u32,
-    worked: &mut Worked<'a, A>,
+    share: &mut Share<'a, A>,
 ) -> Result<(), NoMemory>
     requires call { call < length job.now.calls.now }
-    requires settled { copy.old.unsettled ≡ finite.empty }
-    requires runs { AreRuns (setting_view Two job.now.contracts.now) job.now.calls.now worked.old }
-    ensures settled { copy.new.unsettled ≡ finite.empty }
-    ensures runs { OnOk result (AreRuns (setting_view Two job.now.contracts.now) job.now.calls.now worked.new) }
+    requires own { AreOwn own.old }
+    requires prepared { IsShare (setting_view Two job.now.contracts.now) job.now.calls.now share.old }
+    ensures own { OnOk result (AreOwn own.new) }
+    ensures prepared { OnOk result (IsShare (setting_view Two job.now.contracts.now) job.now.calls.now share.new) }
 {
-    let (finished, executed) = run(
+    let footprint = take(
         job.alloc,
         job.contracts,
         &job.calls[call as usize],
-        copy,
+        &mut own.before,
+        &mut own.copy,
         Version::Two,
     )?;
-    worked.committed.push(Committed {
-        position: 0,
-        call,
-        finished,
-        touched: executed.touched,
-    })?;
+    share.prepared.push(Prepared { call, footprint })?;
     Ok(())
 }
 
@@ -75,14 +96,14 @@ fn run_drawn<'a, A: Allocator + Copy, R: Wait, P: Pace>(
     rt: &R,
     job: &CopyJob<'_, 'a, A, P>,
     mut seat: Seat,
-    copy: &mut Cells<A>,
-    worked: &mut Worked<'a, A>,
+    own: &mut Own<A>,
+    share: &mut Share<'a, A>,
 ) -> Result<(), NoMemory>
     requires calls { job.now.intake.now.limits.calls ≡ length job.now.calls.now }
     requires seat { IsSeatOf job.now.intake.now seat }
-    requires settled { copy.old.unsettled ≡ finite.empty }
-    requires runs { AreRuns (setting_view Two job.now.contracts.now) job.now.calls.now worked.old }
-    ensures { OnOk result (AreRuns (setting_view Two job.now.contracts.now) job.now.calls.now worked.new) }
+    requires own { AreOwn own.old }
+    requires prepared { IsShare (setting_view Two job.now.contracts.now) job.now.calls.now share.old }
+    ensures { OnOk result (IsShare (setting_view Two job.now.contracts.now) job.now.calls.now share.new) }
 {
     for _ in 0..job.calls.len() {
         let Some(number) = job.intake.draw(&mut seat) else {
@@ -97,34 +118,38 @@ fn run_drawn<'a, A: Allocator + Copy, R: Wait, P: Pace>(
             nth: 0,
         };
         if told(job.pace, step) {
-            worked.set_aside.push(number)?;
+            share.set_aside.push(number)?;
             return Ok(());
         }
-        run_call(job, copy, number, worked)?;
+        run_call(job, own, number, share)?;
     }
     Ok(())
 }
 
-/// Runs the calls that a worker draws over a copy of the cells. The runs are handed back last first, as they are taken from the end.
-#[tactic(auto, using(crate::proofs::Runs::shuffled_runs))]
+/// Runs the calls that a worker draws over a copy of the cells. They are handed back last first, as they are taken from the end.
+#[tactic(auto, using(crate::proofs::Shares::shuffled_prepared))]
 fn work_on_copy<'a, A: Allocator + Copy, R: Wait, P: Pace>(
     rt: &R,
     job: &CopyJob<'_, 'a, A, P>,
     seat: Seat,
-) -> Result<Worked<'a, A>, NoMemory>
+) -> Result<Share<'a, A>, NoMemory>
     requires calls { job.now.intake.now.limits.calls ≡ length job.now.calls.now }
     requires seat { IsSeatOf job.now.intake.now seat }
-    ensures { IfOk result (AreRuns (setting_view Two job.now.contracts.now) job.now.calls.now) }
+    ensures { IfOk result (IsShare (setting_view Two job.now.contracts.now) job.now.calls.now) }
 {
     make_room(job.alloc, job.calls.len())?;
-    let mut copy = job.cells.copy(job.alloc)?;
-    let mut worked = Worked {
-        committed: Vec::new(job.alloc),
+    let mut own = Own {
+        copy: job.cells.copy(job.alloc)?,
+        before: job.cells.copy(job.alloc)?,
+    };
+    let mut share = Share {
+        contracts: job.contracts,
+        prepared: Vec::new(job.alloc),
         set_aside: Vec::new(job.alloc),
     };
-    run_drawn(rt, job, seat, &mut copy, &mut worked)?;
-    worked.committed.reverse();
-    Ok(worked)
+    run_drawn(rt, job, seat, &mut own, &mut share)?;
+    share.prepared.reverse();
+    Ok(share)
 }
 
 /// What the workers hand back, one for each seat.
@@ -132,24 +157,112 @@ fn run_on_copies<'a, R: Threads + Wait + Sync, A: Allocator + Copy + Send + Sync
     rt: &R,
     job: &CopyJob<'_, 'a, A, P>,
     seats: Vec<Seat, A>,
-) -> Result<Vec<Result<Worked<'a, A>, NoMemory>, A>, NoMemory>
+) -> Result<Vec<Result<Share<'a, A>, NoMemory>, A>, NoMemory>
     requires calls { job.now.intake.now.limits.calls ≡ length job.now.calls.now }
     requires seats { All (IsSeatOf job.now.intake.now) seats.items }
-    ensures { IfOk result (λ parts. All (λ part. IfOk part (AreRuns (setting_view Two job.now.contracts.now) job.now.calls.now)) parts.items) }
+    ensures { IfOk result (λ shares. All (λ share. IfOk share (IsShare (setting_view Two job.now.contracts.now) job.now.calls.now)) shares.items) }
 {
-    let parts = thread::map_vec(
+    let shares = thread::map_vec(
         rt,
         seats,
-        &|seat: Seat| -> Result<Worked<A>, NoMemory>
+        &|seat: Seat| -> Result<Share<A>, NoMemory>
             requires { (job.now.intake.now.limits.calls ≡ length job.now.calls.now) × IsSeatOf job.now.intake.now seat }
-            ensures { IfOk result (AreRuns (setting_view Two job.entry.now.contracts.now) job.entry.now.calls.now) }
+            ensures { IfOk result (IsShare (setting_view Two job.entry.now.contracts.now) job.entry.now.calls.now) }
         { work_on_copy(rt, job, seat) },
     )?;
-    Ok(parts)
+    Ok(shares)
 }
 
-/// Mines by workers that run calls each over a copy of the cells. Their runs are published one worker's after another's, each where its replies are
-/// those of the cells that are published so far. The calls of the others, those at which workers were stopped and those that nobody drew run alone in
+/// Sets a call aside, unless it was taken.
+fn set_down<A: Allocator>(
+    set_aside: &mut Vec<u32, A>,
+    call: u32,
+    taken: bool,
+) -> Result<(), NoMemory> {
+    if taken {
+        return Ok(());
+    }
+    set_aside.push(call)?;
+    Ok(())
+}
+
+/// Publishes a call by its footprint where that fits what is published, and answers how many calls that adds; else the call is set aside.
+fn take_one<'a, A: Allocator + Copy>(
+    publishing: Publishing<'a, A>,
+    prepared: Prepared<A>,
+    set_aside: &mut Vec<u32, A>,
+) -> Result<(Publishing<'a, A>, u32), NoMemory>
+    requires { IsPrepared publishing.setting publishing.calls prepared }
+    ensures same { IfOk result (λ r. IsSameJob publishing.entry r.0) }
+    ensures added { IfOk result (λ r. length r.0.order ≡ length publishing.entry.order + r.1) }
+{
+    let Prepared { call, footprint } = prepared;
+    let (published, taken) = publishing.take_footprint(call, footprint)?;
+    set_down(set_aside, call, taken)?;
+    Ok((published, u32::from(taken)))
+}
+
+/// Publishes the calls whose footprints fit what is published, the last first, and counts them. The others are set aside.
+#[tactic(auto, using(crate::proofs::Jobs::job_itself, crate::proofs::Jobs::job_after))]
+fn take_all<'a, A: Allocator + Copy>(
+    mut publishing: Publishing<'a, A>,
+    mut prepared: Vec<Prepared<A>, A>,
+    set_aside: &mut Vec<u32, A>,
+) -> Result<(Publishing<'a, A>, u32), NoMemory>
+    requires { AreAllPrepared publishing.setting publishing.calls prepared.items }
+    ensures same { IfOk result (λ r. IsSameJob publishing.entry r.0) }
+    ensures taken { IfOk result (λ r. length publishing.entry.order + r.1 ≤ length r.0.order) }
+{
+    let mut taken = 0u32;
+    while let Some(one) = prepared.pop() {
+        let (published, added) = take_one(publishing, one, set_aside)?;
+        publishing = published;
+        taken = taken.saturating_add(added);
+    }
+    Ok((publishing, taken))
+}
+
+/// Publishes what a worker handed back, and answers how many calls that adds. Those that do not fit are set aside, and the one at which it was stopped.
+fn take_share<'a, A: Allocator + Copy>(
+    publishing: Publishing<'a, A>,
+    share: Result<Share<'a, A>, NoMemory>,
+    set_aside: &mut Vec<u32, A>,
+) -> Result<(Publishing<'a, A>, u32), NoMemory>
+    requires { IfOk share (IsShare publishing.setting publishing.calls) }
+    ensures same { IfOk result (λ r. IsSameJob publishing.entry r.0) }
+    ensures taken { IfOk result (λ r. length publishing.entry.order + r.1 ≤ length r.0.order) }
+{
+    let Share {
+        contracts: _,
+        prepared,
+        set_aside: mut stopped,
+    } = share?;
+    set_aside.append(&mut stopped)?;
+    take_all(publishing, prepared, set_aside)
+}
+
+/// Publishes what the workers handed back, one worker's share after another's, and counts the calls.
+#[tactic(auto, using(crate::proofs::Jobs::job_itself, crate::proofs::Jobs::job_after))]
+fn take_shares<'a, A: Allocator + Copy>(
+    mut publishing: Publishing<'a, A>,
+    mut shares: Vec<Result<Share<'a, A>, NoMemory>, A>,
+    set_aside: &mut Vec<u32, A>,
+) -> Result<(Publishing<'a, A>, u32), NoMemory>
+    requires { All (λ share. IfOk share (IsShare publishing.setting publishing.calls)) shares.items }
+    ensures same { IfOk result (λ r. IsSameJob publishing.entry r.0) }
+    ensures taken { IfOk result (λ r. r.1 ≤ length r.0.order) }
+{
+    let mut taken = 0u32;
+    while let Some(share) = shares.pop() {
+        let (published, more) = take_share(publishing, share, set_aside)?;
+        publishing = published;
+        taken = taken.saturating_add(more);
+    }
+    Ok((publishing, taken))
+}
+
+/// Mines by workers that run calls each over a copy of the cells. They are published by their footprints, one worker's after another's, each where the
+/// cells that are published so far hold what it found. The calls of the others, those at which workers were stopped and those that nobody drew run alone in
 /// rising number, and then each other call that has room.
 pub(crate) fn mine_on_copies<
     'a,
@@ -177,7 +290,7 @@ pub(crate) fn mine_on_copies<
     ensures left { IfOk result (λ core. AreLeft core.order.items (length calls.now) core.left.items) }
     ensures by_workers { IfOk result (λ core. core.by_workers ≤ length core.order.items) }
 {
-    let mut publishing = Publishing::open(alloc, contracts, calls, cells, block_fuel)?;
+    let opened = Publishing::open(alloc, contracts, calls, cells, block_fuel)?;
     let Ok((intake, mut seats)) = Intake::open(alloc, calls.len() as u32, block_fuel, workers + 1)
     else {
         return Err(NoMemory);
@@ -193,9 +306,9 @@ pub(crate) fn mine_on_copies<
         intake: &intake,
         pace,
     };
-    let parts = run_on_copies(rt, &job, seats)?;
+    let shares = run_on_copies(rt, &job, seats)?;
     let mut set_aside = Vec::new(alloc);
-    let by_workers = take_parts(&mut publishing, parts, &mut set_aside)?;
+    let (mut publishing, by_workers) = take_shares(opened, shares, &mut set_aside)?;
     let mut rest = draw_rest(rt, alloc, calls, &intake, own)?;
     set_aside.append(&mut rest)?;
     set_aside.sort_unstable();

@@ -3,10 +3,7 @@
 ghost use Rattle.std.specs.Prelude.{◌≤◌, length};
 
 use call::Call;
-use gain::{
-    MANY, MOST_MEAN_ON_COPIES, are_few, are_long, are_wide, count_waves, least_mean,
-    least_mean_on_copies,
-};
+use gain::{MANY, are_few, are_long, are_wide, count_waves, least_mean, least_mean_on_copies};
 use link::deployed::Deployed as Contract;
 use lock_profile::turns;
 use publish::{Published, Publishing};
@@ -37,6 +34,15 @@ fn run_samples<'a, A: Allocator + Copy>(
         }
     }
     publishing.close()
+}
+
+/// As how many calls one counts beside the cells that are copied, where those that were looked at use so much fuel together: one more for each 128
+/// that a call uses on average, and at most 16.
+fn weight(fuel: u64) -> u32
+    ensures { result ≤ 16 }
+{
+    let more = fuel / (128 * u64::from(SAMPLES));
+    1 + more.min(15) as u32
 }
 
 /// Who runs the calls of a list.
@@ -75,8 +81,11 @@ pub(crate) fn find_way<'a, A: Allocator + Copy>(
         return Ok(Way::Alone);
     }
     if are_long(least_mean_on_copies(workers), count as u32, published.fuel)
-        && !are_long(MOST_MEAN_ON_COPIES, count as u32, published.fuel)
-        && are_few(cells.entries().count(), calls.len() as u32, workers)
+        && are_few(
+            cells.entries().count(),
+            calls.len() as u32 * weight(published.fuel),
+            workers,
+        )
     {
         return Ok(Way::OnCopies);
     }

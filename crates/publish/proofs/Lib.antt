@@ -3,3 +3,4 @@ pub mod Marks
 pub mod Keeping
 pub mod Sweeping
 pub mod Walking
+pub mod Treading

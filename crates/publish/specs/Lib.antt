@@ -1,2 +1,3 @@
 pub mod Publication
 pub mod Adoption
+pub mod Footprints

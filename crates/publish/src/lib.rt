@@ -6,7 +6,7 @@
 mod adopting;
 mod so_far;
 
-ghost use Rattle.std.specs.Prelude.{◌≡◌, ◌<◌, ◌^◌, ◌↔◌, [], Ok, Some, true, false, IsTrue, IfOk, OnOk, OnErr, IfSome, IsSome, length, map, slice_get};
+ghost use Rattle.std.specs.Prelude.{◌≡◌, ◌<◌, ◌^◌, ◌↔◌, [], Ok, Some, true, false, IsTrue, All, IfOk, OnOk, OnErr, IfSome, IsSome, length, map, slice_get};
 ghost use Rattle.std.specs.FinMap as finite;
 ghost use Rattle.spec_ledger.specs.Book.{GetsReplies, IsDefined, settled};
 ghost use Rattle.spec_ledger.specs.Order.{IsAdmissible};
@@ -15,17 +15,20 @@ ghost use Rattle.spec_ledger.specs.declared.Version.TheVariants.{Two};
 ghost use Rattle.interp.specs.Lent.{setting_view};
 ghost use Rattle.serial.specs.Positions.{positions};
 ghost use Rattle.publish.specs.Publication.{IsSerialOrder, MayFollow, HasTaken, IsSameJob, HasGoneOn, Sweep, AreLeft, limits, fuel_used};
-ghost use Rattle.publish.specs.Adoption.{AreMade, IsMade, MayFollowBy, ran_by};
+ghost use Rattle.publish.specs.Footprints.{IsFootprintOf};
+ghost use Rattle.spec_footprint.specs.Footprints.{Agrees};
+ghost use Rattle.publish.specs.Adoption.{AreMade, MayFollowBy, ran_by};
 
 pub use crate::adopting::MadeRun;
 use crate::adopting::walk;
 use crate::so_far::{SoFar, unmarked};
 use boost::book::Closed;
 use call::Call;
+use footprint::{Footprint, enact};
 use interp::finished::Finished;
 use link::deployed::Deployed as Contract;
 use lock_profile::Touched;
-use serial::{execute, replay, replay_with};
+use serial::{execute, replay};
 use spec_ledger::{NoMemory, Receipt, Version};
 use std::alloc::{Allocator, Global};
 use std::marker::Model;
@@ -197,29 +200,61 @@ impl<'a, A: Allocator + Copy> Publishing<'a, A> {
         Ok(true)
     }
 
-    /// Publishes a call by a run of it as [`Publishing::take_run`] does, with the locks that the run asked for.
+    /// Publishes a call by a footprint of it that was taken elsewhere, where the call may be published next and the cells now hold what it found. Answers
+    /// whether the call was taken, with all that is published.
     ///
     /// # Errors
     ///
-    /// Memory was refused. Nothing has changed.
-    pub fn take_made(&mut self, run: &MadeRun<'_, A>, locks: Touched<A>) -> Result<bool, NoMemory>
-        requires { IsMade self.old.setting self.old.calls run.now locks }
-        ensures answer { IfOk result (λ taken. IsTrue taken ↔ (MayFollow self.old run.now.call × GetsReplies run.now.finished.trace self.old.cells)) }
-        ensures taken { result ≡ Ok true → HasTaken self.old run.now.call self.new }
-        ensures left { result ≡ Ok false → self.new ≡ self.old }
-        ensures err { OnErr result (self.new ≡ self.old) }
-        ensures same { IsSameJob self.old self.new }
+    /// Memory was refused. Nothing is published any more.
+    pub fn take_footprint(
+        self,
+        call: u32,
+        footprint: Footprint<A>,
+    ) -> Result<(Publishing<'a, A>, bool), NoMemory>
+        requires { IsFootprintOf self.setting self.calls call footprint }
+        ensures answer { IfOk result (λ r. IsTrue r.1 ↔ (MayFollow self.entry call × All (Agrees self.entry.cells) footprint.accesses.items)) }
+        ensures taken { IfOk result (λ r. r.1 ≡ true → HasTaken self.entry call r.0) }
+        ensures left { IfOk result (λ r. r.1 ≡ false → r.0 ≡ self.entry) }
+        ensures same { IfOk result (λ r. IsSameJob self.entry r.0) }
     {
-        if !self.may_follow(run.call) {
-            return Ok(false);
+        if !self.may_follow(call) {
+            return Ok((self, false));
         }
-        self.so_far.reserve()?;
-        let Some(executed) = replay_with(self.alloc, &run.finished, &mut self.cells, locks)? else {
-            return Ok(false);
+        let Publishing {
+            alloc,
+            contracts,
+            calls,
+            opening,
+            fuel,
+            mut so_far,
+            mut cells,
+        } = self;
+        let Footprint { executed, accesses } = footprint;
+        so_far.reserve()?;
+        cells.hold();
+        if !enact(&mut cells, &accesses)? {
+            let published = Publishing {
+                alloc,
+                contracts,
+                calls,
+                opening,
+                fuel,
+                so_far,
+                cells,
+            };
+            return Ok((published, false));
+        }
+        so_far.push(call, calls[call as usize].fuel(), executed);
+        let published = Publishing {
+            alloc,
+            contracts,
+            calls,
+            opening,
+            fuel,
+            so_far,
+            cells,
         };
-        self.so_far
-            .push(run.call, run.finished.call().fuel(), executed);
-        Ok(true)
+        Ok((published, true))
     }
 
     /// Runs a call alone over the cells now and publishes it, where it may be published next. Answers whether it was taken.

@@ -3,21 +3,18 @@ use mir.Syntax.{Lifetime}
 use base.Fml.{Lft}
 use denote.Ref.{NamedLft, ShrRef}
 use denote.Param.Send.{IsSend, IsSync, shr_sync, sendable}
-use Rattle.std.proofs.CrossingOver as over
-use Rattle.std.specs.contracts.result.Result as result_row
-use Rattle.wtypes.specs.contracts.NoMemory as no_memory_row
 use Rattle.mining.specs.contracts.on_copies.CopyJob as job_row
-use Rattle.mining.specs.contracts.worker.Worked as worked_row
+use Rattle.mining.specs.contracts.on_copies.Share as share_row
 use Rattle.mining.specs.contracts.on_copies.run_on_copies as rows
 use Rattle.serial_block.proofs.Crossing.{crosses}
-use Rattle.mining.proofs.Crossing.{handed_send, copy_job_sync}
+use Rattle.mining.proofs.Crossing.{share_send, copy_job_sync}
 use Rattle.mining.proofs.on_copies.run_on_copies.Goals as goal
 
 pub map_vec-requires-send-X : goal.map_vec-requires-send-X
 map_vec-requires-send-X g c κs within =
     let B = rows.A-row g.row.R g.row.A g.row.P in
-    let handed : (a : NamedLft) → IsSend (result_row.the_row (worked_row.the_row a B g.A.Allocator) no_memory_row.the_row) = λ a. handed_send B g.A.Allocator c.type_bounds.send-A c.type_bounds.sync-A c.type_bounds.frees-A-Allocator a in
-    search (crosses, over.crosses, handed) depth 60 fits 100000
+    let share : (a : NamedLft) → IsSend (share_row.the_row a B g.A.Allocator) = λ a. share_send B g.A.Allocator c.type_bounds.send-A c.type_bounds.sync-A c.type_bounds.frees-A-Allocator a in
+    search (crosses, share) depth 60 fits 100000
 
 pub map_vec-requires-sync-F : goal.map_vec-requires-sync-F
 map_vec-requires-sync-F g c κs within =
@@ -30,6 +27,6 @@ map_vec-requires-sync-F g c κs within =
 
 pub returns : goal.returns
 returns g c k d within =
-    let parts = c.in_ok-parts.parts in
-    let one = c.in_ok-parts.ensures.each k d (omega (arith, c.in_ok-parts.ensures.len, parts.ok.0, c.args.seats.ok.0, within)) in
+    let shares = c.in_ok-shares.shares in
+    let one = c.in_ok-shares.ensures.each k d (omega (arith, c.in_ok-shares.ensures.len, shares.ok.0, c.args.seats.ok.0, within)) in
     search (one.1.call)
