@@ -1,5 +1,6 @@
 #!/usr/bin/env bash
-# A test of load: for as many minutes as asked, random blocks of calls over few cells are mined by 64 workers with 16 tries and validated by 64 workers and by one.
+# A test of load: for as many minutes as asked, random blocks of calls over few cells are mined by 64 or 4 workers in turn with 16 tries and validated by 64 workers and by
+# one. Some have 3,000 calls, which workers run over copies of the cells where the calls do not wait for one another.
 # Each block has to be accepted, with the world that the miner wrote; and its calls, one after another in its order, have to come to the same receipts and to leave the
 # same world, both mined by one worker and by the serial executor. It prints a line a minute and how many blocks and calls there were, and fails at the first difference,
 # whose files it then keeps. Run it anywhere in the repository:
@@ -75,16 +76,17 @@ while ((SECONDS < end)); do
   python3 - "$seed" "$blocks" >"$work/calls" <<'CALLS'
 import random, sys
 draw = random.Random(f"{sys.argv[1]} {sys.argv[2]}")
-cells = draw.choice([1, 2, 3, 5, 8, 40])
+cells = draw.choice([1, 2, 3, 5, 8, 40, 400])
 longest = draw.choice([1, 10, 100, 400])
 names = draw.choice([["bump"], ["add", "look"], ["bump", "move", "look", "add", "total", "fall"], ["add", "add", "add", "total", "fall"], ["move", "bump", "look"]])
-for _ in range(draw.choice([1, 64, 300, 1000])):
+for _ in range(draw.choice([1, 64, 300, 1000, 3000])):
     name = draw.choice(names)
     last = draw.randrange(cells) if name in ("move", "total") else draw.randrange(longest)
     print(f"0 {draw.choice([12, 60, 500, 5000])} {name} i64:{draw.randrange(cells)} i64:{last}")
 CALLS
   calls=$((calls + $(wc -l <"$work/calls")))
-  "$wblock" mine "$work/before" "$work/calls" "$work/block" "$work/next" --fuel $most --workers 64 --tries 16 >"$work/mined" || lost "mine: status $?"
+  miners=$((blocks % 2 ? 64 : 4))
+  "$wblock" mine "$work/before" "$work/calls" "$work/block" "$work/next" --fuel $most --workers $miners --tries 16 >"$work/mined" || lost "mine: status $?"
   for workers in 64 1; do
     "$wblock" validate "$work/before" "$work/calls" "$work/block" --fuel $most --workers $workers >"$work/said" || lost "validate by $workers: $(cat "$work/said")"
     [[ $(head -n 1 "$work/said") == accept && $(tail -n 1 "$work/said") == "$(grep '^after' "$work/mined")" ]] || lost "validate by $workers: $(cat "$work/said")"

@@ -1,11 +1,13 @@
 //! Publishing.
 
-ghost use Rattle.std.specs.Prelude.{◌≡◌, ◌<◌, ◌^◌, [], IfOk, IfSome, IsSome, length, map, ◌↔◌, IsTrue, Ok, Some, true, false, OnErr, slice_get, OnOk};
+ghost use Rattle.std.specs.Prelude.{◌≡◌, ◌<◌, ◌^◌, [], All, IfOk, IfSome, IsSome, length, map, ◌↔◌, IsTrue, Ok, Some, true, false, OnErr, slice_get, OnOk};
 ghost use Rattle.std.specs.FinMap as finite;
 ghost use Rattle.spec_ledger.specs.declared.Version.TheVariants.{Two};
 ghost use Rattle.interp.specs.Lent.{setting_view};
 ghost use Rattle.publish.specs.Publication.{MayFollow, HasTaken, IsSameJob, HasGoneOn, Sweep, limits, AreLeft, fuel_used};
-ghost use Rattle.publish.specs.Adoption.{AreMade, IsMade, MayFollowBy, ran_by};
+ghost use Rattle.publish.specs.Adoption.{AreMade, MayFollowBy, ran_by};
+ghost use Rattle.publish.specs.Footprints.{IsFootprintOf};
+ghost use Rattle.spec_footprint.specs.Footprints.{Agrees};
 ghost use Rattle.spec_ledger.specs.Book.{GetsReplies, IsDefined, settled};
 ghost use Rattle.spec_ledger.specs.Order.{IsAdmissible};
 ghost use Rattle.spec_execution.specs.Serial.{Serial};
@@ -13,6 +15,7 @@ ghost use Rattle.serial.specs.Positions.{positions};
 
 use boost::book::Closed;
 use call::Call;
+use footprint::Footprint;
 use interp::finished::Finished;
 use link::deployed::Deployed as Contract;
 use lock_profile::Touched;
@@ -81,20 +84,19 @@ pub fn take_run<'a, A: Allocator + Copy>(
     publishing.take_run(call, finished)
 }
 
-/// As [`publish::Publishing::take_made`].
-pub fn take_made<'a, A: Allocator + Copy>(
-    publishing: &mut Publishing<'a, A>,
-    run: &MadeRun<'_, A>,
-    locks: Touched<A>,
-) -> Result<bool, NoMemory>
-    requires { IsMade publishing.old.setting publishing.old.calls run.now locks }
-    ensures answer { IfOk result (λ taken. IsTrue taken ↔ (MayFollow publishing.old run.now.call × GetsReplies run.now.finished.trace publishing.old.cells)) }
-    ensures taken { result ≡ Ok true → HasTaken publishing.old run.now.call publishing.new }
-    ensures left { result ≡ Ok false → publishing.new ≡ publishing.old }
-    ensures err { OnErr result (publishing.new ≡ publishing.old) }
-    ensures same { IsSameJob publishing.old publishing.new }
+/// As [`publish::Publishing::take_footprint`].
+pub fn take_footprint<'a, A: Allocator + Copy>(
+    publishing: Publishing<'a, A>,
+    call: u32,
+    footprint: Footprint<A>,
+) -> Result<(Publishing<'a, A>, bool), NoMemory>
+    requires { IsFootprintOf publishing.setting publishing.calls call footprint }
+    ensures answer { IfOk result (λ r. IsTrue r.1 ↔ (MayFollow publishing.entry call × All (Agrees publishing.entry.cells) footprint.accesses.items)) }
+    ensures taken { IfOk result (λ r. r.1 ≡ true → HasTaken publishing.entry call r.0) }
+    ensures left { IfOk result (λ r. r.1 ≡ false → r.0 ≡ publishing.entry) }
+    ensures same { IfOk result (λ r. IsSameJob publishing.entry r.0) }
 {
-    publishing.take_made(run, locks)
+    publishing.take_footprint(call, footprint)
 }
 
 /// As [`publish::Publishing::take_alone`].

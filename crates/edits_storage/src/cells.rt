@@ -1,13 +1,13 @@
 //! Cells.
 
-ghost use Rattle.std.specs.Prelude.{◌≡◌, ◌≤◌, ◌↔◌, IfOk, IsTrue, OnOk, OnErr, if◌then◌else◌, length, take, drop};
+ghost use Rattle.std.specs.Prelude.{◌≡◌, ◌≢◌, ◌≤◌, ◌↔◌, Some, IfOk, IsTrue, OnOk, OnErr, if◌then◌else◌, length, take, drop};
 ghost use Rattle.spec_ledger.specs.Book.{back_all};
 ghost use Rattle.std.specs.FinMap as finite;
-ghost use Rattle.spec_ledger.specs.Cells.{cells_after, reply_to, inverse_to, back};
+ghost use Rattle.spec_ledger.specs.Cells.{cells_after, reply_to, inverse_to, back, set_at};
 ghost use Rattle.storage.specs.Counts.{AreUnsettled, IsUnsettled, closed, closed_all, opened};
 
 use std::alloc::Allocator;
-use storage::{Cells, Inverse, Lock, NoMemory, Op, Reply};
+use storage::{Cells, Inverse, Kind, Lock, NoMemory, Op, Reply};
 
 /// As [`storage::Cells::get`].
 pub fn get<A: Allocator + Copy>(cells: &Cells<A>, lock: Lock) -> Option<u64>
@@ -22,6 +22,21 @@ pub fn copy<A: Allocator + Copy>(cells: &Cells<A>, alloc: A) -> Result<Cells<A>,
     ensures unsettled { IfOk result (λ copy. copy.unsettled ≡ finite.empty) }
 {
     cells.copy(alloc)
+}
+
+/// As [`storage::Cells::set`].
+pub fn set<A: Allocator + Copy>(
+    cells: &mut Cells<A>,
+    lock: Lock,
+    cell: Option<u64>,
+) -> Result<(), NoMemory>
+    requires counter { lock.kind ≡ Kind.Counter → cell ≢ Some 0 }
+    requires settled { cells.old.unsettled ≡ finite.empty }
+    ensures cells { OnOk result (cells.new.cells ≡ set_at cells.old.cells lock cell) }
+    ensures settled { cells.new.unsettled ≡ finite.empty }
+    ensures err { OnErr result (cells.new ≡ cells.old) }
+{
+    cells.set(lock, cell)
 }
 
 /// As [`storage::Cells::apply`].

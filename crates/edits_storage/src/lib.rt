@@ -2,6 +2,7 @@
 #![tactic(auto)]
 
 pub mod cells;
+pub mod footprints;
 pub mod locks;
 pub mod profiles;
 pub mod runs;

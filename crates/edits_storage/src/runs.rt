@@ -35,25 +35,6 @@ pub fn execute<A: Allocator + Copy>(
     serial::execute(alloc, contracts, call, cells, version)
 }
 
-/// As [`serial::run`].
-pub fn run<'a, A: Allocator + Copy>(
-    alloc: A,
-    contracts: &'a [Contract<A>],
-    call: &'a Call,
-    cells: &mut Cells<A>,
-    version: Version,
-) -> Result<(Finished<'a, A>, Executed<A>), NoMemory>
-    requires { cells.old.unsettled ≡ finite.empty }
-    ensures contracts { IfOk result (λ r. r.0.setting ≡ setting_view version contracts.now) }
-    ensures call { IfOk result (λ r. r.0.call ≡ call.now) }
-    ensures touched { IfOk result (λ r. r.1.touched ≡ touched r.0.trace) }
-    ensures executed { IfOk result (λ r. Executes (setting_view version contracts.now) call.now cells.old.cells cells.new.cells r.1.receipt r.1.touched) }
-    ensures settled { cells.new.unsettled ≡ finite.empty }
-    ensures err { OnErr result (cells.new ≡ cells.old) }
-{
-    serial::run(alloc, contracts, call, cells, version)
-}
-
 /// As [`serial::replay`].
 pub fn replay<A: Allocator + Copy>(
     alloc: A,
@@ -68,24 +49,6 @@ pub fn replay<A: Allocator + Copy>(
     ensures err { OnErr result (cells.new ≡ cells.old) }
 {
     serial::replay(alloc, finished, cells)
-}
-
-/// As [`serial::replay_with`].
-pub fn replay_with<A: Allocator + Copy>(
-    alloc: A,
-    finished: &Finished<'_, A>,
-    cells: &mut Cells<A>,
-    locks: Touched<A>,
-) -> Result<Option<Executed<A>>, NoMemory>
-    requires settled { cells.old.unsettled ≡ finite.empty }
-    requires locks { locks ≡ touched finished.now.trace }
-    ensures executed { IfOk result (λ o. IfSome o (λ e. Executes finished.now.setting finished.now.call cells.old.cells cells.new.cells e.receipt e.touched)) }
-    ensures replies { IfOk result (λ o. IsSome o ↔ GetsReplies finished.now.trace cells.old.cells) }
-    ensures other { IfOk result (λ o. IfNone o (cells.new ≡ cells.old)) }
-    ensures settled { cells.new.unsettled ≡ finite.empty }
-    ensures err { OnErr result (cells.new ≡ cells.old) }
-{
-    serial::replay_with(alloc, finished, cells, locks)
 }
 
 /// As [`serial::touched_by`].

@@ -5,3 +5,5 @@
 mod assertions;
 #[cfg(test)]
 mod long_lists;
+#[cfg(test)]
+mod want_of_memory;

@@ -26,28 +26,35 @@ use wtypes::Value::I64;
 ///     (module
 ///       (import "boost" "get" (func $get (param i64) (result i64)))
 ///       (import "boost" "put" (func $put (param i64) (param i64)))
-///       (func (export "spin") (param i64) (param i64)
+///       (import "boost" "add" (func $add (param i64) (param i64)))
+///       (func $spin (export "spin") (param i64) (param i64)
 ///         (call $put (local.get 0) (i64.add (call $get (local.get 0)) (i64.const 1)))
 ///         (loop $again
 ///           (local.set 1 (i64.sub (local.get 1) (i64.const 1)))
-///           (br_if $again (i64.ne (local.get 1) (i64.const 0))))))
+///           (br_if $again (i64.ne (local.get 1) (i64.const 0)))))
+///       (func (export "vote") (param i64) (param i64)
+///         (call $add (i64.const 7) (i64.const 1))
+///         (call $spin (local.get 0) (local.get 1))))
 ///
-/// A call costs 9 for each round, the `loop` among them, and 6 besides.
-const SPIN: &[u8] = &[
+/// A call of `spin` costs 9 for each round, the `loop` among them, and 6 besides.
+pub(crate) const SPIN: &[u8] = &[
     0x00, 0x61, 0x73, 0x6d, 0x01, 0x00, 0x00, 0x00, 0x01, 0x0b, 0x02, 0x60, 0x01, 0x7e, 0x01, 0x7e,
-    0x60, 0x02, 0x7e, 0x7e, 0x00, 0x02, 0x19, 0x02, 0x05, 0x62, 0x6f, 0x6f, 0x73, 0x74, 0x03, 0x67,
+    0x60, 0x02, 0x7e, 0x7e, 0x00, 0x02, 0x25, 0x03, 0x05, 0x62, 0x6f, 0x6f, 0x73, 0x74, 0x03, 0x67,
     0x65, 0x74, 0x00, 0x00, 0x05, 0x62, 0x6f, 0x6f, 0x73, 0x74, 0x03, 0x70, 0x75, 0x74, 0x00, 0x01,
-    0x03, 0x02, 0x01, 0x01, 0x07, 0x08, 0x01, 0x04, 0x73, 0x70, 0x69, 0x6e, 0x00, 0x02, 0x0a, 0x20,
-    0x01, 0x1e, 0x00, 0x20, 0x00, 0x20, 0x00, 0x10, 0x00, 0x42, 0x01, 0x7c, 0x10, 0x01, 0x03, 0x40,
-    0x20, 0x01, 0x42, 0x01, 0x7d, 0x21, 0x01, 0x20, 0x01, 0x42, 0x00, 0x52, 0x0d, 0x00, 0x0b, 0x0b,
+    0x05, 0x62, 0x6f, 0x6f, 0x73, 0x74, 0x03, 0x61, 0x64, 0x64, 0x00, 0x01, 0x03, 0x03, 0x02, 0x01,
+    0x01, 0x07, 0x0f, 0x02, 0x04, 0x73, 0x70, 0x69, 0x6e, 0x00, 0x03, 0x04, 0x76, 0x6f, 0x74, 0x65,
+    0x00, 0x04, 0x0a, 0x2f, 0x02, 0x1e, 0x00, 0x20, 0x00, 0x20, 0x00, 0x10, 0x00, 0x42, 0x01, 0x7c,
+    0x10, 0x01, 0x03, 0x40, 0x20, 0x01, 0x42, 0x01, 0x7d, 0x21, 0x01, 0x20, 0x01, 0x42, 0x00, 0x52,
+    0x0d, 0x00, 0x0b, 0x0b, 0x0e, 0x00, 0x42, 0x07, 0x42, 0x01, 0x10, 0x02, 0x20, 0x00, 0x20, 0x01,
+    0x10, 0x03, 0x0b,
 ];
 
 /// The fuel of a block that has room for all calls.
-const AMPLE: u64 = 100_000_000;
+pub(crate) const AMPLE: u64 = 100_000_000;
 
 /// Who runs the calls of a list that is mined.
 #[derive(Clone, Copy, Debug, PartialEq)]
-enum Who {
+pub(crate) enum Who {
     /// The caller, one after another.
     Caller,
     /// Workers, each over a copy of the cells.
@@ -56,22 +63,22 @@ enum Who {
     OverOneBook,
 }
 
-/// A list of calls of `spin`, and who runs it.
-struct Row {
-    name: &'static str,
+/// A list of calls, and who runs it.
+pub(crate) struct Row {
+    pub(crate) name: &'static str,
     /// How many calls there are.
-    calls: u32,
+    pub(crate) calls: u32,
     /// How many cells they use in turn.
-    cells: u32,
+    pub(crate) cells: u32,
     /// How many cells the world has that no call uses.
-    others: u64,
+    pub(crate) others: u64,
     /// How many rounds each makes.
-    rounds: i64,
-    workers: u32,
+    pub(crate) rounds: i64,
+    pub(crate) workers: u32,
     /// Who mines them.
-    by: Who,
+    pub(crate) by: Who,
     /// How many the caller runs when the block is validated.
-    again: u32,
+    pub(crate) again: u32,
 }
 
 const ROWS: &[Row] = &[
@@ -86,7 +93,7 @@ const ROWS: &[Row] = &[
         again: 0,
     },
     Row {
-        name: "many short calls have none",
+        name: "many calls of 15 have none of four",
         calls: 1_024,
         cells: 1_024,
         others: 0,
@@ -96,41 +103,51 @@ const ROWS: &[Row] = &[
         again: 1_024,
     },
     Row {
-        name: "many calls of 249 have none of four",
+        name: "many calls of 24 have four on copies",
         calls: 1_024,
         cells: 1_024,
         others: 0,
-        rounds: 27,
+        rounds: 2,
+        workers: 4,
+        by: Who::OnCopies,
+        again: 1_024,
+    },
+    Row {
+        name: "copies of 1,024 cells for four that run calls of 123",
+        calls: 1_024,
+        cells: 1_024,
+        others: 1_024,
+        rounds: 13,
+        workers: 4,
+        by: Who::OnCopies,
+        again: 1_024,
+    },
+    Row {
+        name: "too many cells to be copied for four that run calls of 123",
+        calls: 1_024,
+        cells: 1_024,
+        others: 1_025,
+        rounds: 13,
         workers: 4,
         by: Who::Caller,
         again: 1_024,
     },
     Row {
-        name: "many calls of 258 have four on copies",
+        name: "copies of 2,048 cells for four that run calls of 132",
         calls: 1_024,
         cells: 1_024,
-        others: 0,
-        rounds: 28,
+        others: 2_048,
+        rounds: 14,
         workers: 4,
         by: Who::OnCopies,
         again: 1_024,
     },
     Row {
-        name: "copies of 4,096 cells for four",
+        name: "too many cells to be copied for four that run calls of 132",
         calls: 1_024,
         cells: 1_024,
-        others: 4_096,
-        rounds: 28,
-        workers: 4,
-        by: Who::OnCopies,
-        again: 1_024,
-    },
-    Row {
-        name: "too many cells to be copied for four",
-        calls: 1_024,
-        cells: 1_024,
-        others: 4_097,
-        rounds: 28,
+        others: 2_049,
+        rounds: 14,
         workers: 4,
         by: Who::Caller,
         again: 1_024,
@@ -139,17 +156,27 @@ const ROWS: &[Row] = &[
         name: "many calls of 798 have four on copies",
         calls: 1_024,
         cells: 1_024,
-        others: 0,
+        others: 7_168,
         rounds: 88,
         workers: 4,
         by: Who::OnCopies,
         again: 1_024,
     },
     Row {
+        name: "many calls of 798 and too many cells have none of four",
+        calls: 1_024,
+        cells: 1_024,
+        others: 7_169,
+        rounds: 88,
+        workers: 4,
+        by: Who::Caller,
+        again: 1_024,
+    },
+    Row {
         name: "many calls of 807 and too many cells have four over one book",
         calls: 1_024,
         cells: 1_024,
-        others: 4_097,
+        others: 7_169,
         rounds: 89,
         workers: 4,
         by: Who::OverOneBook,
@@ -166,41 +193,21 @@ const ROWS: &[Row] = &[
         again: 0,
     },
     Row {
-        name: "many calls of 2,499 have four on copies",
+        name: "many calls of 24 have none of three",
         calls: 1_024,
         cells: 1_024,
         others: 0,
-        rounds: 277,
-        workers: 4,
-        by: Who::OnCopies,
-        again: 0,
-    },
-    Row {
-        name: "many calls of 2,508 have four over one book",
-        calls: 1_024,
-        cells: 1_024,
-        others: 0,
-        rounds: 278,
-        workers: 4,
-        by: Who::OverOneBook,
-        again: 0,
-    },
-    Row {
-        name: "many calls of 492 have none of three",
-        calls: 1_024,
-        cells: 1_024,
-        others: 0,
-        rounds: 54,
+        rounds: 2,
         workers: 3,
         by: Who::Caller,
         again: 1_024,
     },
     Row {
-        name: "many calls of 501 have three on copies",
+        name: "many calls of 33 have three on copies",
         calls: 1_024,
         cells: 1_024,
         others: 0,
-        rounds: 55,
+        rounds: 3,
         workers: 3,
         by: Who::OnCopies,
         again: 1_024,
@@ -209,28 +216,38 @@ const ROWS: &[Row] = &[
         name: "many calls of 1,005 have three on copies",
         calls: 1_024,
         cells: 1_024,
-        others: 0,
+        others: 10_922,
         rounds: 111,
         workers: 3,
         by: Who::OnCopies,
         again: 0,
     },
     Row {
-        name: "many calls of 996 have none of two",
+        name: "many calls of 1,005 and too many cells have three over one book",
+        calls: 1_024,
+        cells: 1_024,
+        others: 10_923,
+        rounds: 111,
+        workers: 3,
+        by: Who::OverOneBook,
+        again: 0,
+    },
+    Row {
+        name: "many calls of 60 have none of two",
         calls: 1_024,
         cells: 1_024,
         others: 0,
-        rounds: 110,
+        rounds: 6,
         workers: 2,
         by: Who::Caller,
         again: 1_024,
     },
     Row {
-        name: "many calls of 1,005 have two on copies",
+        name: "many calls of 69 have two on copies",
         calls: 1_024,
         cells: 1_024,
         others: 0,
-        rounds: 111,
+        rounds: 7,
         workers: 2,
         by: Who::OnCopies,
         again: 1_024,
@@ -239,17 +256,27 @@ const ROWS: &[Row] = &[
         name: "many calls of 1,491 and too many cells have none of two",
         calls: 1_024,
         cells: 1_024,
-        others: 8_193,
+        others: 24_577,
         rounds: 165,
         workers: 2,
         by: Who::Caller,
         again: 1_024,
     },
     Row {
+        name: "many calls of 1,500 and too many cells have two over one book",
+        calls: 1_024,
+        cells: 1_024,
+        others: 24_577,
+        rounds: 166,
+        workers: 2,
+        by: Who::OverOneBook,
+        again: 0,
+    },
+    Row {
         name: "many calls of 1,500 have two on copies",
         calls: 1_024,
         cells: 1_024,
-        others: 0,
+        others: 24_576,
         rounds: 166,
         workers: 2,
         by: Who::OnCopies,
@@ -266,10 +293,20 @@ const ROWS: &[Row] = &[
         again: 1_024,
     },
     Row {
-        name: "many calls of 5,001 have one",
+        name: "many calls of 5,001 have one on a copy",
         calls: 1_024,
         cells: 1_024,
-        others: 0,
+        others: 65_536,
+        rounds: 555,
+        workers: 1,
+        by: Who::OnCopies,
+        again: 0,
+    },
+    Row {
+        name: "many calls of 5,001 and too many cells have one over one book",
+        calls: 1_024,
+        cells: 1_024,
+        others: 65_537,
         rounds: 555,
         workers: 1,
         by: Who::OverOneBook,
@@ -289,7 +326,7 @@ const ROWS: &[Row] = &[
 
 /// A pace that counts beginnings of calls and operations, and that may stop each worker at its first step.
 #[derive(Drop)]
-struct Counts {
+pub(crate) struct Counts {
     attempts: AtomicU64,
     ops: AtomicU64,
     is_stopping: bool,
@@ -314,7 +351,7 @@ impl Pace for Counts {
 }
 
 /// A pace that was told nothing yet.
-fn counting(is_stopping: bool) -> Counts {
+pub(crate) fn counting(is_stopping: bool) -> Counts {
     Counts {
         attempts: AtomicU64::new(0),
         ops: AtomicU64::new(0),
@@ -323,7 +360,7 @@ fn counting(is_stopping: bool) -> Counts {
 }
 
 /// Who ran the calls whose steps a pace was told: over copies it is told of beginnings alone.
-fn who_mined(pace: &Counts) -> Who {
+pub(crate) fn who_mined(pace: &Counts) -> Who {
     if pace.attempts.load(Ordering::SeqCst) == 0 {
         Who::Caller
     } else if pace.ops.load(Ordering::SeqCst) == 0 {
@@ -333,15 +370,15 @@ fn who_mined(pace: &Counts) -> Who {
     }
 }
 
-/// The calls of a row.
-fn calls_of(alloc: Global, row: &Row) -> Result<Vec<Call>, Fail>
+/// The calls of a row, each of this function.
+pub(crate) fn calls_of(alloc: Global, row: &Row, entry: &str) -> Result<Vec<Call>, Fail>
     ensures { IfOk result (λ calls. length calls.items ≤ 65535) }
 {
     let mut calls = Vec::new(alloc);
     for number in 0..row.calls {
         let cell = number.checked_rem(row.cells).ok_or("some cell")?;
         let args = [I64(i64::from(cell)), I64(row.rounds)];
-        calls.push(call(alloc, 0, "spin", &args, 10_000)?)?;
+        calls.push(call(alloc, 0, entry, &args, 10_000)?)?;
     }
     if calls.len() > 65_535 {
         return Err(Fail::from("too many calls"));
@@ -430,14 +467,15 @@ fn validated_by<R: Threads + Wait + Sync>(
 /// rejected.
 type Came = (Who, u32, Option<u32>);
 
-/// What the list of a row comes to, by this pace.
+/// What the list of a row comes to, each a call of this function, by this pace.
 fn ran<R: Threads + Wait + Sync>(
     rt: &R,
     alloc: Global,
     row: &Row,
+    entry: &str,
     pace: &Counts,
 ) -> Result<Came, Fail> {
-    let calls = calls_of(alloc, row)?;
+    let calls = calls_of(alloc, row, entry)?;
     let world = world_of(alloc, row.others)?;
     let (bytes, by_workers) = mined_by(rt, alloc, &world, &calls, row.workers, pace)?;
     let again = validated_by(rt, alloc, &world, &calls, &bytes, row.workers)?;
@@ -455,7 +493,7 @@ fn rows_of<R: Abort + Threads + Wait + Sync>(
         equal(
             rt,
             &row.name,
-            &ran(rt, alloc, row, &counting(false))?,
+            &ran(rt, alloc, row, "spin", &counting(false))?,
             &(row.by, by_workers, Some(row.again)),
         );
     }
@@ -482,17 +520,42 @@ const PAIRS: Row = Row {
 /// The first call on each cell that is published was run over the cell as it was, so at least one of each pair is a worker's.
 #[test]
 fn runs_over_copies_that_meet_on_a_cell(rt: HostRuntime) -> Result<(), Fail> {
-    let (by, by_workers, again) = ran(&rt, rt.alloc(), &PAIRS, &counting(false))?;
+    let (by, by_workers, again) = ran(&rt, rt.alloc(), &PAIRS, "spin", &counting(false))?;
     equal(&rt, &"by whom", &by, &PAIRS.by);
     equal(&rt, &"again", &again, &Some(PAIRS.again));
     equal(&rt, &"some of each", &(by_workers < 511), &false);
     Ok(())
 }
 
+/// A call on each of 1,024 cells, which adds to one counter, too.
+const VOTES: Row = Row {
+    name: "votes",
+    calls: 1_024,
+    cells: 1_024,
+    others: 0,
+    rounds: 28,
+    workers: 4,
+    by: Who::OnCopies,
+    again: 1_024,
+};
+
+/// What a call added to a counter that it did not read stands, whatever the counter has by then: no call is run again.
+#[test]
+fn additions_over_copies_stand(rt: HostRuntime) -> Result<(), Fail> {
+    let came = ran(&rt, rt.alloc(), &VOTES, "vote", &counting(false))?;
+    equal(
+        &rt,
+        &VOTES.name,
+        &came,
+        &(VOTES.by, VOTES.calls, Some(VOTES.again)),
+    );
+    Ok(())
+}
+
 /// Workers that are stopped at their first calls leave all to the caller.
 #[test]
 fn workers_over_copies_are_stopped(rt: HostRuntime) -> Result<(), Fail> {
-    let came = ran(&rt, rt.alloc(), &PAIRS, &counting(true))?;
+    let came = ran(&rt, rt.alloc(), &PAIRS, "spin", &counting(true))?;
     equal(&rt, &"stopped", &came, &(Who::OnCopies, 0, Some(1_024)));
     Ok(())
 }

@@ -1,0 +1,52 @@
+//! Footprints of calls.
+
+ghost use Rattle.std.specs.Prelude.{◌≡◌, ◌↔◌, Ok, true, false, All, IfOk, IsTrue, OnOk, map};
+ghost use Rattle.std.specs.FinMap as finite;
+ghost use Rattle.spec_footprint.specs.Footprints.{Agrees, IsFootprint, LeavesACell, access_at, all_left};
+ghost use Rattle.interp.specs.Lent.{setting_view};
+
+use call::Call;
+use footprint::Footprint;
+use link::deployed::Deployed as Contract;
+use spec_footprint::Access;
+use spec_ledger::{NoMemory, Version};
+use std::alloc::Allocator;
+use storage::Cells;
+
+/// As [`footprint::take`].
+pub fn take<A: Allocator + Copy>(
+    alloc: A,
+    contracts: &[Contract<A>],
+    call: &Call,
+    before: &mut Cells<A>,
+    cells: &mut Cells<A>,
+    version: Version,
+) -> Result<Footprint<A>, NoMemory>
+    requires same { before.old.cells ≡ cells.old.cells }
+    requires settled { cells.old.unsettled ≡ finite.empty }
+    requires settled_before { before.old.unsettled ≡ finite.empty }
+    ensures footprint { IfOk result (λ f. IsFootprint (setting_view version contracts.now) call.now f.accesses.items f.executed.receipt f.executed.touched) }
+    ensures accesses { IfOk result (λ f. f.accesses.items ≡ map (access_at cells.old.cells cells.new.cells) (finite.entries f.executed.touched)) }
+    ensures found { IfOk result (λ f. All (Agrees cells.old.cells) f.accesses.items) }
+    ensures left { IfOk result (λ f. cells.new.cells ≡ all_left f.accesses.items cells.old.cells) }
+    ensures same { OnOk result (before.new.cells ≡ cells.new.cells) }
+    ensures settled { cells.new.unsettled ≡ finite.empty }
+    ensures settled_before { before.new.unsettled ≡ finite.empty }
+{
+    footprint::take(alloc, contracts, call, before, cells, version)
+}
+
+/// As [`footprint::enact`].
+pub fn enact<A: Allocator + Copy>(
+    cells: &mut Cells<A>,
+    accesses: &[Access],
+) -> Result<bool, NoMemory>
+    requires leaves { All LeavesACell accesses.now }
+    requires settled { cells.old.unsettled ≡ finite.empty }
+    ensures answer { IfOk result (λ fits. IsTrue fits ↔ All (Agrees cells.old.cells) accesses.now) }
+    ensures left { result ≡ Ok true → cells.new.cells ≡ all_left accesses.now cells.old.cells }
+    ensures same { result ≡ Ok false → cells.new ≡ cells.old }
+    ensures settled { cells.new.unsettled ≡ finite.empty }
+{
+    footprint::enact(cells, accesses)
+}
