@@ -41,10 +41,10 @@ pub(crate) struct Job<'s, 'a, A: Allocator, P: Pace> {
     pub(crate) brake: &'s Brake,
 }
 
-/// A run that a worker hands back: one that was committed, or one over a copy of the cells.
+/// A run that was committed.
 #[derive(Drop)]
 pub(crate) struct Committed<'a, A: Allocator> {
-    /// The position that the book answered; 0 of a run over a copy, which has none yet.
+    /// The position that the book answered.
     pub(crate) position: u32,
     /// The number of the call.
     pub(crate) call: u32,

@@ -51,9 +51,10 @@ pub struct Mined<A: Allocator = Global> {
 /// at most so often; the calls that it tried in vain run alone when the workers have ended. The pace is told each step of the
 /// workers, and may stop a worker at any of them: its call, and the calls that nobody drew, then run alone as well. The world is as it was.
 ///
-/// Of a thousand calls or more 16 run alone first, and are forgotten. Where they are short, workers run the calls each over a copy of the cells, the pace is
-/// told the beginning of each call, and those whose replies are not the ones of the published order run alone. Where they are short and too many cells are
-/// to be copied, or wait for one another so much that workers do not pay (`gain`), no worker is started, the pace is told nothing, and all calls run alone.
+/// Of a thousand calls or more 16 run alone first, and are forgotten. Where workers over copies of the cells pay by these (`gain`), each runs calls over a
+/// copy, the pace is told the beginning of each call, and a call that found other cells than there are in the published order runs again alone. Else workers
+/// run the calls as fewer ones; but where they are short, or wait for one another so much that no workers pay, none is started, the pace is told nothing, and
+/// all calls run alone.
 ///
 /// Whatever the workers do at once, the block and the world after it are those of its calls run one after another in its order.
 ///

@@ -57,9 +57,9 @@ pub struct MinedCore<A: Allocator = Global> {
 /// nobody drew. Then these and the calls that were tried in vain or stopped run alone in rising number, and then each other call
 /// that still has room.
 ///
-/// Where calls are short (as far as 16 of a thousand calls or more tell), each worker runs those that it draws over a copy of the cells, and the pace
-/// is told the beginning of each. These runs are published one worker's after another's, each where its replies are those of the cells that are published
-/// so far; the calls of the others run alone in rising number. Where workers do not pay, none is started, and all calls that have room run alone in
+/// Where copies of the cells pay (as far as 16 of a thousand calls or more tell), each worker runs the calls that it draws over a copy, and the pace
+/// is told the beginning of each. They are published one worker's after another's, each by its footprint where the cells that are published so far hold
+/// what it found; the others run alone in rising number. Where workers do not pay, none is started, and all calls that have room run alone in
 /// rising number.
 ///
 /// The book that the workers share is in so many shards, each behind a lock of its own. Where these are not parts of one book at its end, no run
