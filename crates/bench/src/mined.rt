@@ -7,11 +7,12 @@ use crate::orders::all_numbers;
 use crate::rates::a_second;
 use crate::refusals::refused;
 use call::Call;
+use lock_profile::Touched;
 use mining::mine_core;
 use pace::NoPace;
 use serial::serial_core;
 use serial_block::copied;
-use spec_ledger::Version;
+use spec_ledger::{Receipt, Version};
 use std::alloc::Global;
 use std::io;
 use std::sync::Wait;
@@ -27,13 +28,15 @@ const TRIES: u32 = 3;
 /// How many shards the book of the workers has: as many as where a block is mined.
 const SHARDS: u32 = 16;
 
-/// What calls came to.
+/// What calls came to. It is dropped outside of the measure.
 #[derive(Drop)]
 struct Ran {
+    /// The numbers of the calls that ran.
+    order: Vec<u32>,
+    receipts: Vec<Receipt>,
+    touched: Vec<Touched>,
     /// The cells after them.
     cells: Cells,
-    /// How many calls ran.
-    count: usize,
     /// How many of them workers committed.
     by_workers: u32,
 }
@@ -54,8 +57,10 @@ fn run<R: Threads + Wait + Sync>(
         let order = all_numbers(alloc, calls.len() as u32)?;
         let core = serial_core(alloc, contracts, world.cells(), calls, &order, Version::Two)?;
         return Ok(Ran {
+            order,
+            receipts: core.receipts,
+            touched: core.touched,
             cells: core.cells,
-            count: order.len(),
             by_workers: 0,
         });
     }
@@ -72,8 +77,10 @@ fn run<R: Threads + Wait + Sync>(
         SHARDS,
     )?;
     Ok(Ran {
+        order: mined.order,
+        receipts: mined.receipts,
+        touched: mined.touched,
         cells: mined.cells,
-        count: mined.order.len(),
         by_workers: mined.by_workers,
     })
 }
@@ -105,11 +112,13 @@ fn line_of<R: Threads + Wait + Clock + Sync>(
     };
     let time = start.elapsed(rt)?;
     let Ran {
+        order,
+        receipts: _,
+        touched: _,
         cells,
-        count,
         by_workers,
     } = ran;
-    let left = inputs.calls.len().saturating_sub(count);
+    let left = inputs.calls.len().saturating_sub(order.len());
     let rate = a_second(inputs.calls.len() as u64, time);
     let after = digest_after(alloc, world, cells)?;
     Ok(format!(in alloc;

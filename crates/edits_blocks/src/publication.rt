@@ -15,11 +15,12 @@ ghost use Rattle.serial.specs.Positions.{positions};
 
 use boost::book::Closed;
 use call::Call;
-use footprint::Footprint;
 use interp::finished::Finished;
 use link::deployed::Deployed as Contract;
 use lock_profile::Touched;
 use publish::{MadeRun, Published, Publishing};
+use serial::Executed;
+use spec_footprint::Access;
 use spec_ledger::NoMemory;
 use std::alloc::Allocator;
 use storage::Cells;
@@ -88,15 +89,16 @@ pub fn take_run<'a, A: Allocator + Copy>(
 pub fn take_footprint<'a, A: Allocator + Copy>(
     publishing: Publishing<'a, A>,
     call: u32,
-    footprint: Footprint<A>,
+    executed: Executed<A>,
+    accesses: &[Access],
 ) -> Result<(Publishing<'a, A>, bool), NoMemory>
-    requires { IsFootprintOf publishing.setting publishing.calls call footprint }
-    ensures answer { IfOk result (λ r. IsTrue r.1 ↔ (MayFollow publishing.entry call × All (Agrees publishing.entry.cells) footprint.accesses.items)) }
+    requires { IsFootprintOf publishing.setting publishing.calls call accesses.now executed }
+    ensures answer { IfOk result (λ r. IsTrue r.1 ↔ (MayFollow publishing.entry call × All (Agrees publishing.entry.cells) accesses.now)) }
     ensures taken { IfOk result (λ r. r.1 ≡ true → HasTaken publishing.entry call r.0) }
     ensures left { IfOk result (λ r. r.1 ≡ false → r.0 ≡ publishing.entry) }
     ensures same { IfOk result (λ r. IsSameJob publishing.entry r.0) }
 {
-    publishing.take_footprint(call, footprint)
+    publishing.take_footprint(call, executed, accesses)
 }
 
 /// As [`publish::Publishing::take_alone`].

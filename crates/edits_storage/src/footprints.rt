@@ -1,13 +1,13 @@
 //! Footprints of calls.
 
-ghost use Rattle.std.specs.Prelude.{◌≡◌, ◌↔◌, Ok, true, false, All, IfOk, IsTrue, OnOk, map};
+ghost use Rattle.std.specs.Prelude.{◌≡◌, ◌++◌, ◌↔◌, Ok, true, false, All, IfOk, IsTrue, OnOk, map};
 ghost use Rattle.std.specs.FinMap as finite;
 ghost use Rattle.spec_footprint.specs.Footprints.{Agrees, IsFootprint, LeavesACell, access_at, all_left};
 ghost use Rattle.interp.specs.Lent.{setting_view};
 
 use call::Call;
-use footprint::Footprint;
 use link::deployed::Deployed as Contract;
+use serial::Executed;
 use spec_footprint::Access;
 use spec_ledger::{NoMemory, Version};
 use std::alloc::Allocator;
@@ -20,20 +20,21 @@ pub fn take<A: Allocator + Copy>(
     call: &Call,
     before: &mut Cells<A>,
     cells: &mut Cells<A>,
+    accesses: &mut Vec<Access, A>,
     version: Version,
-) -> Result<Footprint<A>, NoMemory>
+) -> Result<Executed<A>, NoMemory>
     requires same { before.old.cells ≡ cells.old.cells }
     requires settled { cells.old.unsettled ≡ finite.empty }
     requires settled_before { before.old.unsettled ≡ finite.empty }
-    ensures footprint { IfOk result (λ f. IsFootprint (setting_view version contracts.now) call.now f.accesses.items f.executed.receipt f.executed.touched) }
-    ensures accesses { IfOk result (λ f. f.accesses.items ≡ map (access_at cells.old.cells cells.new.cells) (finite.entries f.executed.touched)) }
-    ensures found { IfOk result (λ f. All (Agrees cells.old.cells) f.accesses.items) }
-    ensures left { IfOk result (λ f. cells.new.cells ≡ all_left f.accesses.items cells.old.cells) }
+    ensures footprint { IfOk result (λ e. IsFootprint (setting_view version contracts.now) call.now (map (access_at cells.old.cells cells.new.cells) (finite.entries e.touched)) e.receipt e.touched) }
+    ensures accesses { IfOk result (λ e. accesses.new.items ≡ accesses.old.items ++ map (access_at cells.old.cells cells.new.cells) (finite.entries e.touched)) }
+    ensures found { IfOk result (λ e. All (Agrees cells.old.cells) (map (access_at cells.old.cells cells.new.cells) (finite.entries e.touched))) }
+    ensures left { IfOk result (λ e. cells.new.cells ≡ all_left (map (access_at cells.old.cells cells.new.cells) (finite.entries e.touched)) cells.old.cells) }
     ensures same { OnOk result (before.new.cells ≡ cells.new.cells) }
     ensures settled { cells.new.unsettled ≡ finite.empty }
     ensures settled_before { before.new.unsettled ≡ finite.empty }
 {
-    footprint::take(alloc, contracts, call, before, cells, version)
+    footprint::take(alloc, contracts, call, before, cells, accesses, version)
 }
 
 /// As [`footprint::enact`].

@@ -3,10 +3,10 @@
 //! publishes the order in which they stand).
 #![tactic(auto)]
 
-ghost use Rattle.std.specs.Prelude.{◌≡◌, ◌↔◌, Ok, true, false, All, IfOk, IsTrue, OnOk, map};
+ghost use Rattle.std.specs.Prelude.{◌≡◌, ◌++◌, ◌↔◌, Ok, true, false, All, IfOk, IsTrue, OnOk, map};
 ghost use Rattle.std.specs.FinMap as finite;
 ghost use Rattle.spec_ledger.specs.Cells.{number, subtracted};
-ghost use Rattle.spec_footprint.specs.Footprints.{Agrees, IsFootprint, LeavesACell, access_at, access_by, all_left, left, use_of};
+ghost use Rattle.spec_footprint.specs.Footprints.{Agrees, IsFootprint, LeavesACell, access_at, all_left, left, use_of};
 ghost use Rattle.interp.specs.Lent.{setting_view};
 ghost use Rattle.lock_profile.specs.Groups.{pairs};
 
@@ -16,17 +16,8 @@ use lock_profile::Held;
 use serial::{Executed, execute};
 use spec_footprint::{Access, an_execution_has_a_footprint};
 use spec_ledger::{Kind, Lock, Mode, NoMemory, Op, Place, Version};
-use std::alloc::{Allocator, Global};
+use std::alloc::Allocator;
 use storage::Cells;
-
-/// What a call came to, with what it did with cells.
-#[derive(Drop)]
-pub struct Footprint<A: Allocator = Global> {
-    /// Its receipt, and the locks that it asked for.
-    pub executed: Executed<A>,
-    /// What it did with the cell at each of these locks, in their order.
-    pub accesses: Vec<Access, A>,
-}
 
 fn place(lock: Lock) -> Place
     ensures contract { result.contract ≡ lock.contract }
@@ -54,32 +45,31 @@ fn growth(before: Option<u64>, later: Option<u64>) -> u64
     later.unwrap_or(0).wrapping_sub(before.unwrap_or(0))
 }
 
-/// What was done with a cell that is held so, and that held the one before and holds the other later.
-fn access(held: Held, before: Option<u64>, later: Option<u64>) -> Access
-    ensures { result ≡ access_by (use_of held.lock.kind held.mode) held.lock before later }
+/// What was done with the cell that is held so between the one store and the other.
+fn access<A: Allocator + Copy>(held: Held, before: &Cells<A>, later: &Cells<A>) -> Access
+    ensures { result ≡ access_at before.now.cells later.now.cells (held.lock, held.mode) }
 {
+    let found = before.get(held.lock);
     match use_of(held.lock.kind, held.mode) {
-        Mode::Read => Access::Read(held.lock, before),
-        Mode::Add => Access::Added(place(held.lock), growth(before, later)),
-        Mode::Excl => Access::Replaced(held.lock, before, later),
+        Mode::Read => Access::Read(held.lock, found),
+        Mode::Add => Access::Added(place(held.lock), growth(found, later.get(held.lock))),
+        Mode::Excl => Access::Replaced(held.lock, found, later.get(held.lock)),
     }
 }
 
-/// What was done with the cells at these locks between the one store and the other.
-fn accesses<A: Allocator + Copy>(
-    alloc: A,
+/// What was done with the cells at these locks between the one store and the other, put behind other accesses.
+fn append_accesses<A: Allocator + Copy>(
     locks: &[Held],
     before: &Cells<A>,
     later: &Cells<A>,
-) -> Result<Vec<Access, A>, NoMemory>
-    ensures { IfOk result (λ accesses. accesses.items ≡ map (access_at before.now.cells later.now.cells) (pairs locks.now)) }
+    accesses: &mut Vec<Access, A>,
+) -> Result<(), NoMemory>
+    ensures { OnOk result (accesses.new.items ≡ accesses.old.items ++ map (access_at before.now.cells later.now.cells) (pairs locks.now)) }
 {
-    let mut accesses = Vec::with_capacity(alloc, locks.len())?;
     for held in locks {
-        let access = access(*held, before.get(held.lock), later.get(held.lock));
-        accesses.push(access)?;
+        accesses.push(access(*held, before, later))?;
     }
-    Ok(accesses)
+    Ok(())
 }
 
 /// Leaves of a cell what an access leaves.
@@ -134,36 +124,39 @@ fn agree<A: Allocator + Copy>(cells: &Cells<A>, accesses: &[Access]) -> bool
     true
 }
 
-/// Runs a call over the cells, by the rules of this version, and takes its footprint. The cells before it are there twice, and both follow.
+/// Runs a call over the cells, by the rules of this version, and takes its footprint: what it did with the cell at each lock that it asked for, in their
+/// order, is put behind the accesses that are there. The cells before the call are there twice, and both follow.
 ///
 /// # Errors
 ///
-/// Memory was refused. The cells may have changed.
+/// Memory was refused. The cells may have changed, and more or fewer of its accesses may have been put down.
 pub fn take<A: Allocator + Copy>(
     alloc: A,
     contracts: &[Contract<A>],
     call: &Call,
     before: &mut Cells<A>,
     cells: &mut Cells<A>,
+    accesses: &mut Vec<Access, A>,
     version: Version,
-) -> Result<Footprint<A>, NoMemory>
+) -> Result<Executed<A>, NoMemory>
     requires same { before.old.cells ≡ cells.old.cells }
     requires settled { cells.old.unsettled ≡ finite.empty }
     requires settled_before { before.old.unsettled ≡ finite.empty }
-    ensures footprint { IfOk result (λ f. IsFootprint (setting_view version contracts.now) call.now f.accesses.items f.executed.receipt f.executed.touched) }
-    ensures accesses { IfOk result (λ f. f.accesses.items ≡ map (access_at cells.old.cells cells.new.cells) (finite.entries f.executed.touched)) }
-    ensures found { IfOk result (λ f. All (Agrees cells.old.cells) f.accesses.items) }
-    ensures left { IfOk result (λ f. cells.new.cells ≡ all_left f.accesses.items cells.old.cells) }
+    ensures footprint { IfOk result (λ e. IsFootprint (setting_view version contracts.now) call.now (map (access_at cells.old.cells cells.new.cells) (finite.entries e.touched)) e.receipt e.touched) }
+    ensures accesses { IfOk result (λ e. accesses.new.items ≡ accesses.old.items ++ map (access_at cells.old.cells cells.new.cells) (finite.entries e.touched)) }
+    ensures found { IfOk result (λ e. All (Agrees cells.old.cells) (map (access_at cells.old.cells cells.new.cells) (finite.entries e.touched))) }
+    ensures left { IfOk result (λ e. cells.new.cells ≡ all_left (map (access_at cells.old.cells cells.new.cells) (finite.entries e.touched)) cells.old.cells) }
     ensures same { OnOk result (before.new.cells ≡ cells.new.cells) }
     ensures settled { cells.new.unsettled ≡ finite.empty }
     ensures settled_before { before.new.unsettled ≡ finite.empty }
 {
     cells.hold();
     an_execution_has_a_footprint();
+    let first = accesses.len();
     let executed = execute(alloc, contracts, call, cells, version)?;
-    let accesses = accesses(alloc, executed.touched.held(), before, cells)?;
-    leave_all(before, &accesses)?;
-    Ok(Footprint { executed, accesses })
+    append_accesses(executed.touched.held(), before, cells, accesses)?;
+    leave_all(before, &accesses[first..])?;
+    Ok(executed)
 }
 
 /// Does with cells what a footprint did, where they hold what it found. Answers whether they do.

@@ -11,7 +11,7 @@ use Rattle.wtypes.specs.contracts.NoMemory as no_memory_row
 use Rattle.lock_profile.specs.contracts.Touched as touched_row
 use Rattle.lock_profile.proofs.Held.TheSendSync as held
 use Rattle.spec_footprint.proofs.Access.TheSendSync as access
-use Rattle.footprint.specs.contracts.Footprint as footprint_row
+use Rattle.serial.specs.contracts.Executed as executed_row
 use Rattle.intake.specs.contracts.intake.Intake as intake_row
 use Rattle.intake.proofs.intake.Intake.TheSendSync as intake
 use Rattle.shards.specs.contracts.gate.NoGate as gate_row
@@ -40,15 +40,15 @@ module _ (B : RattleType) (g : Ghosts B.Denot) (send : IsSend B) (sync : IsSync 
   pub handed_send : (a : NamedLft) → IsSend (result_row.the_row (worked_row.the_row a B g) no_memory_row.the_row)
   handed_send a = search (crosses, worked_send) depth 60 fits 100000
 
-  footprint_send : IsSend (footprint_row.the_row B g)
-  footprint_send = let vec = vec_send B g send sync frees in search (crosses, over.crosses, access.the_send, vec, touched_send) depth 60 fits 100000
+  executed_send : IsSend (executed_row.the_row B g)
+  executed_send = search (crosses, over.crosses, touched_send) depth 60 fits 100000
 
   -- and so may what a worker over a copy hands back
   pub share_send : (a : NamedLft) → IsSend (share_row.the_row a B g)
   share_send a =
       let vec = vec_send B g send sync frees in
       let contracts = contracts_send B g send sync frees in
-      search (crosses, over.crosses, vec, contracts, footprint_send) depth 60 fits 100000
+      search (crosses, over.crosses, vec, contracts, access.the_send, executed_send) depth 60 fits 100000
 
   intake_sync : IsSync (intake_row.the_row B g)
   intake_sync = search (crosses, over.crosses, intake.the_sync) depth 60 fits 100000
@@ -88,7 +88,7 @@ module _ (B : RattleType) (g : Ghosts B.Denot) (send : IsSend B) (sync : IsSync 
           search (crosses, contract) depth 60 fits 100000,
           (
             search crosses depth 60 fits 100000,
-            (search (crosses, cells) depth 60 fits 100000, (search (crosses, intake_sync) depth 60 fits 100000, (as_row_sync (row_field (ShrRef a.mir a.lft P)) (shr_sync a.mir a.lft P pace), tt))),
+            (search (crosses, cells) depth 60 fits 100000, (search (crosses, intake_sync) depth 60 fits 100000, (as_row_sync (row_field (ShrRef a.mir a.lft P)) (shr_sync a.mir a.lft P pace), (search crosses depth 60 fits 100000, tt)))),
           ),
         ),
       )

@@ -6,14 +6,15 @@ use Rattle.spec_ledger.specs.Cells.{Cells, AreCells}
 use Rattle.spec_execution.specs.Configuration.{Setting}
 use Rattle.spec_execution.specs.Run.{ContractCall}
 use Rattle.spec_execution.specs.Exec.{Executes}
+use Rattle.spec_footprint.specs.declared.Access.{Access}
 use Rattle.spec_footprint.specs.Footprints.{Agrees, all_left}
-use Rattle.footprint.specs.declared.Footprint.{Footprint}
+use Rattle.serial.specs.declared.Executed.{Executed}
 use Rattle.publish.specs.Footprints.{IsFootprintOf}
 
-pub executed_as : {A : Type 0} (setting : Setting) (calls : List ContractCall) (number : ℕ) (f : Footprint A) → IsFootprintOf setting calls number f
-    → (call : ContractCall) → slice_get calls number ≡ Some call → (cells later : Cells) → AreCells cells → All (Agrees cells) f.accesses.items → later ≡ all_left f.accesses.items cells
-    → Executes setting call cells later f.executed.receipt f.executed.touched
-executed_as setting calls number f of call at cells later are agree left =
+pub executed_as : {A : Type 0} (setting : Setting) (calls : List ContractCall) (number : ℕ) (accesses : List Access) (e : Executed A) → IsFootprintOf setting calls number accesses e
+    → (call : ContractCall) → slice_get calls number ≡ Some call → (cells later : Cells) → AreCells cells → All (Agrees cells) accesses → later ≡ all_left accesses cells
+    → Executes setting call cells later e.receipt e.touched
+executed_as setting calls number accesses e of call at cells later are agree left =
     let same : of.call ≡ call = same_Some of.call call (sym of.at ∙ at) in
-    subst (λ k. Executes setting k cells later f.executed.receipt f.executed.touched) same
-    (subst (λ l. Executes setting of.call cells l f.executed.receipt f.executed.touched) (sym left) (of.is.executes cells are agree))
+    subst (λ k. Executes setting k cells later e.receipt e.touched) same
+    (subst (λ l. Executes setting of.call cells l e.receipt e.touched) (sym left) (of.is.executes cells are agree))

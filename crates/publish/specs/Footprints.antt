@@ -2,11 +2,12 @@
 use Rattle.std.specs.Prelude.{◌≡◌, ℕ, List, Some, slice_get}
 use Rattle.spec_execution.specs.Configuration.{Setting}
 use Rattle.spec_execution.specs.Run.{ContractCall}
+use Rattle.spec_footprint.specs.declared.Access.{Access}
 use Rattle.spec_footprint.specs.Footprints.{IsFootprint}
-use Rattle.footprint.specs.declared.Footprint.{Footprint}
+use Rattle.serial.specs.declared.Executed.{Executed}
 
--- a footprint of the call of this number over these contracts
-pub record IsFootprintOf {A : Type 0} (setting : Setting) (calls : List ContractCall) (number : ℕ) (f : Footprint A) : Type 0 where
+-- the accesses are a footprint of the call of this number over these contracts, and that is what it came to
+pub record IsFootprintOf {A : Type 0} (setting : Setting) (calls : List ContractCall) (number : ℕ) (accesses : List Access) (e : Executed A) : Type 0 where
   pub call : ContractCall
   pub at : slice_get calls number ≡ Some call
-  pub is : IsFootprint setting call f.accesses.items f.executed.receipt f.executed.touched
+  pub is : IsFootprint setting call accesses e.receipt e.touched

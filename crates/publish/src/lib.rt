@@ -24,11 +24,12 @@ use crate::adopting::walk;
 use crate::so_far::{SoFar, unmarked};
 use boost::book::Closed;
 use call::Call;
-use footprint::{Footprint, enact};
+use footprint::enact;
 use interp::finished::Finished;
 use link::deployed::Deployed as Contract;
 use lock_profile::Touched;
-use serial::{execute, replay};
+use serial::{Executed, execute, replay};
+use spec_footprint::Access;
 use spec_ledger::{NoMemory, Receipt, Version};
 use std::alloc::{Allocator, Global};
 use std::marker::Model;
@@ -209,10 +210,11 @@ impl<'a, A: Allocator + Copy> Publishing<'a, A> {
     pub fn take_footprint(
         self,
         call: u32,
-        footprint: Footprint<A>,
+        executed: Executed<A>,
+        accesses: &[Access],
     ) -> Result<(Publishing<'a, A>, bool), NoMemory>
-        requires { IsFootprintOf self.setting self.calls call footprint }
-        ensures answer { IfOk result (λ r. IsTrue r.1 ↔ (MayFollow self.entry call × All (Agrees self.entry.cells) footprint.accesses.items)) }
+        requires { IsFootprintOf self.setting self.calls call accesses.now executed }
+        ensures answer { IfOk result (λ r. IsTrue r.1 ↔ (MayFollow self.entry call × All (Agrees self.entry.cells) accesses.now)) }
         ensures taken { IfOk result (λ r. r.1 ≡ true → HasTaken self.entry call r.0) }
         ensures left { IfOk result (λ r. r.1 ≡ false → r.0 ≡ self.entry) }
         ensures same { IfOk result (λ r. IsSameJob self.entry r.0) }
@@ -229,10 +231,9 @@ impl<'a, A: Allocator + Copy> Publishing<'a, A> {
             mut so_far,
             mut cells,
         } = self;
-        let Footprint { executed, accesses } = footprint;
         so_far.reserve()?;
         cells.hold();
-        if !enact(&mut cells, &accesses)? {
+        if !enact(&mut cells, accesses)? {
             let published = Publishing {
                 alloc,
                 contracts,

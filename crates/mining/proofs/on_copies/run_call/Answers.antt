@@ -1,6 +1,8 @@
-use Rattle.std.proofs.Common.{◌∙◌, ap, refl, length}
+use Rattle.std.proofs.Common.{◌∙◌, ap, refl, length, map}
 use Rattle.std.specs.Prelude.{Some}
+use Rattle.std.specs.FinMap.{entries}
 use Rattle.std.proofs.lemmas.Option.{slice_get_read}
+use Rattle.spec_footprint.specs.Footprints.{access_at}
 use Rattle.spec_ledger.specs.declared.Version.TheVariants.{Two}
 use Rattle.interp.specs.Lent.{setting_view}
 use Rattle.mining.proofs.Shares.{one_more_prepared}
@@ -10,6 +12,8 @@ pub returns-clause-prepared : goal.returns-clause-prepared
 returns-clause-prepared g c =
     let calls = c.args.job.now.calls.now in
     let at = slice_get_read calls (length calls) c.args.call c.index-job-call.result refl c.requires.call c.index-job-call.is in
-    one_more_prepared (setting_view Two c.args.job.now.contracts.now) calls c.args.share.now.prepared.items c.push.new.self.items
-    (record { call = c.args.call; footprint = c.in_ok-footprint.footprint }) c.in_ok-push.ensures.items c.requires.prepared
-    (record { call = _; at = at ∙ ap (λ x. Some x) c.index-job-call.is; is = c.in_ok-footprint.ensures.footprint })
+    let e = c.in_ok-executed.executed in
+    let own = map (access_at c.args.own.now.copy.cells c.take.new.cells.cells) (entries e.touched) in
+    one_more_prepared (setting_view Two c.args.job.now.contracts.now) calls c.args.share.now.accesses.items own c.take.new.accesses.items c.args.share.now.prepared.items c.push.new.self.items
+    (record { call = c.args.call; executed = e; from = c.from.from; until = c.until.until }) c.in_ok-push.ensures.items c.in_ok-executed.ensures.accesses c.requires.prepared c.from.ensures c.until.ensures
+    (record { call = _; at = at ∙ ap (λ x. Some x) c.index-job-call.is; is = c.in_ok-executed.ensures.footprint })

@@ -9,8 +9,8 @@ pub take_one-requires : goal.take_one-requires
 take_one-requires g c =
     let first = c.args.publishing in
     let same = c.loop-one.invariant.same in
-    let is = (All-pop (IsPrepared first.setting first.calls) c.loop-one.prepared.items c.pop.new.self.items (Some c.in-Some.one) c.in-Some.ensures.items c.loop-one.invariant.left).1 in
-    subst (λ setting. IsPrepared setting c.loop-one.publishing.calls c.in-Some.one) (sym same.setting) (subst (λ calls. IsPrepared first.setting calls c.in-Some.one) (sym same.calls) is)
+    let is = (All-pop (IsPrepared first.setting first.calls c.args.accesses.now) c.loop-one.prepared.items c.pop.new.self.items (Some c.in-Some.one) c.in-Some.ensures.items c.loop-one.invariant.left).1 in
+    subst (λ setting. IsPrepared setting c.loop-one.publishing.calls c.args.accesses.now c.in-Some.one) (sym same.setting) (subst (λ calls. IsPrepared first.setting calls c.args.accesses.now c.in-Some.one) (sym same.calls) is)
 
 pub loop-one-preserved : goal.loop-one-preserved
 loop-one-preserved g c =
@@ -18,5 +18,5 @@ loop-one-preserved g c =
     record {
       same = job_after first c.loop-one.publishing c.in_ok-published.published c.loop-one.invariant.same c.in_ok-published.ensures.same;
       taken = let before = c.loop-one.invariant.taken in let more = c.in_ok-published.ensures.added in let sum = c.saturating_add-taken.ensures in grind arith;
-      left = (All-pop (IsPrepared first.setting first.calls) c.loop-one.prepared.items c.pop.new.self.items (Some c.in-Some.one) c.in-Some.ensures.items c.loop-one.invariant.left).0;
+      left = (All-pop (IsPrepared first.setting first.calls c.args.accesses.now) c.loop-one.prepared.items c.pop.new.self.items (Some c.in-Some.one) c.in-Some.ensures.items c.loop-one.invariant.left).0;
     }

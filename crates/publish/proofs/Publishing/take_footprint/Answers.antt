@@ -15,7 +15,7 @@ pub returns-then-not-may_follow-clause-answer : goal.returns-then-not-may_follow
 returns-then-not-may_follow-clause-answer g c = (λ t. absurd (let f : false ≡ true = t in cc), λ f. c.if-not-may_follow.ensures.1 f.0)
 
 pub enact-requires-clause-leaves : goal.enact-requires-clause-leaves
-enact-requires-clause-leaves g c = subst (All LeavesACell) (sym c.deref.ensures.value) c.requires.is.cells
+enact-requires-clause-leaves g c = c.requires.is.cells
 
 pub invariant_of-published : goal.invariant_of-published
 invariant_of-published g c =
@@ -34,7 +34,7 @@ pub returns-then-not-branch-clause-answer : goal.returns-then-not-branch-clause-
 returns-then-not-branch-clause-answer g c =
     let cells_is = ap (λ (q : Publication). q.cells) c.self.view_is in (
       λ t. absurd (let f : false ≡ true = t in cc),
-      λ f. absurd (let yes = c.in_ok-enact.ensures.answer.1 (subst (All (Agrees c.self.inside.cells.cells)) (sym c.deref.ensures.value) (subst (λ cells. All (Agrees cells) c.args.footprint.accesses.items) (sym cells_is) f.1)) in search rules),
+      λ f. absurd (let yes = c.in_ok-enact.ensures.answer.1 (subst (λ cells. All (Agrees cells) c.args.accesses.now) (sym cells_is) f.1) in search rules),
     )
 
 pub returns-then-not-branch-clause-left : goal.returns-then-not-branch-clause-left
@@ -55,13 +55,13 @@ push-requires-clause-fits g c =
     let p : Publication = record { setting = setting_view Two s.contracts.now; calls = s.calls.now; opening = s.opening.now.cells; fuel = s.fuel; order = s.so_far.order.items; ran = positions s.so_far.receipts.items s.so_far.touched.items; cells = s.cells.cells } in
     let b : Beside = record { order = s.so_far.order.items; receipts = s.so_far.receipts.items; touched = s.so_far.touched.items; marks = s.so_far.marks.items; remaining = s.so_far.remaining; used = s.so_far.used; counts = s.cells.unsettled } in
     let follows : MayFollow (with_parts p p.cells b) c.args.call = subst (λ q. MayFollow q c.args.call) (sym c.self.view_is) (c.may_follow.ensures.0 (search rules)) in
-    let of : IsFootprintOf p.setting p.calls c.args.call c.args.footprint = subst (λ (q : Publication). IsFootprintOf q.setting q.calls c.args.call c.args.footprint) (sym c.self.view_is) c.requires in
+    let of : IsFootprintOf p.setting p.calls c.args.call c.args.accesses.now c.args.executed = subst (λ (q : Publication). IsFootprintOf q.setting q.calls c.args.call c.args.accesses.now c.args.executed) (sym c.self.view_is) c.requires in
     let below : c.args.call < length s.calls.now = follows.known in
     let at = slice_get_read s.calls.now (length s.calls.now) c.args.call c.index-calls-call.result refl below c.index-calls-call.is in
-    let fit : All (Agrees s.cells.cells) c.args.footprint.accesses.items = subst (All (Agrees s.cells.cells)) c.deref.ensures.value (c.in_ok-enact.ensures.answer.0 (search rules)) in
-    let left : c.enact.new.cells.cells ≡ all_left c.args.footprint.accesses.items s.cells.cells = subst (λ l. c.enact.new.cells.cells ≡ all_left l s.cells.cells) c.deref.ensures.value (c.in_ok-enact.ensures.left (search rules)) in
-    let e = c.args.footprint.executed in
-    let executed = executed_as p.setting p.calls c.args.call c.args.footprint of c.index-calls-call.result at s.cells.cells c.enact.new.cells.cells c.hold.ensures.cells fit left in
+    let fit : All (Agrees s.cells.cells) c.args.accesses.now = c.in_ok-enact.ensures.answer.0 (search rules) in
+    let left : c.enact.new.cells.cells ≡ all_left c.args.accesses.now s.cells.cells = c.in_ok-enact.ensures.left (search rules) in
+    let e = c.args.executed in
+    let executed = executed_as p.setting p.calls c.args.call c.args.accesses.now c.args.executed of c.index-calls-call.result at s.cells.cells c.enact.new.cells.cells c.hold.ensures.cells fit left in
     let f = fits p b c.args.call c.fuel.result c.index-calls-call.result c.enact.new.cells.cells e.receipt e.touched c.self.invariant at c.fuel.ensures follows executed in
     let same = c.reserve.ensures.remaining in omega arith
 
@@ -71,13 +71,13 @@ push-requires-clause-used g c =
     let p : Publication = record { setting = setting_view Two s.contracts.now; calls = s.calls.now; opening = s.opening.now.cells; fuel = s.fuel; order = s.so_far.order.items; ran = positions s.so_far.receipts.items s.so_far.touched.items; cells = s.cells.cells } in
     let b : Beside = record { order = s.so_far.order.items; receipts = s.so_far.receipts.items; touched = s.so_far.touched.items; marks = s.so_far.marks.items; remaining = s.so_far.remaining; used = s.so_far.used; counts = s.cells.unsettled } in
     let follows : MayFollow (with_parts p p.cells b) c.args.call = subst (λ q. MayFollow q c.args.call) (sym c.self.view_is) (c.may_follow.ensures.0 (search rules)) in
-    let of : IsFootprintOf p.setting p.calls c.args.call c.args.footprint = subst (λ (q : Publication). IsFootprintOf q.setting q.calls c.args.call c.args.footprint) (sym c.self.view_is) c.requires in
+    let of : IsFootprintOf p.setting p.calls c.args.call c.args.accesses.now c.args.executed = subst (λ (q : Publication). IsFootprintOf q.setting q.calls c.args.call c.args.accesses.now c.args.executed) (sym c.self.view_is) c.requires in
     let below : c.args.call < length s.calls.now = follows.known in
     let at = slice_get_read s.calls.now (length s.calls.now) c.args.call c.index-calls-call.result refl below c.index-calls-call.is in
-    let fit : All (Agrees s.cells.cells) c.args.footprint.accesses.items = subst (All (Agrees s.cells.cells)) c.deref.ensures.value (c.in_ok-enact.ensures.answer.0 (search rules)) in
-    let left : c.enact.new.cells.cells ≡ all_left c.args.footprint.accesses.items s.cells.cells = subst (λ l. c.enact.new.cells.cells ≡ all_left l s.cells.cells) c.deref.ensures.value (c.in_ok-enact.ensures.left (search rules)) in
-    let e = c.args.footprint.executed in
-    let executed = executed_as p.setting p.calls c.args.call c.args.footprint of c.index-calls-call.result at s.cells.cells c.enact.new.cells.cells c.hold.ensures.cells fit left in
+    let fit : All (Agrees s.cells.cells) c.args.accesses.now = c.in_ok-enact.ensures.answer.0 (search rules) in
+    let left : c.enact.new.cells.cells ≡ all_left c.args.accesses.now s.cells.cells = c.in_ok-enact.ensures.left (search rules) in
+    let e = c.args.executed in
+    let executed = executed_as p.setting p.calls c.args.call c.args.accesses.now c.args.executed of c.index-calls-call.result at s.cells.cells c.enact.new.cells.cells c.hold.ensures.cells fit left in
     let f = fits_used p b c.args.call c.fuel.result c.index-calls-call.result c.enact.new.cells.cells e.receipt e.touched c.self.invariant at c.fuel.ensures follows executed (omega arith) in
     let same = c.reserve.ensures.used in omega arith
 
@@ -87,13 +87,13 @@ invariant_of-published-2 g c =
     let p : Publication = record { setting = setting_view Two s.contracts.now; calls = s.calls.now; opening = s.opening.now.cells; fuel = s.fuel; order = s.so_far.order.items; ran = positions s.so_far.receipts.items s.so_far.touched.items; cells = s.cells.cells } in
     let b : Beside = record { order = s.so_far.order.items; receipts = s.so_far.receipts.items; touched = s.so_far.touched.items; marks = s.so_far.marks.items; remaining = s.so_far.remaining; used = s.so_far.used; counts = s.cells.unsettled } in
     let follows : MayFollow (with_parts p p.cells b) c.args.call = subst (λ q. MayFollow q c.args.call) (sym c.self.view_is) (c.may_follow.ensures.0 (search rules)) in
-    let of : IsFootprintOf p.setting p.calls c.args.call c.args.footprint = subst (λ (q : Publication). IsFootprintOf q.setting q.calls c.args.call c.args.footprint) (sym c.self.view_is) c.requires in
+    let of : IsFootprintOf p.setting p.calls c.args.call c.args.accesses.now c.args.executed = subst (λ (q : Publication). IsFootprintOf q.setting q.calls c.args.call c.args.accesses.now c.args.executed) (sym c.self.view_is) c.requires in
     let below : c.args.call < length s.calls.now = follows.known in
     let at = slice_get_read s.calls.now (length s.calls.now) c.args.call c.index-calls-call.result refl below c.index-calls-call.is in
-    let fit : All (Agrees s.cells.cells) c.args.footprint.accesses.items = subst (All (Agrees s.cells.cells)) c.deref.ensures.value (c.in_ok-enact.ensures.answer.0 (search rules)) in
-    let left : c.enact.new.cells.cells ≡ all_left c.args.footprint.accesses.items s.cells.cells = subst (λ l. c.enact.new.cells.cells ≡ all_left l s.cells.cells) c.deref.ensures.value (c.in_ok-enact.ensures.left (search rules)) in
-    let e = c.args.footprint.executed in
-    let executed = executed_as p.setting p.calls c.args.call c.args.footprint of c.index-calls-call.result at s.cells.cells c.enact.new.cells.cells c.hold.ensures.cells fit left in
+    let fit : All (Agrees s.cells.cells) c.args.accesses.now = c.in_ok-enact.ensures.answer.0 (search rules) in
+    let left : c.enact.new.cells.cells ≡ all_left c.args.accesses.now s.cells.cells = c.in_ok-enact.ensures.left (search rules) in
+    let e = c.args.executed in
+    let executed = executed_as p.setting p.calls c.args.call c.args.accesses.now c.args.executed of c.index-calls-call.result at s.cells.cells c.enact.new.cells.cells c.hold.ensures.cells fit left in
     let room = c.reserve.new.self in
     let made = c.reserve.ensures in
     let last = c.push.new.self in
@@ -107,7 +107,7 @@ invariant_of-published-2 g c =
 pub returns-clause-answer : goal.returns-clause-answer
 returns-clause-answer g c =
     let cells_is = ap (λ (q : Publication). q.cells) c.self.view_is in (
-      λ _. (c.may_follow.ensures.0 (search rules), subst (λ cells. All (Agrees cells) c.args.footprint.accesses.items) cells_is (subst (All (Agrees c.self.inside.cells.cells)) c.deref.ensures.value (c.in_ok-enact.ensures.answer.0 (search rules)))),
+      λ _. (c.may_follow.ensures.0 (search rules), subst (λ cells. All (Agrees cells) c.args.accesses.now) cells_is (c.in_ok-enact.ensures.answer.0 (search rules))),
       λ _. refl,
     )
 
@@ -117,13 +117,13 @@ returns-clause-taken g c = λ _.
     let p : Publication = record { setting = setting_view Two s.contracts.now; calls = s.calls.now; opening = s.opening.now.cells; fuel = s.fuel; order = s.so_far.order.items; ran = positions s.so_far.receipts.items s.so_far.touched.items; cells = s.cells.cells } in
     let b : Beside = record { order = s.so_far.order.items; receipts = s.so_far.receipts.items; touched = s.so_far.touched.items; marks = s.so_far.marks.items; remaining = s.so_far.remaining; used = s.so_far.used; counts = s.cells.unsettled } in
     let follows : MayFollow (with_parts p p.cells b) c.args.call = subst (λ q. MayFollow q c.args.call) (sym c.self.view_is) (c.may_follow.ensures.0 (search rules)) in
-    let of : IsFootprintOf p.setting p.calls c.args.call c.args.footprint = subst (λ (q : Publication). IsFootprintOf q.setting q.calls c.args.call c.args.footprint) (sym c.self.view_is) c.requires in
+    let of : IsFootprintOf p.setting p.calls c.args.call c.args.accesses.now c.args.executed = subst (λ (q : Publication). IsFootprintOf q.setting q.calls c.args.call c.args.accesses.now c.args.executed) (sym c.self.view_is) c.requires in
     let below : c.args.call < length s.calls.now = follows.known in
     let at = slice_get_read s.calls.now (length s.calls.now) c.args.call c.index-calls-call.result refl below c.index-calls-call.is in
-    let fit : All (Agrees s.cells.cells) c.args.footprint.accesses.items = subst (All (Agrees s.cells.cells)) c.deref.ensures.value (c.in_ok-enact.ensures.answer.0 (search rules)) in
-    let left : c.enact.new.cells.cells ≡ all_left c.args.footprint.accesses.items s.cells.cells = subst (λ l. c.enact.new.cells.cells ≡ all_left l s.cells.cells) c.deref.ensures.value (c.in_ok-enact.ensures.left (search rules)) in
-    let e = c.args.footprint.executed in
-    let executed = executed_as p.setting p.calls c.args.call c.args.footprint of c.index-calls-call.result at s.cells.cells c.enact.new.cells.cells c.hold.ensures.cells fit left in
+    let fit : All (Agrees s.cells.cells) c.args.accesses.now = c.in_ok-enact.ensures.answer.0 (search rules) in
+    let left : c.enact.new.cells.cells ≡ all_left c.args.accesses.now s.cells.cells = c.in_ok-enact.ensures.left (search rules) in
+    let e = c.args.executed in
+    let executed = executed_as p.setting p.calls c.args.call c.args.accesses.now c.args.executed of c.index-calls-call.result at s.cells.cells c.enact.new.cells.cells c.hold.ensures.cells fit left in
     let room = c.reserve.new.self in
     let made = c.reserve.ensures in
     let last = c.push.new.self in
