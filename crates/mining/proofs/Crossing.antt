@@ -3,7 +3,7 @@ use denote.RattleType.{RattleType}
 use denote.Ref.{NamedLft, ShrRef}
 use denote.Struct.Field.{row_field}
 use denote.Param.Send.{Frees, IsSend, IsSync, shr_sync}
-use denote.Param.SendFields.{declared_sync, as_row_sync}
+use denote.Param.SendFields.{declared_send, declared_sync, as_row_sync}
 use Rattle.std.specs.declared.alloc.Allocator.{Ghosts}
 use Rattle.std.specs.contracts.result.Result as result_row
 use Rattle.std.proofs.CrossingOver as over
@@ -14,6 +14,12 @@ use Rattle.spec_footprint.proofs.Access.TheSendSync as access
 use Rattle.serial.specs.contracts.Executed as executed_row
 use Rattle.intake.specs.contracts.intake.Intake as intake_row
 use Rattle.intake.proofs.intake.Intake.TheSendSync as intake
+use Rattle.intake.proofs.seat.Seat.TheSendSync as seat
+use Rattle.handover.specs.declared.rule.Fact as fact
+use Rattle.handover.specs.contracts.handover.Handover as line_row
+use Rattle.handover.specs.contracts.pass.Pass as pass_row
+use Rattle.handover.proofs.handover.Handover.TheSendSync as line
+use Rattle.handover.proofs.pass.Pass.TheSendSync as pass
 use Rattle.shards.specs.contracts.gate.NoGate as gate_row
 use Rattle.shards.specs.contracts.sharded.Shards as book_row
 use Rattle.shards.proofs.gate.NoGate.TheSendSync as gate
@@ -22,8 +28,10 @@ use Rattle.serial_block.proofs.Crossing.{crosses, vec_send, contract_sync, contr
 use Rattle.mining.proofs.brake.Brake.TheSendSync as brake
 use Rattle.mining.specs.contracts.attempt.Committed as committed_row
 use Rattle.mining.specs.contracts.attempt.Job as job_row
-use Rattle.mining.specs.contracts.on_copies.CopyJob as copy_job_row
-use Rattle.mining.specs.contracts.on_copies.Share as share_row
+use Rattle.mining.specs.contracts.copies.CopyJob as copy_job_row
+use Rattle.mining.specs.contracts.copies.Share as share_row
+use Rattle.mining.specs.contracts.copies.Task as task_row
+use Rattle.mining.specs.contracts.post.Post as post_row
 use Rattle.mining.specs.contracts.worker.Worked as worked_row
 
 module _ (B : RattleType) (g : Ghosts B.Denot) (send : IsSend B) (sync : IsSync B) (frees : Frees g g.dealloc_token) where
@@ -49,6 +57,27 @@ module _ (B : RattleType) (g : Ghosts B.Denot) (send : IsSend B) (sync : IsSync 
       let vec = vec_send B g send sync frees in
       let contracts = contracts_send B g send sync frees in
       search (crosses, over.crosses, vec, contracts, access.the_send, executed_send) depth 60 fits 100000
+
+  task_sync : (a : NamedLft) → IsSync (task_row.the_row a B g)
+  task_sync a =
+      let contract = contract_sync B g send sync frees in
+      declared_sync (task_row.the_type a B g) (search (crosses, contract) depth 60 fits 100000, (search crosses depth 60 fits 100000, tt))
+
+  task_send : (a : NamedLft) → IsSend (task_row.the_row a B g)
+  task_send a =
+      let contracts = contracts_send B g send sync frees in
+      search (crosses, over.crosses, contracts) depth 60 fits 100000
+
+  -- threads may share the queue of a job
+  line_sync : (a : NamedLft) (F : RattleType) (f : fact.Ghosts F.Denot (task_row.the_row a B g).Denot (share_row.the_row a B g).Denot) → IsSync (line_row.the_row (task_row.the_row a B g) (share_row.the_row a B g) F B f g)
+  line_sync a F f = line.the_sync (task_row.the_row a B g) (share_row.the_row a B g) F B f g (task_send a) (share_send a) send (task_sync a) sync frees
+
+  pass_send : (a : NamedLft) → IsSend (pass_row.the_row (task_row.the_row a B g) (share_row.the_row a B g))
+  pass_send a = pass.the_send (task_row.the_row a B g) (share_row.the_row a B g) (task_send a) (share_send a)
+
+  -- and a post may go to its thread
+  pub post_send : (a b : NamedLft) → IsSend (post_row.the_row a b B g)
+  post_send a b = declared_send (post_row.the_type a b B g) (search (crosses, line_sync) depth 60 fits 100000, (pass_send b, (seat.the_send, tt)))
 
   intake_sync : IsSync (intake_row.the_row B g)
   intake_sync = search (crosses, over.crosses, intake.the_sync) depth 60 fits 100000
@@ -80,15 +109,17 @@ module _ (B : RattleType) (g : Ghosts B.Denot) (send : IsSend B) (sync : IsSync 
   -- and the job of those that run calls over copies
   pub copy_job_sync : (a b : NamedLft) (P : RattleType) → IsSync P → IsSync (copy_job_row.the_row a b B P g)
   copy_job_sync a b P pace =
-      let contract = contract_sync B g send sync frees in
       let cells = cells_sync B g send sync frees in
       declared_sync (copy_job_row.the_type a b B P g) (
         as_row_sync (row_field B) sync,
         (
-          search (crosses, contract) depth 60 fits 100000,
+          task_sync b,
           (
-            search crosses depth 60 fits 100000,
-            (search (crosses, cells) depth 60 fits 100000, (search (crosses, intake_sync) depth 60 fits 100000, (as_row_sync (row_field (ShrRef a.mir a.lft P)) (shr_sync a.mir a.lft P pace), (search crosses depth 60 fits 100000, tt)))),
+            search (crosses, cells) depth 60 fits 100000,
+            (
+              search (crosses, intake_sync) depth 60 fits 100000,
+              (as_row_sync (row_field (ShrRef a.mir a.lft P)) (shr_sync a.mir a.lft P pace), (search crosses depth 60 fits 100000, tt)),
+            ),
           ),
         ),
       )

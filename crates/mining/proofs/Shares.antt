@@ -8,7 +8,7 @@ use Rattle.spec_execution.specs.Configuration.{Setting}
 use Rattle.spec_execution.specs.Run.{ContractCall}
 use Rattle.spec_footprint.specs.declared.Access.{Access}
 use Rattle.publish.specs.Footprints.{IsFootprintOf}
-use Rattle.mining.specs.declared.on_copies.Prepared.{Prepared}
+use Rattle.mining.specs.declared.copies.Prepared.{Prepared}
 use Rattle.mining.specs.Shares.{IsPrepared, AreAllPrepared}
 
 -- a part of a list is the same part of a longer one

@@ -12,7 +12,7 @@ ghost use Rattle.mining.specs.Handed.{AreRuns, IsSerialBook};
 
 use crate::attempt::Job;
 use crate::brake::Brake;
-use crate::on_copies::mine_on_copies;
+use crate::leading::mine_on_copies;
 use crate::outcome::publish;
 use crate::sample::{Way, find_way};
 use crate::worker::{Worked, draw_rest, work};
@@ -57,10 +57,10 @@ pub struct MinedCore<A: Allocator = Global> {
 /// nobody drew. Then these and the calls that were tried in vain or stopped run alone in rising number, and then each other call
 /// that still has room.
 ///
-/// Where copies of the cells pay (as far as 16 of a thousand calls or more tell), each worker runs the calls that it draws over a copy, and the pace
-/// is told the beginning of each. They are published one worker's after another's, each by its footprint where the cells that are published so far hold
-/// what it found; the others run alone in rising number. Where workers do not pay, none is started, and all calls that have room run alone in
-/// rising number.
+/// Where copies of the cells pay (as far as 16 of a thousand calls or more tell), each worker but the calling thread runs the calls that it draws over a
+/// copy, and hands them over in batches. The calling thread publishes each by its footprint where the cells that are published so far hold what it found, and
+/// runs and publishes calls that it draws itself while nothing is handed over. The pace is told the beginning of each call. The calls that did not fit run
+/// alone in rising number at the end. Where workers do not pay, none is started, and all calls that have room run alone in rising number.
 ///
 /// The book that the workers share is in so many shards, each behind a lock of its own. Where these are not parts of one book at its end, no run
 /// stands, and all calls that have room run alone in rising number.

@@ -4,4 +4,4 @@ use Rattle.spec_footprint.specs.Footprints.{access_at}
 use Rattle.footprint.proofs.append_accesses.Given as goal
 
 abbrev pub invariant-loop-held : goal.invariant-loop-held
-invariant-loop-held g l = l.accesses.items ≡ l.fn.accesses.now.items ++ map (access_at l.before.cells l.later.cells) (pairs (take l.held-index l.locks))
+invariant-loop-held g l = l.accesses.items ≡ l.fn.accesses.items ++ map (access_at l.before.cells l.later.cells) (pairs (take l.held-index l.locks))

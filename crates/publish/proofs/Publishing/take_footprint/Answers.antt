@@ -2,7 +2,7 @@ use Rattle.std.proofs.Common.{rules, arith, ◌≡◌, ◌<◌, true, false, All
 use Rattle.std.proofs.lemmas.Option.{slice_get_read}
 use Rattle.spec_ledger.specs.declared.Version.TheVariants.{Two}
 use Rattle.storage.specs.Counts.{Store}
-use Rattle.spec_footprint.specs.Footprints.{Agrees, LeavesACell, all_left}
+use Rattle.spec_footprint.specs.Footprints.{Agrees, all_left}
 use Rattle.interp.specs.Lent.{setting_view}
 use Rattle.serial.specs.Positions.{positions}
 use Rattle.publish.specs.Publication.{Publication, MayFollow, HasTaken}

@@ -1,0 +1,291 @@
+// Workers that run calls each over a copy of the cells, which nobody else changes, and hand over the footprints.
+ghost use Rattle.std.specs.Prelude.{◌≡◌, ◌<◌, All, IfOk, IfSome, OnOk, length};
+ghost use Rattle.intake.specs.Intakes.{IsSeatOf};
+ghost use Rattle.handover.specs.Passes.{IsPassOf};
+ghost use Rattle.mining.specs.Shares.{AreOwn, DrawsCalls, IsPostOf, IsShareOf};
+
+use crate::attempt::told;
+use crate::post::Post;
+use crate::worker::make_room;
+use call::Call;
+use footprint::take;
+use handover::{Fact, Handover, Pass};
+use intake::{Intake, Seat};
+use link::deployed::Deployed as Contract;
+use pace::{Pace, Step};
+use serial::Executed;
+use spec_footprint::Access;
+use spec_ledger::{NoMemory, Version};
+use std::alloc::Allocator;
+use std::mem;
+use std::sync::Wait;
+use std::thread;
+use std::thread::Threads;
+use storage::Cells;
+
+/// How many calls a worker runs before it hands them over.
+const BATCH: usize = 64;
+
+/// What is to be run: calls, over contracts.
+#[derive(Clone, Copy)]
+pub(crate) struct Task<'a, A: Allocator> {
+    pub(crate) contracts: &'a [Contract<A>],
+    pub(crate) calls: &'a [Call],
+}
+
+/// Where the workers hand over what they ran.
+pub(crate) type Line<'a, A> = Handover<Task<'a, A>, Share<'a, A>, Footprints, A>;
+
+/// By what a thread calls there.
+pub(crate) type LinePass<'a, A> = Pass<Task<'a, A>, Share<'a, A>>;
+
+/// That what is handed over are footprints of calls of the task.
+pub(crate) struct Footprints;
+
+impl<'a, A: Allocator> Fact<Task<'a, A>, Share<'a, A>> for Footprints {
+    ghost use Rattle.mining.specs.Shares.{IsShareOf};
+
+    ghost holds = { IsShareOf };
+}
+
+/// What the workers and the caller share.
+#[derive(Drop)]
+pub(crate) struct CopyJob<'s, 'a, A: Allocator, P: Pace> {
+    pub(crate) alloc: A,
+    pub(crate) task: Task<'a, A>,
+    /// The cells that each worker copies.
+    pub(crate) cells: &'s Cells<A>,
+    pub(crate) intake: &'s Intake<A>,
+    pub(crate) pace: &'s P,
+    /// Whether the limits of all calls are together within the block's fuel, so that none need be reserved.
+    pub(crate) is_ample: bool,
+}
+
+/// A call that a worker has run over its copy, and which of the worker's accesses are its footprint.
+#[derive(Drop)]
+pub(crate) struct Prepared<A: Allocator> {
+    pub(crate) call: u32,
+    pub(crate) executed: Executed<A>,
+    /// How many accesses come before its own.
+    pub(crate) from: usize,
+    /// How many there are with its own.
+    pub(crate) until: usize,
+}
+
+/// What a worker hands over, and the contracts that the calls ran over. (Without the contracts at their side no proof was found that it may go to
+/// another thread.)
+#[derive(Drop)]
+pub(crate) struct Share<'a, A: Allocator> {
+    pub(crate) contracts: &'a [Contract<A>],
+    /// The calls that it ran.
+    pub(crate) prepared: Vec<Prepared<A>, A>,
+    /// What they did with cells, one call's accesses after another's.
+    pub(crate) accesses: Vec<Access, A>,
+    /// The call at which it was stopped.
+    pub(crate) set_aside: Vec<u32, A>,
+}
+
+/// A worker's cells: its copy, and the same cells without the call that runs, which follow it.
+#[derive(Drop)]
+struct Own<A: Allocator> {
+    copy: Cells<A>,
+    before: Cells<A>,
+}
+
+/// Draws the next call whose limit can be reserved, or that needs none reserved. Those before it are left out.
+pub(crate) fn draw<A: Allocator + Copy, R: Wait, P: Pace>(
+    rt: &R,
+    job: &CopyJob<'_, '_, A, P>,
+    seat: &mut Seat,
+) -> Option<u32>
+    requires calls { DrawsCalls job.now }
+    requires seat { IsSeatOf job.now.intake.now seat.old }
+    ensures seat { IsSeatOf job.now.intake.now seat.new }
+    ensures below { IfSome result (λ call. call < length job.now.task.calls.now) }
+{
+    let calls = job.task.calls;
+    for _ in 0..calls.len() {
+        let number = job.intake.draw(seat)?;
+        if job.is_ample || job.intake.reserve(rt, seat, calls[number as usize].fuel()) {
+            return Some(number);
+        }
+    }
+    None
+}
+
+/// A share of no calls, with room for a batch.
+fn none_yet<'a, A: Allocator + Copy>(
+    alloc: A,
+    task: Task<'a, A>,
+) -> Result<Share<'a, A>, NoMemory>
+    ensures { IfOk result (IsShareOf task.entry) }
+{
+    Ok(Share {
+        contracts: task.contracts,
+        prepared: Vec::with_capacity(alloc, BATCH)?,
+        accesses: Vec::with_capacity(alloc, BATCH)?,
+        set_aside: Vec::new(alloc),
+    })
+}
+
+/// Runs a call over a worker's copy, and keeps its footprint.
+fn run_call<A: Allocator + Copy, P: Pace>(
+    job: &CopyJob<'_, '_, A, P>,
+    own: &mut Own<A>,
+    call: u32,
+    share: &mut Share<'_, A>,
+) -> Result<(), NoMemory>
+    requires call { call < length job.now.task.calls.now }
+    requires own { AreOwn own.old }
+    requires prepared { IsShareOf job.now.task share.old }
+    ensures own { OnOk result (AreOwn own.new) }
+    ensures prepared { OnOk result (IsShareOf job.now.task share.new) }
+{
+    let calls = job.task.calls;
+    let from = share.accesses.len();
+    let executed = take(
+        job.alloc,
+        job.task.contracts,
+        &calls[call as usize],
+        &mut own.before,
+        &mut own.copy,
+        &mut share.accesses,
+        Version::Two,
+    )?;
+    let until = share.accesses.len();
+    share.prepared.push(Prepared {
+        call,
+        executed,
+        from,
+        until,
+    })?;
+    Ok(())
+}
+
+/// Hands a batch over where it is full, or keeps it where nothing more can be handed over now.
+fn hand_over<'a, A: Allocator + Copy>(
+    alloc: A,
+    post: &mut Post<'_, 'a, A>,
+    share: &mut Share<'a, A>,
+) -> Result<(), NoMemory>
+    requires { IsShareOf post.old.line.now.key share.old }
+    ensures line { post.new.line ≡ post.old.line }
+    ensures seat { post.new.seat ≡ post.old.seat }
+    ensures prepared { OnOk result (IsShareOf post.old.line.now.key share.new) }
+{
+    if share.prepared.len() % BATCH != 0 {
+        return Ok(());
+    }
+    let full = mem::replace(share, none_yet(alloc, post.line.key)?);
+    if let Err(back) = post.line.give(&mut post.pass, full) {
+        *share = back;
+    }
+    Ok(())
+}
+
+/// Takes what a worker handed over.
+pub(crate) fn receive<'a, A: Allocator + Copy, P: Pace>(
+    _job: &CopyJob<'_, '_, A, P>,
+    post: &mut Post<'_, 'a, A>,
+) -> Option<Share<'a, A>>
+    requires { IsPostOf _job.now post.old }
+    ensures post { IsPostOf _job.now post.new }
+    ensures share { IfSome result (IsShareOf _job.now.task) }
+{
+    post.line.take(&mut post.pass)
+}
+
+/// Draws calls and runs them one after another over a worker's copy, until none is left or the pace stops the worker, and hands batches of them over.
+fn run_drawn<'a, A: Allocator + Copy, R: Wait, P: Pace>(
+    rt: &R,
+    job: &CopyJob<'_, '_, A, P>,
+    mut post: Post<'_, 'a, A>,
+    own: &mut Own<A>,
+    share: &mut Share<'a, A>,
+) -> Result<(), NoMemory>
+    requires calls { DrawsCalls job.now }
+    requires post { IsPostOf job.now post }
+    requires own { AreOwn own.old }
+    requires prepared { IsShareOf job.now.task share.old }
+    ensures { OnOk result (IsShareOf job.now.task share.new) }
+{
+    for _ in 0..job.task.calls.len() {
+        let Some(call) = draw(rt, job, &mut post.seat) else {
+            return Ok(());
+        };
+        if told(job.pace, Step::Attempt { call, nth: 0 }) {
+            share.set_aside.push(call)?;
+            return Ok(());
+        }
+        run_call(job, own, call, share)?;
+        hand_over(job.alloc, &mut post, share)?;
+    }
+    Ok(())
+}
+
+/// Runs the calls that a worker draws over a copy of the cells, and answers what it has not handed over.
+fn work_on_copy<'a, A: Allocator + Copy, R: Wait, P: Pace>(
+    rt: &R,
+    job: &CopyJob<'_, '_, A, P>,
+    post: Post<'_, 'a, A>,
+) -> Result<Share<'a, A>, NoMemory>
+    requires calls { DrawsCalls job.now }
+    requires post { IsPostOf job.now post }
+    ensures { IfOk result (IsShareOf job.now.task) }
+{
+    make_room(job.alloc, job.task.calls.len())?;
+    let mut own = Own {
+        copy: job.cells.copy(job.alloc)?,
+        before: job.cells.copy(job.alloc)?,
+    };
+    let mut share = none_yet(job.alloc, post.line.key)?;
+    run_drawn(rt, job, post, &mut own, &mut share)?;
+    Ok(share)
+}
+
+/// What the workers have not handed over, one for each post.
+pub(crate) fn run_on_copies<
+    'a,
+    R: Threads + Wait + Sync,
+    A: Allocator + Copy + Send + Sync,
+    P: Pace,
+>(
+    rt: &R,
+    job: &CopyJob<'_, '_, A, P>,
+    posts: Vec<Post<'_, 'a, A>, A>,
+) -> Result<Vec<Result<Share<'a, A>, NoMemory>, A>, NoMemory>
+    requires calls { DrawsCalls job.now }
+    requires posts { All (IsPostOf job.now) posts.items }
+    ensures { IfOk result (λ shares. All (λ share. IfOk share (IsShareOf job.now.task)) shares.items) }
+{
+    let shares = thread::map_vec(
+        rt,
+        posts,
+        &|post: Post<A>| -> Result<Share<A>, NoMemory>
+            requires { DrawsCalls job.now × IsPostOf job.now post }
+            ensures { IfOk result (IsShareOf job.entry.now.task) }
+        { work_on_copy(rt, job, post) },
+    )?;
+    Ok(shares)
+}
+
+/// A post for each of the seats.
+pub(crate) fn make_posts<'l, 'a, A: Allocator + Copy, P: Pace>(
+    job: &CopyJob<'_, '_, A, P>,
+    line: &'l Line<'a, A>,
+    own: &mut LinePass<'a, A>,
+    mut seats: Vec<Seat, A>,
+) -> Result<Vec<Post<'l, 'a, A>, A>, NoMemory>
+    requires task { line.now.key ≡ job.now.task }
+    requires own { IsPassOf line.now own.old }
+    requires seats { All (IsSeatOf job.now.intake.now) seats.items }
+    ensures own { IsPassOf line.now own.new }
+    ensures posts { IfOk result (λ posts. All (IsPostOf job.now) posts.items) }
+{
+    let mut posts = Vec::new(job.alloc);
+    while let Some(seat) = seats.pop() {
+        let pass = line.another(own);
+        posts.push(Post { line, pass, seat })?;
+    }
+    Ok(posts)
+}
