@@ -17,10 +17,9 @@ use serial::Executed;
 use spec_footprint::Access;
 use spec_ledger::{NoMemory, Version};
 use std::alloc::Allocator;
-use std::mem;
 use std::sync::Wait;
-use std::thread;
 use std::thread::Threads;
+use std::{mem, thread};
 use storage::Cells;
 
 /// How many calls a worker runs before it hands them over.
@@ -114,10 +113,7 @@ pub(crate) fn draw<A: Allocator + Copy, R: Wait, P: Pace>(
 }
 
 /// A share of no calls, with room for a batch.
-fn none_yet<'a, A: Allocator + Copy>(
-    alloc: A,
-    task: Task<'a, A>,
-) -> Result<Share<'a, A>, NoMemory>
+fn none_yet<'a, A: Allocator + Copy>(alloc: A, task: Task<'a, A>) -> Result<Share<'a, A>, NoMemory>
     ensures { IfOk result (IsShareOf task.entry) }
 {
     Ok(Share {

@@ -1,5 +1,4 @@
 // The caller publishes what workers over copies of the cells hand over, and runs of its own meanwhile.
-ghost use denote.Param.Send.{IsSend, IsSync, Frees};
 ghost use Rattle.std.specs.Prelude.{◌≡◌, ◌+◌, ◌≤◌, All, IfOk, OnOk, length};
 ghost use Rattle.std.specs.FinMap as finite;
 ghost use Rattle.spec_ledger.specs.Order.{IsAdmissible};
@@ -11,7 +10,9 @@ ghost use Rattle.publish.specs.Publication.{AreLeft, IsSameJob, Publication, lim
 ghost use Rattle.mining.specs.Shares.{AreAllPrepared, DrawsCalls, IsFor, IsLed, IsPostOf, IsPrepared, IsShareOf};
 
 use crate::attempt::told;
-use crate::copies::{CopyJob, Line, Prepared, Share, Task, draw, make_posts, receive, run_on_copies};
+use crate::copies::{
+    CopyJob, Line, Prepared, Share, Task, draw, make_posts, receive, run_on_copies,
+};
 use crate::mined_core::MinedCore;
 use crate::outcome::{finish, take_alone};
 use crate::post::Post;
@@ -256,7 +257,7 @@ fn run_all<'p, 'a, R: Threads + Wait + Sync, A: Allocator + Copy + Send + Sync, 
     let (shares, led) = join(
         rt,
         move || -> Result<Vec<Result<Share<A>, NoMemory>, A>, NoMemory>
-            requires { IsSync R.row × IsSend A.row × IsSync A.row × IsSync P.row × Frees A.Allocator A.dealloc_token × DrawsCalls job.now × All (IsPostOf job.now) posts.items }
+            requires { DrawsCalls job.now × All (IsPostOf job.now) posts.items }
             ensures { IfOk result (λ shares. All (λ share. IfOk share (IsShareOf job.entry.now.task)) shares.items) }
         { run_on_copies(rt, job, posts) },
         move || -> Result<Led<A>, NoMemory>
