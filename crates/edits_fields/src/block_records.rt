@@ -1,8 +1,9 @@
 //! The records of a block.
 
-ghost use Rattle.std.specs.Prelude.{◌≡◌, ◌++◌, ℕ, List, IfOk, ◌<◌, ◌^◌, OnOk, length, take, ◌↔◌, IsSome, IfSome};
+ghost use Rattle.std.specs.Prelude.{◌≡◌, ◌≢◌, ◌++◌, ℕ, List, IfOk, ◌<◌, ◌^◌, OnOk, length, take, ◌↔◌, IsSome, IfSome, Err};
 ghost use Rattle.spec_ledger.specs.declared.Entry.{Entry};
 ghost use Rattle.spec_block.specs.Bytes.{entry_bytes, receipt_bytes, IsOutcome, position_bytes};
+ghost use Rattle.records.specs.declared.fault.Fault.TheVariants.{NoMemory};
 ghost use Rattle.records.specs.Reading.{Gives, IsRead};
 ghost use Rattle.records.specs.Profiles.{entry_at, IsEntryAfter, profile_at, profile_bytes, IsBlockProfile};
 ghost use Rattle.spec_block.specs.Worlds.{Position as ThePosition};
@@ -18,6 +19,7 @@ pub fn read_entry(before: Option<Entry>, bytes: &[u8]) -> Result<(Entry, &[u8]),
     ensures spelled { IfOk result (λ x. IsEntryAfter before x.0 × (bytes.now ≡ entry_bytes x.0 ++ x.1.now)) }
     ensures only { (entry : Entry) (rest : List ℕ) → IsEntryAfter before entry → bytes.now ≡ entry_bytes entry ++ rest → IsRead (λ x. (x.0, x.1.now)) result entry rest }
     ensures first { Gives (λ x. (x.0, x.1.now)) result (entry_at before bytes.now) }
+    ensures memory { result ≢ Err NoMemory }
 {
     records::read_entry(before, bytes)
 }

@@ -4,6 +4,7 @@ ghost use Rattle.std.specs.Prelude.{◌≡◌, ◌++◌, ◌↔◌, Ok, true, fa
 ghost use Rattle.std.specs.FinMap as finite;
 ghost use Rattle.spec_footprint.specs.Footprints.{Agrees, IsFootprint, LeavesACell, access_at, all_left};
 ghost use Rattle.interp.specs.Lent.{setting_view};
+ghost use Rattle.footprint.specs.Restored.{behind};
 
 use call::Call;
 use link::deployed::Deployed as Contract;
@@ -18,23 +19,21 @@ pub fn take<A: Allocator + Copy>(
     alloc: A,
     contracts: &[Contract<A>],
     call: &Call,
-    before: &mut Cells<A>,
+    base: &Cells<A>,
     cells: &mut Cells<A>,
     accesses: &mut Vec<Access, A>,
     version: Version,
 ) -> Result<Executed<A>, NoMemory>
-    requires same { before.old.cells ≡ cells.old.cells }
+    requires same { base.now.cells ≡ cells.old.cells }
     requires settled { cells.old.unsettled ≡ finite.empty }
-    requires settled_before { before.old.unsettled ≡ finite.empty }
-    ensures footprint { IfOk result (λ e. IsFootprint (setting_view version contracts.now) call.now (map (access_at cells.old.cells cells.new.cells) (finite.entries e.touched)) e.receipt e.touched) }
-    ensures accesses { IfOk result (λ e. accesses.new.items ≡ accesses.old.items ++ map (access_at cells.old.cells cells.new.cells) (finite.entries e.touched)) }
-    ensures found { IfOk result (λ e. All (Agrees cells.old.cells) (map (access_at cells.old.cells cells.new.cells) (finite.entries e.touched))) }
-    ensures left { IfOk result (λ e. cells.new.cells ≡ all_left (map (access_at cells.old.cells cells.new.cells) (finite.entries e.touched)) cells.old.cells) }
-    ensures same { OnOk result (before.new.cells ≡ cells.new.cells) }
+    ensures footprint { IfOk result (λ e. IsFootprint (setting_view version contracts.now) call.now (behind accesses.old.items accesses.new.items) e.receipt e.touched) }
+    ensures told { IfOk result (λ e. behind accesses.old.items accesses.new.items ≡ map (access_at base.now.cells (all_left (behind accesses.old.items accesses.new.items) base.now.cells)) (finite.entries e.touched)) }
+    ensures found { IfOk result (λ _. All (Agrees base.now.cells) (behind accesses.old.items accesses.new.items)) }
+    ensures accesses { OnOk result (accesses.new.items ≡ accesses.old.items ++ behind accesses.old.items accesses.new.items) }
+    ensures cells { OnOk result (cells.new.cells ≡ base.now.cells) }
     ensures settled { cells.new.unsettled ≡ finite.empty }
-    ensures settled_before { before.new.unsettled ≡ finite.empty }
 {
-    footprint::take(alloc, contracts, call, before, cells, accesses, version)
+    footprint::take(alloc, contracts, call, base, cells, accesses, version)
 }
 
 /// As [`footprint::enact`].

@@ -9,6 +9,7 @@ ghost use Rattle.spec_ledger.specs.Cells.{number, subtracted};
 ghost use Rattle.spec_footprint.specs.Footprints.{Agrees, IsFootprint, LeavesACell, access_at, all_left, left, use_of};
 ghost use Rattle.interp.specs.Lent.{setting_view};
 ghost use Rattle.lock_profile.specs.Groups.{pairs};
+ghost use Rattle.footprint.specs.Restored.{AreSameBut, behind, restored};
 
 use call::Call;
 use link::deployed::Deployed as Contract;
@@ -124,8 +125,44 @@ fn agree<A: Allocator + Copy>(cells: &Cells<A>, accesses: &[Access]) -> bool
     true
 }
 
-/// Runs a call over the cells, by the rules of this version, and takes its footprint: what it did with the cell at each lock that it asked for, in their
-/// order, is put behind the accesses that are there. The cells before the call are there twice, and both follow.
+/// Gives the cell that is held so back what another store holds there, where it may have changed.
+fn restore<A: Allocator + Copy>(
+    held: Held,
+    base: &Cells<A>,
+    cells: &mut Cells<A>,
+) -> Result<(), NoMemory>
+    requires settled { cells.old.unsettled ≡ finite.empty }
+    ensures cells { OnOk result (cells.new.cells ≡ restored held.mode held.lock base.now.cells cells.old.cells) }
+    ensures settled { cells.new.unsettled ≡ finite.empty }
+{
+    match held.mode {
+        Mode::Read => Ok(()),
+        Mode::Add | Mode::Excl => {
+            base.hold();
+            cells.set(held.lock, base.get(held.lock))
+        }
+    }
+}
+
+/// Gives the cells at these locks back what another store holds there, which holds the same elsewhere.
+fn restore_all<A: Allocator + Copy>(
+    locks: &[Held],
+    base: &Cells<A>,
+    cells: &mut Cells<A>,
+) -> Result<(), NoMemory>
+    requires settled { cells.old.unsettled ≡ finite.empty }
+    requires kept { AreSameBut (pairs locks.now) base.now.cells cells.old.cells }
+    ensures same { OnOk result (cells.new.cells ≡ base.now.cells) }
+    ensures settled { cells.new.unsettled ≡ finite.empty }
+{
+    for held in locks {
+        restore(*held, base, cells)?;
+    }
+    Ok(())
+}
+
+/// Runs a call over cells, by the rules of this version, and takes its footprint: what it did with the cell at each lock that it asked for, in their
+/// order, is put behind the accesses that are there. Then the cells are given back what they held, which `base` holds too.
 ///
 /// # Errors
 ///
@@ -134,28 +171,26 @@ pub fn take<A: Allocator + Copy>(
     alloc: A,
     contracts: &[Contract<A>],
     call: &Call,
-    before: &mut Cells<A>,
+    base: &Cells<A>,
     cells: &mut Cells<A>,
     accesses: &mut Vec<Access, A>,
     version: Version,
 ) -> Result<Executed<A>, NoMemory>
-    requires same { before.old.cells ≡ cells.old.cells }
+    requires same { base.now.cells ≡ cells.old.cells }
     requires settled { cells.old.unsettled ≡ finite.empty }
-    requires settled_before { before.old.unsettled ≡ finite.empty }
-    ensures footprint { IfOk result (λ e. IsFootprint (setting_view version contracts.now) call.now (map (access_at cells.old.cells cells.new.cells) (finite.entries e.touched)) e.receipt e.touched) }
-    ensures accesses { IfOk result (λ e. accesses.new.items ≡ accesses.old.items ++ map (access_at cells.old.cells cells.new.cells) (finite.entries e.touched)) }
-    ensures found { IfOk result (λ e. All (Agrees cells.old.cells) (map (access_at cells.old.cells cells.new.cells) (finite.entries e.touched))) }
-    ensures left { IfOk result (λ e. cells.new.cells ≡ all_left (map (access_at cells.old.cells cells.new.cells) (finite.entries e.touched)) cells.old.cells) }
-    ensures same { OnOk result (before.new.cells ≡ cells.new.cells) }
+    ensures footprint { IfOk result (λ e. IsFootprint (setting_view version contracts.now) call.now (behind accesses.old.items accesses.new.items) e.receipt e.touched) }
+    ensures told { IfOk result (λ e. behind accesses.old.items accesses.new.items ≡ map (access_at base.now.cells (all_left (behind accesses.old.items accesses.new.items) base.now.cells)) (finite.entries e.touched)) }
+    ensures found { IfOk result (λ _. All (Agrees base.now.cells) (behind accesses.old.items accesses.new.items)) }
+    ensures accesses { OnOk result (accesses.new.items ≡ accesses.old.items ++ behind accesses.old.items accesses.new.items) }
+    ensures cells { OnOk result (cells.new.cells ≡ base.now.cells) }
     ensures settled { cells.new.unsettled ≡ finite.empty }
-    ensures settled_before { before.new.unsettled ≡ finite.empty }
 {
     cells.hold();
     an_execution_has_a_footprint();
-    let first = accesses.len();
     let executed = execute(alloc, contracts, call, cells, version)?;
-    append_accesses(executed.touched.held(), before, cells, accesses)?;
-    leave_all(before, &accesses[first..])?;
+    let locks = executed.touched.held();
+    append_accesses(locks, base, cells, accesses)?;
+    restore_all(locks, base, cells)?;
     Ok(executed)
 }
 

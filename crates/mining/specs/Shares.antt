@@ -8,20 +8,19 @@ use Rattle.spec_ledger.specs.declared.Version.TheVariants.{Two}
 use Rattle.interp.specs.Lent.{setting_view}
 use Rattle.intake.specs.Intakes.{IsSeatOf}
 use Rattle.publish.specs.Publication.{Publication, IsSameJob}
+use Rattle.storage.specs.Counts.{Store}
 use Rattle.publish.specs.Footprints.{IsFootprintOf}
 use Rattle.mining.specs.declared.copies.CopyJob.{CopyJob}
-use Rattle.mining.specs.declared.copies.Own.{Own}
 use Rattle.mining.specs.declared.post.Post.{Post}
 use Rattle.mining.specs.declared.copies.Prepared.{Prepared}
 use Rattle.mining.specs.declared.copies.Share.{Share}
 use Rattle.mining.specs.declared.copies.Task.{Task}
 use Rattle.mining.specs.declared.leading.Led.{Led}
 
--- a worker's two stores have the same cells, in which nothing is unsettled
-pub record AreOwn {A : Type 0} (own : Own A) : Type 0 where
-  pub same : own.before.cells ≡ own.copy.cells
-  pub settled : own.copy.unsettled ≡ empty
-  pub settled_before : own.before.unsettled ≡ empty
+-- a worker's copy holds what the cells of the job hold, and nothing in it is unsettled
+pub record IsCopyOf {A P : Type 0} (job : CopyJob A P) (copy : Store) : Type 0 where
+  pub same : copy.cells ≡ job.cells.now.cells
+  pub settled : copy.unsettled ≡ empty
 
 -- among the accesses there is a footprint of the call of this number
 pub record IsPrepared {A : Type 0} (setting : Setting) (calls : List ContractCall) (accesses : List Access) (p : Prepared A) : Type 0 where

@@ -1,8 +1,8 @@
-// Workers that run calls each over a copy of the cells, which nobody else changes, and hand over the footprints.
+// Workers that run calls each over a copy of the cells, which nobody else changes and each call leaves as it was, and hand over the footprints.
 ghost use Rattle.std.specs.Prelude.{◌≡◌, ◌<◌, All, IfOk, IfSome, OnOk, length};
 ghost use Rattle.intake.specs.Intakes.{IsSeatOf};
 ghost use Rattle.handover.specs.Passes.{IsPassOf};
-ghost use Rattle.mining.specs.Shares.{AreOwn, DrawsCalls, IsPostOf, IsShareOf};
+ghost use Rattle.mining.specs.Shares.{DrawsCalls, IsCopyOf, IsPostOf, IsShareOf};
 
 use crate::attempt::told;
 use crate::post::Post;
@@ -84,13 +84,6 @@ pub(crate) struct Share<'a, A: Allocator> {
     pub(crate) set_aside: Vec<u32, A>,
 }
 
-/// A worker's cells: its copy, and the same cells without the call that runs, which follow it.
-#[derive(Drop)]
-struct Own<A: Allocator> {
-    copy: Cells<A>,
-    before: Cells<A>,
-}
-
 /// Draws the next call whose limit can be reserved, or that needs none reserved. Those before it are left out.
 pub(crate) fn draw<A: Allocator + Copy, R: Wait, P: Pace>(
     rt: &R,
@@ -124,17 +117,17 @@ fn none_yet<'a, A: Allocator + Copy>(alloc: A, task: Task<'a, A>) -> Result<Shar
     })
 }
 
-/// Runs a call over a worker's copy, and keeps its footprint.
+/// Runs a call over a worker's copy, keeps its footprint, and leaves the copy as it was.
 fn run_call<A: Allocator + Copy, P: Pace>(
     job: &CopyJob<'_, '_, A, P>,
-    own: &mut Own<A>,
+    copy: &mut Cells<A>,
     call: u32,
     share: &mut Share<'_, A>,
 ) -> Result<(), NoMemory>
     requires call { call < length job.now.task.calls.now }
-    requires own { AreOwn own.old }
+    requires copy { IsCopyOf job.now copy.old }
     requires prepared { IsShareOf job.now.task share.old }
-    ensures own { OnOk result (AreOwn own.new) }
+    ensures copy { OnOk result (IsCopyOf job.now copy.new) }
     ensures prepared { OnOk result (IsShareOf job.now.task share.new) }
 {
     let calls = job.task.calls;
@@ -143,8 +136,8 @@ fn run_call<A: Allocator + Copy, P: Pace>(
         job.alloc,
         job.task.contracts,
         &calls[call as usize],
-        &mut own.before,
-        &mut own.copy,
+        job.cells,
+        copy,
         &mut share.accesses,
         Version::Two,
     )?;
@@ -196,12 +189,12 @@ fn run_drawn<'a, A: Allocator + Copy, R: Wait, P: Pace>(
     rt: &R,
     job: &CopyJob<'_, '_, A, P>,
     mut post: Post<'_, 'a, A>,
-    own: &mut Own<A>,
+    copy: &mut Cells<A>,
     share: &mut Share<'a, A>,
 ) -> Result<(), NoMemory>
     requires calls { DrawsCalls job.now }
     requires post { IsPostOf job.now post }
-    requires own { AreOwn own.old }
+    requires copy { IsCopyOf job.now copy.old }
     requires prepared { IsShareOf job.now.task share.old }
     ensures { OnOk result (IsShareOf job.now.task share.new) }
 {
@@ -213,7 +206,7 @@ fn run_drawn<'a, A: Allocator + Copy, R: Wait, P: Pace>(
             share.set_aside.push(call)?;
             return Ok(());
         }
-        run_call(job, own, call, share)?;
+        run_call(job, copy, call, share)?;
         hand_over(job.alloc, &mut post, share)?;
     }
     Ok(())
@@ -230,12 +223,9 @@ fn work_on_copy<'a, A: Allocator + Copy, R: Wait, P: Pace>(
     ensures { IfOk result (IsShareOf job.now.task) }
 {
     make_room(job.alloc, job.task.calls.len())?;
-    let mut own = Own {
-        copy: job.cells.copy(job.alloc)?,
-        before: job.cells.copy(job.alloc)?,
-    };
+    let mut copy = job.cells.copy(job.alloc)?;
     let mut share = none_yet(job.alloc, post.line.key)?;
-    run_drawn(rt, job, post, &mut own, &mut share)?;
+    run_drawn(rt, job, post, &mut copy, &mut share)?;
     Ok(share)
 }
 

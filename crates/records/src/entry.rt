@@ -1,10 +1,11 @@
 //! Entries of lock profiles: the contract's number, the cell's kind, the key, the mode and the turn, 18 bytes.
 
-ghost use Rattle.std.specs.Prelude.{◌≡◌, ◌++◌, ℕ, List, IfOk, OnOk, take, length};
+ghost use Rattle.std.specs.Prelude.{◌≡◌, ◌≢◌, ◌++◌, ℕ, List, IfOk, OnOk, take, length, Err};
 ghost use Rattle.std.specs.Ordering.{is_lt};
 ghost use Rattle.spec_ledger.specs.Cells.{lock_cmp};
 ghost use Rattle.spec_ledger.specs.declared.Entry.{Entry};
 ghost use Rattle.spec_block.specs.Bytes.{entry_bytes, kind_code, mode_code};
+ghost use Rattle.records.specs.declared.fault.Fault.TheVariants.{NoMemory};
 ghost use Rattle.records.specs.Reading.{Gives, IsRead};
 ghost use Rattle.records.specs.Profiles.{kind_of, kind_at, mode_of, mode_at, is_after, lock_at, entry_at, IsEntryAfter};
 
@@ -25,7 +26,8 @@ fn kind_named(code: u8) -> Option<Kind>
 
 #[tactic(auto, unfolding(crate::specs::Profiles::kind_at))]
 fn kind_at_front(bytes: &[u8]) -> Result<(Kind, &[u8]), Fault>
-    ensures { Gives (λ x. (x.0, x.1.now)) result (kind_at bytes.now) }
+    ensures read { Gives (λ x. (x.0, x.1.now)) result (kind_at bytes.now) }
+    ensures memory { result ≢ Err NoMemory }
 {
     let (code, rest) = read_byte(bytes)?;
     match kind_named(code) {
@@ -47,7 +49,8 @@ fn mode_named(code: u8) -> Option<Mode>
 
 #[tactic(auto, unfolding(crate::specs::Profiles::mode_at))]
 fn mode_at_front(bytes: &[u8]) -> Result<(Mode, &[u8]), Fault>
-    ensures { Gives (λ x. (x.0, x.1.now)) result (mode_at bytes.now) }
+    ensures read { Gives (λ x. (x.0, x.1.now)) result (mode_at bytes.now) }
+    ensures memory { result ≢ Err NoMemory }
 {
     let (code, rest) = read_byte(bytes)?;
     match mode_named(code) {
@@ -73,7 +76,8 @@ fn comes_after(before: Option<Entry>, lock: Lock) -> bool
 
 #[tactic(auto, unfolding(crate::specs::Profiles::lock_at))]
 fn lock_of(before: Option<Entry>, bytes: &[u8]) -> Result<(Lock, &[u8]), Fault>
-    ensures { Gives (λ x. (x.0, x.1.now)) result (lock_at before bytes.now) }
+    ensures read { Gives (λ x. (x.0, x.1.now)) result (lock_at before bytes.now) }
+    ensures memory { result ≢ Err NoMemory }
 {
     let (contract, rest) = read_u32(bytes)?;
     let (kind, rest) = kind_at_front(rest)?;
@@ -91,7 +95,8 @@ fn lock_of(before: Option<Entry>, bytes: &[u8]) -> Result<(Lock, &[u8]), Fault>
 
 #[tactic(auto, unfolding(crate::specs::Profiles::entry_at))]
 fn entry_of(before: Option<Entry>, bytes: &[u8]) -> Result<(Entry, &[u8]), Fault>
-    ensures { Gives (λ x. (x.0, x.1.now)) result (entry_at before bytes.now) }
+    ensures read { Gives (λ x. (x.0, x.1.now)) result (entry_at before bytes.now) }
+    ensures memory { result ≢ Err NoMemory }
 {
     let (lock, rest) = lock_of(before, bytes)?;
     let (mode, rest) = mode_at_front(rest)?;
@@ -106,6 +111,7 @@ pub fn read_entry(before: Option<Entry>, bytes: &[u8]) -> Result<(Entry, &[u8]),
     ensures spelled { IfOk result (λ x. IsEntryAfter before x.0 × (bytes.now ≡ entry_bytes x.0 ++ x.1.now)) }
     ensures only { (entry : Entry) (rest : List ℕ) → IsEntryAfter before entry → bytes.now ≡ entry_bytes entry ++ rest → IsRead (λ x. (x.0, x.1.now)) result entry rest }
     ensures first { Gives (λ x. (x.0, x.1.now)) result (entry_at before bytes.now) }
+    ensures memory { result ≢ Err NoMemory }
 {
     entry_of(before, bytes)
 }

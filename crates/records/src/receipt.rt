@@ -1,8 +1,9 @@
 //! Receipts: the fuel used, from version 2 the levels entered, a byte for the outcome's kind, and what the kind has.
 
-ghost use Rattle.std.specs.Prelude.{◌≡◌, ◌++◌, ◌↔◌, ◌<◌, ◌^◌, ℕ, List, IfOk, OnOk, IsTrue, take, length};
+ghost use Rattle.std.specs.Prelude.{◌≡◌, ◌≢◌, ◌++◌, ◌↔◌, ◌<◌, ◌^◌, ℕ, List, IfOk, OnOk, IsTrue, take, length, Err};
 ghost use Rattle.spec_ledger.specs.declared.Receipt.{Receipt};
 ghost use Rattle.spec_block.specs.Bytes.{IsOutcome, asks_bytes, outcome_bytes, receipt_bytes, trap_code};
+ghost use Rattle.records.specs.declared.fault.Fault.TheVariants.{NoMemory};
 ghost use Rattle.records.specs.Reading.{Gives, IsRead};
 ghost use Rattle.records.specs.Values.{values_at, trap_of, trap_at, is_rejection, rejection_at, outcome_at, asks_at, receipt_at, IsReceiptIn};
 
@@ -14,7 +15,8 @@ use wtypes::{TrapCode, Value};
 
 #[tactic(auto, unfolding(crate::specs::Values::values_at, crate::specs::Values::values_by))]
 fn values_of(bytes: &[u8]) -> Result<(Option<Value>, &[u8]), Fault>
-    ensures { Gives (λ x. (x.0, x.1.now)) result (values_at bytes.now) }
+    ensures read { Gives (λ x. (x.0, x.1.now)) result (values_at bytes.now) }
+    ensures memory { result ≢ Err NoMemory }
 {
     let (count, rest) = read_byte(bytes)?;
     match count {
@@ -45,7 +47,8 @@ fn trap_named(code: u8) -> Option<TrapCode>
 
 #[tactic(auto, unfolding(crate::specs::Values::trap_at))]
 fn trap_at_front(bytes: &[u8]) -> Result<(TrapCode, &[u8]), Fault>
-    ensures { Gives (λ x. (x.0, x.1.now)) result (trap_at bytes.now) }
+    ensures read { Gives (λ x. (x.0, x.1.now)) result (trap_at bytes.now) }
+    ensures memory { result ≢ Err NoMemory }
 {
     let (code, rest) = read_byte(bytes)?;
     match trap_named(code) {
@@ -63,7 +66,8 @@ fn names_rejection(code: u8) -> bool
 
 #[tactic(auto, unfolding(crate::specs::Values::rejection_at))]
 fn rejection_of(bytes: &[u8]) -> Result<(u8, &[u8]), Fault>
-    ensures { Gives (λ x. (x.0, x.1.now)) result (rejection_at bytes.now) }
+    ensures read { Gives (λ x. (x.0, x.1.now)) result (rejection_at bytes.now) }
+    ensures memory { result ≢ Err NoMemory }
 {
     let (code, rest) = read_byte(bytes)?;
     if names_rejection(code) {
@@ -74,7 +78,8 @@ fn rejection_of(bytes: &[u8]) -> Result<(u8, &[u8]), Fault>
 
 #[tactic(auto, unfolding(crate::specs::Values::outcome_at, crate::specs::Values::outcome_by))]
 fn outcome_of(bytes: &[u8]) -> Result<(Outcome, &[u8]), Fault>
-    ensures { Gives (λ x. (x.0, x.1.now)) result (outcome_at bytes.now) }
+    ensures read { Gives (λ x. (x.0, x.1.now)) result (outcome_at bytes.now) }
+    ensures memory { result ≢ Err NoMemory }
 {
     let (kind, rest) = read_byte(bytes)?;
     match kind {
@@ -97,7 +102,8 @@ fn outcome_of(bytes: &[u8]) -> Result<(Outcome, &[u8]), Fault>
 
 #[tactic(auto, unfolding(crate::specs::Values::asks_at))]
 fn asks_of(version: Version, bytes: &[u8]) -> Result<(u32, &[u8]), Fault>
-    ensures { Gives (λ x. (x.0, x.1.now)) result (asks_at version bytes.now) }
+    ensures read { Gives (λ x. (x.0, x.1.now)) result (asks_at version bytes.now) }
+    ensures memory { result ≢ Err NoMemory }
 {
     match version {
         Version::One => Ok((0, bytes)),
@@ -107,7 +113,8 @@ fn asks_of(version: Version, bytes: &[u8]) -> Result<(u32, &[u8]), Fault>
 
 #[tactic(auto, unfolding(crate::specs::Values::receipt_at))]
 fn receipt_of(version: Version, bytes: &[u8]) -> Result<(Receipt, &[u8]), Fault>
-    ensures { Gives (λ x. (x.0, x.1.now)) result (receipt_at version bytes.now) }
+    ensures read { Gives (λ x. (x.0, x.1.now)) result (receipt_at version bytes.now) }
+    ensures memory { result ≢ Err NoMemory }
 {
     let (used, rest) = read_u64(bytes)?;
     let (asks, rest) = asks_of(version, rest)?;
@@ -128,6 +135,7 @@ pub fn read_receipt(version: Version, bytes: &[u8]) -> Result<(Receipt, &[u8]), 
     ensures spelled { IfOk result (λ x. IsReceiptIn version x.0 × (bytes.now ≡ receipt_bytes version x.0 ++ x.1.now)) }
     ensures only { (receipt : Receipt) (rest : List ℕ) → IsReceiptIn version receipt → bytes.now ≡ receipt_bytes version receipt ++ rest → IsRead (λ x. (x.0, x.1.now)) result receipt rest }
     ensures first { Gives (λ x. (x.0, x.1.now)) result (receipt_at version bytes.now) }
+    ensures memory { result ≢ Err NoMemory }
 {
     receipt_of(version, bytes)
 }

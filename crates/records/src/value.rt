@@ -1,8 +1,9 @@
 //! Values: a type byte, `7F` for 32 bits and `7E` for 64, and the bits.
 
-ghost use Rattle.std.specs.Prelude.{◌≡◌, ◌++◌, ℕ, List, IfOk, OnOk, take, length};
+ghost use Rattle.std.specs.Prelude.{◌≡◌, ◌≢◌, ◌++◌, ℕ, List, IfOk, OnOk, take, length, Err};
 ghost use Rattle.wtypes.specs.declared.Value.{Value};
 ghost use Rattle.spec_block.specs.Bytes.{IsValue, value_bytes};
+ghost use Rattle.records.specs.declared.fault.Fault.TheVariants.{NoMemory};
 ghost use Rattle.records.specs.Reading.{Gives, IsRead};
 ghost use Rattle.records.specs.Values.{value_at};
 
@@ -12,7 +13,8 @@ use wtypes::Value;
 
 #[tactic(auto, unfolding(crate::specs::Values::value_at))]
 fn value_of(bytes: &[u8]) -> Result<(Value, &[u8]), Fault>
-    ensures { Gives (λ x. (x.0, x.1.now)) result (value_at bytes.now) }
+    ensures read { Gives (λ x. (x.0, x.1.now)) result (value_at bytes.now) }
+    ensures memory { result ≢ Err NoMemory }
 {
     let (tag, rest) = read_byte(bytes)?;
     if tag == 0x7f {
@@ -31,6 +33,7 @@ pub fn read_value(bytes: &[u8]) -> Result<(Value, &[u8]), Fault>
     ensures spelled { IfOk result (λ x. IsValue x.0 × (bytes.now ≡ value_bytes x.0 ++ x.1.now)) }
     ensures only { (value : Value) (rest : List ℕ) → IsValue value → bytes.now ≡ value_bytes value ++ rest → IsRead (λ x. (x.0, x.1.now)) result value rest }
     ensures first { Gives (λ x. (x.0, x.1.now)) result (value_at bytes.now) }
+    ensures memory { result ≢ Err NoMemory }
 {
     value_of(bytes)
 }

@@ -2,7 +2,7 @@
 use Rattle.std.proofs.Common.{◌≡◌, ◌≢◌, ◌⊎◌, inl, inr, ℕ, ◌+◌, ◌-◌, ◌*◌, ◌/◌, ◌%◌, ◌^◌, ◌<◌, Bool, true, false, cond, Option, Some, None, List, [], ◌∷◌, map, refl, sym, ◌∙◌, ap, subst, arith}
 use Rattle.std.proofs.Math.Nat.{mod-add-mod, add-mul-mod_self_left, div-add-mod, mod-lt, mod-eq_of_lt}
 use Rattle.std.proofs.lemmas.List.Elements.{All-from_recursion, recursion_from_All}
-use Rattle.std.specs.Prelude.{All, T, ◌&&◌}
+use Rattle.std.specs.Prelude.{All, IfSome, T, ◌&&◌}
 use Rattle.std.specs.List.{AllByRecursion}
 use Rattle.std.specs.Ordering.{eq_by_cmp, is_eq, is_lt}
 use Rattle.std.specs.FinMap.{get, get-entries, entries, entries_sorted, find, is_sorted, same_map}
@@ -139,7 +139,7 @@ second false b h = absurd h
 
 -- ---- a counter's lock
 
-is_counter : (cells : Cells) (q : Lock) → AreCells cells → q.kind ≡ Counter → IsCounter (get cells q)
+pub is_counter : (cells : Cells) (q : Lock) → AreCells cells → q.kind ≡ Counter → IsCounter (get cells q)
 is_counter cells q are kind =
     let same : counter_at (record { contract = q.contract; key = q.key }) ≡ q = λ i. record { contract = q.contract; kind = sym kind i; key = q.key } in
     subst (λ l. IsCounter (get cells l)) same (are.counters (record { contract = q.contract; key = q.key }))
@@ -313,3 +313,13 @@ module _ (setting : Setting) (call : ContractCall) (X Y : Cells) (receipt : Rece
 
 pub found_all : (X Y : Cells) (locks : Modes) → All (Agrees X) (map (access_at X Y) (entries locks))
 found_all X Y locks = All-from_recursion (Agrees X) _ (all_found X Y (entries locks))
+
+keeps : (o : Option Mode) (k : Kind) (x y p : Option ℕ) → IfSome o (λ m. m ≡ Read) → left_at o k x y p ≡ p
+keeps None k x y p only = refl
+keeps (Some m) k x y p only = ap (λ n. left_by (use_of k n) x y p) only
+
+pub kept_at : (X Y P : Cells) (locks : Modes) (q : Lock) → IfSome (get locks q) (λ m. m ≡ Read) → get (all_left (map (access_at X Y) (entries locks)) P) q ≡ get P q
+kept_at X Y P locks q only =
+    lefts_at X Y (entries locks) (entries_sorted locks) P q
+    ∙ ap (λ o. left_at o q.kind (get X q) (get Y q) (get P q)) (sym (get-entries locks q))
+    ∙ keeps (get locks q) q.kind (get X q) (get Y q) (get P q) only

@@ -2,8 +2,10 @@
 //! "Adding Concurrency to Smart Contracts", PODC 2017, section 3: what a call does depends on the cells whose locks it holds, and on no others).
 #![tactic(auto)]
 
-ghost use Rattle.std.specs.Prelude.{◌≡◌, All, map};
-ghost use Rattle.std.specs.FinMap.{entries};
+ghost use Rattle.std.specs.Prelude.{◌≡◌, All, IfSome, map};
+ghost use Rattle.std.specs.FinMap.{entries, get};
+ghost use Rattle.spec_ledger.specs.declared.Lock.{Lock};
+ghost use Rattle.spec_ledger.specs.declared.Mode.TheVariants.{Read as Reading};
 ghost use Rattle.spec_ledger.specs.declared.Receipt.{Receipt};
 ghost use Rattle.spec_ledger.specs.Cells.{AreCells, Cells};
 ghost use Rattle.spec_ledger.specs.Modes.{Modes};
@@ -26,9 +28,10 @@ pub enum Access {
 }
 
 /// An execution over some cells has a footprint: over any other cells that agree with what it found, the call is executed with the same receipt and
-/// locks, and leaves what the footprint says.
+/// locks, and leaves what the footprint says. A cell whose lock the call did not ask for, or only to read it, is left as it was.
 pub fn an_execution_has_a_footprint()
     ensures footprint { (setting : Setting) (call : ContractCall) (before later : Cells) (receipt : Receipt) (locks : Modes) → AreCells before → Executes setting call before later receipt locks → IsFootprint setting call (map (access_at before later) (entries locks)) receipt locks }
     ensures found { (before later : Cells) (locks : Modes) → All (Agrees before) (map (access_at before later) (entries locks)) }
     ensures left { (setting : Setting) (call : ContractCall) (before later : Cells) (receipt : Receipt) (locks : Modes) → AreCells before → Executes setting call before later receipt locks → all_left (map (access_at before later) (entries locks)) before ≡ later }
+    ensures kept { (before later cells : Cells) (locks : Modes) (lock : Lock) → IfSome (get locks lock) (λ mode. mode ≡ Reading) → get (all_left (map (access_at before later) (entries locks)) cells) lock ≡ get cells lock }
 {}

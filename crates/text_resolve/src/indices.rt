@@ -1,9 +1,10 @@
 //! What indices stand for.
-ghost use Rattle.std.specs.Prelude.{◌≡◌, map, true};
+ghost use Rattle.std.specs.Prelude.{◌≡◌, ◌≢◌, ◌≤◌, ◌^◌, length, map, true, Err};
 ghost use Rattle.std.specs.List.{list_all};
 ghost use Rattle.spec_syntax.specs.Limits.{is_u32};
 ghost use Rattle.spec_text.specs.Spaces.{Names};
 ghost use Rattle.text_body.specs.Views.{index_of};
+ghost use Rattle.text_resolve.specs.declared.refusal.Unresolved.TheVariants.{NoMemory};
 ghost use Rattle.text_resolve.specs.Outcome.{Gives};
 ghost use Rattle.text_resolve.specs.Lookup.{find, u32_at, stands_at, all_stand_at};
 
@@ -16,14 +17,16 @@ use text_words::{Piece, unsigned_32};
 pub trait Finds {
     ghost names: { Self → Names };
 
-    /// The first index of a name.
+    /// The first index of a name. Want of memory is answered only where there are more names than numbers of 32 bits.
     fn find(&self, piece: Piece<'_>) -> Result<u32, Unresolved>
-        ensures { Gives (λ n. n) result (find piece.entry.text.now (names self.now)) };
+        ensures found { Gives (λ n. n) result (find piece.entry.text.now (names self.now)) }
+        ensures memory { result ≡ Err NoMemory → 2 ^ 32 ≤ length (names self.now) };
 }
 
 /// The number of a `u32`.
 pub fn number(piece: Piece<'_>) -> Result<u32, Unresolved>
-    ensures { Gives (λ n. n) result (u32_at piece.entry.text.now) }
+    ensures value { Gives (λ n. n) result (u32_at piece.entry.text.now) }
+    ensures memory { result ≢ Err NoMemory }
 {
     match unsigned_32(piece.text) {
         Some(n) => Ok(n),
@@ -31,9 +34,10 @@ pub fn number(piece: Piece<'_>) -> Result<u32, Unresolved>
     }
 }
 
-/// The number that an index stands for among names.
+/// The number that an index stands for among names. Want of memory is answered only where there are more names than numbers of 32 bits.
 pub fn index_in<N: Finds>(names: &N, index: Index<'_>) -> Result<u32, Unresolved>
-    ensures { Gives (λ n. n) result (stands_at (N.names names.now) (index_of index.entry)) }
+    ensures value { Gives (λ n. n) result (stands_at (N.names names.now) (index_of index.entry)) }
+    ensures memory { result ≡ Err NoMemory → 2 ^ 32 ≤ length (N.names names.now) }
 {
     match index {
         Index::Numbered(piece) => number(piece),

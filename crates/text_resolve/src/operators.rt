@@ -1,7 +1,8 @@
 //! What instructions need beside indices.
-ghost use Rattle.std.specs.Prelude.{◌≡◌};
+ghost use Rattle.std.specs.Prelude.{◌≡◌, ◌≢◌, Err};
 ghost use Rattle.text_body.specs.Views.{text_of};
 ghost use Rattle.text_words.specs.Values.{bits_at};
+ghost use Rattle.text_resolve.specs.declared.refusal.Unresolved.TheVariants.{NoMemory};
 ghost use Rattle.text_resolve.specs.Outcome.{Gives};
 ghost use Rattle.text_resolve.specs.Plain.{exponent_at, offset_at, align_at, constant_at};
 
@@ -25,7 +26,8 @@ fn exponent(n: u32) -> Option<u32>
 
 /// The offset of a load or a store.
 pub fn offset(written: Option<Piece<'_>>) -> Result<u32, Unresolved>
-    ensures { Gives (λ n. n) result (offset_at (text_of written.entry)) }
+    ensures value { Gives (λ n. n) result (offset_at (text_of written.entry)) }
+    ensures memory { result ≢ Err NoMemory }
 {
     match written {
         None => Ok(0),
@@ -35,7 +37,8 @@ pub fn offset(written: Option<Piece<'_>>) -> Result<u32, Unresolved>
 
 /// The exponent of the alignment of a load or a store of this width.
 pub fn align(width: u32, written: Option<Piece<'_>>) -> Result<u32, Unresolved>
-    ensures { Gives (λ n. n) result (align_at width (text_of written.entry)) }
+    ensures value { Gives (λ n. n) result (align_at width (text_of written.entry)) }
+    ensures memory { result ≢ Err NoMemory }
 {
     match written {
         None => match exponent(width) {
@@ -54,7 +57,8 @@ pub fn align(width: u32, written: Option<Piece<'_>>) -> Result<u32, Unresolved>
 
 // The number whose bits spell a constant of 32 bits.
 fn word_32(piece: Piece<'_>) -> Result<u32, Unresolved>
-    ensures { Gives (λ n. n) result (bits_at 32 piece.entry.text.now) }
+    ensures value { Gives (λ n. n) result (bits_at 32 piece.entry.text.now) }
+    ensures memory { result ≢ Err NoMemory }
 {
     match bits_32(piece.text) {
         Some(n) => Ok(n),
@@ -64,7 +68,8 @@ fn word_32(piece: Piece<'_>) -> Result<u32, Unresolved>
 
 // The number whose bits spell a constant of 64 bits.
 fn word_64(piece: Piece<'_>) -> Result<u64, Unresolved>
-    ensures { Gives (λ n. n) result (bits_at 64 piece.entry.text.now) }
+    ensures value { Gives (λ n. n) result (bits_at 64 piece.entry.text.now) }
+    ensures memory { result ≢ Err NoMemory }
 {
     match bits_64(piece.text) {
         Some(n) => Ok(n),
@@ -74,7 +79,8 @@ fn word_64(piece: Piece<'_>) -> Result<u64, Unresolved>
 
 /// The value of a constant.
 pub fn constant(value_type: ValType, piece: Piece<'_>) -> Result<Value, Unresolved>
-    ensures { Gives (λ c. c) result (constant_at value_type piece.entry.text.now) }
+    ensures value { Gives (λ c. c) result (constant_at value_type piece.entry.text.now) }
+    ensures memory { result ≢ Err NoMemory }
 {
     match value_type {
         ValType::I32 => {

@@ -1,9 +1,8 @@
-use Rattle.std.proofs.Common.{arith, refl, length, map}
-use Rattle.std.specs.FinMap.{entries}
+use Rattle.std.proofs.Common.{arith, refl, length}
 use Rattle.std.proofs.lemmas.Option.{slice_get_read}
-use Rattle.spec_footprint.specs.Footprints.{access_at}
 use Rattle.spec_ledger.specs.declared.Version.TheVariants.{Two}
 use Rattle.interp.specs.Lent.{setting_view}
+use Rattle.footprint.specs.Restored.{behind}
 use Rattle.mining.proofs.Shares.{one_more_prepared}
 use Rattle.mining.proofs.copies.run_call.Goals as goal
 
@@ -13,7 +12,8 @@ returns-clause-prepared g c =
     let calls = task.calls.now in
     let at = slice_get_read calls (length calls) c.args.call c.index-calls-call.result refl c.requires.call c.index-calls-call.is in
     let e = c.in_ok-executed.executed in
-    let own = map (access_at c.args.own.now.copy.cells c.take.new.cells.cells) (entries e.touched) in
-    one_more_prepared (setting_view Two task.contracts.now) calls c.args.share.now.accesses.items own c.take.new.accesses.items c.args.share.now.prepared.items c.push.new.self.items
+    let earlier = c.args.share.now.accesses.items in
+    let now = c.take.new.accesses.items in
+    one_more_prepared (setting_view Two task.contracts.now) calls earlier (behind earlier now) now c.args.share.now.prepared.items c.push.new.self.items
     (record { call = c.args.call; executed = e; from = c.len-from.result; until = c.len-until.result }) c.in_ok-push.ensures.items c.in_ok-executed.ensures.accesses c.requires.prepared (omega (arith, c.len-from.ensures, c.args.share.now.accesses.ok.0)) (omega (arith, c.len-until.ensures, c.take.new.accesses.ok.0))
     (record { call = c.index-calls-call.result; at = at; is = c.in_ok-executed.ensures.footprint })

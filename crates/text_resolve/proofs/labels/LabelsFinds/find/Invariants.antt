@@ -6,4 +6,4 @@ use Rattle.text_resolve.proofs.labels.LabelsFinds.find.Given as goal
 
 abbrev pub invariant-loop-label : goal.invariant-loop-label
 invariant-loop-label g l =
-    find l.piece.text.now (map text_of l.self.open.items) ≡ shifted l.next (first_at (is_name l.piece.text.now) (map text_of (drop l.label-index l.self.open.items)))
+    (l.next ≡ l.label-index) × (find l.piece.text.now (map text_of l.self.open.items) ≡ shifted l.next (first_at (is_name l.piece.text.now) (map text_of (drop l.label-index l.self.open.items))))
