@@ -12,17 +12,10 @@ pub const MANY: usize = 1_024;
 /// another.
 pub fn least_mean_on_copies(workers: u32) -> u64
     ensures one { workers ≤ 1 → result ≡ 5000 }
-    ensures two { workers ≡ 2 → result ≡ 64 }
-    ensures three { workers ≡ 3 → result ≡ 32 }
-    ensures more { 4 ≤ workers → result ≡ 16 }
+    ensures several { 2 ≤ workers → result ≡ 4 }
     ensures most { result ≤ 5000 }
 {
-    match workers {
-        0 | 1 => 5_000,
-        2 => 64,
-        3 => 32,
-        _ => 16,
-    }
+    if workers <= 1 { 5_000 } else { 4 }
 }
 
 /// The mean fuel of a call from which on this many workers over one book are taken to be faster than one thread, where no call waits for another.

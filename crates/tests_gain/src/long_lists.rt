@@ -34,19 +34,22 @@ use wtypes::Value::I64;
 ///           (br_if $again (i64.ne (local.get 1) (i64.const 0)))))
 ///       (func (export "vote") (param i64) (param i64)
 ///         (call $add (i64.const 7) (i64.const 1))
-///         (call $spin (local.get 0) (local.get 1))))
+///         (call $spin (local.get 0) (local.get 1)))
+///       (func (export "idle") (param i64) (param i64)
+///         (nop) (nop) (nop)))
 ///
-/// A call of `spin` costs 9 for each round, the `loop` among them, and 6 besides.
+/// A call of `spin` costs 9 for each round, the `loop` among them, and 6 besides, one of `idle` 3.
 pub(crate) const SPIN: &[u8] = &[
     0x00, 0x61, 0x73, 0x6d, 0x01, 0x00, 0x00, 0x00, 0x01, 0x0b, 0x02, 0x60, 0x01, 0x7e, 0x01, 0x7e,
     0x60, 0x02, 0x7e, 0x7e, 0x00, 0x02, 0x25, 0x03, 0x05, 0x62, 0x6f, 0x6f, 0x73, 0x74, 0x03, 0x67,
     0x65, 0x74, 0x00, 0x00, 0x05, 0x62, 0x6f, 0x6f, 0x73, 0x74, 0x03, 0x70, 0x75, 0x74, 0x00, 0x01,
-    0x05, 0x62, 0x6f, 0x6f, 0x73, 0x74, 0x03, 0x61, 0x64, 0x64, 0x00, 0x01, 0x03, 0x03, 0x02, 0x01,
-    0x01, 0x07, 0x0f, 0x02, 0x04, 0x73, 0x70, 0x69, 0x6e, 0x00, 0x03, 0x04, 0x76, 0x6f, 0x74, 0x65,
-    0x00, 0x04, 0x0a, 0x2f, 0x02, 0x1e, 0x00, 0x20, 0x00, 0x20, 0x00, 0x10, 0x00, 0x42, 0x01, 0x7c,
-    0x10, 0x01, 0x03, 0x40, 0x20, 0x01, 0x42, 0x01, 0x7d, 0x21, 0x01, 0x20, 0x01, 0x42, 0x00, 0x52,
-    0x0d, 0x00, 0x0b, 0x0b, 0x0e, 0x00, 0x42, 0x07, 0x42, 0x01, 0x10, 0x02, 0x20, 0x00, 0x20, 0x01,
-    0x10, 0x03, 0x0b,
+    0x05, 0x62, 0x6f, 0x6f, 0x73, 0x74, 0x03, 0x61, 0x64, 0x64, 0x00, 0x01, 0x03, 0x04, 0x03, 0x01,
+    0x01, 0x01, 0x07, 0x16, 0x03, 0x04, 0x73, 0x70, 0x69, 0x6e, 0x00, 0x03, 0x04, 0x76, 0x6f, 0x74,
+    0x65, 0x00, 0x04, 0x04, 0x69, 0x64, 0x6c, 0x65, 0x00, 0x05, 0x0a, 0x35, 0x03, 0x1e, 0x00, 0x20,
+    0x00, 0x20, 0x00, 0x10, 0x00, 0x42, 0x01, 0x7c, 0x10, 0x01, 0x03, 0x40, 0x20, 0x01, 0x42, 0x01,
+    0x7d, 0x21, 0x01, 0x20, 0x01, 0x42, 0x00, 0x52, 0x0d, 0x00, 0x0b, 0x0b, 0x0e, 0x00, 0x42, 0x07,
+    0x42, 0x01, 0x10, 0x02, 0x20, 0x00, 0x20, 0x01, 0x10, 0x03, 0x0b, 0x05, 0x00, 0x01, 0x01, 0x01,
+    0x0b,
 ];
 
 /// The fuel of a block that has room for all calls.
@@ -93,21 +96,11 @@ const ROWS: &[Row] = &[
         again: 0,
     },
     Row {
-        name: "many calls of 15 have none of four",
+        name: "many calls of 15 have four on copies",
         calls: 1_024,
         cells: 1_024,
         others: 0,
         rounds: 1,
-        workers: 4,
-        by: Who::Caller,
-        again: 1_024,
-    },
-    Row {
-        name: "many calls of 24 have four on copies",
-        calls: 1_024,
-        cells: 1_024,
-        others: 0,
-        rounds: 2,
         workers: 4,
         by: Who::OnCopies,
         again: 1_024,
@@ -193,21 +186,11 @@ const ROWS: &[Row] = &[
         again: 0,
     },
     Row {
-        name: "many calls of 24 have none of three",
+        name: "many calls of 15 have three on copies",
         calls: 1_024,
         cells: 1_024,
         others: 0,
-        rounds: 2,
-        workers: 3,
-        by: Who::Caller,
-        again: 1_024,
-    },
-    Row {
-        name: "many calls of 33 have three on copies",
-        calls: 1_024,
-        cells: 1_024,
-        others: 0,
-        rounds: 3,
+        rounds: 1,
         workers: 3,
         by: Who::OnCopies,
         again: 1_024,
@@ -233,21 +216,11 @@ const ROWS: &[Row] = &[
         again: 0,
     },
     Row {
-        name: "many calls of 60 have none of two",
+        name: "many calls of 15 have two on copies",
         calls: 1_024,
         cells: 1_024,
         others: 0,
-        rounds: 6,
-        workers: 2,
-        by: Who::Caller,
-        again: 1_024,
-    },
-    Row {
-        name: "many calls of 69 have two on copies",
-        calls: 1_024,
-        cells: 1_024,
-        others: 0,
-        rounds: 7,
+        rounds: 1,
         workers: 2,
         by: Who::OnCopies,
         again: 1_024,
@@ -503,6 +476,26 @@ fn rows_of<R: Abort + Threads + Wait + Sync>(
 #[test]
 fn workers_run_what_they_run_faster(rt: HostRuntime) -> Result<(), Fail> {
     rows_of(&rt, rt.alloc(), ROWS)
+}
+
+/// Calls that do nothing.
+const IDLE: Row = Row {
+    name: "many calls of 3 have none of four",
+    calls: 1_024,
+    cells: 1_024,
+    others: 0,
+    rounds: 1,
+    workers: 4,
+    by: Who::Caller,
+    again: 1_024,
+};
+
+/// The shortest calls have no workers.
+#[test]
+fn the_shortest_calls_are_run_by_the_caller(rt: HostRuntime) -> Result<(), Fail> {
+    let came = ran(&rt, rt.alloc(), &IDLE, "idle", &counting(false))?;
+    equal(&rt, &IDLE.name, &came, &(IDLE.by, 0, Some(IDLE.again)));
+    Ok(())
 }
 
 /// Two calls on each of 511 cells, and two that have one to themselves.
