@@ -17,7 +17,7 @@ use text_words::{Piece, unsigned_32};
 pub trait Finds {
     ghost names: { Self → Names };
 
-    /// The first index of a name. Want of memory is answered only where there are more names than numbers of 32 bits.
+    /// The first index of a name. Want of memory is answered only where there are 2^32 names or more.
     fn find(&self, piece: Piece<'_>) -> Result<u32, Unresolved>
         ensures found { Gives (λ n. n) result (find piece.entry.text.now (names self.now)) }
         ensures memory { result ≡ Err NoMemory → 2 ^ 32 ≤ length (names self.now) };
@@ -34,7 +34,7 @@ pub fn number(piece: Piece<'_>) -> Result<u32, Unresolved>
     }
 }
 
-/// The number that an index stands for among names. Want of memory is answered only where there are more names than numbers of 32 bits.
+/// The number that an index stands for among names. Want of memory is answered only where there are 2^32 names or more.
 pub fn index_in<N: Finds>(names: &N, index: Index<'_>) -> Result<u32, Unresolved>
     ensures value { Gives (λ n. n) result (stands_at (N.names names.now) (index_of index.entry)) }
     ensures memory { result ≡ Err NoMemory → 2 ^ 32 ≤ length (N.names names.now) }
