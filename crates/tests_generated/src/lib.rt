@@ -1,4 +1,4 @@
-//! Tests of a thousand generated modules: the text of each, assembled, is the shortest spelling of that module. There is no code here.
+//! Tests of a thousand generated modules: a copy of each, and its text, assembled, have the shortest spelling of that module. There is no code here.
 #![tactic(auto)]
 
 #[cfg(test)]

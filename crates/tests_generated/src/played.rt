@@ -1,4 +1,4 @@
-// A thousand modules, written as text and assembled again.
+// A thousand modules, copied, and written as text and assembled again.
 use crate::bodies::{ACCESSES, BARE, NUMBERED, OPENINGS, OTHERS, SIZES};
 use crate::modules::{SECTION_NUMBERS, module};
 use crate::source::{EXPORTS, IMPORTS, NAMES, SECTIONS, Source, THINGS};
@@ -13,12 +13,14 @@ use std::test::Fail;
 /// What comes of a module.
 #[derive(Clone, Copy, Debug, PartialEq, Eq)]
 enum Fate {
-    /// Its text, assembled, is the very bytes that were made.
+    /// Its copy, and its text, assembled, are the very bytes that were made.
     Same,
     /// It is not loaded.
     Unloaded,
     /// It is not its own shortest spelling.
     Longer,
+    /// A copy of it is spelled otherwise.
+    Miscopied,
     /// It gets no text.
     Unwritten,
     /// The text is refused.
@@ -36,6 +38,12 @@ fn outcome_of(a: Global, bytes: &[u8]) -> Result<Fate, Fail> {
     encode(&tree, &mut spelled)?;
     if spelled.as_slice() != bytes {
         return Ok(Fate::Longer);
+    }
+    let copy = tree.copy_in(a)?;
+    let mut copied = Vec::new(a);
+    encode(&copy, &mut copied)?;
+    if copied.as_slice() != bytes {
+        return Ok(Fate::Miscopied);
     }
     let Ok(text) = text_of(a, &tree) else {
         return Ok(Fate::Unwritten);
