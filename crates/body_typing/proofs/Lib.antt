@@ -2,4 +2,3 @@ pub mod Blocks
 pub mod Imports
 pub mod Leaves
 pub mod NoneKnown
-pub mod Placed

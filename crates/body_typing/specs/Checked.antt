@@ -1,8 +1,7 @@
 -- What a call of the checker says.
-use Rattle.std.specs.Prelude.{◌≡◌, ℕ, ◌-◌, ◌++◌, length, slice_get, List, Option, Some, None, Result, Ok, Err, map, reverse}
+use Rattle.std.specs.Prelude.{◌≡◌, ◌++◌, List, Option, Some, None, Result, Ok, Err, map, reverse}
 use Rattle.wtypes.specs.declared.ValType.{ValType}
 use Rattle.wtypes.specs.declared.FuncType.{FuncType}
-use Rattle.spec_syntax.specs.Syntax.{Func, Module}
 use Rattle.spec_typing.specs.Typing.{Context}
 use Rattle.spec_typing.specs.Modules as modules
 use Rattle.spec_typing.specs.Modules.{type_at, is_not_empty}
@@ -22,10 +21,6 @@ spaces_view types s = record {
   has_memory = is_not_empty (map limits_view s.memories.items);
   globals = map global_type_view s.globals.items;
 }
-
--- the body of the function of this number is typed; imports count first
-abbrev pub IsBodyTyped : Module → ℕ → Type 0
-IsBodyTyped m func = (f : Func) × (slice_get m.funcs (func - length (modules.imported_funcs m)) ≡ Some f) × modules.BodyTyped (modules.spaces_of m) f
 
 -- the context in blocks with these labels, the innermost last
 abbrev pub context_at : {A W : _} → Scope A W → List (Option ValType) → Context

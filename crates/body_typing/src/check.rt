@@ -1,14 +1,13 @@
 // The check of a body.
 
-ghost use Rattle.std.specs.Prelude.{◌≡◌, ◌<◌, ◌≤◌, All, ◌∷◌, [], length, Some, Option, OnOk, IsTrue, false, option_and_then, map};
+ghost use Rattle.std.specs.Prelude.{◌≡◌, ◌<◌, ◌∷◌, [], length, Some, Option, OnOk, IsTrue, false, option_and_then, map};
 ghost use Rattle.wtypes.specs.declared.ValType.{ValType};
 ghost use Rattle.spec_typing.specs.Typing.{Context, of, in_block};
-ghost use Rattle.spec_typing.specs.Modules.{BodyTyped, type_at, result_of, imported_funcs, func_type_indices};
+ghost use Rattle.spec_typing.specs.Modules.{BodyTyped, type_at, result_of};
 ghost use Rattle.spec_typing.specs.Principal.{Stack, empty, arrow, step, run, ends, guard};
 ghost use Rattle.module_tree.specs.View.{instr_view, instrs_view};
 ghost use Rattle.module_tree.specs.ModuleView.{func_view, func_type_view};
-ghost use Rattle.module_tree.specs.Modules.{module_view};
-ghost use Rattle.body_typing.specs.Checked.{IsBodyTyped, spaces_view, context_at, Meets, Gives, Tells};
+ghost use Rattle.body_typing.specs.Checked.{spaces_view, context_at, Meets, Gives, Tells};
 
 use crate::operands::Operands;
 use crate::plain::{Place, check_plain, check_table, refused};
@@ -16,7 +15,7 @@ use crate::rule::Rule;
 use crate::scope::{Scope, TypeRefusal};
 use crate::spaces::Spaces;
 use module_tree::instr::Instr;
-use module_tree::module::{Func, Module};
+use module_tree::module::Func;
 use std::alloc::{AllocError, Allocator};
 use wtypes::{FuncType, ValType};
 
@@ -173,21 +172,4 @@ pub fn check_func<A: Allocator, W: Allocator + Clone>(
             }
         }
     }
-}
-
-/// Checks the body of the function of this number, imports counted first, in a module whose parts but the bodies have
-/// passed. A refusal is the first fault of the body.
-pub fn check_body<A: Allocator, W: Allocator + Clone>(
-    alloc: &W,
-    tree: &Module<A>,
-    func: u32,
-) -> Result<(), TypeRefusal>
-    requires defined { length (imported_funcs (module_view tree.now)) ≤ func }
-    requires there { func < length (func_type_indices (module_view tree.now)) }
-    requires types { All (λ index. index < length (module_view tree.now).types) (func_type_indices (module_view tree.now)) }
-    ensures { Tells result (IsBodyTyped (module_view tree.now) func) }
-{
-    let spaces = Spaces::of_module(alloc, tree)?;
-    let place = func as usize - spaces.imported_funcs;
-    check_func(alloc, &tree.types, &spaces, &tree.funcs[place], func)
 }

@@ -5,3 +5,4 @@ pub mod judgement;
 pub mod prefixes;
 pub mod publication;
 pub mod sealing;
+pub mod speculating;

@@ -6,7 +6,7 @@ ghost use Rattle.spec_ledger.specs.declared.Version.TheVariants.{Two};
 ghost use Rattle.interp.specs.Lent.{setting_view};
 ghost use Rattle.publish.specs.Publication.{MayFollow, HasTaken, IsSameJob, HasGoneOn, Sweep, limits, AreLeft, fuel_used};
 ghost use Rattle.publish.specs.Adoption.{AreMade, MayFollowBy, ran_by};
-ghost use Rattle.publish.specs.Footprints.{IsFootprintOf};
+ghost use Rattle.footprint.specs.Calls.{IsFootprintOf};
 ghost use Rattle.spec_footprint.specs.Footprints.{Agrees};
 ghost use Rattle.spec_ledger.specs.Book.{GetsReplies, IsDefined, settled};
 ghost use Rattle.spec_ledger.specs.Order.{IsAdmissible};

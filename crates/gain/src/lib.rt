@@ -3,10 +3,10 @@
 //! nothing. No fact rests on them: they decide who runs the calls, never what the calls come to.
 #![tactic(auto)]
 
-ghost use Rattle.std.specs.Prelude.{◌≡◌, ◌≤◌, ◌<◌, ◌+◌, ◌*◌, ◌↔◌, ℕ, [], All, Contains, IsTrue};
+ghost use Rattle.std.specs.Prelude.{◌≡◌, ◌≤◌, ◌<◌, ◌+◌, ◌*◌, ◌/◌, ◌↔◌, ℕ, [], All, Contains, IsTrue, min};
 
 /// From how many calls on it is asked whether workers pay. Fewer are soon run by anyone.
-pub const MANY: usize = 1_024;
+pub const MANY: usize = 512;
 
 /// The mean fuel of a call from which on this many workers, each over a copy of the cells, are taken to be faster than one thread, where no call waits for
 /// another.
@@ -56,6 +56,24 @@ pub fn are_few(cells: usize, calls: u32, workers: u32) -> bool
     ensures { IsTrue result ↔ (cells * workers ≤ 4 * calls) }
 {
     cells as u128 * u128::from(workers) <= 4 * u128::from(calls)
+}
+
+/// As how many calls one counts beside the cells that are copied, where so many use so much fuel together: one more for each 128
+/// that a call uses on average, and at most 16.
+pub fn weight(calls: u32, fuel: u64) -> u32
+    requires { 1 ≤ calls }
+    ensures value { result ≡ 1 + min (fuel / (128 * calls)) 15 }
+    ensures most { result ≤ 16 }
+{
+    let more = fuel / (128 * u64::from(calls));
+    if more < 15 { 1 + more as u32 } else { 16 }
+}
+
+/// Whether of so many calls so many wait for none of the others that it pays to run these ahead, however short they are: two thirds of them.
+pub fn are_apart(calls: u32, apart: u32) -> bool
+    ensures { IsTrue result ↔ (2 * calls ≤ 3 * apart) }
+{
+    2 * u64::from(calls) <= 3 * u64::from(apart)
 }
 
 /// The number of waves in which calls run that are in these waves, counted from 0: one more than the last.

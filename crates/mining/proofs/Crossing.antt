@@ -9,9 +9,6 @@ use Rattle.std.specs.contracts.result.Result as result_row
 use Rattle.std.proofs.CrossingOver as over
 use Rattle.wtypes.specs.contracts.NoMemory as no_memory_row
 use Rattle.lock_profile.specs.contracts.Touched as touched_row
-use Rattle.lock_profile.proofs.Held.TheSendSync as held
-use Rattle.spec_footprint.proofs.Access.TheSendSync as access
-use Rattle.serial.specs.contracts.Executed as executed_row
 use Rattle.intake.specs.contracts.intake.Intake as intake_row
 use Rattle.intake.proofs.intake.Intake.TheSendSync as intake
 use Rattle.intake.proofs.seat.Seat.TheSendSync as seat
@@ -26,17 +23,18 @@ use Rattle.shards.proofs.gate.NoGate.TheSendSync as gate
 use Rattle.shards.proofs.Crossing as book
 use Rattle.serial_block.proofs.Crossing.{crosses, vec_send, contract_sync, contracts_send, cells_sync, finished_send}
 use Rattle.mining.proofs.brake.Brake.TheSendSync as brake
+use Rattle.speculation.specs.contracts.Share as share_row
+use Rattle.speculation.specs.contracts.Task as task_row
+use Rattle.speculation.proofs.Crossing as kept
 use Rattle.mining.specs.contracts.attempt.Committed as committed_row
 use Rattle.mining.specs.contracts.attempt.Job as job_row
 use Rattle.mining.specs.contracts.copies.CopyJob as copy_job_row
-use Rattle.mining.specs.contracts.copies.Share as share_row
-use Rattle.mining.specs.contracts.copies.Task as task_row
 use Rattle.mining.specs.contracts.post.Post as post_row
 use Rattle.mining.specs.contracts.worker.Worked as worked_row
 
 module _ (B : RattleType) (g : Ghosts B.Denot) (send : IsSend B) (sync : IsSync B) (frees : Frees g g.dealloc_token) where
   touched_send : IsSend (touched_row.the_row B g)
-  touched_send = let vec = vec_send B g send sync frees in search (crosses, held.the_send, vec) depth 60 fits 100000
+  touched_send = kept.touched_send B g send sync frees
 
   committed_send : (a : NamedLft) → IsSend (committed_row.the_row a B g)
   committed_send a = let finished = finished_send B g send sync frees in search (crosses, finished, touched_send) depth 60 fits 100000
@@ -48,32 +46,12 @@ module _ (B : RattleType) (g : Ghosts B.Denot) (send : IsSend B) (sync : IsSync 
   pub handed_send : (a : NamedLft) → IsSend (result_row.the_row (worked_row.the_row a B g) no_memory_row.the_row)
   handed_send a = search (crosses, worked_send) depth 60 fits 100000
 
-  executed_send : IsSend (executed_row.the_row B g)
-  executed_send = search (crosses, over.crosses, touched_send) depth 60 fits 100000
-
-  -- and so may what a worker over a copy hands back
-  pub share_send : (a : NamedLft) → IsSend (share_row.the_row a B g)
-  share_send a =
-      let vec = vec_send B g send sync frees in
-      let contracts = contracts_send B g send sync frees in
-      search (crosses, over.crosses, vec, contracts, access.the_send, executed_send) depth 60 fits 100000
-
-  task_sync : (a : NamedLft) → IsSync (task_row.the_row a B g)
-  task_sync a =
-      let contract = contract_sync B g send sync frees in
-      declared_sync (task_row.the_type a B g) (search (crosses, contract) depth 60 fits 100000, (search crosses depth 60 fits 100000, tt))
-
-  task_send : (a : NamedLft) → IsSend (task_row.the_row a B g)
-  task_send a =
-      let contracts = contracts_send B g send sync frees in
-      search (crosses, over.crosses, contracts) depth 60 fits 100000
-
   -- threads may share the queue of a job
   line_sync : (a : NamedLft) (F : RattleType) (f : fact.Ghosts F.Denot (task_row.the_row a B g).Denot (share_row.the_row a B g).Denot) → IsSync (line_row.the_row (task_row.the_row a B g) (share_row.the_row a B g) F B f g)
-  line_sync a F f = line.the_sync (task_row.the_row a B g) (share_row.the_row a B g) F B f g (task_send a) (share_send a) send (task_sync a) sync frees
+  line_sync a F f = line.the_sync (task_row.the_row a B g) (share_row.the_row a B g) F B f g (kept.task_send B g send sync frees a) (kept.share_send B g send sync frees a) send (kept.task_sync B g send sync frees a) sync frees
 
   pass_send : (a : NamedLft) → IsSend (pass_row.the_row (task_row.the_row a B g) (share_row.the_row a B g))
-  pass_send a = pass.the_send (task_row.the_row a B g) (share_row.the_row a B g) (task_send a) (share_send a)
+  pass_send a = pass.the_send (task_row.the_row a B g) (share_row.the_row a B g) (kept.task_send B g send sync frees a) (kept.share_send B g send sync frees a)
 
   -- and a post may go to its thread
   pub post_send : (a b : NamedLft) → IsSend (post_row.the_row a b B g)
@@ -113,7 +91,7 @@ module _ (B : RattleType) (g : Ghosts B.Denot) (send : IsSend B) (sync : IsSync 
       declared_sync (copy_job_row.the_type a b B P g) (
         as_row_sync (row_field B) sync,
         (
-          task_sync b,
+          kept.task_sync B g send sync frees b,
           (
             search (crosses, cells) depth 60 fits 100000,
             (

@@ -2,6 +2,5 @@ pub mod Crossing
 pub mod Jobs
 pub mod Orders
 pub mod Runs
-pub mod Shares
 pub mod Seats
 pub mod Ties

@@ -2,20 +2,17 @@
 ghost use Rattle.std.specs.Prelude.{◌≡◌, ◌<◌, All, IfOk, IfSome, OnOk, length};
 ghost use Rattle.intake.specs.Intakes.{IsSeatOf};
 ghost use Rattle.handover.specs.Passes.{IsPassOf};
-ghost use Rattle.mining.specs.Shares.{DrawsCalls, IsCopyOf, IsPostOf, IsShareOf};
+ghost use Rattle.speculation.specs.Shares.{IsCopyOf, IsShareOf};
+ghost use Rattle.mining.specs.Shares.{DrawsCalls, IsPostOf};
 
 use crate::attempt::told;
 use crate::post::Post;
 use crate::worker::make_room;
-use call::Call;
-use footprint::take;
 use handover::{Fact, Handover, Pass};
 use intake::{Intake, Seat};
-use link::deployed::Deployed as Contract;
 use pace::{Pace, Step};
-use serial::Executed;
-use spec_footprint::Access;
-use spec_ledger::{NoMemory, Version};
+use spec_ledger::NoMemory;
+use speculation::{Share, Task, begin, prepare};
 use std::alloc::Allocator;
 use std::sync::Wait;
 use std::thread::Threads;
@@ -24,13 +21,6 @@ use storage::Cells;
 
 /// How many calls a worker runs before it hands them over.
 const BATCH: usize = 64;
-
-/// What is to be run: calls, over contracts.
-#[derive(Clone, Copy)]
-pub(crate) struct Task<'a, A: Allocator> {
-    pub(crate) contracts: &'a [Contract<A>],
-    pub(crate) calls: &'a [Call],
-}
 
 /// Where the workers hand over what they ran.
 pub(crate) type Line<'a, A> = Handover<Task<'a, A>, Share<'a, A>, Footprints, A>;
@@ -42,7 +32,7 @@ pub(crate) type LinePass<'a, A> = Pass<Task<'a, A>, Share<'a, A>>;
 pub(crate) struct Footprints;
 
 impl<'a, A: Allocator> Fact<Task<'a, A>, Share<'a, A>> for Footprints {
-    ghost use Rattle.mining.specs.Shares.{IsShareOf};
+    ghost use Rattle.speculation.specs.Shares.{IsShareOf};
 
     ghost holds = { IsShareOf };
 }
@@ -58,30 +48,6 @@ pub(crate) struct CopyJob<'s, 'a, A: Allocator, P: Pace> {
     pub(crate) pace: &'s P,
     /// Whether the limits of all calls are together within the block's fuel, so that none need be reserved.
     pub(crate) is_ample: bool,
-}
-
-/// A call that a worker has run over its copy, and which of the worker's accesses are its footprint.
-#[derive(Drop)]
-pub(crate) struct Prepared<A: Allocator> {
-    pub(crate) call: u32,
-    pub(crate) executed: Executed<A>,
-    /// How many accesses come before its own.
-    pub(crate) from: usize,
-    /// How many there are with its own.
-    pub(crate) until: usize,
-}
-
-/// What a worker hands over, and the contracts that the calls ran over. (Without the contracts at their side no proof was found that it may go to
-/// another thread.)
-#[derive(Drop)]
-pub(crate) struct Share<'a, A: Allocator> {
-    pub(crate) contracts: &'a [Contract<A>],
-    /// The calls that it ran.
-    pub(crate) prepared: Vec<Prepared<A>, A>,
-    /// What they did with cells, one call's accesses after another's.
-    pub(crate) accesses: Vec<Access, A>,
-    /// The call at which it was stopped.
-    pub(crate) set_aside: Vec<u32, A>,
 }
 
 /// Draws the next call whose limit can be reserved, or that needs none reserved. Those before it are left out.
@@ -105,52 +71,6 @@ pub(crate) fn draw<A: Allocator + Copy, R: Wait, P: Pace>(
     None
 }
 
-/// A share of no calls, with room for a batch.
-fn none_yet<'a, A: Allocator + Copy>(alloc: A, task: Task<'a, A>) -> Result<Share<'a, A>, NoMemory>
-    ensures { IfOk result (IsShareOf task.entry) }
-{
-    Ok(Share {
-        contracts: task.contracts,
-        prepared: Vec::with_capacity(alloc, BATCH)?,
-        accesses: Vec::with_capacity(alloc, BATCH)?,
-        set_aside: Vec::new(alloc),
-    })
-}
-
-/// Runs a call over a worker's copy, keeps its footprint, and leaves the copy as it was.
-fn run_call<A: Allocator + Copy, P: Pace>(
-    job: &CopyJob<'_, '_, A, P>,
-    copy: &mut Cells<A>,
-    call: u32,
-    share: &mut Share<'_, A>,
-) -> Result<(), NoMemory>
-    requires call { call < length job.now.task.calls.now }
-    requires copy { IsCopyOf job.now copy.old }
-    requires prepared { IsShareOf job.now.task share.old }
-    ensures copy { OnOk result (IsCopyOf job.now copy.new) }
-    ensures prepared { OnOk result (IsShareOf job.now.task share.new) }
-{
-    let calls = job.task.calls;
-    let from = share.accesses.len();
-    let executed = take(
-        job.alloc,
-        job.task.contracts,
-        &calls[call as usize],
-        job.cells,
-        copy,
-        &mut share.accesses,
-        Version::Two,
-    )?;
-    let until = share.accesses.len();
-    share.prepared.push(Prepared {
-        call,
-        executed,
-        from,
-        until,
-    })?;
-    Ok(())
-}
-
 /// Hands a batch over where it is full, or keeps it where nothing more can be handed over now.
 fn hand_over<'a, A: Allocator + Copy>(
     alloc: A,
@@ -165,7 +85,7 @@ fn hand_over<'a, A: Allocator + Copy>(
     if share.prepared.len() % BATCH != 0 {
         return Ok(());
     }
-    let full = mem::replace(share, none_yet(alloc, post.line.key)?);
+    let full = mem::replace(share, begin(alloc, post.line.key, BATCH)?);
     if let Err(back) = post.line.give(&mut post.pass, full) {
         *share = back;
     }
@@ -194,7 +114,7 @@ fn run_drawn<'a, A: Allocator + Copy, R: Wait, P: Pace>(
 ) -> Result<(), NoMemory>
     requires calls { DrawsCalls job.now }
     requires post { IsPostOf job.now post }
-    requires copy { IsCopyOf job.now copy.old }
+    requires copy { IsCopyOf job.now.cells.now copy.old }
     requires prepared { IsShareOf job.now.task share.old }
     ensures { OnOk result (IsShareOf job.now.task share.new) }
 {
@@ -206,7 +126,7 @@ fn run_drawn<'a, A: Allocator + Copy, R: Wait, P: Pace>(
             share.set_aside.push(call)?;
             return Ok(());
         }
-        run_call(job, copy, call, share)?;
+        prepare(job.alloc, &job.task, job.cells, copy, call, share)?;
         hand_over(job.alloc, &mut post, share)?;
     }
     Ok(())
@@ -224,7 +144,7 @@ fn work_on_copy<'a, A: Allocator + Copy, R: Wait, P: Pace>(
 {
     make_room(job.alloc, job.task.calls.len())?;
     let mut copy = job.cells.copy(job.alloc)?;
-    let mut share = none_yet(job.alloc, post.line.key)?;
+    let mut share = begin(job.alloc, post.line.key, BATCH)?;
     run_drawn(rt, job, post, &mut copy, &mut share)?;
     Ok(share)
 }

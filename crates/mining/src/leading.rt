@@ -7,12 +7,11 @@ ghost use Rattle.spec_ledger.specs.declared.Version.TheVariants.{Two};
 ghost use Rattle.interp.specs.Lent.{setting_view};
 ghost use Rattle.serial.specs.Positions.{positions};
 ghost use Rattle.publish.specs.Publication.{AreLeft, IsSameJob, Publication, limits, fuel_used};
-ghost use Rattle.mining.specs.Shares.{AreAllPrepared, DrawsCalls, IsFor, IsLed, IsPostOf, IsPrepared, IsShareOf};
+ghost use Rattle.speculation.specs.Shares.{AreAllPrepared, IsPrepared, IsShareOf};
+ghost use Rattle.mining.specs.Shares.{DrawsCalls, IsFor, IsLed, IsPostOf};
 
 use crate::attempt::told;
-use crate::copies::{
-    CopyJob, Line, Prepared, Share, Task, draw, make_posts, receive, run_on_copies,
-};
+use crate::copies::{CopyJob, Line, draw, make_posts, receive, run_on_copies};
 use crate::mined_core::MinedCore;
 use crate::outcome::{finish, take_alone};
 use crate::post::Post;
@@ -23,7 +22,8 @@ use link::deployed::Deployed as Contract;
 use pace::{Pace, Step};
 use publish::Publishing;
 use spec_footprint::Access;
-use spec_ledger::NoMemory;
+use spec_ledger::{NoMemory, Version};
+use speculation::{Prepared, Share, Task};
 use std::alloc::Allocator;
 use std::sync::Wait;
 use std::thread::{Threads, join};
@@ -301,7 +301,11 @@ pub(crate) fn mine_on_copies<
     ensures by_workers { IfOk result (λ core. core.by_workers ≤ length core.order.items) }
 {
     let publishing = Publishing::open(alloc, contracts, calls, cells, block_fuel)?;
-    let task = Task { contracts, calls };
+    let task = Task {
+        contracts,
+        calls,
+        version: Version::Two,
+    };
     let Ok((line, mut pass)) = Line::open(alloc, WAITING, task) else {
         return Err(NoMemory);
     };

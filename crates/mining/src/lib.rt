@@ -53,7 +53,7 @@ pub struct Mined<A: Allocator = Global> {
 /// at most so often; the calls that it tried in vain run alone when the workers have ended. The pace is told each step of the
 /// workers, and may stop a worker at any of them: its call, and the calls that nobody drew, then run alone as well. The world is as it was.
 ///
-/// Of a thousand calls or more 16 run alone first, and are forgotten. Where workers over copies of the cells pay by these (`gain`), all but the calling thread
+/// Of 512 calls or more 16 run alone first, and are forgotten. Where workers over copies of the cells pay by these (`gain`), all but the calling thread
 /// run calls over a copy, which the calling thread publishes beside calls of its own, the pace is told the beginning of each call, and a call that found other
 /// cells than there are in the published order runs again alone. Else workers
 /// run the calls as fewer ones; but where they are short, or wait for one another so much that no workers pay, none is started, the pace is told nothing, and

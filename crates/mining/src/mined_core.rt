@@ -57,7 +57,7 @@ pub struct MinedCore<A: Allocator = Global> {
 /// nobody drew. Then these and the calls that were tried in vain or stopped run alone in rising number, and then each other call
 /// that still has room.
 ///
-/// Where copies of the cells pay (as far as 16 of a thousand calls or more tell), each worker but the calling thread runs the calls that it draws over a
+/// Where copies of the cells pay (as far as 16 of 512 calls or more tell), each worker but the calling thread runs the calls that it draws over a
 /// copy, and hands them over in batches. The calling thread publishes each by its footprint where the cells that are published so far hold what it found, and
 /// runs and publishes calls that it draws itself while nothing is handed over. The pace is told the beginning of each call. The calls that did not fit run
 /// alone in rising number at the end. Where workers do not pay, none is started, and all calls that have room run alone in rising number.

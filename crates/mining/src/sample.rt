@@ -3,7 +3,10 @@
 ghost use Rattle.std.specs.Prelude.{◌≤◌, length};
 
 use call::Call;
-use gain::{MANY, are_few, are_long, are_wide, count_waves, least_mean, least_mean_on_copies};
+use gain::{
+    MANY, are_apart, are_few, are_long, are_wide, count_waves, least_mean, least_mean_on_copies,
+    weight,
+};
 use link::deployed::Deployed as Contract;
 use lock_profile::turns;
 use publish::{Published, Publishing};
@@ -36,13 +39,15 @@ fn run_samples<'a, A: Allocator + Copy>(
     publishing.close()
 }
 
-/// As how many calls one counts beside the cells that are copied, where those that were looked at use so much fuel together: one more for each 128
-/// that a call uses on average, and at most 16.
-fn weight(fuel: u64) -> u32
-    ensures { result ≤ 16 }
-{
-    let more = fuel / (128 * u64::from(SAMPLES));
-    1 + more.min(15) as u32
+/// How many calls are in the first of these waves, and so wait for none of the others.
+fn count_first(waves: &[u32]) -> u32 {
+    let mut count = 0u32;
+    for wave in waves {
+        if *wave == 0 {
+            count = count.saturating_add(1);
+        }
+    }
+    count
 }
 
 /// Who runs the calls of a list.
@@ -76,20 +81,22 @@ pub(crate) fn find_way<'a, A: Allocator + Copy>(
     }
     let profiles = turns(alloc, &published.touched)?;
     turns_agree();
-    let waves = count_waves(&waves_of(alloc, &profiles)?);
-    if !are_wide(count as u32, waves) {
+    let waves = waves_of(alloc, &profiles)?;
+    if !are_wide(count as u32, count_waves(&waves)) {
         return Ok(Way::Alone);
     }
+    let pays_over_one_book = are_long(least_mean(workers), count as u32, published.fuel);
     if are_long(least_mean_on_copies(workers), count as u32, published.fuel)
+        && (pays_over_one_book || are_apart(count as u32, count_first(&waves)))
         && are_few(
             cells.entries().count(),
-            calls.len() as u32 * weight(published.fuel),
+            calls.len() as u32 * weight(SAMPLES, published.fuel),
             workers,
         )
     {
         return Ok(Way::OnCopies);
     }
-    if are_long(least_mean(workers), count as u32, published.fuel) {
+    if pays_over_one_book {
         return Ok(Way::OverOneBook);
     }
     Ok(Way::Alone)

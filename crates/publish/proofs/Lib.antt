@@ -3,4 +3,3 @@ pub mod Marks
 pub mod Keeping
 pub mod Sweeping
 pub mod Walking
-pub mod Treading

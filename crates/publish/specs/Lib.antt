@@ -1,3 +1,2 @@
 pub mod Publication
 pub mod Adoption
-pub mod Footprints

@@ -15,7 +15,7 @@ ghost use Rattle.spec_ledger.specs.declared.Version.TheVariants.{Two};
 ghost use Rattle.interp.specs.Lent.{setting_view};
 ghost use Rattle.serial.specs.Positions.{positions};
 ghost use Rattle.publish.specs.Publication.{IsSerialOrder, MayFollow, HasTaken, IsSameJob, HasGoneOn, Sweep, AreLeft, limits, fuel_used};
-ghost use Rattle.publish.specs.Footprints.{IsFootprintOf};
+ghost use Rattle.footprint.specs.Calls.{IsFootprintOf};
 ghost use Rattle.spec_footprint.specs.Footprints.{Agrees};
 ghost use Rattle.publish.specs.Adoption.{AreMade, MayFollowBy, ran_by};
 

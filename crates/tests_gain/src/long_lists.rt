@@ -1,4 +1,4 @@
-//! Lists of about a thousand calls, short and long, of many cells and of one: who runs them when they are mined, and when the block is validated.
+//! Lists of some hundred calls and of a thousand, short and long, of many cells and of one: who runs them when they are mined, and when the block is validated.
 
 ghost use Rattle.std.specs.Prelude.{◌≤◌, IfOk, length};
 
@@ -7,7 +7,7 @@ use block::{Block, write_block};
 use call::Call;
 use codec::{Failures, MemorySink};
 use mining::{Mined, mine};
-use pace::{NoPace, Pace, Step};
+use pace::{Pace, Step};
 use samples::{call, deployed};
 use spec_ledger::{Kind, Lock};
 use std::alloc::Global;
@@ -55,14 +55,14 @@ pub(crate) const SPIN: &[u8] = &[
 /// The fuel of a block that has room for all calls.
 pub(crate) const AMPLE: u64 = 100_000_000;
 
-/// Who runs the calls of a list that is mined.
+/// Who runs the calls of a list.
 #[derive(Clone, Copy, Debug, PartialEq)]
 pub(crate) enum Who {
     /// The caller, one after another.
     Caller,
     /// Workers, each over a copy of the cells.
     OnCopies,
-    /// Workers over one book.
+    /// Workers over one book, or, where a block is validated, over cells that they share.
     OverOneBook,
 }
 
@@ -80,6 +80,8 @@ pub(crate) struct Row {
     pub(crate) workers: u32,
     /// Who mines them.
     pub(crate) by: Who,
+    /// Who runs them when the block is validated.
+    pub(crate) validated: Who,
     /// How many the caller runs when the block is validated.
     pub(crate) again: u32,
 }
@@ -87,12 +89,24 @@ pub(crate) struct Row {
 const ROWS: &[Row] = &[
     Row {
         name: "few short calls have workers",
-        calls: 1_023,
-        cells: 1_023,
+        calls: 511,
+        cells: 511,
         others: 0,
         rounds: 1,
         workers: 4,
         by: Who::OverOneBook,
+        validated: Who::OverOneBook,
+        again: 0,
+    },
+    Row {
+        name: "512 calls of 15 have four on copies",
+        calls: 512,
+        cells: 512,
+        others: 0,
+        rounds: 1,
+        workers: 4,
+        by: Who::OnCopies,
+        validated: Who::OnCopies,
         again: 0,
     },
     Row {
@@ -103,7 +117,8 @@ const ROWS: &[Row] = &[
         rounds: 1,
         workers: 4,
         by: Who::OnCopies,
-        again: 1_024,
+        validated: Who::OnCopies,
+        again: 0,
     },
     Row {
         name: "copies of 1,024 cells for four that run calls of 123",
@@ -113,7 +128,8 @@ const ROWS: &[Row] = &[
         rounds: 13,
         workers: 4,
         by: Who::OnCopies,
-        again: 1_024,
+        validated: Who::OnCopies,
+        again: 0,
     },
     Row {
         name: "too many cells to be copied for four that run calls of 123",
@@ -123,6 +139,7 @@ const ROWS: &[Row] = &[
         rounds: 13,
         workers: 4,
         by: Who::Caller,
+        validated: Who::Caller,
         again: 1_024,
     },
     Row {
@@ -133,7 +150,8 @@ const ROWS: &[Row] = &[
         rounds: 14,
         workers: 4,
         by: Who::OnCopies,
-        again: 1_024,
+        validated: Who::OnCopies,
+        again: 0,
     },
     Row {
         name: "too many cells to be copied for four that run calls of 132",
@@ -143,6 +161,7 @@ const ROWS: &[Row] = &[
         rounds: 14,
         workers: 4,
         by: Who::Caller,
+        validated: Who::Caller,
         again: 1_024,
     },
     Row {
@@ -153,7 +172,8 @@ const ROWS: &[Row] = &[
         rounds: 88,
         workers: 4,
         by: Who::OnCopies,
-        again: 1_024,
+        validated: Who::OnCopies,
+        again: 0,
     },
     Row {
         name: "many calls of 798 and too many cells have none of four",
@@ -163,6 +183,7 @@ const ROWS: &[Row] = &[
         rounds: 88,
         workers: 4,
         by: Who::Caller,
+        validated: Who::Caller,
         again: 1_024,
     },
     Row {
@@ -173,6 +194,7 @@ const ROWS: &[Row] = &[
         rounds: 89,
         workers: 4,
         by: Who::OverOneBook,
+        validated: Who::OverOneBook,
         again: 0,
     },
     Row {
@@ -183,6 +205,7 @@ const ROWS: &[Row] = &[
         rounds: 89,
         workers: 4,
         by: Who::OnCopies,
+        validated: Who::OverOneBook,
         again: 0,
     },
     Row {
@@ -193,7 +216,8 @@ const ROWS: &[Row] = &[
         rounds: 1,
         workers: 3,
         by: Who::OnCopies,
-        again: 1_024,
+        validated: Who::OnCopies,
+        again: 0,
     },
     Row {
         name: "many calls of 1,005 have three on copies",
@@ -203,6 +227,7 @@ const ROWS: &[Row] = &[
         rounds: 111,
         workers: 3,
         by: Who::OnCopies,
+        validated: Who::OverOneBook,
         again: 0,
     },
     Row {
@@ -213,6 +238,7 @@ const ROWS: &[Row] = &[
         rounds: 111,
         workers: 3,
         by: Who::OverOneBook,
+        validated: Who::OverOneBook,
         again: 0,
     },
     Row {
@@ -223,7 +249,8 @@ const ROWS: &[Row] = &[
         rounds: 1,
         workers: 2,
         by: Who::OnCopies,
-        again: 1_024,
+        validated: Who::OnCopies,
+        again: 0,
     },
     Row {
         name: "many calls of 1,491 and too many cells have none of two",
@@ -233,6 +260,7 @@ const ROWS: &[Row] = &[
         rounds: 165,
         workers: 2,
         by: Who::Caller,
+        validated: Who::Caller,
         again: 1_024,
     },
     Row {
@@ -243,6 +271,7 @@ const ROWS: &[Row] = &[
         rounds: 166,
         workers: 2,
         by: Who::OverOneBook,
+        validated: Who::OverOneBook,
         again: 0,
     },
     Row {
@@ -253,6 +282,7 @@ const ROWS: &[Row] = &[
         rounds: 166,
         workers: 2,
         by: Who::OnCopies,
+        validated: Who::OverOneBook,
         again: 0,
     },
     Row {
@@ -263,6 +293,7 @@ const ROWS: &[Row] = &[
         rounds: 554,
         workers: 1,
         by: Who::Caller,
+        validated: Who::Caller,
         again: 1_024,
     },
     Row {
@@ -273,6 +304,7 @@ const ROWS: &[Row] = &[
         rounds: 555,
         workers: 1,
         by: Who::OnCopies,
+        validated: Who::OverOneBook,
         again: 0,
     },
     Row {
@@ -283,7 +315,19 @@ const ROWS: &[Row] = &[
         rounds: 555,
         workers: 1,
         by: Who::OverOneBook,
+        validated: Who::OverOneBook,
         again: 0,
+    },
+    Row {
+        name: "many short calls of eight cells have none",
+        calls: 1_024,
+        cells: 8,
+        others: 0,
+        rounds: 88,
+        workers: 4,
+        by: Who::Caller,
+        validated: Who::Caller,
+        again: 1_024,
     },
     Row {
         name: "many long calls of one cell have none",
@@ -293,6 +337,7 @@ const ROWS: &[Row] = &[
         rounds: 111,
         workers: 4,
         by: Who::Caller,
+        validated: Who::Caller,
         again: 1_024,
     },
 ];
@@ -333,7 +378,7 @@ pub(crate) fn counting(is_stopping: bool) -> Counts {
 }
 
 /// Who ran the calls whose steps a pace was told: over copies it is told of beginnings alone.
-pub(crate) fn who_mined(pace: &Counts) -> Who {
+pub(crate) fn who_ran(pace: &Counts) -> Who {
     if pace.attempts.load(Ordering::SeqCst) == 0 {
         Who::Caller
     } else if pace.ops.load(Ordering::SeqCst) == 0 {
@@ -413,6 +458,20 @@ fn mined_by<R: Threads + Wait + Sync>(
     Ok((written(alloc, &block)?, by_workers))
 }
 
+/// The bytes of the block that a row's calls are mined into.
+pub(crate) fn block_of<R: Threads + Wait + Sync>(
+    rt: &R,
+    alloc: Global,
+    row: &Row,
+    calls: &[Call],
+) -> Result<Vec<u8>, Fail>
+    requires { length calls.now ≤ 65535 }
+{
+    let world = world_of(alloc, row.others)?;
+    let (bytes, _) = mined_by(rt, alloc, &world, calls, row.workers, &counting(false))?;
+    Ok(bytes)
+}
+
 /// Validates a block, and answers with how many of its positions the caller ran; or none where it is rejected.
 fn validated_by<R: Threads + Wait + Sync>(
     rt: &R,
@@ -421,13 +480,14 @@ fn validated_by<R: Threads + Wait + Sync>(
     calls: &[Call],
     bytes: &[u8],
     workers: u32,
+    pace: &Counts,
 ) -> Result<Option<u32>, Fail>
     requires { length calls.now ≤ 65535 }
 {
     if workers < 1 {
         return Err(Fail::from("outside the conditions"));
     }
-    let Ok(found) = find_verdict(rt, alloc, world, calls, AMPLE, bytes, workers, &NoPace) else {
+    let Ok(found) = find_verdict(rt, alloc, world, calls, AMPLE, bytes, workers, pace) else {
         return Err(Fail::from("refused"));
     };
     Ok(match found.verdict {
@@ -436,23 +496,25 @@ fn validated_by<R: Threads + Wait + Sync>(
     })
 }
 
-/// What a list came to: who mined it, how many calls the workers did, and how many the caller ran when the block was validated, or none where it was
-/// rejected.
-type Came = (Who, u32, Option<u32>);
+/// What a list came to: who mined it, how many calls the workers did, who ran them when the block was validated, and how many of them the caller ran then, or
+/// none where the block was rejected.
+type Came = (Who, u32, Who, Option<u32>);
 
-/// What the list of a row comes to, each a call of this function, by this pace.
+/// What the list of a row comes to, each a call of this function, by paces that may stop each worker at its first step when it mines, and when it validates.
 fn ran<R: Threads + Wait + Sync>(
     rt: &R,
     alloc: Global,
     row: &Row,
     entry: &str,
-    pace: &Counts,
+    stops: (bool, bool),
 ) -> Result<Came, Fail> {
     let calls = calls_of(alloc, row, entry)?;
     let world = world_of(alloc, row.others)?;
-    let (bytes, by_workers) = mined_by(rt, alloc, &world, &calls, row.workers, pace)?;
-    let again = validated_by(rt, alloc, &world, &calls, &bytes, row.workers)?;
-    Ok((who_mined(pace), by_workers, again))
+    let mining = counting(stops.0);
+    let (bytes, by_workers) = mined_by(rt, alloc, &world, &calls, row.workers, &mining)?;
+    let validating = counting(stops.1);
+    let again = validated_by(rt, alloc, &world, &calls, &bytes, row.workers, &validating)?;
+    Ok((who_ran(&mining), by_workers, who_ran(&validating), again))
 }
 
 /// Each row is run by whom it says.
@@ -466,8 +528,8 @@ fn rows_of<R: Abort + Threads + Wait + Sync>(
         equal(
             rt,
             &row.name,
-            &ran(rt, alloc, row, "spin", &counting(false))?,
-            &(row.by, by_workers, Some(row.again)),
+            &ran(rt, alloc, row, "spin", (false, false))?,
+            &(row.by, by_workers, row.validated, Some(row.again)),
         );
     }
     Ok(())
@@ -487,36 +549,77 @@ const IDLE: Row = Row {
     rounds: 1,
     workers: 4,
     by: Who::Caller,
+    validated: Who::Caller,
     again: 1_024,
 };
 
 /// The shortest calls have no workers.
 #[test]
 fn the_shortest_calls_are_run_by_the_caller(rt: HostRuntime) -> Result<(), Fail> {
-    let came = ran(&rt, rt.alloc(), &IDLE, "idle", &counting(false))?;
-    equal(&rt, &IDLE.name, &came, &(IDLE.by, 0, Some(IDLE.again)));
+    let came = ran(&rt, rt.alloc(), &IDLE, "idle", (false, false))?;
+    equal(
+        &rt,
+        &IDLE.name,
+        &came,
+        &(IDLE.by, 0, IDLE.validated, Some(IDLE.again)),
+    );
     Ok(())
 }
 
-/// Two calls on each of 511 cells, and two that have one to themselves.
+/// Two calls on each of 342 cells of 682: a few less than two thirds of them wait for none of the others.
 const PAIRS: Row = Row {
     name: "pairs of calls",
     calls: 1_024,
-    cells: 511,
+    cells: 682,
     others: 0,
     rounds: 28,
     workers: 4,
     by: Who::OnCopies,
+    validated: Who::Caller,
     again: 1_024,
 };
 
-/// The first call on each cell that is published was run over the cell as it was, so at least one of each pair is a worker's.
+/// Two calls on each of 341 cells of 683: two thirds of them wait for none of the others.
+const THIRDS: Row = Row {
+    name: "pairs of calls on a cell more",
+    calls: 1_024,
+    cells: 683,
+    others: 0,
+    rounds: 28,
+    workers: 4,
+    by: Who::OnCopies,
+    validated: Who::OnCopies,
+    again: 341,
+};
+
+/// 128 calls on each of eight cells, long enough for workers over one book.
+const CROWDS: Row = Row {
+    name: "many long calls of eight cells",
+    calls: 1_024,
+    cells: 8,
+    others: 0,
+    rounds: 89,
+    workers: 4,
+    by: Who::OnCopies,
+    validated: Who::OverOneBook,
+    again: 0,
+};
+
+/// The first call on each cell that is published was run over the cell as it was, so at least one on each cell is a worker's. When the block is validated, the
+/// workers run the calls that wait for none, or none at all.
 #[test]
 fn runs_over_copies_that_meet_on_a_cell(rt: HostRuntime) -> Result<(), Fail> {
-    let (by, by_workers, again) = ran(&rt, rt.alloc(), &PAIRS, "spin", &counting(false))?;
-    equal(&rt, &"by whom", &by, &PAIRS.by);
-    equal(&rt, &"again", &again, &Some(PAIRS.again));
-    equal(&rt, &"some of each", &(by_workers < 511), &false);
+    for row in [&PAIRS, &THIRDS, &CROWDS] {
+        let (by, by_workers, validated, again) = ran(&rt, rt.alloc(), row, "spin", (false, false))?;
+        equal(&rt, &row.name, &by, &row.by);
+        equal(
+            &rt,
+            &row.name,
+            &(validated, again),
+            &(row.validated, Some(row.again)),
+        );
+        equal(&rt, &"some of each", &(by_workers < row.cells), &false);
+    }
     Ok(())
 }
 
@@ -529,18 +632,19 @@ const VOTES: Row = Row {
     rounds: 28,
     workers: 4,
     by: Who::OnCopies,
-    again: 1_024,
+    validated: Who::OnCopies,
+    again: 0,
 };
 
 /// What a call added to a counter that it did not read stands, whatever the counter has by then: no call is run again.
 #[test]
 fn additions_over_copies_stand(rt: HostRuntime) -> Result<(), Fail> {
-    let came = ran(&rt, rt.alloc(), &VOTES, "vote", &counting(false))?;
+    let came = ran(&rt, rt.alloc(), &VOTES, "vote", (false, false))?;
     equal(
         &rt,
         &VOTES.name,
         &came,
-        &(VOTES.by, VOTES.calls, Some(VOTES.again)),
+        &(VOTES.by, VOTES.calls, VOTES.validated, Some(VOTES.again)),
     );
     Ok(())
 }
@@ -548,7 +652,12 @@ fn additions_over_copies_stand(rt: HostRuntime) -> Result<(), Fail> {
 /// Workers that are stopped at their first calls leave all to the caller.
 #[test]
 fn workers_over_copies_are_stopped(rt: HostRuntime) -> Result<(), Fail> {
-    let came = ran(&rt, rt.alloc(), &PAIRS, "spin", &counting(true))?;
-    equal(&rt, &"stopped", &came, &(Who::OnCopies, 0, Some(1_024)));
+    let came = ran(&rt, rt.alloc(), &VOTES, "vote", (true, true))?;
+    equal(
+        &rt,
+        &"stopped",
+        &came,
+        &(Who::OnCopies, 0, Who::OnCopies, Some(1_024)),
+    );
     Ok(())
 }

@@ -139,26 +139,26 @@ const CHAINS: &[Row] = &[
     Row {
         name: "one worker",
         modules: OF_EXAMPLE,
-        calls: Calls::Chain(1_000),
+        calls: Calls::Chain(500),
         workers: 1,
         meeting: None,
-        after: &[(0, Map, 1, 999)],
+        after: &[(0, Map, 1, 499)],
     },
     Row {
         name: "two workers",
         modules: OF_EXAMPLE,
-        calls: Calls::Chain(1_000),
+        calls: Calls::Chain(500),
         workers: 2,
         meeting: None,
-        after: &[(0, Map, 1, 999)],
+        after: &[(0, Map, 1, 499)],
     },
     Row {
         name: "64 workers",
         modules: OF_EXAMPLE,
-        calls: Calls::Chain(1_000),
+        calls: Calls::Chain(500),
         workers: 64,
         meeting: None,
-        after: &[(0, Map, 1, 999)],
+        after: &[(0, Map, 1, 499)],
     },
 ];
 

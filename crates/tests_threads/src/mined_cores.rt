@@ -253,19 +253,19 @@ const SPREADS: &[Spread] = &[
     },
     Spread {
         name: "sixty-four workers over ten counters",
-        calls: 1_000,
+        calls: 500,
         keys: 10,
         how: How {
-            fuel: 7_000,
+            fuel: 3_500,
             workers: 64,
             tries: 3,
             meeting: None,
         },
-        mined: 1_000,
+        mined: 500,
         left: 0,
-        used: 7_000,
-        total: 5_000,
-        each: Some(500),
+        used: 3_500,
+        total: 2_500,
+        each: Some(250),
     },
 ];
 

@@ -3,7 +3,7 @@ use denote.RattleType.{RattleType}
 use denote.Ref.{NamedLft, ShrRef}
 use denote.Struct.Field.{row_field}
 use denote.Param.Send.{Frees, IsSend, IsSync, shr_sync, sendable}
-use denote.Param.SendFields.{declared_sync, as_row_sync}
+use denote.Param.SendFields.{declared_send, declared_sync, as_row_sync}
 use Rattle.std.specs.declared.alloc.Allocator.{Ghosts}
 use Rattle.std.proofs.Crossing as std
 use Rattle.std.proofs.CrossingOver as over
@@ -13,7 +13,11 @@ use Rattle.spec_ledger.proofs.Version.TheSendSync as version
 use Rattle.schedule.specs.contracts.board.Board as board_row
 use Rattle.ahead.specs.contracts.Ahead as ahead_row
 use Rattle.lock_profile.specs.contracts.Profile as profile_row
-use Rattle.serial_block.proofs.Crossing.{crosses, vec_send, vec_sync, contract_sync, contracts_send, finished_send}
+use Rattle.serial_block.proofs.Crossing.{crosses, vec_send, vec_sync, contract_sync, contracts_send, cells_sync, finished_send}
+use Rattle.speculation.proofs.Crossing.{share_send, task_sync}
+use Rattle.validator.specs.contracts.copies.Batch as batch_row
+use Rattle.validator.specs.contracts.copies.Batches as batches_row
+use Rattle.validator.specs.contracts.copies.CopyJob as copy_job_row
 use Rattle.validator.specs.contracts.job.Made as made_row
 use Rattle.validator.specs.contracts.job.Part as part_row
 use Rattle.validator.specs.contracts.job.Job as job_row
@@ -60,6 +64,37 @@ module _ (B : RattleType) (g : Ghosts B.Denot) (send : IsSend B) (sync : IsSync 
                   search (crosses, profile_sync) depth 60 fits 100000,
                   (as_row_sync (row_field (ShrRef a.mir a.lft P)) (shr_sync a.mir a.lft P pace), tt),
                 ),
+              ),
+            ),
+          ),
+        ),
+      )
+
+  batch_send : (a : NamedLft) → IsSend (batch_row.the_row a B g)
+  batch_send a = declared_send (batch_row.the_type a B g) (search crosses depth 60 fits 100000, (share_send B g send sync frees a, tt))
+
+  -- what a worker over a copy hands back may go to the thread that joins it
+  pub batches_send : (a : NamedLft) → IsSend (batches_row.the_row a B g)
+  batches_send a =
+      let vec = vec_send B g send sync frees in
+      let contracts = contracts_send B g send sync frees in
+      search (crosses, over.crosses, vec, contracts, batch_send) depth 60 fits 100000
+
+  -- and the workers may share their job, where they may share the pace
+  pub copy_job_sync : (a b : NamedLft) (P : RattleType) → IsSync P → IsSync (copy_job_row.the_row a b B P g)
+  copy_job_sync a b P pace =
+      let cells = cells_sync B g send sync frees in
+      declared_sync (copy_job_row.the_type a b B P g) (
+        as_row_sync (row_field B) sync,
+        (
+          task_sync B g send sync frees b,
+          (
+            search crosses depth 60 fits 100000,
+            (
+              search (crosses, profile_sync) depth 60 fits 100000,
+              (
+                search (crosses, cells) depth 60 fits 100000,
+                (search (sendable, std.crosses) depth 60 fits 100000, (as_row_sync (row_field (ShrRef a.mir a.lft P)) (shr_sync a.mir a.lft P pace), tt)),
               ),
             ),
           ),

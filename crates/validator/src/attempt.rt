@@ -37,7 +37,7 @@ enum Stop {
 }
 
 /// Tells the pace a step, and answers whether the worker stops there.
-fn told<P: Pace>(pace: &P, step: Step) -> bool {
+pub(crate) fn told<P: Pace>(pace: &P, step: Step) -> bool {
     pace.at(step);
     pace.stops(step)
 }

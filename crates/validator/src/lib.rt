@@ -4,6 +4,7 @@
 
 mod attempt;
 mod compare;
+mod copies;
 mod end;
 mod fold;
 mod job;
@@ -21,10 +22,10 @@ ghost use Rattle.world.specs.Views.{world_view};
 ghost use Rattle.validator.specs.Judged.{told_by};
 
 use crate::end::conclude;
-use crate::fold::fold;
-use crate::job::Job;
+use crate::fold::{fold, open_supply};
+use crate::job::{Job, Ready};
 pub use crate::verdict::Verdict;
-use crate::workers::made_runs;
+use crate::workers::run_ahead;
 pub use block_judge::Reason;
 use block_judge::{Fit, Unfit, judge};
 use call::Call;
@@ -73,8 +74,9 @@ fn run<R: Threads + Wait + Sync, A: Allocator + Copy + Send + Sync, P: Pace>(
         profiles: &fit.profiles,
         pace,
     };
-    let runs = made_runs(rt, &job, world.cells(), fit.block.fuel(), workers)?;
-    let folded = fold(&job, world.cells(), &runs)?;
+    let Ready { runs, shares } = run_ahead(rt, &job, world.cells(), fit.block.fuel(), workers)?;
+    let supply = open_supply(&job, shares)?;
+    let folded = fold(&job, world.cells(), &runs, supply)?;
     let verdict = conclude(alloc, world, &fit.block, folded.core)?;
     Ok(Validated {
         verdict,
@@ -119,7 +121,7 @@ pub fn find_verdict<R: Threads + Wait + Sync, A: Allocator + Copy + Send + Sync,
 /// The verdict on the bytes of a block of these calls over a world, with this fuel for the block: the first of the nine reasons that holds, or else
 /// the world after the block. This many workers, of which the calling thread is one, run the calls at once, each as soon as those that it waits for have
 /// ended; the pace is told each attempt and each operation of theirs, and may stop a worker there. What no worker ran the caller runs. Where workers do not pay
-/// (`gain`), by the fuel and the turns that a block of a thousand calls or more names, none is started, and the pace is told nothing.
+/// (`gain`), by the fuel and the turns that a block of 512 calls or more names, none is started, and the pace is told nothing.
 ///
 /// # Errors
 ///

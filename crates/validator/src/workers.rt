@@ -3,17 +3,23 @@
 ghost use Rattle.std.specs.Prelude.{◌≡◌, ◌≤◌, ◌<◌, All, IfOk, OnOk, length};
 ghost use Rattle.spec_block.specs.Schedule.{HaveTurns};
 ghost use Rattle.interp.specs.Lent.{setting_view};
-ghost use Rattle.validator.specs.Handed.{AreFound, AreMade, ArePartsMade, IsMade};
+ghost use Rattle.validator.specs.Handed.{AreFound, AreMade, ArePartsMade, AreShares, IsMade};
 
 use crate::attempt::attempt;
-use crate::job::{Came, Job, Made, Part};
+use crate::copies::{CopyJob, is_first, run_on_copies};
+use crate::job::{Came, Job, Made, Part, Ready};
 use crate::shared::Shared;
 use ahead::Ahead;
-use gain::{MANY, are_long, are_wide, count_waves, least_mean};
+use gain::{
+    MANY, are_apart, are_few, are_long, are_wide, count_waves, least_mean, least_mean_on_copies,
+    weight,
+};
 use lanes::{Lane, Thief, lanes};
+use lock_profile::Profile;
 use pace::Pace;
 use schedule::{Board, Graph};
 use spec_ledger::NoMemory;
+use speculation::{Share, Task};
 use std::alloc::Allocator;
 use std::sync::atomic::{AtomicBool, AtomicU64, Ordering};
 use std::sync::{Mutex, Wait};
@@ -252,26 +258,96 @@ fn run_ready<'a, R: Threads + Wait + Sync, A: Allocator + Copy + Send + Sync, P:
     Ok(runs)
 }
 
-/// The runs of the calls of a block by position, which use so much fuel together as the block says. Where that is so little that workers do not pay, there
-/// are none.
-pub(crate) fn made_runs<'a, R: Threads + Wait + Sync, A: Allocator + Copy + Send + Sync, P: Pace>(
+/// How many positions of the block wait for none of the others.
+fn count_first<A: Allocator>(profiles: &[Profile<A>]) -> u32 {
+    let mut count = 0u32;
+    for profile in profiles {
+        if is_first(profile) {
+            count = count.saturating_add(1);
+        }
+    }
+    count
+}
+
+/// Whether workers over copies of the cells pay for a block whose calls use so much fuel together.
+fn copies_pay<A: Allocator + Copy, P: Pace>(
+    job: &Job<'_, '_, A, P>,
+    cells: &Cells<A>,
+    fuel: u64,
+    workers: u32,
+) -> bool
+    requires some { 1 ≤ length job.now.order.now }
+    requires few { length job.now.order.now ≤ 65535 }
+{
+    let count = job.order.len() as u32;
+    are_long(least_mean_on_copies(workers), count, fuel)
+        && are_few(
+            cells.entries().count(),
+            count * weight(count, fuel),
+            workers,
+        )
+        && are_apart(count, count_first(job.profiles))
+}
+
+/// Runs the calls of a block that wait for none of the others over copies of the cells, and gives what they came to by batches of positions, the last first.
+fn run_first<'a, R: Threads + Wait + Sync, A: Allocator + Copy + Send + Sync, P: Pace>(
+    rt: &R,
+    job: &Job<'_, 'a, A, P>,
+    cells: &Cells<A>,
+    workers: u32,
+) -> Result<Vec<Share<'a, A>, A>, NoMemory>
+    requires { All (λ number. number < length job.now.calls.now) job.now.order.now }
+    ensures { IfOk result (λ shares. AreShares (setting_view job.now.version job.now.contracts.now) job.now.calls.now shares.items) }
+{
+    let job = CopyJob {
+        alloc: job.alloc,
+        task: Task {
+            contracts: job.contracts,
+            calls: job.calls,
+            version: job.version,
+        },
+        order: job.order,
+        profiles: job.profiles,
+        cells,
+        drawn: AtomicU64::new(0),
+        pace: job.pace,
+    };
+    run_on_copies(rt, &job, workers)
+}
+
+/// Runs the calls of a block, which use so much fuel together as it says, before their turn. Where that is so little that workers over cells that they share
+/// do not pay, those that wait for none of the others are run over copies; and where these do not pay either, none.
+pub(crate) fn run_ahead<'a, R: Threads + Wait + Sync, A: Allocator + Copy + Send + Sync, P: Pace>(
     rt: &R,
     job: &Job<'_, 'a, A, P>,
     cells: &Cells<A>,
     fuel: u64,
     workers: u32,
-) -> Result<Vec<Option<Made<'a, A>>, A>, NoMemory>
+) -> Result<Ready<'a, A>, NoMemory>
     requires few { length job.now.profiles.now ≤ 65535 }
     requires positions { length job.now.order.now ≤ 65535 }
     requires known { All (λ number. number < length job.now.calls.now) job.now.order.now }
     requires turns { HaveTurns job.now.profiles.now }
     requires workers { 1 ≤ workers }
-    ensures runs { IfOk result (λ runs. AreFound (setting_view job.now.version job.now.contracts.now) job.now.calls.now runs.items) }
-    ensures size { IfOk result (λ runs. length runs.items ≡ length job.now.order.now) }
+    ensures runs { IfOk result (λ ready. AreFound (setting_view job.now.version job.now.contracts.now) job.now.calls.now ready.runs.items) }
+    ensures size { IfOk result (λ ready. length ready.runs.items ≡ length job.now.order.now) }
+    ensures shares { IfOk result (λ ready. AreShares (setting_view job.now.version job.now.contracts.now) job.now.calls.now ready.shares.items) }
 {
     let count = job.order.len();
-    if count >= MANY && !are_long(least_mean(workers), count as u32, fuel) {
-        return no_runs(job);
+    if count < MANY || are_long(least_mean(workers), count as u32, fuel) {
+        return Ok(Ready {
+            runs: run_ready(rt, job, cells, workers)?,
+            shares: Vec::new(job.alloc),
+        });
     }
-    run_ready(rt, job, cells, workers)
+    if !copies_pay(job, cells, fuel, workers) {
+        return Ok(Ready {
+            runs: no_runs(job)?,
+            shares: Vec::new(job.alloc),
+        });
+    }
+    Ok(Ready {
+        runs: no_runs(job)?,
+        shares: run_first(rt, job, cells, workers)?,
+    })
 }

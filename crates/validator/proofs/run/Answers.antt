@@ -1,8 +1,9 @@
-use Rattle.std.proofs.Common.{◌≡◌, ◌∙◌}
+use Rattle.std.proofs.Common.{◌≡◌, ◌∙◌, sym, subst}
 use Rattle.serial.specs.Positions.{positions as ran_of}
 use Rattle.spec_block.specs.Serial.{setting_of}
 use Rattle.interp.specs.Lent.{setting_view}
 use Rattle.world.specs.Views.{world_view}
+use Rattle.validator.specs.Handed.{AreFound}
 use Rattle.validator.proofs.Fits.{run_of}
 use Rattle.validator.proofs.run.Goals as goal
 
@@ -15,3 +16,6 @@ returns-clause-verdict g c = λ fuel.
     c.in_ok-verdict.ensures calls fuel
     (run_of world calls c.args.fit.now.block (setting_view c.version.result c.contracts.result.now) c.deref.result.now c.cells-2.result.now.cells (ran_of core.receipts.items core.touched.items) core.cells.cells
     same_setting (c.deref.ensures.value ∙ c.requires.order) c.cells-2.ensures c.in_ok-folded.ensures.serial)
+
+pub fold-requires-clause-runs : goal.fold-requires-clause-runs
+fold-requires-clause-runs g c κs within = subst (AreFound (setting_view c.version.result c.contracts.result.now) c.args.calls.now) (sym c.deref-3.ensures.value) c.in_ok-runs.ensures.runs

@@ -4,11 +4,12 @@ use base.Fml.{Lft}
 use denote.Ref.{NamedLft, ShrRef}
 use denote.Param.Send.{IsSend, IsSync, shr_sync, sendable}
 use Rattle.mining.specs.contracts.copies.CopyJob as job_row
-use Rattle.mining.specs.contracts.copies.Share as share_row
+use Rattle.speculation.specs.contracts.Share as share_row
 use Rattle.mining.specs.contracts.post.Post as post_row
 use Rattle.mining.specs.contracts.copies.run_on_copies as rows
 use Rattle.serial_block.proofs.Crossing.{crosses}
-use Rattle.mining.proofs.Crossing.{share_send, post_send, copy_job_sync}
+use Rattle.speculation.proofs.Crossing.{share_send}
+use Rattle.mining.proofs.Crossing.{post_send, copy_job_sync}
 use Rattle.mining.proofs.copies.run_on_copies.Goals as goal
 
 pub map_vec-requires-send-J : goal.map_vec-requires-send-J

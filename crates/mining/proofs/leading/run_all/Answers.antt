@@ -5,12 +5,13 @@ use denote.Param.Send.{IsSend, shr_send, sendable}
 use Rattle.std.specs.contracts.vec.Vec as vec_row
 use Rattle.std.proofs.lemmas.Result.{IfOk-at_ok}
 use Rattle.mining.specs.contracts.copies.CopyJob as job_row
-use Rattle.mining.specs.contracts.copies.Share as share_row
+use Rattle.speculation.specs.contracts.Share as share_row
 use Rattle.mining.specs.contracts.post.Post as post_row
 use Rattle.mining.specs.contracts.leading.run_all as rows
 use Rattle.serial_block.proofs.Crossing.{crosses, vec_send}
 use Rattle.mining.specs.Shares.{IsLed}
-use Rattle.mining.proofs.Crossing.{share_send, post_send, copy_job_sync}
+use Rattle.speculation.proofs.Crossing.{share_send}
+use Rattle.mining.proofs.Crossing.{post_send, copy_job_sync}
 use Rattle.mining.proofs.leading.run_all.Goals as goal
 
 pub join-shares-requires-send-F : goal.join-shares-requires-send-F

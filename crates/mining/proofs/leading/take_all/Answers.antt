@@ -1,7 +1,7 @@
 use Rattle.std.proofs.Common.{sym, subst, arith}
 use Rattle.std.specs.Prelude.{Some}
 use Rattle.std.proofs.lemmas.List.Elements.{All-pop}
-use Rattle.mining.specs.Shares.{IsPrepared}
+use Rattle.speculation.specs.Shares.{IsPrepared}
 use Rattle.mining.proofs.Jobs.{job_after}
 use Rattle.mining.proofs.leading.take_all.Goals as goal
 

@@ -1,6 +1,6 @@
 use Rattle.std.proofs.Common.{◌+◌, ◌≤◌, length}
 use Rattle.publish.specs.Publication.{IsSameJob}
-use Rattle.mining.specs.Shares.{AreAllPrepared}
+use Rattle.speculation.specs.Shares.{AreAllPrepared}
 use Rattle.mining.proofs.leading.take_all.Given as goal
 
 abbrev pub invariant-loop-one : goal.invariant-loop-one

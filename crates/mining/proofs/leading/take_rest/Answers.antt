@@ -1,7 +1,7 @@
 use Rattle.std.proofs.Common.{IfOk}
 use Rattle.std.specs.Prelude.{Some}
 use Rattle.std.proofs.lemmas.List.Elements.{All-pop}
-use Rattle.mining.specs.Shares.{IsShareOf}
+use Rattle.speculation.specs.Shares.{IsShareOf}
 use Rattle.mining.proofs.leading.take_rest.Goals as goal
 
 pub take_share-requires-clause-share : goal.take_share-requires-clause-share

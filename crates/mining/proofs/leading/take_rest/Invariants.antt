@@ -1,6 +1,7 @@
 use Rattle.std.proofs.Common.{All, IfOk, length}
 use Rattle.publish.specs.Publication.{Publication}
-use Rattle.mining.specs.Shares.{IsFor, IsLed, IsShareOf}
+use Rattle.speculation.specs.Shares.{IsShareOf}
+use Rattle.mining.specs.Shares.{IsFor, IsLed}
 use Rattle.mining.proofs.leading.take_rest.Given as goal
 
 abbrev pub invariant-loop-share : goal.invariant-loop-share

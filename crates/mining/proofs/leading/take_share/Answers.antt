@@ -1,9 +1,8 @@
 use Rattle.std.proofs.Common.{arith, IfOk, ◌∙◌, sym, subst}
-use Rattle.spec_ledger.specs.declared.Version.TheVariants.{Two}
 use Rattle.interp.specs.Lent.{setting_view}
-use Rattle.mining.specs.Shares.{AreAllPrepared, IsShareOf}
+use Rattle.speculation.specs.Shares.{AreAllPrepared, IsShareOf}
 use Rattle.mining.proofs.Jobs.{job_after}
-use Rattle.mining.proofs.Shares.{shuffled_prepared}
+use Rattle.speculation.specs.Shuffled.{shuffled_prepared}
 use Rattle.mining.proofs.leading.take_share.Goals as goal
 
 pub take_all-requires : goal.take_all-requires
@@ -12,10 +11,10 @@ take_all-requires g c =
     let p = c.args.led.publishing in
     let now = c.reverse.new.self.items in
     let handed = subst (λ share. IfOk share (IsShareOf task)) c.in_ok-share.was c.requires.share in
-    let all = shuffled_prepared (setting_view Two task.contracts.now) task.calls.now c.in_ok-share.share.accesses.items c.in_ok-share.share.prepared.items now c.reverse.ensures.permutation handed in
+    let all = shuffled_prepared (setting_view task.version task.contracts.now) task.calls.now c.in_ok-share.share.accesses.items c.in_ok-share.share.prepared.items now c.reverse.ensures.permutation handed in
     subst (λ accesses. AreAllPrepared p.setting p.calls accesses now) (sym c.deref.ensures.value)
     (subst (λ setting. AreAllPrepared setting p.calls c.in_ok-share.share.accesses.items now) (sym c.requires.task.setting)
-    (subst (λ calls. AreAllPrepared (setting_view Two task.contracts.now) calls c.in_ok-share.share.accesses.items now) (sym c.requires.task.calls) all))
+    (subst (λ calls. AreAllPrepared (setting_view task.version task.contracts.now) calls c.in_ok-share.share.accesses.items now) (sym c.requires.task.calls) all))
 
 pub returns-clause-led : goal.returns-clause-led
 returns-clause-led g c = λ first led.

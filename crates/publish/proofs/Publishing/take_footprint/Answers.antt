@@ -6,9 +6,9 @@ use Rattle.spec_footprint.specs.Footprints.{Agrees, all_left}
 use Rattle.interp.specs.Lent.{setting_view}
 use Rattle.serial.specs.Positions.{positions}
 use Rattle.publish.specs.Publication.{Publication, MayFollow, HasTaken}
-use Rattle.publish.specs.Footprints.{IsFootprintOf}
+use Rattle.footprint.specs.Calls.{IsFootprintOf}
 use Rattle.publish.proofs.Keeping.{Beside, IsKeptWith, with_parts, fits, fits_used, is_more, kept_after, taken_after}
-use Rattle.publish.proofs.Treading.{executed_as}
+use Rattle.footprint.specs.Following.{executed_as}
 use Rattle.publish.proofs.Publishing.take_footprint.Goals as goal
 
 pub returns-then-not-may_follow-clause-answer : goal.returns-then-not-may_follow-clause-answer

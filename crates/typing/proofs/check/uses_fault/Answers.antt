@@ -1,9 +1,9 @@
 use Rattle.std.proofs.Common.{◌≡◌, true, is_none, length, map, ap, sym, ◌∙◌, rules}
 use Rattle.std.specs.List.{list_all}
+use Rattle.std.proofs.lemmas.List.{length-map}
 use Rattle.spec_typing.specs.Modules.{func_type_indices, tables, memories, globals, imported_globals}
 use Rattle.module_tree.specs.ModuleView.{limits_view, global_type_view}
 use Rattle.module_tree.specs.Modules.{module_view}
-use Rattle.body_typing.proofs.Placed.{map_length}
 use Rattle.typing.specs.Tests.{global_passes, start_passes}
 use Rattle.typing.proofs.Gathered.{elements_at, datas_at, exports_at, last_of_five, of_value}
 use Rattle.typing.proofs.check.uses_fault.Goals as goal
@@ -14,9 +14,9 @@ returns g c =
     let s = c.args.spaces.now in
     let constants = map global_type_view c.imported-constants.result.now in
     let same : imported_globals m ≡ constants = sym c.imported-constants.ensures in
-    let ts : length (tables m) ≡ length s.tables.items = ap length (sym c.requires.tables) ∙ map_length limits_view s.tables.items in
-    let ms : length (memories m) ≡ length s.memories.items = ap length (sym c.requires.memories) ∙ map_length limits_view s.memories.items in
-    let gs : length (globals m) ≡ length s.globals.items = ap length (sym c.requires.globals) ∙ map_length global_type_view s.globals.items in
+    let ts : length (tables m) ≡ length s.tables.items = ap length (sym c.requires.tables) ∙ length-map s.tables.items limits_view in
+    let ms : length (memories m) ≡ length s.memories.items = ap length (sym c.requires.memories) ∙ length-map s.memories.items limits_view in
+    let gs : length (globals m) ≡ length s.globals.items = ap length (sym c.requires.globals) ∙ length-map s.globals.items global_type_view in
     let fs : length (func_type_indices m) ≡ length s.funcs.items = ap length (sym c.requires.funcs) in
     let l1 : length s.tables.items ≡ c.len.result = search rules in
     let l2 : length s.funcs.items ≡ c.len-2.result = search rules in

@@ -1,10 +1,14 @@
 use mir.Val.{bool_byte}
-use Rattle.std.proofs.Common.{◌<◌, ◌≤◌, Bool, true, false, [], length, get_or, arith}
+use Rattle.std.proofs.Common.{◌<◌, ◌≤◌, Bool, true, false, IfSome, [], length, get_or, sym, ap, subst, arith}
+use Rattle.std.proofs.lemmas.List.{take_all}
 use Rattle.std.proofs.lemmas.List.Elements.{All-get_or}
 use Rattle.std.proofs.lemmas.Option.{slice_get-get_or}
 use Rattle.spec_execution.specs.Run.{ContractCall}
+use Rattle.spec_execution.specs.Serial.{Serial}
 use Rattle.interp.specs.Lent.{setting_view}
+use Rattle.serial.specs.Positions.{positions}
 use Rattle.serial.proofs.Orders.{length_more, serial_more}
+use Rattle.validator.specs.Handed.{IsMade}
 use Rattle.validator.proofs.fold.fold.Goals as goal
 
 no_call : ContractCall
@@ -39,5 +43,36 @@ loop-position-preserved g c =
       receipts = length_more c.loop-position.receipts.items c.push.new.self.items done.executed.receipt i c.in_ok-push.ensures.items kept.receipts;
       touched = length_more c.loop-position.touched.items c.push-in-loop-position.new.self.items done.executed.touched i c.in_ok-push-2.ensures.items kept.touched;
       settled = c.in_ok-done.ensures.settled;
+      supply = c.in_ok-done.ensures.supply;
       again = (let one = byte-le done.again in omega (arith, one, kept.again, c.from-again.ensures));
     }
+
+pub loop-position-init : goal.loop-position-init
+loop-position-init g c =
+    let job = c.args.job.now in
+    let setting = setting_view job.version job.contracts.now in
+    let current = c.in_ok-current.current.cells in
+    let none = subst (λ ms. Serial setting job.calls.now [] c.args.cells.now.cells (positions [] ms) current) (sym c.new-touched.ensures.items) c.in_ok-current.ensures.cells in
+    record {
+      serial = subst (λ rs. Serial setting job.calls.now [] c.args.cells.now.cells (positions rs c.new-touched.result.items) current) (sym c.new-receipts.ensures.items) none;
+      receipts = ap length c.new-receipts.ensures.items;
+      touched = ap length c.new-touched.ensures.items;
+      settled = c.in_ok-current.ensures.unsettled;
+      supply = c.requires.supply;
+      again = omega arith;
+    }
+
+pub execute_one-requires-clause-run : goal.execute_one-requires-clause-run
+execute_one-requires-clause-run g c κs within =
+    let job = c.args.job.now in
+    let is = IsMade (setting_view job.version job.contracts.now) job.calls.now in
+    let size = c.requires.size in
+    let test = c.loop-position-test.true in
+    subst (λ o. IfSome o is) (sym c.index-runs-position.is) (All-get_or (λ o. IfSome o is) c.args.runs.now c.loop-position.position c.index-runs-position.result (omega (arith, size, test)) c.requires.runs)
+
+pub returns-clause-serial : goal.returns-clause-serial
+returns-clause-serial g c =
+    let job = c.args.job.now in
+    let end = c.loop-position-test.false in
+    subst (λ order. Serial (setting_view job.version job.contracts.now) job.calls.now order c.args.cells.now.cells (positions c.loop-position.receipts.items c.loop-position.touched.items) c.loop-position.current.cells)
+    (take_all c.loop-position.position job.order.now (omega (arith, end))) c.loop-position.invariant.serial

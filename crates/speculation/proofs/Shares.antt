@@ -1,15 +1,14 @@
--- Calls that are handed back with their footprints.
+-- Calls that are kept with their footprints.
 use Rattle.std.proofs.Common.{◌≡◌, ℕ, ◌-◌, ◌≤◌, List, [], ◌∷◌, ◌++◌, length, take, drop, length-append, length-drop, sym, ◌∙◌, ap, subst, arith}
-use Rattle.std.specs.List.Sorted.{IsPermutation}
-use Rattle.std.proofs.ByRecursion.{all_shuffled}
 use Rattle.std.proofs.Math.Seq.{take-append-le, drop-append-le, drop-append_seam, take-length}
-use Rattle.std.proofs.lemmas.List.Elements.{All-append, All-cons, All-nil, All-weaker, All-from_recursion, recursion_from_All}
+use Rattle.std.proofs.lemmas.List.{map-append}
+use Rattle.std.proofs.lemmas.List.Elements.{All-append, All-cons, All-nil, All-weaker}
 use Rattle.spec_execution.specs.Configuration.{Setting}
 use Rattle.spec_execution.specs.Run.{ContractCall}
 use Rattle.spec_footprint.specs.declared.Access.{Access}
-use Rattle.publish.specs.Footprints.{IsFootprintOf}
-use Rattle.mining.specs.declared.copies.Prepared.{Prepared}
-use Rattle.mining.specs.Shares.{IsPrepared, AreAllPrepared}
+use Rattle.footprint.specs.Calls.{IsFootprintOf}
+use Rattle.speculation.specs.declared.Prepared.{Prepared}
+use Rattle.speculation.specs.Shares.{IsPrepared, AreAllPrepared, numbers}
 
 -- a part of a list is the same part of a longer one
 part_kept : {A : Type 0} (xs more : List A) (from until : ℕ) → from ≤ until → until ≤ length xs → take (until - from) (drop from (xs ++ more)) ≡ take (until - from) (drop from xs)
@@ -47,6 +46,5 @@ one_more_prepared setting calls accesses own now xs zs x is behind all from unti
     (subst (AreAllPrepared setting calls (accesses ++ own)) (sym is)
     (All-append (IsPrepared setting calls (accesses ++ own)) xs (x ∷ []) others (All-cons (IsPrepared setting calls (accesses ++ own)) x [] one (All-nil (IsPrepared setting calls (accesses ++ own))))))
 
--- the same calls in another order
-pub shuffled_prepared : {A : Type 0} (setting : Setting) (calls : List ContractCall) (accesses : List Access) (xs ys : List (Prepared A)) → IsPermutation xs ys → AreAllPrepared setting calls accesses xs → AreAllPrepared setting calls accesses ys
-shuffled_prepared setting calls accesses xs ys same all = All-from_recursion (IsPrepared setting calls accesses) ys (all_shuffled (IsPrepared setting calls accesses) xs ys same (recursion_from_All (IsPrepared setting calls accesses) xs all))
+pub one_more_number : {A : Type 0} (xs zs : List (Prepared A)) (x : Prepared A) → zs ≡ xs ++ x ∷ [] → numbers zs ≡ numbers xs ++ x.call ∷ []
+one_more_number xs zs x is = ap (λ ps. numbers ps) is ∙ map-append (λ p. p.call) xs (x ∷ [])

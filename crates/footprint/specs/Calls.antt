@@ -1,4 +1,4 @@
--- Footprints of calls, which are published where the cells hold what they found.
+-- Footprints of the calls of a list.
 use Rattle.std.specs.Prelude.{◌≡◌, ℕ, List, Some, slice_get}
 use Rattle.spec_execution.specs.Configuration.{Setting}
 use Rattle.spec_execution.specs.Run.{ContractCall}

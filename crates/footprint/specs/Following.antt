@@ -1,4 +1,4 @@
--- A call that is published by a footprint was executed.
+-- A call whose footprint was followed was executed.
 use Rattle.std.proofs.Common.{◌≡◌, ℕ, List, Some, slice_get, sym, ◌∙◌, subst}
 use Rattle.std.proofs.lemmas.Option.{same_Some}
 use Rattle.std.specs.Prelude.{All}
@@ -9,7 +9,7 @@ use Rattle.spec_execution.specs.Exec.{Executes}
 use Rattle.spec_footprint.specs.declared.Access.{Access}
 use Rattle.spec_footprint.specs.Footprints.{Agrees, all_left}
 use Rattle.serial.specs.declared.Executed.{Executed}
-use Rattle.publish.specs.Footprints.{IsFootprintOf}
+use Rattle.footprint.specs.Calls.{IsFootprintOf}
 
 pub executed_as : {A : Type 0} (setting : Setting) (calls : List ContractCall) (number : ℕ) (accesses : List Access) (e : Executed A) → IsFootprintOf setting calls number accesses e
     → (call : ContractCall) → slice_get calls number ≡ Some call → (cells later : Cells) → AreCells cells → All (Agrees cells) accesses → later ≡ all_left accesses cells

@@ -1,0 +1,155 @@
+//! Calls that are run ahead of their turn, each over a copy of the cells, which is left as it was, and kept with their footprints until it is their turn
+//! (Dickerson, Gazzillo, Herlihy, Koskinen, "Adding Concurrency to Smart Contracts", PODC 2017, section 4: calls are run speculatively).
+#![tactic(auto)]
+
+ghost use Rattle.std.specs.Prelude.{◌≡◌, ◌<◌, ◌++◌, ◌∷◌, ◌↔◌, [], All, IfOk, IfNone, IfSome, IsSome, OnOk, Some, length, slice_get};
+ghost use Rattle.std.specs.FinMap as finite;
+ghost use Rattle.spec_execution.specs.Exec.{Executes};
+ghost use Rattle.spec_execution.specs.Run.{ContractCall};
+ghost use Rattle.spec_footprint.specs.Footprints.{Agrees};
+ghost use Rattle.interp.specs.Lent.{setting_view};
+ghost use Rattle.speculation.specs.Shares.{IsCopyOf, IsPrepared, IsShareOf, footprint_of, numbers};
+
+use call::Call;
+use footprint::{enact, take};
+use link::deployed::Deployed as Contract;
+use serial::Executed;
+use spec_footprint::Access;
+use spec_ledger::{NoMemory, Version};
+use std::alloc::Allocator;
+use storage::Cells;
+
+/// What is to be run: calls, over contracts, by the rules of a version.
+#[derive(Clone, Copy)]
+pub struct Task<'a, A: Allocator> {
+    /// The contracts.
+    pub contracts: &'a [Contract<A>],
+    /// The calls.
+    pub calls: &'a [Call],
+    /// The version of the block.
+    pub version: Version,
+}
+
+/// A call that was run, and which of the accesses beside it are its footprint.
+#[derive(Drop)]
+pub struct Prepared<A: Allocator> {
+    /// Its number.
+    pub call: u32,
+    /// What it came to.
+    pub executed: Executed<A>,
+    /// How many accesses come before its own.
+    pub from: usize,
+    /// How many there are with its own.
+    pub until: usize,
+}
+
+/// Calls that one worker ran, and the contracts that they ran over. (Without the contracts at their side no proof was found that it may go to another
+/// thread.)
+#[derive(Drop)]
+pub struct Share<'a, A: Allocator> {
+    /// The contracts.
+    pub contracts: &'a [Contract<A>],
+    /// The calls that it ran.
+    pub prepared: Vec<Prepared<A>, A>,
+    /// What they did with cells, one call's accesses after another's.
+    pub accesses: Vec<Access, A>,
+    /// The calls that it was to run, and did not.
+    pub set_aside: Vec<u32, A>,
+}
+
+/// A share of no calls, with room for so many.
+///
+/// # Errors
+///
+/// Memory was refused.
+pub fn begin<'a, A: Allocator + Copy>(
+    alloc: A,
+    task: Task<'a, A>,
+    room: usize,
+) -> Result<Share<'a, A>, NoMemory>
+    ensures prepared { IfOk result (λ share. share.prepared.items ≡ []) }
+    ensures accesses { IfOk result (λ share. share.accesses.items ≡ []) }
+    ensures set_aside { IfOk result (λ share. share.set_aside.items ≡ []) }
+    ensures share { IfOk result (IsShareOf task.entry) }
+{
+    Ok(Share {
+        contracts: task.contracts,
+        prepared: Vec::with_capacity(alloc, room)?,
+        accesses: Vec::with_capacity(alloc, room)?,
+        set_aside: Vec::new(alloc),
+    })
+}
+
+/// Runs a call over a copy of the cells, puts it with its footprint behind those of the share, and leaves the copy as it was.
+///
+/// # Errors
+///
+/// Memory was refused. The copy and the share may have changed.
+pub fn prepare<A: Allocator + Copy>(
+    alloc: A,
+    task: &Task<'_, A>,
+    cells: &Cells<A>,
+    copy: &mut Cells<A>,
+    call: u32,
+    share: &mut Share<'_, A>,
+) -> Result<(), NoMemory>
+    requires call { call < length task.now.calls.now }
+    requires copy { IsCopyOf cells.now copy.old }
+    requires share { IsShareOf task.now share.old }
+    ensures copy { OnOk result (IsCopyOf cells.now copy.new) }
+    ensures share { OnOk result (IsShareOf task.now share.new) }
+    ensures prepared { OnOk result (numbers share.new.prepared.items ≡ numbers share.old.prepared.items ++ call ∷ []) }
+    ensures set_aside { share.new.set_aside ≡ share.old.set_aside }
+{
+    let calls = task.calls;
+    let from = share.accesses.len();
+    let executed = take(
+        alloc,
+        task.contracts,
+        &calls[call as usize],
+        cells,
+        copy,
+        &mut share.accesses,
+        task.version,
+    )?;
+    let until = share.accesses.len();
+    share.prepared.push(Prepared {
+        call,
+        executed,
+        from,
+        until,
+    })?;
+    Ok(())
+}
+
+/// Does with cells what a call did that was prepared beside these accesses, where they hold what it found, and gives what it came to.
+///
+/// # Errors
+///
+/// Memory was refused. The cells may have changed.
+pub fn follow<A: Allocator + Copy>(
+    task: &Task<'_, A>,
+    prepared: Prepared<A>,
+    accesses: &[Access],
+    cells: &mut Cells<A>,
+) -> Result<Option<Executed<A>>, NoMemory>
+    requires prepared { IsPrepared (setting_view task.now.version task.now.contracts.now) task.now.calls.now accesses.now prepared }
+    requires settled { cells.old.unsettled ≡ finite.empty }
+    ensures answer { IfOk result (λ o. IsSome o ↔ All (Agrees cells.old.cells) (footprint_of accesses.now prepared)) }
+    ensures executed { IfOk result (λ o. IfSome o (λ e. (call : ContractCall) → slice_get task.now.calls.now prepared.call ≡ Some call → Executes (setting_view task.now.version task.now.contracts.now) call cells.old.cells cells.new.cells e.receipt e.touched)) }
+    ensures same { IfOk result (λ o. IfNone o (cells.new ≡ cells.old)) }
+    ensures settled { cells.new.unsettled ≡ finite.empty }
+{
+    cells.hold();
+    let Prepared {
+        call: _,
+        executed,
+        from,
+        until,
+    } = prepared;
+    if enact(cells, &accesses[from..until])? {
+        Ok(Some(executed))
+    } else {
+        Ok(None)
+    }
+}
