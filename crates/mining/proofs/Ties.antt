@@ -12,8 +12,9 @@ use Rattle.interp.specs.Played.{Played}
 use Rattle.publish.specs.Publication.{Publication}
 use Rattle.publish.specs.declared.adopting.MadeRun.{MadeRun}
 use Rattle.publish.specs.Adoption.{IsMade, AreMade}
-use Rattle.mining.specs.declared.attempt.Committed.{Committed}
-use Rattle.mining.specs.Handed.{IsMadeRun, IsCommitted, AreAllRuns}
+use Rattle.attempts.specs.declared.attempt.Committed.{Committed}
+use Rattle.attempts.specs.Handed.{IsCommitted, AreAllRuns}
+use Rattle.mining.specs.Handed.{IsMadeRun}
 
 pub made_push : {A : Type 0} (setting : Setting) (calls : List ContractCall) (rs : List (MadeRun A)) (ms : List Modes) (r : MadeRun A) (m : Modes) → AreMade setting calls rs ms → IsMade setting calls r m → AreMade setting calls (rs ++ r ∷ []) (ms ++ m ∷ [])
 made_push setting calls [] [] r m made one = (one, tt)

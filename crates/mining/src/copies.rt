@@ -5,9 +5,9 @@ ghost use Rattle.handover.specs.Passes.{IsPassOf};
 ghost use Rattle.speculation.specs.Shares.{IsCopyOf, IsShareOf};
 ghost use Rattle.mining.specs.Shares.{DrawsCalls, IsPostOf};
 
-use crate::attempt::told;
 use crate::post::Post;
-use crate::worker::make_room;
+use crate::rest::make_room;
+use attempts::told;
 use handover::{Fact, Handover, Pass};
 use intake::{Intake, Seat};
 use pace::{Pace, Step};

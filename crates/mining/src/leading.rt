@@ -10,12 +10,12 @@ ghost use Rattle.publish.specs.Publication.{AreLeft, IsSameJob, Publication, lim
 ghost use Rattle.speculation.specs.Shares.{AreAllPrepared, IsPrepared, IsShareOf};
 ghost use Rattle.mining.specs.Shares.{DrawsCalls, IsFor, IsLed, IsPostOf};
 
-use crate::attempt::told;
 use crate::copies::{CopyJob, Line, draw, make_posts, receive, run_on_copies};
 use crate::mined_core::MinedCore;
 use crate::outcome::{finish, take_alone};
 use crate::post::Post;
-use crate::worker::draw_rest;
+use crate::rest::draw_rest;
+use attempts::told;
 use call::Call;
 use intake::Intake;
 use link::deployed::Deployed as Contract;

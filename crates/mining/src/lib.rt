@@ -3,15 +3,13 @@
 //! 2017, section 4: the miner).
 #![tactic(auto)]
 
-mod attempt;
-mod brake;
 mod copies;
 mod leading;
 mod mined_core;
 mod outcome;
 mod post;
+mod rest;
 mod sample;
-mod worker;
 
 ghost use Rattle.std.specs.Prelude.{◌≡◌, ◌≤◌, IfOk, length};
 ghost use Rattle.spec_ledger.specs.declared.Version.TheVariants.{Two};

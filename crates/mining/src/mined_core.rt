@@ -8,14 +8,14 @@ ghost use Rattle.interp.specs.Lent.{setting_view};
 ghost use Rattle.serial.specs.Positions.{positions};
 ghost use Rattle.intake.specs.Intakes.{IsSeatOf};
 ghost use Rattle.publish.specs.Publication.{AreLeft, limits, fuel_used};
-ghost use Rattle.mining.specs.Handed.{AreRuns, IsSerialBook};
+ghost use Rattle.attempts.specs.Handed.{AreRuns};
+ghost use Rattle.mining.specs.Handed.{IsSerialBook};
 
-use crate::attempt::Job;
-use crate::brake::Brake;
 use crate::leading::mine_on_copies;
 use crate::outcome::publish;
+use crate::rest::{draw_rest, make_room};
 use crate::sample::{Way, find_way};
-use crate::worker::{Worked, draw_rest, work};
+use attempts::{Brake, Job, Worked, work};
 use boost::book::Closed;
 use call::Call;
 use intake::{Intake, Seat};
@@ -206,7 +206,10 @@ fn run_workers<'a, R: Threads + Wait + Sync, A: Allocator + Copy + Send + Sync, 
         &|seat: Seat| -> Result<Worked<A>, NoMemory>
             requires { (job.now.intake.now.limits.calls ≡ length job.now.calls.now) × IsSeatOf job.now.intake.now seat }
             ensures { IfOk result (AreRuns (setting_view Two job.entry.now.contracts.now) job.entry.now.calls.now) }
-        { work(rt, job, seat) },
+        {
+            make_room(job.alloc, job.calls.len())?;
+            work(rt, job, seat)
+        },
     )?;
     Ok(parts)
 }

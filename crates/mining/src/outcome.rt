@@ -8,11 +8,11 @@ ghost use Rattle.interp.specs.Lent.{setting_view};
 ghost use Rattle.serial.specs.Positions.{positions};
 ghost use Rattle.publish.specs.Publication.{AreLeft, IsSameJob, HasGoneOn, limits, fuel_used};
 ghost use Rattle.publish.specs.Adoption.{AreMade};
-ghost use Rattle.mining.specs.Handed.{AreRuns, AreAllRuns, IsCommitted, IsJobOf, IsMadeRun, IsSerialBook};
+ghost use Rattle.attempts.specs.Handed.{AreRuns, AreAllRuns, IsCommitted};
+ghost use Rattle.mining.specs.Handed.{IsJobOf, IsMadeRun, IsSerialBook};
 
-use crate::attempt::Committed;
 use crate::mined_core::MinedCore;
-use crate::worker::Worked;
+use attempts::{Committed, Worked};
 use boost::book::Closed;
 use call::Call;
 use link::deployed::Deployed as Contract;

@@ -6,11 +6,11 @@ use denote.Param.Send.{IsSend, IsSync, shr_sync, sendable}
 use Rattle.std.proofs.CrossingOver as over
 use Rattle.std.specs.contracts.result.Result as result_row
 use Rattle.wtypes.specs.contracts.NoMemory as no_memory_row
-use Rattle.mining.specs.contracts.attempt.Job as job_row
-use Rattle.mining.specs.contracts.worker.Worked as worked_row
+use Rattle.attempts.specs.contracts.attempt.Job as job_row
+use Rattle.attempts.specs.contracts.worker.Worked as worked_row
 use Rattle.mining.specs.contracts.mined_core.run_workers as rows
 use Rattle.serial_block.proofs.Crossing.{crosses}
-use Rattle.mining.proofs.Crossing.{handed_send, job_sync}
+use Rattle.attempts.proofs.Crossing.{handed_send, job_sync}
 use Rattle.mining.proofs.mined_core.run_workers.Goals as goal
 
 pub map_vec-requires-send-X : goal.map_vec-requires-send-X

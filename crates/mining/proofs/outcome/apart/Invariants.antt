@@ -2,7 +2,7 @@ use Rattle.std.proofs.Common.{All, IfSome, length}
 use Rattle.spec_ledger.specs.declared.Version.TheVariants.{Two}
 use Rattle.interp.specs.Lent.{setting_view}
 use Rattle.publish.specs.Adoption.{AreMade}
-use Rattle.mining.specs.Handed.{IsCommitted}
+use Rattle.attempts.specs.Handed.{IsCommitted}
 use Rattle.mining.proofs.outcome.apart.Given as goal
 
 abbrev pub invariant-loop-place : goal.invariant-loop-place

@@ -2,7 +2,7 @@ use Rattle.std.proofs.Common.{Some, IfOk}
 use Rattle.std.proofs.lemmas.List.Elements.{All-pop}
 use Rattle.spec_ledger.specs.declared.Version.TheVariants.{Two}
 use Rattle.interp.specs.Lent.{setting_view}
-use Rattle.mining.specs.Handed.{AreRuns}
+use Rattle.attempts.specs.Handed.{AreRuns}
 use Rattle.mining.proofs.outcome.gather.Goals as goal
 
 pub take_part-lacked-requires-clause-part : goal.take_part-lacked-requires-clause-part

@@ -1,7 +1,7 @@
 use Rattle.std.proofs.Common.{◌≡◌, false, All, IfOk, length}
 use Rattle.spec_ledger.specs.declared.Version.TheVariants.{Two}
 use Rattle.interp.specs.Lent.{setting_view}
-use Rattle.mining.specs.Handed.{AreRuns}
+use Rattle.attempts.specs.Handed.{AreRuns}
 use Rattle.mining.proofs.outcome.gather.Given as goal
 
 abbrev pub invariant-loop-part : goal.invariant-loop-part

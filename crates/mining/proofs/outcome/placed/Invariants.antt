@@ -1,7 +1,7 @@
 use Rattle.std.proofs.Common.{◌≡◌, All, IfSome, length}
 use Rattle.spec_ledger.specs.declared.Version.TheVariants.{Two}
 use Rattle.interp.specs.Lent.{setting_view}
-use Rattle.mining.specs.Handed.{AreAllRuns, IsCommitted}
+use Rattle.attempts.specs.Handed.{AreAllRuns, IsCommitted}
 use Rattle.mining.proofs.outcome.placed.Given as goal
 
 abbrev pub invariant-loop-run : goal.invariant-loop-run

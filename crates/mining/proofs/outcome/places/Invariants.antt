@@ -1,7 +1,7 @@
 use Rattle.std.proofs.Common.{All, IfSome}
 use Rattle.spec_ledger.specs.declared.Version.TheVariants.{Two}
 use Rattle.interp.specs.Lent.{setting_view}
-use Rattle.mining.specs.Handed.{IsCommitted}
+use Rattle.attempts.specs.Handed.{IsCommitted}
 use Rattle.mining.proofs.outcome.places.Given as goal
 
 abbrev pub invariant-loop : goal.invariant-loop

@@ -1,8 +1,8 @@
 use Rattle.spec_ledger.specs.declared.Version.TheVariants.{Two}
 use Rattle.interp.specs.Lent.{setting_view}
 use Rattle.intake.specs.Intakes.{IsSeatOf}
-use Rattle.mining.specs.Handed.{AreRuns}
-use Rattle.mining.proofs.worker.work.Given as goal
+use Rattle.attempts.specs.Handed.{AreRuns}
+use Rattle.attempts.proofs.worker.work.Given as goal
 
 abbrev pub invariant-loop : goal.invariant-loop
 invariant-loop g l = record {

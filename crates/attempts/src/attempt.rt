@@ -7,7 +7,7 @@ ghost use Rattle.interp.specs.Lent.{setting_view};
 ghost use Rattle.interp.specs.Starting.{IsOpened, IsRejection};
 ghost use Rattle.interp.specs.Progress.{IsFree, IsSameCall};
 ghost use Rattle.turn_loop.specs.Going.{MayGoOn, IsEnded};
-ghost use Rattle.mining.specs.Handed.{IsRunOf, IsCommitted};
+ghost use Rattle.attempts.specs.Handed.{IsRunOf, IsCommitted};
 
 use crate::brake::Brake;
 use boost::book::{BeginRefusal, CommitRefusal, EnterRefusal, OpRefusal, Run};
@@ -28,29 +28,36 @@ use turn_loop::{Wish, next_wish};
 
 /// What the workers share.
 #[derive(Drop)]
-pub(crate) struct Job<'s, 'a, A: Allocator, P: Pace> {
-    pub(crate) alloc: A,
-    pub(crate) contracts: &'a [Contract<A>],
-    pub(crate) calls: &'a [Call],
-    pub(crate) book: &'s Shards<'s, NoGate, A>,
-    pub(crate) intake: &'s Intake<A>,
-    pub(crate) pace: &'s P,
+pub struct Job<'s, 'a, A: Allocator, P: Pace> {
+    /// Whose memory they take.
+    pub alloc: A,
+    /// The contracts.
+    pub contracts: &'a [Contract<A>],
+    /// The calls.
+    pub calls: &'a [Call],
+    /// The book that they share.
+    pub book: &'s Shards<'s, NoGate, A>,
+    /// Where they draw calls, and reserve their limits.
+    pub intake: &'s Intake<A>,
+    /// What is told each step, and may stop a worker there.
+    pub pace: &'s P,
     /// How often a call is tried.
-    pub(crate) tries: u32,
+    pub tries: u32,
     /// How many attempts may run at once.
-    pub(crate) brake: &'s Brake,
+    pub brake: &'s Brake,
 }
 
 /// A run that was committed.
 #[derive(Drop)]
-pub(crate) struct Committed<'a, A: Allocator> {
+pub struct Committed<'a, A: Allocator> {
     /// The position that the book answered.
-    pub(crate) position: u32,
+    pub position: u32,
     /// The number of the call.
-    pub(crate) call: u32,
-    pub(crate) finished: Finished<'a, A>,
+    pub call: u32,
+    /// The run.
+    pub finished: Finished<'a, A>,
     /// The locks that it asked for, each with the join of its modes.
-    pub(crate) touched: Touched<A>,
+    pub touched: Touched<A>,
 }
 
 /// What a call came to.
@@ -73,7 +80,7 @@ enum Stop {
 }
 
 /// Tells the pace a step, and answers whether the worker stops there.
-pub(crate) fn told<P: Pace>(pace: &P, step: Step) -> bool {
+pub fn told<P: Pace>(pace: &P, step: Step) -> bool {
     pace.at(step);
     pace.stops(step)
 }

@@ -1,6 +1,6 @@
-//! A brake on attempts that meet one another. Before it begins an attempt, where it holds no lock, a worker looks at a guess of how
-//! many may run at once, and waits while as many run. It looks a bounded number of times and then goes on all the same, so that
-//! nobody waits for ever, and no fact rests on the guess.
+// A brake on attempts that meet one another. Before it begins an attempt, where it holds no lock, a worker looks at a guess of how
+// many may run at once, and waits while as many run. It looks a bounded number of times and then goes on all the same, so that
+// nobody waits for ever, and no fact rests on the guess.
 
 use std::sync::atomic::{AtomicU64, Ordering};
 use std::thread;
@@ -14,7 +14,7 @@ const ROW: u64 = 8;
 /// How many attempts run, and how many may. A refusal halves what may run, down to one; commits in a row add to it, up to the
 /// number of workers.
 #[derive(Drop)]
-pub(crate) struct Brake {
+pub struct Brake {
     workers: u64,
     // (what all workers change stands on other cache lines than what they read)
     _before: [u64; 8],
@@ -26,7 +26,7 @@ pub(crate) struct Brake {
 
 impl Brake {
     /// All workers may run.
-    pub(crate) fn new(workers: u32) -> Brake {
+    pub fn new(workers: u32) -> Brake {
         let workers = u64::from(workers);
         Brake {
             workers,

@@ -1,6 +1,6 @@
 use Rattle.std.proofs.Common.{◌≤◌, ◌<◌, ◌^◌}
 use Rattle.interp.specs.Progress.{IsSameCall, IsFree, left_of}
-use Rattle.mining.proofs.attempt.run.Given as goal
+use Rattle.attempts.proofs.attempt.run.Given as goal
 
 abbrev pub invariant-operations : goal.invariant-operations
 invariant-operations g l = record {

@@ -1,9 +1,9 @@
 use Rattle.std.proofs.Common.{◌≡◌, sym, subst}
 use Rattle.spec_ledger.specs.declared.Version.TheVariants.{Two}
 use Rattle.interp.specs.Lent.{setting_view}
-use Rattle.mining.specs.Handed.{AreAllRuns}
-use Rattle.mining.proofs.worker.work.Goals as goal
-use Rattle.mining.proofs.worker.work.Goals.{else-loop-test, then-loop-test+in_default, then-loop-test+in-Some+else-not-reserve+in_ok-work_on+then-branch}
+use Rattle.attempts.specs.Handed.{AreAllRuns}
+use Rattle.attempts.proofs.worker.work.Goals as goal
+use Rattle.attempts.proofs.worker.work.Goals.{else-loop-test, then-loop-test+in_default, then-loop-test+in-Some+else-not-reserve+in_ok-work_on+then-branch}
 
 pub returns : goal.returns
 returns g c =

@@ -1,5 +1,5 @@
 use Rattle.serial.proofs.Replies.{is_reply}
-use Rattle.mining.proofs.attempt.ask.Goals as goal
+use Rattle.attempts.proofs.attempt.ask.Goals as goal
 
 pub returns-in-Ok : goal.returns-in-Ok
 returns-in-Ok g c =

@@ -2,8 +2,8 @@ use Rattle.std.proofs.Common.{◌∙◌, sym, ap, refl, length}
 use Rattle.std.specs.Prelude.{Some}
 use Rattle.std.proofs.lemmas.Option.{slice_get_read}
 use Rattle.serial.proofs.Meeting.{free_first}
-use Rattle.mining.proofs.Runs.{is_run}
-use Rattle.mining.proofs.attempt.play.Goals as goal
+use Rattle.attempts.proofs.Runs.{is_run}
+use Rattle.attempts.proofs.attempt.play.Goals as goal
 
 pub run-requires-clause-free : goal.run-requires-clause-free
 run-requires-clause-free g c κs within = free_first c.in-Ok.machine.status c.in-Ok.ensures.start.goes_on
