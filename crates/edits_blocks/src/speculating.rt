@@ -15,6 +15,21 @@ use speculation::{Prepared, Share, Task};
 use std::alloc::Allocator;
 use storage::Cells;
 
+/// As [`speculation::begin`], with a call beside it that was prepared.
+pub fn begin<'a, A: Allocator + Copy>(
+    alloc: A,
+    task: Task<'a, A>,
+    _prepared: Prepared<A>,
+    room: usize,
+) -> Result<Share<'a, A>, NoMemory>
+    ensures prepared { IfOk result (λ share. share.prepared.items ≡ []) }
+    ensures accesses { IfOk result (λ share. share.accesses.items ≡ []) }
+    ensures set_aside { IfOk result (λ share. share.set_aside.items ≡ []) }
+    ensures share { IfOk result (IsShareOf task.entry) }
+{
+    speculation::begin(alloc, task, room)
+}
+
 /// As [`speculation::prepare`].
 pub fn prepare<A: Allocator + Copy>(
     alloc: A,

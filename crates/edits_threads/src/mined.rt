@@ -1,4 +1,4 @@
-//! Mining.
+//! Mining, and the attempts of a worker.
 
 ghost use Rattle.std.specs.Prelude.{◌≡◌, ◌≤◌, IfOk, length};
 ghost use Rattle.std.specs.FinMap as finite;
@@ -6,13 +6,17 @@ ghost use Rattle.spec_ledger.specs.declared.Version.TheVariants.{Two};
 ghost use Rattle.spec_ledger.specs.Order.{IsAdmissible};
 ghost use Rattle.spec_execution.specs.Serial.{Serial};
 ghost use Rattle.interp.specs.Lent.{setting_view};
+ghost use Rattle.intake.specs.Intakes.{IsSeatOf};
+ghost use Rattle.attempts.specs.Handed.{AreRuns};
 ghost use Rattle.serial.specs.Positions.{positions};
 ghost use Rattle.publish.specs.Publication.{AreLeft, limits, fuel_used};
 ghost use Rattle.spec_block.specs.Worlds.{order_of};
 ghost use Rattle.spec_block.specs.Headline.{Headline, IsLeft};
 ghost use Rattle.world.specs.Views.{world_view};
 
+use attempts::{Job, Worked};
 use call::Call;
+use intake::Seat;
 use link::deployed::Deployed as Contract;
 use mining::{Mined, MinedCore};
 use pace::Pace;
@@ -22,6 +26,20 @@ use std::thread::Threads;
 use storage::Cells;
 use world::World;
 use wtypes::NoMemory;
+
+/// As [`attempts::work`].
+pub fn work<'a, A: Allocator + Copy, R: Wait, P: Pace>(
+    rt: &R,
+    job: &Job<'_, 'a, A, P>,
+    seat: Seat,
+) -> Result<Worked<'a, A>, NoMemory>
+    requires calls { job.now.intake.now.limits.calls ≡ length job.now.calls.now }
+    requires seat { IsSeatOf job.now.intake.now seat }
+    ensures { IfOk result (AreRuns (setting_view Two job.now.contracts.now) job.now.calls.now) }
+{
+    let worked = attempts::work(rt, job, seat)?;
+    Ok(worked)
+}
 
 /// As [`mining::mine_core`].
 pub fn mine_core<'a, R: Threads + Wait + Sync, A: Allocator + Copy + Send + Sync, P: Pace>(
