@@ -1,8 +1,8 @@
 // Calls that ask for exports of contracts. The values, the operations and the marks are those of the same bytes in a JavaScript engine, with
 // host functions written there; the fuel is counted by hand.
 use crate::assertions::equal;
+use crate::machines::{assert_turns, contracts_of, run, unfinished};
 use crate::programs::{FALLING_AT_THE_START, STARTING_BY_ASKING};
-use crate::runs::{assert_turns, contracts_of, run, unfinished};
 use interp::finished::Finished;
 use interp::turns::Turn;
 use link::deployed::Deployed;

@@ -6,8 +6,12 @@ mod assertions;
 #[cfg(test)]
 mod levels;
 #[cfg(test)]
+mod machines;
+#[cfg(test)]
 mod messages;
 #[cfg(test)]
 mod programs;
 #[cfg(test)]
 mod runs;
+#[cfg(test)]
+mod turns;

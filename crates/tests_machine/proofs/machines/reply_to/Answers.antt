@@ -4,7 +4,7 @@ use Rattle.std.specs.Prelude.{FitsSigned}
 use Rattle.std.specs.Int.{w32, w64}
 use Rattle.spec_ledger.specs.declared.Reply.TheVariants as reply
 use Rattle.spec_execution.specs.Run.{IsReply, to_get, to_has, to_put, to_del, to_add, to_total}
-use Rattle.tests_machine.proofs.runs.reply_to.Goals as goal
+use Rattle.tests_machine.proofs.machines.reply_to.Goals as goal
 
 three : FitsSigned w64 (pos 3)
 three = omega (arith, ints)

@@ -1,5 +1,5 @@
 use Rattle.interp.specs.Progress.{IsFree}
-use Rattle.tests_machine.proofs.runs.assert_alike.Given as goal
+use Rattle.tests_machine.proofs.turns.assert_alike.Given as goal
 
 abbrev pub invariant-stops : goal.invariant-stops
 invariant-stops g l = record {
