@@ -1,5 +1,4 @@
-//! What the contracts of a handover refuse: each function calls one function of it, over numbers that lie below a bound, and has its contract.
-#![tactic(auto)]
+//! A handover of numbers that lie below a bound.
 
 ghost use Rattle.std.specs.Prelude.{◌≡◌, ◌<◌, IfErr, IfOk, IfSome};
 ghost use Rattle.handover.specs.Passes.{IsPassOf};
