@@ -180,10 +180,10 @@ const COUNTER: [u8; 91] = [
 const LOOKS_AND_BUMPS: &[Row] = &[Row {
     name: "each adder waits for each reader",
     modules: &[&COUNTER],
-    calls: Calls::LooksAndBumps(500),
+    calls: Calls::LooksAndBumps(250),
     workers: 4,
     meeting: None,
-    after: &[(0, Counter, 1, 500)],
+    after: &[(0, Counter, 1, 250)],
 }];
 
 #[test]
