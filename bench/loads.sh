@@ -22,7 +22,7 @@ ROWS
     return
   fi
   for length in 7 100 1000 10000; do
-    count=$((length < 1000 ? 20000 : 2000))
+    count=$((length < 10000 ? 20000 : 2000))
     for shared in 0 15 100; do
       echo "$(grouped $length) instructions|$shared of 100|calls $length $shared $count"
     done

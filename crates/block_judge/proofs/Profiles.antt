@@ -1,23 +1,26 @@
--- Profiles beside those that have the turns of their modes.
-use Rattle.std.proofs.Common.{◌≡◌, ℕ, zero, suc, ◌+◌, ◌<◌, Bool, true, false, ◌&&◌, T, List, [], ◌∷◌, Option, Some, option_map, map, take, filter_map, slice_get, get_or, length, refl, sym, ap, subst, ◌∙◌, arith}
-use Rattle.std.specs.FinMap.{entries, get-entries, empty, is_sorted}
-use Rattle.std.specs.FinMap as finite
+-- Profiles whose turns are looked at one position after another.
+use Rattle.std.proofs.Common.{◌≡◌, ℕ, zero, suc, ◌+◌, ◌<◌, cond, ◌&&◌, T, List, [], ◌∷◌, ◌++◌, Option, Some, None, map, take, get_or, slice_get, length, refl, sym, ap, subst, ◌∙◌, arith, below_more}
+use Rattle.std.specs.FinMap.{find, is_sorted}
 use Rattle.std.specs.FinMap.Entries.{below_all}
-use Rattle.std.specs.Ordering.{is_lt}
+use Rattle.std.specs.Ordering.{is_eq, is_lt}
+use Rattle.std.specs.declared.cmp.Ordering.TheVariants.{Less}
 use Rattle.std.specs.List.{AllByRecursion, cons_option}
-use Rattle.std.proofs.lemmas.List.{length-map}
-use Rattle.std.proofs.lemmas.Option.{slice_get-map, slice_get-get_or, slice_get_within, get_or_from_slice_get, same_Some}
+use Rattle.std.proofs.lemmas.List.{append-nil, take_more}
+use Rattle.std.proofs.lemmas.List.Elements.{filter_map-append}
+use Rattle.std.proofs.lemmas.Option.{slice_get_within, get_or_from_slice_get, same_Some}
 use Rattle.spec_ledger.specs.declared.Lock.{Lock}
 use Rattle.spec_ledger.specs.declared.Mode.{Mode}
 use Rattle.spec_ledger.specs.declared.Entry.{Entry}
 use Rattle.spec_ledger.specs.Cells.{lock_cmp}
-use Rattle.spec_ledger.specs.Modes.{Modes}
-use Rattle.spec_ledger.specs.Order.{turn_by, turn_at, groups_before_last}
-use Rattle.lock_profile.specs.Turns.{AreTurns, IsProfile, profile_at, touched_at}
-use Rattle.spec_block.specs.Worlds.{Position, held_in}
-use Rattle.spec_block.specs.Schedule.{HaveTurns}
-use Rattle.spec_block.specs.Verdicts.{mode_in, HasTurn, HasOtherTurns, IsLeast}
-use Rattle.block_judge.specs.Turned.{IsUnlike, lists_of}
+use Rattle.spec_ledger.specs.Order.{holders, turn_by}
+use Rattle.lock_profile.specs.declared.Group.{Group}
+use Rattle.lock_profile.specs.declared.Held.{Held}
+use Rattle.lock_profile.specs.Groups.{latest, turn_next, group_of, last_group, entry_of, pairs}
+use Rattle.lock_profile.specs.Turns.{IsProfile}
+use Rattle.lock_profile.proofs.Groups.{left, right, less, map_found, groups_placed}
+use Rattle.lock_profile.proofs.Orders.{last_group-push, turn_value, turn_is, next_is}
+use Rattle.spec_block.specs.Worlds.{held_in}
+use Rattle.spec_block.specs.Verdicts.{mode_in, HasTurn}
 
 -- ---- the locks of a profile rise
 
@@ -29,90 +32,112 @@ same_sorted : (es : List Entry) → is_sorted lock_cmp (map (λ (e : Entry). (e.
 same_sorted [] = refl
 same_sorted (e ∷ es) = let a = same_below e.lock es in let b = same_sorted es in λ i. a i && b i
 
-pub modes_rise : (es : List Entry) → IsProfile es → T (is_sorted lock_cmp (held_in es))
+modes_rise : (es : List Entry) → IsProfile es → T (is_sorted lock_cmp (held_in es))
 modes_rise es is = subst T (same_sorted es) is
 
--- ---- turns
+-- each entry is above what all are above
+above : (q : Lock) (es : List Entry) (i : ℕ) (d : Entry) → T (below_all lock_cmp q (map (λ (e : Entry). (e.lock, e)) es)) → i < length es → lock_cmp q (get_or es i d).lock ≡ Less
+above q [] i d b below = absurd (omega (arith, below))
+above q (e ∷ es) zero d b below = less _ (left _ _ b)
+above q (e ∷ es) (suc i) d b below = above q es i d (right _ _ b) (omega (arith, below))
 
-through : {X Y : Type 0} (g : X → Y) (f : Y → Option Mode) (n : ℕ) (xs : List X) → filter_map f (take n (map g xs)) ≡ filter_map (λ x. f (g x)) (take n xs)
-through g f zero xs = refl
-through g f (suc n) [] = refl
-through g f (suc n) (x ∷ xs) = ap (cons_option (f (g x))) (through g f n xs)
+-- the entries before one have other locks
+pub not_among : (es : List Entry) (i : ℕ) (d : Entry) (old : Option Group) → IsProfile es → i < length es → latest (get_or es i d).lock (take i es) old ≡ old
+not_among [] i d old is below = absurd (omega (arith, below))
+not_among (e ∷ es) zero d old is below = refl
+not_among (e ∷ es) (suc i) d old is below =
+    let lower : lock_cmp e.lock (get_or es i d).lock ≡ Less = above e.lock es i d (left _ _ is) (omega (arith, below)) in
+    ap (λ o. latest (get_or es i d).lock (take i es) (cond (is_eq o) (Some (record { mode = e.mode; turn = e.turn })) old)) lower
+    ∙ not_among es i d old (right _ _ is) (omega (arith, below))
 
-made_from : (turn : Lock → ℕ) (es : List Entry) → AllByRecursion (λ (e : Entry). e.turn ≡ turn e.lock) es → es ≡ map (λ (held : Lock × Mode). record { lock = held.0; mode = held.1; turn = turn held.0 }) (held_in es)
+-- ---- a profile is told by its modes and a rule for its turns
+
+abbrev Turned : (Lock → Mode → ℕ) → List Entry → Type 0
+Turned turn es = AllByRecursion (λ (e : Entry). e.turn ≡ turn e.lock e.mode) es
+
+abbrev made : (Lock → Mode → ℕ) → Lock × Mode → Entry
+made turn h = record { lock = h.0; mode = h.1; turn = turn h.0 h.1 }
+
+made_from : (turn : Lock → Mode → ℕ) (es : List Entry) → Turned turn es → es ≡ map (made turn) (held_in es)
 made_from turn [] a = refl
 made_from turn (e ∷ es) a = let rest = made_from turn es a.1 in λ i. record { lock = e.lock; mode = e.mode; turn = a.0 i } ∷ rest i
 
-turns_in : (turn : Lock → ℕ) (P : Entry → Type 0) → ((lock : Lock) (mode : Mode) → P (record { lock = lock; mode = mode; turn = turn lock })) → (hs : List (Lock × Mode))
-    → AllByRecursion P (map (λ (held : Lock × Mode). record { lock = held.0; mode = held.1; turn = turn held.0 }) hs)
-turns_in turn P h [] = tt
-turns_in turn P h (x ∷ xs) = (h x.0 x.1, turns_in turn P h xs)
+made_turned : (turn : Lock → Mode → ℕ) (hs : List (Lock × Mode)) → Turned turn (map (made turn) hs)
+made_turned turn [] = tt
+made_turned turn (h ∷ hs) = (refl, made_turned turn hs)
 
-weaken : (P Q : Entry → Type 0) → ((e : Entry) → P e → Q e) → (es : List Entry) → AllByRecursion P es → AllByRecursion Q es
-weaken P Q f [] a = tt
-weaken P Q f (e ∷ es) a = (f e a.0, weaken P Q f es a.1)
+-- where two rules give its modes the same turns, it is of both
+turned_alike : (t u : Lock → Mode → ℕ) (es : List Entry) → IsProfile es → ((q : Lock) (m : Mode) → mode_in q es ≡ Some m → t q m ≡ u q m) → Turned t es → Turned u es
+turned_alike t u es is alike turned =
+    let same : map (made t) (held_in es) ≡ map (made u) (held_in es) =
+    map_found (made t) (made u) (held_in es) (modes_rise es is) (λ q m at. ap (λ n. record { lock = q; mode = m; turn = n }) (alike q m at)) in
+    subst (Turned u) (sym (made_from t es turned ∙ same)) (made_turned u (held_in es))
 
-module _ (ps : List (List Entry)) (touched : List Modes) (held : map entries touched ≡ map held_in ps) where
-  -- where the modes are the same, so are the turns
-  same_turns : (lock : Lock) (n : ℕ) → turn_by (mode_in lock) ps n ≡ turn_at touched n lock
-  same_turns lock n =
-      ap groups_before_last
-      (sym (through held_in (finite.find lock_cmp lock) (n + 1) ps)
-      ∙ (ap (λ (hs : List (List (Lock × Mode))). filter_map (finite.find lock_cmp lock) (take (n + 1) hs)) (sym held)
-      ∙ (through entries (finite.find lock_cmp lock) (n + 1) touched
-      ∙ sym (ap (λ (f : Modes → Option Mode). filter_map f (take (n + 1) touched)) (λ i (m : Modes). get-entries m lock i)))))
+-- ---- the groups after a profile
 
-  pub as_many : length touched ≡ length ps
-  as_many = sym (length-map touched entries) ∙ (ap (λ (hs : List (List (Lock × Mode))). length hs) held ∙ length-map ps held_in)
+-- the turns are those of holders that come after these groups
+abbrev pub Follow : (Lock → Option Group) → List Entry → Type 0
+Follow last es = AllByRecursion (λ (e : Entry). e.turn ≡ turn_next (last e.lock) e.mode) es
 
-  held_at : (n : ℕ) → n < length ps → (p : List Entry) → slice_get ps n ≡ Some p → held_in p ≡ entries (touched_at touched n)
-  held_at n below p at =
-      let m : Modes = get_or touched n empty in
-      let there : slice_get touched n ≡ Some m = slice_get-get_or touched n empty (let e = as_many in omega (arith, below, e)) in
-      same_Some (held_in p) (entries m)
-      (sym (slice_get-map held_in ps n ∙ ap (option_map held_in) at) ∙ (ap (λ (hs : List (List (Lock × Mode))). slice_get hs n) (sym held) ∙ (slice_get-map entries touched n ∙ ap (option_map entries) there)))
+abbrev held : List Entry → List Held
+held es = map (λ (e : Entry). record { lock = e.lock; mode = e.mode }) es
 
-  -- with the turns of its modes a profile is the one that is made of them
-  made : (n : ℕ) (p : List Entry) → slice_get ps n ≡ Some p → AllByRecursion (HasTurn ps n) p → p ≡ profile_at touched n
-  made n p at turns =
-      made_from (turn_at touched n) p (weaken (HasTurn ps n) (λ e. e.turn ≡ turn_at touched n e.lock) (λ e h. h ∙ same_turns e.lock n) p turns)
-      ∙ ap (map (λ (h : Lock × Mode). record { lock = h.0; mode = h.1; turn = turn_at touched n h.0 })) (held_at n (slice_get_within ps n p at) p at)
+same_pairs : (es : List Entry) → held_in es ≡ pairs (held es)
+same_pairs [] = refl
+same_pairs (e ∷ es) = ap (λ hs. (e.lock, e.mode) ∷ hs) (same_pairs es)
 
-  -- and what is made of them has their turns
-  has : (n : ℕ) (p : List Entry) → p ≡ profile_at touched n → AllByRecursion (HasTurn ps n) p
-  has n p is =
-      subst (AllByRecursion (HasTurn ps n)) (sym is) (turns_in (turn_at touched n) (HasTurn ps n) (λ lock mode. sym (same_turns lock n)) (entries (touched_at touched n)))
+module _ (last : Lock → Option Group) where
+  written_from : (es : List Entry) → Follow last es → es ≡ map (entry_of last) (held es)
+  written_from [] a = refl
+  written_from (e ∷ es) a = let rest = written_from es a.1 in λ i. record { lock = e.lock; mode = e.mode; turn = a.0 i } ∷ rest i
 
-  module _ (qs : List (List Entry)) (are : AreTurns touched qs) where
-    is_made : (n : ℕ) (q : List Entry) → slice_get qs n ≡ Some q → q ≡ profile_at touched n
-    is_made n q at =
-        let below : n < length touched = (let a = slice_get_within qs n q at in let b = are.0 in omega (arith, a, b)) in
-        sym (get_or_from_slice_get qs n q [] at) ∙ are.1 n below
+  placed : (q : Lock) (es : List Entry) → IsProfile es → Follow last es → latest q es (last q) ≡ group_of (last q) (mode_in q es)
+  placed q es is turned =
+      ap (λ (xs : List Entry). latest q xs (last q)) (written_from es turned)
+      ∙ groups_placed last q (held es) (subst (λ (hs : List (Lock × Mode)). T (is_sorted lock_cmp hs)) (same_pairs es) (modes_rise es is))
+      ∙ ap (λ (hs : List (Lock × Mode)). group_of (last q) (find lock_cmp q hs)) (sym (same_pairs es))
 
-    pub all_turned : qs ≡ ps → HaveTurns ps
-    all_turned same n p at = has n p (is_made n p (ap (λ (xs : List (List Entry)). slice_get xs n) same ∙ at))
+-- ---- one position more
 
-    other_turns : (n : ℕ) → IsUnlike ps qs n → HasOtherTurns ps n
-    other_turns n u = (u.0, u.2, λ turns. u.4 (made n u.0 u.2 turns ∙ sym (is_made n u.1 u.3)))
+module _ (ps : List (List Entry)) (i : ℕ) (p : List Entry) (there : slice_get ps i ≡ Some p) where
+  holders_more : (q : Lock) → holders (mode_in q) (take (i + 1) ps) ≡ holders (mode_in q) (take i ps) ++ cons_option (mode_in q p) []
+  holders_more q =
+      ap (holders (mode_in q)) (take_more ps i [] (slice_get_within ps i p there))
+      ∙ filter_map-append (mode_in q) (take i ps) (get_or ps i [] ∷ [])
+      ∙ ap (λ (x : List Entry). holders (mode_in q) (take i ps) ++ cons_option (mode_in q x) []) (get_or_from_slice_get ps i p [] there)
 
-    right_turns : (n : ℕ) → ¬ (IsUnlike ps qs n) → ¬ (HasOtherTurns ps n)
-    right_turns n like other =
-        let q : List Entry = get_or qs n [] in
-        let below : n < length qs = (let a = slice_get_within ps n other.0 other.1 in let b = as_many in let c = are.0 in omega (arith, a, b, c)) in
-        let at : slice_get qs n ≡ Some q = slice_get-get_or qs n [] below in
-        like (other.0, q, other.1, at, λ same. other.2 (has n other.0 (same ∙ is_made n q at)))
+  group_more : (q : Lock) → group_of (last_group None (holders (mode_in q) (take i ps))) (mode_in q p) ≡ last_group None (holders (mode_in q) (take (i + 1) ps))
+  group_more q =
+      elim (mode_in q p) as (λ o. group_of (last_group None (holders (mode_in q) (take i ps))) o ≡ last_group None (holders (mode_in q) (take i ps) ++ cons_option o [])) [
+        | None ↦ ap (last_group None) (sym (append-nil (holders (mode_in q) (take i ps))))
+        | Some m ↦ sym (last_group-push None (holders (mode_in q) (take i ps)) m)
+      ]
+      ∙ ap (last_group None) (sym (holders_more q))
 
-    pub least_other : (n : ℕ) → IsLeast (IsUnlike ps qs) n → IsLeast (HasOtherTurns ps) n
-    least_other n least = record { holds = other_turns n least.holds; none_before = λ m lt. right_turns m (least.none_before m lt) }
+  -- what follows the last group has the turn of its modes
+  turn_more : (q : Lock) (m : Mode) → mode_in q p ≡ Some m → turn_next (last_group None (holders (mode_in q) (take i ps))) m ≡ turn_by (mode_in q) ps i
+  turn_more q m at =
+      sym (next_is (last_group None (holders (mode_in q) (take i ps))) m)
+      ∙ ap (λ o. turn_value (group_of (last_group None (holders (mode_in q) (take i ps))) o)) (sym at)
+      ∙ ap turn_value (group_more q)
+      ∙ turn_is (holders (mode_in q) (take (i + 1) ps))
 
-pub from_test : (b : Bool) → T b → b ≡ true
-from_test true t = refl
-from_test false t = absurd t
+  module _ (is : IsProfile p) (last : Lock → Option Group) (of : (q : Lock) → last q ≡ last_group None (holders (mode_in q) (take i ps))) where
+    same_turn : (q : Lock) (m : Mode) → mode_in q p ≡ Some m → turn_next (last q) m ≡ turn_by (mode_in q) ps i
+    same_turn q m at = ap (λ g. turn_next g m) (of q) ∙ turn_more q m at
 
--- the first place at which the profiles are not the same
-pub least_unlike : (positions : List Position) (profiles : List (List Entry)) (i : ℕ) (p : Position) (q : List Entry) → slice_get positions i ≡ Some p → slice_get profiles i ≡ Some q → ¬ (p.profile ≡ q)
-    → ((m : ℕ) (d : List Entry) → m < i → get_or profiles m d ≡ get_or (lists_of positions) m d) → IsLeast (IsUnlike (lists_of positions) profiles) i
-least_unlike positions profiles i p q at at' other alike = record {
-  holds = (p.profile, q, slice_get-map (λ (x : Position). x.profile) positions i ∙ ap (option_map (λ (x : Position). x.profile)) at, at', other);
-  none_before = λ m lt u. u.4 (sym (get_or_from_slice_get (lists_of positions) m u.0 [] u.2) ∙ (sym (alike m [] lt) ∙ get_or_from_slice_get profiles m u.1 [] u.3));
-}
+    pub turns_here : Follow last p → AllByRecursion (HasTurn ps i) p
+    turns_here turned = turned_alike (λ q m. turn_next (last q) m) (λ q m. turn_by (mode_in q) ps i) p is same_turn turned
+
+    pub follow_here : AllByRecursion (HasTurn ps i) p → Follow last p
+    follow_here has = turned_alike (λ q m. turn_by (mode_in q) ps i) (λ q m. turn_next (last q) m) p is (λ q m at. sym (same_turn q m at)) has
+
+    pub groups_here : Follow last p → (q : Lock) (next : Option Group) → next ≡ latest q p (last q)
+        → next ≡ last_group None (holders (mode_in q) (take (i + 1) ps))
+    groups_here turned q next e = e ∙ placed last q p is turned ∙ ap (λ g. group_of g (mode_in q p)) (of q) ∙ group_more q
+
+  -- the positions so far, and this one
+  pub turns_more : ((m : ℕ) (x : List Entry) → m < i → slice_get ps m ≡ Some x → AllByRecursion (HasTurn ps m) x) → AllByRecursion (HasTurn ps i) p
+      → (m : ℕ) (x : List Entry) → m < i + 1 → slice_get ps m ≡ Some x → AllByRecursion (HasTurn ps m) x
+  turns_more before here m x below = below_more (λ k. slice_get ps k ≡ Some x → AllByRecursion (HasTurn ps k) x) i
+      (λ k lt. before k x lt) (λ at. subst (AllByRecursion (HasTurn ps i)) (same_Some p x (sym there ∙ at)) here) m below

@@ -3,11 +3,9 @@ use Rattle.std.proofs.Common.{◌≡◌, ℕ, ◌<◌, ◌≤◌, List, inl, sym
 use Rattle.std.proofs.lemmas.Bool.{cases_lt}
 use Rattle.std.proofs.lemmas.Option.{slice_get-get_or}
 use Rattle.spec_ledger.specs.Order.{limits_of}
-use Rattle.spec_block.specs.Worlds.{Call, World, Block, order_of, profiles_of, limits}
+use Rattle.spec_block.specs.Worlds.{Call, World, Block, order_of, limits}
 use Rattle.spec_block.specs.Bytes.{SpellsBlock}
-use Rattle.spec_block.specs.Schedule.{HaveTurns}
-use Rattle.spec_block.specs.Verdicts.{Verdict, Malformed, WrongWorld, WrongCalls, BadOrder, OverBudget, RoomLeft, BadTurns, Deviates, WrongEnd, Accept, place, IsLeast, IsBadNumber, HasRoom, HasOtherTurns, HoldsOf, Holds, IsVerdictOf}
-use Rattle.block_judge.specs.declared.reason.Unfit.TheVariants as unfit
+use Rattle.spec_block.specs.Verdicts.{Verdict, Malformed, WrongWorld, WrongCalls, BadOrder, OverBudget, RoomLeft, BadTurns, Deviates, WrongEnd, Accept, place, IsLeast, IsBadNumber, HasRoom, HoldsOf, Holds, IsVerdictOf}
 use Rattle.block_judge.specs.Judging.{IsFirstFrom, NoneFrom}
 
 module _ (P : Verdict → Type 0) where
@@ -52,27 +50,6 @@ module _ (world : World) (calls : List Call) (fuel : ℕ) (b : Block) (order : L
 
   pub order_passes : ((p : ℕ) → ¬ (IsBadNumber calls order p)) → ¬ (fuel < limits_of (limits calls) order) → ((c : ℕ) → ¬ (HasRoom calls fuel order c)) → NoneFrom (HoldsOf world calls fuel b) 1 7
   order_passes bad budget room = none_joined (HoldsOf world calls fuel b) 1 4 7 first (order_none 7 (omega arith) bad (λ _. budget) (λ _. room))
-
--- ---- the turns
-
-module _ (world : World) (calls : List Call) (fuel : ℕ) (b : Block) (first : NoneFrom (HoldsOf world calls fuel b) 1 7) where
-  turns_none : ((p : ℕ) → ¬ (HasOtherTurns (profiles_of b) p)) → NoneFrom (HoldsOf world calls fuel b) 7 8
-  turns_none none Malformed from before h = absurd (omega (arith, from))
-  turns_none none WrongWorld from before h = absurd (omega (arith, from))
-  turns_none none WrongCalls from before h = absurd (omega (arith, from))
-  turns_none none (BadOrder p) from before h = absurd (omega (arith, from))
-  turns_none none OverBudget from before h = absurd (omega (arith, from))
-  turns_none none (RoomLeft c) from before h = absurd (omega (arith, from))
-  turns_none none (BadTurns p) from before h = none p h.holds
-  turns_none none (Deviates p) from before h = absurd (omega (arith, before))
-  turns_none none WrongEnd from before h = absurd (omega (arith, before))
-  turns_none none (Accept w) from before h = absurd (omega (arith, before))
-
-  pub turns_pass : HaveTurns (profiles_of b) → NoneFrom (HoldsOf world calls fuel b) 1 8
-  turns_pass have = none_joined (HoldsOf world calls fuel b) 1 7 8 first (turns_none (λ p other. other.2 (have p other.0 other.1)))
-
-  pub turns_differ : (p : ℕ) → IsLeast (HasOtherTurns (profiles_of b)) p → IsFirstFrom (HoldsOf world calls fuel b) 1 (BadTurns p)
-  turns_differ p least = record { holds = least; within = omega arith; none_before = first }
 
 -- ---- the verdict of the bytes
 

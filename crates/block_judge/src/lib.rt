@@ -18,12 +18,12 @@ ghost use Rattle.block_judge.specs.Judging.{IfRejected, IsFirstFrom, NoneFrom, P
 
 use crate::digests::judge_digests;
 pub use crate::laws::first_is_verdict;
-use crate::order::{judge_order, numbers_of};
+use crate::order::judge_order;
+pub use crate::order::numbers_of;
 pub use crate::reason::{Reason, Unfit};
 use crate::turns::judge_turns;
 use block::{Block, BlockRefusal, read_block};
 use call::Call;
-use lock_profile::Profile;
 use std::alloc::{Allocator, Global};
 use world::World;
 
@@ -34,12 +34,14 @@ pub struct Fit<A: Allocator = Global> {
     pub block: Block<A>,
     /// The numbers of its calls, by position.
     pub order: Vec<u32, A>,
-    /// The profiles of its positions.
-    pub profiles: Vec<Profile<A>, A>,
 }
 
 /// The block that the bytes spell.
-fn read<A: Allocator + Copy>(alloc: A, bytes: &[u8]) -> Result<Block<A>, Unfit>
+///
+/// # Errors
+///
+/// The bytes spell no block; or memory was refused.
+pub fn spelled_by<A: Allocator + Copy>(alloc: A, bytes: &[u8]) -> Result<Block<A>, Unfit>
     ensures spelled { IfOk result (SpellsBlock bytes.now) }
     ensures rejected { IfErr result (λ unfit. (world : TheWorld) (calls : List TheCall) (fuel : ℕ) → IfRejected unfit (IsVerdictOf world calls fuel bytes.now)) }
 {
@@ -52,29 +54,31 @@ fn read<A: Allocator + Copy>(alloc: A, bytes: &[u8]) -> Result<Block<A>, Unfit>
     }
 }
 
-/// Judges a block that was read.
-fn examine<A: Allocator + Copy>(
+/// Judges a block of calls over a world, with this fuel for the block and the numbers of its calls by position, without running a call.
+///
+/// # Errors
+///
+/// The first of the reasons 2 to 7 that holds; or memory was refused.
+pub fn judge_block<A: Allocator + Copy>(
     alloc: A,
     world: &World<A>,
     calls: &[Call],
     fuel: u64,
     block: &Block<A>,
-) -> Result<(Vec<u32, A>, Vec<Profile<A>, A>), Unfit>
+    order: &[u32],
+) -> Result<(), Unfit>
     requires calls { length calls.now ≤ 65535 }
-    requires order { length (order_of block.now) ≤ 65535 }
+    requires order { order.now ≡ order_of block.now }
+    requires few { length (order_of block.now) ≤ 65535 }
     requires profiles { length (profiles_of block.now) ≤ 65535 }
     ensures rejected { IfErr result (λ unfit. IfRejected unfit (IsFirstFrom (HoldsOf (world_view world.now) calls.now fuel block.now) 1)) }
     ensures passed { OnOk result (NoneFrom (HoldsOf (world_view world.now) calls.now fuel block.now) 1 8) }
-    ensures order { IfOk result (λ r. r.0.items ≡ order_of block.now) }
-    ensures profiles { IfOk result (λ r. r.1.items ≡ profiles_of block.now) }
     ensures known { OnOk result (All (λ number. number < length calls.now) (order_of block.now)) }
     ensures turns { OnOk result (HaveTurns (profiles_of block.now)) }
 {
     judge_digests(alloc, world, calls, block)?;
-    let order = numbers_of(alloc, block)?;
-    judge_order(alloc, calls, fuel, &order)?;
-    let profiles = judge_turns(alloc, block)?;
-    Ok((order, profiles))
+    judge_order(alloc, calls, fuel, order)?;
+    judge_turns(alloc, block)
 }
 
 /// Judges the bytes of a block of calls over a world, with this fuel for the block, without running a call.
@@ -93,14 +97,11 @@ pub fn judge<A: Allocator + Copy>(
     ensures rejected { IfErr result (λ unfit. IfRejected unfit (IsVerdictOf (world_view world.now) calls.now fuel bytes.now)) }
     ensures passed { IfOk result (λ fit. Passes (world_view world.now) calls.now fuel bytes.now fit.block) }
     ensures order { IfOk result (λ fit. fit.order.items ≡ order_of fit.block) }
-    ensures profiles { IfOk result (λ fit. fit.profiles.items ≡ profiles_of fit.block) }
 {
     first_is_verdict();
-    let block = read(alloc, bytes)?;
-    let (order, profiles) = examine(alloc, world, calls, fuel, &block)?;
-    Ok(Fit {
-        block,
-        order,
-        profiles,
-    })
+    let block = spelled_by(alloc, bytes)?;
+    block.hold();
+    let order = numbers_of(alloc, &block)?;
+    judge_block(alloc, world, calls, fuel, &block, &order)?;
+    Ok(Fit { block, order })
 }

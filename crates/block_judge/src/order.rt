@@ -14,7 +14,11 @@ use std::alloc::Allocator;
 use wtypes::NoMemory;
 
 /// The numbers of a block's calls, by position.
-pub(crate) fn numbers_of<A: Allocator>(alloc: A, block: &Block<A>) -> Result<Vec<u32, A>, NoMemory>
+///
+/// # Errors
+///
+/// The allocator refused memory.
+pub fn numbers_of<A: Allocator>(alloc: A, block: &Block<A>) -> Result<Vec<u32, A>, NoMemory>
     ensures { IfOk result (λ numbers. numbers.items ≡ order_of block.now) }
 {
     let mut numbers = Vec::new(alloc);

@@ -1,102 +1,108 @@
 //! Whether the turns of a block are those of its modes in its order.
 
-ghost use Rattle.std.specs.Prelude.{◌≡◌, ◌≢◌, ◌≤◌, ◌<◌, ◌^◌, ◌↔◌, ℕ, IfErr, IfNone, IfOk, IfSome, IsTrue, List, OnOk, length, map};
-ghost use Rattle.std.specs.FinMap as finite;
-ghost use Rattle.spec_block.specs.Worlds.{Block as TheBlock, Call as TheCall, Position as ThePosition, World as TheWorld, held_in, profiles_of};
+ghost use Rattle.std.specs.Prelude.{◌≡◌, ◌≤◌, ◌<◌, ◌^◌, ◌↔◌, ℕ, All, IfErr, IfNone, IfOk, IfSome, IsTrue, List, OnOk, Some, if◌then◌else◌, length};
+ghost use Rattle.std.specs.BTreeMap.{get};
+ghost use Rattle.std.specs.Ordering.{eq_by_cmp};
+ghost use Rattle.spec_ledger.specs.Cells.{lock_cmp};
+ghost use Rattle.spec_ledger.specs.Modes.{goes_with};
+ghost use Rattle.lock_profile.specs.Groups.{latest, turn_next};
+ghost use Rattle.lock_profile.specs.Turns.{IsProfile};
+ghost use Rattle.spec_block.specs.Worlds.{Call as TheCall, World as TheWorld, profiles_of};
 ghost use Rattle.spec_block.specs.Schedule.{HaveTurns};
-ghost use Rattle.spec_block.specs.Verdicts.{HoldsOf, IsLeast};
+ghost use Rattle.spec_block.specs.Verdicts.{HasOtherTurns, HoldsOf, IsLeast};
 ghost use Rattle.block_judge.specs.Judging.{IfRejected, IsFirstFrom, NoneFrom};
-ghost use Rattle.block_judge.specs.Turned.{IsUnlike, lists_of};
+ghost use Rattle.block_judge.specs.Turned.{lists_of};
 
 use crate::reason::{Reason, Unfit};
 use block::{Block, Position};
-use lock_profile::{Held, Profile, Touched, turns};
-use spec_ledger::Entry;
+use lock_profile::Group;
+use spec_ledger::{Entry, Lock, Mode};
 use std::alloc::Allocator;
+use std::collections::BTreeMap;
 use wtypes::NoMemory;
 
-/// The locks of a profile with their modes.
-fn touched_of<A: Allocator>(alloc: A, profile: &Profile<A>) -> Result<Touched<A>, NoMemory>
-    ensures { IfOk result (λ touched. finite.entries touched ≡ held_in profile.now) }
+fn go_together(a: Mode, b: Mode) -> bool
+    ensures { result ≡ goes_with a b }
 {
-    profile.hold();
-    let mut held = Vec::new(alloc);
-    for entry in profile.entries() {
-        held.push(Held {
-            lock: entry.lock,
-            mode: entry.mode,
-        })?;
-    }
-    match Touched::from_sorted(held) {
-        Some(touched) => Ok(touched),
-        None => unreachable!(),
+    matches!((a, b), (Mode::Read, Mode::Read) | (Mode::Add, Mode::Add))
+}
+
+/// Whether an entry has the turn of a holder that comes after the last group of its lock.
+fn follows(last: Option<Group>, entry: Entry) -> bool
+    ensures { IsTrue result ↔ (entry.turn ≡ turn_next last entry.mode) }
+{
+    match last {
+        None => entry.turn == 0,
+        Some(group) if go_together(group.mode, entry.mode) => entry.turn == group.turn,
+        Some(group) => entry.turn > group.turn && entry.turn - group.turn == 1,
     }
 }
 
-/// The locks of each position with their modes.
-fn all_touched<A: Allocator + Copy>(
+/// Writes the group that an entry is in, and gives the one that was the last of its lock.
+fn replace<A: Allocator + Copy>(
+    groups: &mut BTreeMap<Lock, Group, A>,
+    entry: Entry,
+) -> Result<Option<Group>, NoMemory>
+    ensures last { IfOk result (λ last. last ≡ get lock_cmp groups.old entry.lock) }
+    ensures groups { OnOk result ((q : Lock) → get lock_cmp groups.new q ≡ (if eq_by_cmp lock_cmp entry.lock q then Some (record { mode = entry.mode; turn = entry.turn }) else get lock_cmp groups.old q)) }
+{
+    let group = Group {
+        mode: entry.mode,
+        turn: entry.turn,
+    };
+    match groups.insert(entry.lock, group) {
+        Ok(last) => Ok(last),
+        Err(_) => Err(NoMemory),
+    }
+}
+
+/// Whether the entries of a position have the turns of holders that come after the last groups of their locks. Where they do, the groups that they are in are the last.
+fn have_turns<A: Allocator + Copy>(
+    groups: &mut BTreeMap<Lock, Group, A>,
+    entries: &[Entry],
+) -> Result<bool, NoMemory>
+    requires { IsProfile entries.now }
+    ensures turns { IfOk result (λ have. IsTrue have ↔ All (λ e. e.turn ≡ turn_next (get lock_cmp groups.old e.lock) e.mode) entries.now) }
+    ensures groups { IfOk result (λ have. IsTrue have → (q : Lock) → get lock_cmp groups.new q ≡ latest q entries.now (get lock_cmp groups.old q)) }
+{
+    for entry in entries {
+        let last = replace(groups, *entry)?;
+        if !follows(last, *entry) {
+            return Ok(false);
+        }
+    }
+    Ok(true)
+}
+
+/// The least position with an entry that has another turn than its mode gives it in the order.
+fn first_other<A: Allocator + Copy>(
     alloc: A,
     positions: &[Position<A>],
-) -> Result<Vec<Touched<A>, A>, NoMemory>
-    ensures { IfOk result (λ all. map finite.entries all.items ≡ map held_in (lists_of positions.now)) }
-{
-    let mut all = Vec::new(alloc);
-    for position in positions {
-        all.push(touched_of(alloc, position.profile())?)?;
-    }
-    Ok(all)
-}
-
-fn is_entry(a: Entry, b: Entry) -> bool
-    ensures { IsTrue result ↔ (a ≡ b) }
-{
-    a == b
-}
-
-fn are_entries(a: &[Entry], b: &[Entry]) -> bool
-    ensures { IsTrue result ↔ (a.now ≡ b.now) }
-{
-    if a.len() != b.len() {
-        return false;
-    }
-    for (at, entry) in a.iter().enumerate() {
-        if !is_entry(*entry, b[at]) {
-            return false;
-        }
-    }
-    true
-}
-
-/// The least position whose entries are not these.
-fn first_other<A: Allocator>(positions: &[Position<A>], profiles: &[Profile<A>]) -> Option<u32>
+) -> Result<Option<u32>, NoMemory>
     requires few { length positions.now < 2 ^ 32 }
-    requires size { length profiles.now ≡ length positions.now }
-    ensures other { IfSome result (IsLeast (IsUnlike (lists_of positions.now) profiles.now)) }
-    ensures same { IfNone result (profiles.now ≡ lists_of positions.now) }
+    ensures other { IfOk result (λ found. IfSome found (IsLeast (HasOtherTurns (lists_of positions.now)))) }
+    ensures same { IfOk result (λ found. IfNone found (HaveTurns (lists_of positions.now))) }
 {
+    let mut groups = BTreeMap::new(alloc);
     for (at, position) in positions.iter().enumerate() {
-        if !are_entries(position.profile().entries(), profiles[at].entries()) {
-            return Some(at as u32);
+        let profile = position.profile();
+        profile.hold();
+        if !have_turns(&mut groups, profile.entries())? {
+            return Ok(Some(at as u32));
         }
     }
-    None
+    Ok(None)
 }
 
-/// Judges the turns of a block, and gives its profiles.
-pub(crate) fn judge_turns<A: Allocator + Copy>(
-    alloc: A,
-    block: &Block<A>,
-) -> Result<Vec<Profile<A>, A>, Unfit>
+/// Judges the turns of a block.
+pub(crate) fn judge_turns<A: Allocator + Copy>(alloc: A, block: &Block<A>) -> Result<(), Unfit>
     requires { length (profiles_of block.now) ≤ 65535 }
     ensures rejected { (world : TheWorld) (calls : List TheCall) (fuel : ℕ) → NoneFrom (HoldsOf world calls fuel block.now) 1 7 → IfErr result (λ unfit. IfRejected unfit (IsFirstFrom (HoldsOf world calls fuel block.now) 1)) }
     ensures passed { OnOk result ((world : TheWorld) (calls : List TheCall) (fuel : ℕ) → NoneFrom (HoldsOf world calls fuel block.now) 1 7 → NoneFrom (HoldsOf world calls fuel block.now) 1 8) }
-    ensures profiles { IfOk result (λ profiles. profiles.items ≡ profiles_of block.now) }
     ensures turns { OnOk result (HaveTurns (profiles_of block.now)) }
 {
-    let touched = all_touched(alloc, block.positions())?;
-    let profiles = turns(alloc, &touched)?;
-    if let Some(position) = first_other(block.positions(), &profiles) {
-        return Err(Unfit::Rejected(Reason::BadTurns(position)));
+    match first_other(alloc, block.positions())? {
+        Some(position) => Err(Unfit::Rejected(Reason::BadTurns(position))),
+        None => Ok(()),
     }
-    Ok(profiles)
 }

@@ -5,7 +5,6 @@ use denote.Struct.Field.{row_field}
 use denote.Param.Send.{Frees, IsSend, IsSync, shr_sync}
 use denote.Param.SendFields.{declared_send, declared_sync, as_row_sync}
 use Rattle.std.specs.declared.alloc.Allocator.{Ghosts}
-use Rattle.std.proofs.CrossingOver as over
 use Rattle.intake.specs.contracts.intake.Intake as intake_row
 use Rattle.intake.proofs.seat.Seat.TheSendSync as seat
 use Rattle.handover.specs.declared.rule.Fact as fact
@@ -13,7 +12,11 @@ use Rattle.handover.specs.contracts.handover.Handover as line_row
 use Rattle.handover.specs.contracts.pass.Pass as pass_row
 use Rattle.handover.proofs.handover.Handover.TheSendSync as line
 use Rattle.handover.proofs.pass.Pass.TheSendSync as pass
-use Rattle.serial_block.proofs.Crossing.{crosses, cells_sync}
+use Rattle.std.specs.contracts.vec.Vec as vec_row
+use Rattle.link.specs.contracts.deployed.Deployed as contract_row
+use Rattle.storage.specs.contracts.Cells as cells_row
+use Rattle.world.specs.contracts.value.World as world_row
+use Rattle.serial_block.proofs.Crossing.{crosses, cells_sync, contract_sync, vec_sync}
 use Rattle.speculation.specs.contracts.Share as share_row
 use Rattle.speculation.specs.contracts.Task as task_row
 use Rattle.speculation.proofs.Crossing as kept
@@ -53,3 +56,10 @@ module _ (B : RattleType) (g : Ghosts B.Denot) (send : IsSend B) (sync : IsSync 
           ),
         ),
       )
+
+  -- threads may share a world
+  pub world_sync : IsSync (world_row.the_row B g)
+  world_sync =
+      let contracts = vec_sync B g send sync frees (contract_row.the_row B g) (contract_sync B g send sync frees) in
+      let cells = cells_sync B g send sync frees in
+      declared_sync (world_row.the_type B g) (as_row_sync (row_field (vec_row.the_row (contract_row.the_row B g) B g)) contracts, (as_row_sync (row_field (cells_row.the_row B g)) cells, tt))

@@ -10,6 +10,7 @@ mod outcome;
 mod post;
 mod rest;
 mod sample;
+mod sealing;
 
 ghost use Rattle.std.specs.Prelude.{◌≡◌, ◌≤◌, IfOk, length};
 ghost use Rattle.spec_ledger.specs.declared.Version.TheVariants.{Two};
@@ -18,11 +19,11 @@ ghost use Rattle.spec_block.specs.Headline.{Headline, IsLeft};
 ghost use Rattle.world.specs.Views.{world_view};
 
 pub use crate::mined_core::{MinedCore, mine_core};
+use crate::sealing::seal_by;
 use block::Block;
 use call::Call;
 use pace::Pace;
 use serial::Core;
-use serial_block::seal;
 use spec_ledger::Version;
 use std::alloc::{Allocator, Global};
 use std::sync::Wait;
@@ -111,7 +112,7 @@ pub fn mine_in<R: Threads + Wait + Sync, A: Allocator + Copy + Send + Sync, P: P
         receipts,
         touched,
         cells,
-        fuel: _,
+        fuel,
         left,
         by_workers,
     } = mine_core(
@@ -131,7 +132,17 @@ pub fn mine_in<R: Threads + Wait + Sync, A: Allocator + Copy + Send + Sync, P: P
         touched,
         cells,
     };
-    let (block, world) = seal(alloc, world, calls, &order, core, Version::Two)?;
+    let (block, world) = seal_by(
+        rt,
+        alloc,
+        world,
+        calls,
+        &order,
+        core,
+        fuel,
+        Version::Two,
+        workers,
+    )?;
     Ok(Mined {
         block,
         world,

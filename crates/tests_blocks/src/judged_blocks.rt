@@ -6,7 +6,6 @@ use block_judge::Unfit::{NoMemory, Rejected};
 use block_judge::{Fit, Reason, Unfit, judge};
 use call::Call;
 use codec::{Failures, MemorySink};
-use lock_profile::Profile;
 use spec_ledger::{Outcome, Receipt, Version};
 use std::alloc::Global;
 use world::{World, digest_world};
@@ -73,15 +72,15 @@ fn has(alloc: Global, bytes: &[u8], version: Version, order: &[u32], fuel: u64, 
             fit.block.version() == version
                 && fit.order.as_slice() == order
                 && fit.block.fuel() == fuel
-                && second_turn(&fit.profiles) == Some(turn)
+                && second_turn(fit.block.positions()) == Some(turn)
         }
         Err(_) => false,
     }
 }
 
 /// The turn of the second position's first lock.
-fn second_turn(profiles: &[Profile]) -> Option<u32> {
-    Some(profiles.get(1)?.entries().first()?.turn)
+fn second_turn(positions: &[Position]) -> Option<u32> {
+    Some(positions.get(1)?.profile().entries().first()?.turn)
 }
 
 /// A byte of the block that is replaced, and the verdict.

@@ -6,4 +6,6 @@ mod assertions;
 #[cfg(test)]
 mod long_lists;
 #[cfg(test)]
+mod rejected;
+#[cfg(test)]
 mod want_of_memory;

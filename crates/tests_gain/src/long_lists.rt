@@ -205,7 +205,7 @@ const ROWS: &[Row] = &[
         rounds: 89,
         workers: 4,
         by: Who::OnCopies,
-        validated: Who::OverOneBook,
+        validated: Who::OnCopies,
         again: 0,
     },
     Row {
@@ -227,7 +227,7 @@ const ROWS: &[Row] = &[
         rounds: 111,
         workers: 3,
         by: Who::OnCopies,
-        validated: Who::OverOneBook,
+        validated: Who::OnCopies,
         again: 0,
     },
     Row {
@@ -282,7 +282,7 @@ const ROWS: &[Row] = &[
         rounds: 166,
         workers: 2,
         by: Who::OnCopies,
-        validated: Who::OverOneBook,
+        validated: Who::OnCopies,
         again: 0,
     },
     Row {
@@ -304,7 +304,7 @@ const ROWS: &[Row] = &[
         rounds: 555,
         workers: 1,
         by: Who::OnCopies,
-        validated: Who::OverOneBook,
+        validated: Who::OnCopies,
         again: 0,
     },
     Row {
@@ -405,7 +405,7 @@ pub(crate) fn calls_of(alloc: Global, row: &Row, entry: &str) -> Result<Vec<Call
 }
 
 /// A world of the contract, with so many cells that no call uses.
-fn world_of(alloc: Global, others: u64) -> Result<World, Fail> {
+pub(crate) fn world_of(alloc: Global, others: u64) -> Result<World, Fail> {
     let mut contracts = Vec::new(alloc);
     contracts.push(deployed(alloc, SPIN)?)?;
     if contracts.len() > 1 {

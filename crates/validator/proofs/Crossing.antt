@@ -9,15 +9,27 @@ use Rattle.std.proofs.Crossing as std
 use Rattle.std.proofs.CrossingOver as over
 use Rattle.std.proofs.MapsCrossingOver as maps_over
 use Rattle.spec_ledger.proofs.Entry.TheSendSync as entry
+use Rattle.spec_ledger.proofs.Receipt.TheSendSync as receipt
 use Rattle.spec_ledger.proofs.Version.TheSendSync as version
+use Rattle.std.proofs.option.Option.TheSendSync as option
+use Rattle.std.proofs.result.Result.TheSendSync as result
 use Rattle.schedule.specs.contracts.board.Board as board_row
+use Rattle.std.specs.contracts.vec.Vec as vec_row
+use Rattle.link.specs.contracts.deployed.Deployed as contract_row
+use Rattle.storage.specs.contracts.Cells as cells_row
+use Rattle.world.specs.contracts.value.World as world_row
+use Rattle.block.specs.contracts.value.Block as block_row
+use Rattle.block_judge.proofs.reason.Unfit.TheSendSync as unfit
 use Rattle.ahead.specs.contracts.Ahead as ahead_row
 use Rattle.lock_profile.specs.contracts.Profile as profile_row
+use Rattle.records.specs.contracts.position.Position as position_row
 use Rattle.serial_block.proofs.Crossing.{crosses, vec_send, vec_sync, contract_sync, contracts_send, cells_sync, finished_send}
 use Rattle.speculation.proofs.Crossing.{share_send, task_sync}
 use Rattle.validator.specs.contracts.copies.Batch as batch_row
 use Rattle.validator.specs.contracts.copies.Batches as batches_row
 use Rattle.validator.specs.contracts.copies.CopyJob as copy_job_row
+use Rattle.validator.specs.contracts.copies.Own as own_row
+use Rattle.validator.specs.contracts.trial.Trial as trial_row
 use Rattle.validator.specs.contracts.job.Made as made_row
 use Rattle.validator.specs.contracts.job.Part as part_row
 use Rattle.validator.specs.contracts.job.Job as job_row
@@ -35,6 +47,9 @@ module _ (B : RattleType) (g : Ghosts B.Denot) (send : IsSend B) (sync : IsSync 
 
   profile_sync : IsSync (profile_row.the_row B g)
   profile_sync = let vec = vec_sync B g send sync frees in search (crosses, entry.the_sync, vec) depth 60 fits 100000
+
+  position_sync : IsSync (position_row.the_row B g)
+  position_sync = search (crosses, receipt.the_sync, profile_sync) depth 60 fits 100000
 
   board_send : IsSend (board_row.the_row B g)
   board_send = search (sendable, std.crosses, over.crosses, maps_over.crosses) depth 60 fits 100000
@@ -61,7 +76,7 @@ module _ (B : RattleType) (g : Ghosts B.Denot) (send : IsSend B) (sync : IsSync 
               (
                 search crosses depth 60 fits 100000,
                 (
-                  search (crosses, profile_sync) depth 60 fits 100000,
+                  search (crosses, position_sync) depth 60 fits 100000,
                   (as_row_sync (row_field (ShrRef a.mir a.lft P)) (shr_sync a.mir a.lft P pace), tt),
                 ),
               ),
@@ -91,7 +106,7 @@ module _ (B : RattleType) (g : Ghosts B.Denot) (send : IsSend B) (sync : IsSync 
           (
             search crosses depth 60 fits 100000,
             (
-              search (crosses, profile_sync) depth 60 fits 100000,
+              search (crosses, position_sync) depth 60 fits 100000,
               (
                 search (crosses, cells) depth 60 fits 100000,
                 (search (sendable, std.crosses) depth 60 fits 100000, (as_row_sync (row_field (ShrRef a.mir a.lft P)) (shr_sync a.mir a.lft P pace), tt)),
@@ -100,3 +115,20 @@ module _ (B : RattleType) (g : Ghosts B.Denot) (send : IsSend B) (sync : IsSync 
           ),
         ),
       )
+
+  world_sync : IsSync (world_row.the_row B g)
+  world_sync =
+      let contracts = vec_sync B g send sync frees (contract_row.the_row B g) (contract_sync B g send sync frees) in
+      let cells = cells_sync B g send sync frees in
+      declared_sync (world_row.the_type B g) (as_row_sync (row_field (vec_row.the_row (contract_row.the_row B g) B g)) contracts, (as_row_sync (row_field (cells_row.the_row B g)) cells, tt))
+
+  block_sync : IsSync (block_row.the_row B g)
+  block_sync = let vec = vec_sync B g send sync frees in search (crosses, vec, version.the_sync, position_sync) depth 60 fits 100000
+
+  -- the workers may share what they judge
+  pub trial_sync : (a : NamedLft) → IsSync (trial_row.the_row a B g)
+  trial_sync a = search (crosses, world_sync, block_sync) depth 60 fits 100000
+
+  -- and what one hands back may go to the thread that joins it
+  pub own_send : (a : NamedLft) → IsSend (own_row.the_row a B g)
+  own_send a = search (crosses, over.crosses, option.the_send, result.the_send, unfit.the_send, batches_send) depth 60 fits 100000

@@ -1,35 +1,29 @@
 -- A block that passes the first seven reasons, and what its calls came to.
-use Rattle.std.proofs.Common.{◌≡◌, ℕ, ◌<◌, ◌≤◌, List, All, length, sym, ap, subst, ◌∙◌, ⊎_elim, arith}
+use Rattle.std.proofs.Common.{◌≡◌, ℕ, ◌<◌, ◌≤◌, List, All, IfErr, IfOk, length, sym, ap, subst, ◌∙◌, ⊎_elim, arith}
+use Rattle.std.specs.declared.result.Result.{Result}
+use Rattle.std.specs.declared.result.Result.TheVariants.{Ok, Err}
 use Rattle.std.proofs.lemmas.Bool.{cases_lt}
 use Rattle.std.proofs.lemmas.List.{length-map}
-use Rattle.spec_ledger.specs.declared.Entry.{Entry}
 use Rattle.spec_ledger.specs.Cells.{Cells}
 use Rattle.spec_execution.specs.Configuration.{Setting}
 use Rattle.spec_execution.specs.Serial.{Ran, Serial}
 use Rattle.spec_block.specs.Worlds.{Call, World, Block, Position, order_of, profiles_of}
 use Rattle.spec_block.specs.Bytes.{IsBlock}
-use Rattle.spec_block.specs.Schedule.{HaveTurns}
 use Rattle.spec_block.specs.Serial.{setting_of}
-use Rattle.spec_block.specs.Verdicts.{Verdict, place, RunOf, HoldsOf, IsVerdictOf}
-use Rattle.block_judge.specs.Judging.{FirstIsVerdict, IsFirstFrom, Passes}
+use Rattle.spec_block.specs.Verdicts.{Verdict, place, RunOf, HoldsOf}
+use Rattle.block_judge.specs.Judging.{IsFirstFrom, NoneFrom}
 
 pub as_many_numbers : (b : Block) (order : List ℕ) → order ≡ order_of b → length b.positions ≡ length order
 as_many_numbers b order is = sym (ap (λ (l : List ℕ). length l) is ∙ length-map b.positions (λ (p : Position). p.call))
 
-pub few_numbers : (b : Block) (order : List ℕ) → IsBlock b → order ≡ order_of b → length order ≤ 65535
-few_numbers b order block is = let many = as_many_numbers b order is in let few = block.count in omega (arith, many, few)
+pub few_numbers : (b : Block) → IsBlock b → length (order_of b) ≤ 65535
+few_numbers b block = let many = length-map b.positions (λ (p : Position). p.call) in let few = block.count in omega (arith, many, few)
 
-pub few_profiles : (b : Block) (profiles : List (List Entry)) → IsBlock b → profiles ≡ profiles_of b → length profiles ≤ 65535
-few_profiles b profiles block is =
-    let many : length profiles ≡ length b.positions = ap (λ (l : List (List Entry)). length l) is ∙ length-map b.positions (λ (p : Position). p.profile) in
-    let few = block.count in
-    omega (arith, many, few)
+pub few_profiles : (b : Block) → IsBlock b → length (profiles_of b) ≤ 65535
+few_profiles b block = let many = length-map b.positions (λ (p : Position). p.profile) in let few = block.count in omega (arith, many, few)
 
 pub known_numbers : (calls : List Call) (b : Block) (order : List ℕ) → order ≡ order_of b → All (λ n. n < length calls) (order_of b) → All (λ n. n < length calls) order
 known_numbers calls b order is all = subst (λ (l : List ℕ). All (λ n. n < length calls) l) (sym is) all
-
-pub right_turns : (b : Block) (profiles : List (List Entry)) → profiles ≡ profiles_of b → HaveTurns (profiles_of b) → HaveTurns profiles
-right_turns b profiles is turns = subst HaveTurns (sym is) turns
 
 -- what ran elsewhere is a run of the block
 pub run_of : (world : World) (calls : List Call) (b : Block) (setting : Setting) (order : List ℕ) (cells : Cells) (ran : List Ran) (last : Cells)
@@ -37,11 +31,20 @@ pub run_of : (world : World) (calls : List Call) (b : Block) (setting : Setting)
 run_of world calls b setting order cells ran last same_setting same_order same_cells run =
     subst (λ (t : Setting × (List ℕ × Cells)). Serial t.0 calls t.1.0 t.1.1 ran last) (λ k. (same_setting k, (same_order k, same_cells k))) run
 
--- the first of the last reasons is the first of all
-pub verdict_of : FirstIsVerdict → (world : World) (calls : List Call) (fuel : ℕ) (bytes : List ℕ) (b : Block) (v : Verdict) → Passes world calls fuel bytes b → IsFirstFrom (HoldsOf world calls fuel b) 8 v → IsVerdictOf world calls fuel bytes v
-verdict_of law world calls fuel bytes b v passes first =
-    law world calls fuel bytes b v passes.spelled (record {
+-- the first of the last reasons is the first of all, where none of the others holds
+pub first_of_all : (world : World) (calls : List Call) (fuel : ℕ) (b : Block) (v : Verdict) → NoneFrom (HoldsOf world calls fuel b) 1 8 → IsFirstFrom (HoldsOf world calls fuel b) 8 v → IsFirstFrom (HoldsOf world calls fuel b) 1 v
+first_of_all world calls fuel b v none first =
+    record {
       holds = first.holds;
       within = (let w = first.within in omega (arith, w));
-      none_before = λ w from before. ⊎_elim (λ lt. passes.none_holds w lt) (λ ge. first.none_before w ge before) (cases_lt (place w) 8);
-    })
+      none_before = λ w from before. ⊎_elim (λ lt. none w from lt) (λ ge. first.none_before w ge before) (cases_lt (place w) 8);
+    }
+
+-- what follows from one fact follows where there is a result
+pub if_ok : {X E : Type 0} (r : Result X E) (P Q : X → Type 0) → ((x : X) → P x → Q x) → IfOk r P → IfOk r Q
+if_ok (Ok x) P Q f p = f x p
+if_ok (Err e) P Q f p = tt
+
+pub if_err : {X E : Type 0} (r : Result X E) (P Q : E → Type 0) → ((e : E) → P e → Q e) → IfErr r P → IfErr r Q
+if_err (Ok x) P Q f p = tt
+if_err (Err e) P Q f p = f e p

@@ -9,7 +9,6 @@ use Rattle.validator.specs.declared.job.Supply.{Supply}
 use Rattle.speculation.specs.declared.Share.{Share}
 use Rattle.speculation.specs.Shares.{AreAllPrepared}
 use Rattle.validator.specs.declared.copies.Batch.{Batch}
-use Rattle.validator.specs.declared.copies.Batches.{Batches}
 
 -- a run of the call of this number over these contracts
 pub record IsRunOf (setting : Setting) (calls : List ContractCall) (number : ℕ) (f : Played) : Type 0 where
@@ -44,7 +43,3 @@ pub record IsSupply {A : Type 0} (setting : Setting) (calls : List ContractCall)
 
 abbrev pub AreBatches : {A : Type 0} → Setting → List ContractCall → List (Batch A) → Type 0
 AreBatches setting calls bs = All (λ b. IsShare setting calls b.share) bs
-
--- what the workers over copies hand back
-abbrev pub ArePartsPrepared : {A E : Type 0} → Setting → List ContractCall → List (Result (Batches A) E) → Type 0
-ArePartsPrepared setting calls parts = All (λ part. IfOk part (λ p. AreBatches setting calls p.batches.items)) parts

@@ -1,2 +1,3 @@
 pub mod Handed
 pub mod Judged
+pub mod Tried

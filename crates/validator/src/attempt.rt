@@ -233,7 +233,7 @@ pub(crate) fn attempt<'a, A: Allocator + Copy, R: Wait, P: Pace>(
     ensures { IfOk result (λ came. IfSome came.run (IsMade (setting_view job.now.version job.now.contracts.now) job.now.calls.now)) }
 {
     let at = position as usize;
-    if at >= job.order.len() || at >= job.profiles.len() {
+    if at >= job.order.len() || at >= job.positions.len() {
         return Ok(Came {
             run: None,
             stops: false,
@@ -253,7 +253,7 @@ pub(crate) fn attempt<'a, A: Allocator + Copy, R: Wait, P: Pace>(
     let place = Place {
         position,
         number,
-        profile: &job.profiles[at],
+        profile: job.positions[at].profile(),
         ahead,
         pace: job.pace,
     };

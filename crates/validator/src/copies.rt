@@ -1,14 +1,18 @@
 //! The calls of a block that wait for none of the others, each run over a copy of the cells before the block, which nobody else changes and each call leaves
-//! as it was.
+//! as it was, while the caller judges the block.
 
-ghost use Rattle.std.specs.Prelude.{◌≡◌, ◌≤◌, ◌<◌, All, IfOk, OnOk, length};
+ghost use Rattle.std.specs.Prelude.{◌≡◌, ◌≤◌, ◌<◌, All, IfOk, IfSome, OnOk, length};
 ghost use Rattle.interp.specs.Lent.{setting_view};
 ghost use Rattle.speculation.specs.Shares.{IsCopyOf};
-ghost use Rattle.validator.specs.Handed.{AreBatches, ArePartsPrepared, AreShares, IsShare};
+ghost use Rattle.validator.specs.Handed.{AreBatches, AreShares, IsShare};
+ghost use Rattle.validator.specs.Tried.{AreOwn, IsJudged, IsOwn, IsTrial};
 
 use crate::attempt::told;
+use crate::profile::is_first;
+use crate::trial::Trial;
+use block::Position;
+use block_judge::Unfit;
 use link::deployed::Deployed as Contract;
-use lock_profile::Profile;
 use pace::{Pace, Step};
 use spec_ledger::NoMemory;
 use speculation::{Share, Task, begin, prepare};
@@ -20,7 +24,7 @@ use std::thread::Threads;
 use storage::Cells;
 
 /// How many positions a worker takes at a time.
-pub(crate) const BATCH: usize = 64;
+pub(crate) const BATCH: usize = 16;
 
 /// What the workers share: the calls that a block orders, and the cells before it.
 #[derive(Drop)]
@@ -28,7 +32,7 @@ pub(crate) struct CopyJob<'s, 'a, A: Allocator, P: Pace> {
     pub(crate) alloc: A,
     pub(crate) task: Task<'a, A>,
     pub(crate) order: &'s [u32],
-    pub(crate) profiles: &'s [Profile<A>],
+    pub(crate) positions: &'s [Position<A>],
     pub(crate) cells: &'s Cells<A>,
     /// How many batches of positions were drawn.
     pub(crate) drawn: AtomicU64,
@@ -51,16 +55,6 @@ pub(crate) struct Batches<'a, A: Allocator> {
     pub(crate) batches: Vec<Batch<'a, A>, A>,
 }
 
-/// Whether the call of a profile waits for none of the others: the turn of each of its locks is the first.
-pub(crate) fn is_first<A: Allocator>(profile: &Profile<A>) -> bool {
-    for entry in profile.entries() {
-        if entry.turn != 0 {
-            return false;
-        }
-    }
-    true
-}
-
 /// Runs the calls of a batch that wait for none of the others over a worker's copy. Answers whether the pace stops the worker.
 fn run_batch<A: Allocator + Copy, P: Pace>(
     job: &CopyJob<'_, '_, A, P>,
@@ -76,10 +70,10 @@ fn run_batch<A: Allocator + Copy, P: Pace>(
 {
     for offset in 0..BATCH {
         let position = nth.saturating_mul(BATCH).saturating_add(offset);
-        if position >= job.order.len() || position >= job.profiles.len() {
+        if position >= job.order.len() || position >= job.positions.len() {
             return Ok(false);
         }
-        if !is_first(&job.profiles[position]) {
+        if !is_first(job.positions[position].profile()) {
             continue;
         }
         let call = job.order[position];
@@ -135,28 +129,63 @@ fn work_on_copy<'a, A: Allocator + Copy, P: Pace>(
     })
 }
 
+/// What a worker found of the block, if it judged it, and the batches that it ran.
+#[derive(Drop)]
+pub(crate) struct Own<'a, A: Allocator> {
+    pub(crate) judged: Option<Result<(), Unfit>>,
+    pub(crate) part: Result<Batches<'a, A>, NoMemory>,
+}
+
+/// Runs batches over a copy of the cells; the worker of seat 0 judges the block before. Where it is rejected nobody draws a further batch.
+fn work<'a, A: Allocator + Copy, P: Pace>(
+    job: &CopyJob<'_, 'a, A, P>,
+    trial: &Trial<'_, A>,
+    seat: u32,
+) -> Own<'a, A>
+    requires known { All (λ number. number < length job.now.task.calls.now) job.now.order.now }
+    requires trial { IsTrial trial.now }
+    ensures { IsOwn trial.now (setting_view job.now.task.version job.now.task.contracts.now) job.now.task.calls.now result }
+{
+    if seat != 0 {
+        return Own {
+            judged: None,
+            part: work_on_copy(job),
+        };
+    }
+    let judged = trial.judge(job.alloc);
+    if judged.is_err() {
+        job.drawn.store(u64::from(u32::MAX), Ordering::SeqCst);
+    }
+    Own {
+        judged: Some(judged),
+        part: work_on_copy(job),
+    }
+}
+
 /// Runs the workers, each over a copy of its own.
 fn run_workers<'a, R: Threads + Wait + Sync, A: Allocator + Copy + Send + Sync, P: Pace>(
     rt: &R,
     job: &CopyJob<'_, 'a, A, P>,
+    trial: &Trial<'_, A>,
     workers: u32,
-) -> Result<Vec<Result<Batches<'a, A>, NoMemory>, A>, NoMemory>
-    requires { All (λ number. number < length job.now.task.calls.now) job.now.order.now }
-    ensures { IfOk result (λ parts. ArePartsPrepared (setting_view job.now.task.version job.now.task.contracts.now) job.now.task.calls.now parts.items) }
+) -> Result<Vec<Own<'a, A>, A>, NoMemory>
+    requires known { All (λ number. number < length job.now.task.calls.now) job.now.order.now }
+    requires trial { IsTrial trial.now }
+    ensures { IfOk result (λ owns. AreOwn trial.now (setting_view job.now.task.version job.now.task.contracts.now) job.now.task.calls.now owns.items) }
 {
     let mut seats = Vec::new(job.alloc);
     for seat in 0..workers {
         seats.push(seat)?;
     }
-    let parts = thread::map_vec(
+    let owns = thread::map_vec(
         rt,
         seats,
-        &|_seat: u32| -> Result<Batches<A>, NoMemory>
-            requires { All (λ number. number < length job.now.task.calls.now) job.now.order.now }
-            ensures { IfOk result (λ part. AreBatches (setting_view job.entry.now.task.version job.entry.now.task.contracts.now) job.entry.now.task.calls.now part.batches.items) }
-        { work_on_copy(job) },
+        &|seat: u32| -> Own<A>
+            requires { All (λ number. number < length job.now.task.calls.now) job.now.order.now × IsTrial trial.now }
+            ensures { IsOwn trial.entry.now (setting_view job.entry.now.task.version job.entry.now.task.contracts.now) job.entry.now.task.calls.now result }
+        { work(job, trial, seat) },
     )?;
-    Ok(parts)
+    Ok(owns)
 }
 
 /// Puts a batch in its place.
@@ -190,20 +219,26 @@ fn place_all<'a, A: Allocator + Copy, P: Pace>(
     }
 }
 
-/// Puts the batches of all workers in their places. An Err of one is that of all.
-fn place_parts<'a, A: Allocator + Copy, P: Pace>(
+/// Puts the batches of all workers in their places, and gives what one found of the block. A want of memory of one is that of all.
+fn take_in<'a, A: Allocator + Copy, P: Pace>(
     job: &CopyJob<'_, 'a, A, P>,
+    _trial: &Trial<'_, A>,
     shares: &mut Vec<Share<'a, A>, A>,
-    mut parts: Vec<Result<Batches<'a, A>, NoMemory>, A>,
-) -> Result<(), NoMemory>
+    mut owns: Vec<Own<'a, A>, A>,
+) -> Result<Option<Result<(), Unfit>>, NoMemory>
     requires shares { AreShares (setting_view job.now.task.version job.now.task.contracts.now) job.now.task.calls.now shares.old.items }
-    requires parts { ArePartsPrepared (setting_view job.now.task.version job.now.task.contracts.now) job.now.task.calls.now parts.items }
-    ensures { OnOk result (AreShares (setting_view job.now.task.version job.now.task.contracts.now) job.now.task.calls.now shares.new.items) }
+    requires owns { AreOwn _trial.now (setting_view job.now.task.version job.now.task.contracts.now) job.now.task.calls.now owns.items }
+    ensures shares { OnOk result (AreShares (setting_view job.now.task.version job.now.task.contracts.now) job.now.task.calls.now shares.new.items) }
+    ensures judged { IfOk result (λ found. IfSome found (IsJudged _trial.now)) }
 {
-    while let Some(part) = parts.pop() {
-        place_all(job, shares, part?.batches);
+    let mut found = None;
+    while let Some(own) = owns.pop() {
+        place_all(job, shares, own.part?.batches);
+        if own.judged.is_some() {
+            found = own.judged;
+        }
     }
-    Ok(())
+    Ok(found)
 }
 
 /// A share of no calls for each batch of positions.
@@ -219,20 +254,39 @@ fn no_shares<'a, A: Allocator + Copy, P: Pace>(
     Ok(shares)
 }
 
-/// Runs the calls of a block that wait for none of the others by so many workers, and gives what they came to by batches of positions, the last first. A call
-/// has none whose worker the pace stopped before it.
-pub(crate) fn run_on_copies<
+/// What was found of a block, and what its calls that wait for none of the others came to.
+#[derive(Drop)]
+pub(crate) struct Beside<'a, A: Allocator> {
+    pub(crate) judged: Result<(), Unfit>,
+    /// By batches of positions, the last first.
+    pub(crate) shares: Vec<Share<'a, A>, A>,
+}
+
+/// Judges a block while so many workers, of which the one that judges it is one, run those of its calls that wait for none of the others. A call
+/// has no share whose worker the pace stopped before it.
+pub(crate) fn judge_beside<
     'a,
     R: Threads + Wait + Sync,
     A: Allocator + Copy + Send + Sync,
     P: Pace,
->(rt: &R, job: &CopyJob<'_, 'a, A, P>, workers: u32) -> Result<Vec<Share<'a, A>, A>, NoMemory>
-    requires { All (λ number. number < length job.now.task.calls.now) job.now.order.now }
-    ensures { IfOk result (λ shares. AreShares (setting_view job.now.task.version job.now.task.contracts.now) job.now.task.calls.now shares.items) }
+>(
+    rt: &R,
+    job: &CopyJob<'_, 'a, A, P>,
+    trial: &Trial<'_, A>,
+    workers: u32,
+) -> Result<Beside<'a, A>, NoMemory>
+    requires known { All (λ number. number < length job.now.task.calls.now) job.now.order.now }
+    requires trial { IsTrial trial.now }
+    ensures judged { IfOk result (λ beside. IsJudged trial.now beside.judged) }
+    ensures shares { IfOk result (λ beside. AreShares (setting_view job.now.task.version job.now.task.contracts.now) job.now.task.calls.now beside.shares.items) }
 {
-    let parts = run_workers(rt, job, workers)?;
+    let owns = run_workers(rt, job, trial, workers)?;
     let mut shares = no_shares(job)?;
-    place_parts(job, &mut shares, parts)?;
+    let found = take_in(job, trial, &mut shares, owns)?;
     shares.reverse();
-    Ok(shares)
+    let judged = match found {
+        Some(judged) => judged,
+        None => trial.judge(job.alloc),
+    };
+    Ok(Beside { judged, shares })
 }

@@ -124,14 +124,29 @@ fn execute_by_footprint<'a, A: Allocator + Copy, P: Pace>(
     Ok(executed)
 }
 
+/// The run that was made of the call of a position, where there is one.
+fn made_at<'r, 'a, A: Allocator + Copy, P: Pace>(
+    _job: &Job<'_, 'a, A, P>,
+    runs: &'r [Option<Made<'a, A>>],
+    position: usize,
+) -> Option<&'r Made<'a, A>>
+    requires { AreFound (setting_view _job.now.version _job.now.contracts.now) _job.now.calls.now runs.now }
+    ensures { IfSome result (λ made. IsMade (setting_view _job.now.version _job.now.contracts.now) _job.now.calls.now made.now) }
+{
+    match runs.get(position) {
+        Some(Some(made)) => Some(made),
+        _ => None,
+    }
+}
+
 /// Executes the call of a number by the run that was made of it, where there is one whose replies are those of the cells.
 fn execute_by<'a, A: Allocator + Copy, P: Pace>(
     job: &Job<'_, 'a, A, P>,
     number: u32,
-    run: &Option<Made<'a, A>>,
+    run: Option<&Made<'a, A>>,
     cells: &mut Cells<A>,
 ) -> Result<Option<Executed<A>>, NoMemory>
-    requires run { IfSome run.now (IsMade (setting_view job.now.version job.now.contracts.now) job.now.calls.now) }
+    requires run { IfSome run (λ made. IsMade (setting_view job.now.version job.now.contracts.now) job.now.calls.now made.now) }
     requires settled { cells.old.unsettled ≡ finite.empty }
     ensures executed { IfOk result (λ o. IfSome o (λ e. (call : ContractCall) → slice_get job.now.calls.now number ≡ Some call → Executes (setting_view job.now.version job.now.contracts.now) call cells.old.cells cells.new.cells e.receipt e.touched)) }
     ensures other { IfOk result (λ o. IfNone o (cells.new ≡ cells.old)) }
@@ -151,13 +166,13 @@ fn execute_by<'a, A: Allocator + Copy, P: Pace>(
 fn execute_one<'a, A: Allocator + Copy, P: Pace>(
     job: &Job<'_, 'a, A, P>,
     number: u32,
-    run: &Option<Made<'a, A>>,
+    run: Option<&Made<'a, A>>,
     supply: &mut Supply<'a, A>,
     cells: &mut Cells<A>,
 ) -> Result<Done<A>, NoMemory>
     requires known { number < length job.now.calls.now }
     requires supply { IsSupply (setting_view job.now.version job.now.contracts.now) job.now.calls.now supply.old }
-    requires run { IfSome run.now (IsMade (setting_view job.now.version job.now.contracts.now) job.now.calls.now) }
+    requires run { IfSome run (λ made. IsMade (setting_view job.now.version job.now.contracts.now) job.now.calls.now made.now) }
     requires settled { cells.old.unsettled ≡ finite.empty }
     ensures executed { IfOk result (λ done. (call : ContractCall) → slice_get job.now.calls.now number ≡ Some call → Executes (setting_view job.now.version job.now.contracts.now) call cells.old.cells cells.new.cells done.executed.receipt done.executed.touched) }
     ensures settled { cells.new.unsettled ≡ finite.empty }
@@ -192,7 +207,6 @@ pub(crate) fn fold<'a, A: Allocator + Copy, P: Pace>(
 ) -> Result<Folded<A>, NoMemory>
     requires few { length job.now.order.now ≤ 65535 }
     requires known { All (λ number. number < length job.now.calls.now) job.now.order.now }
-    requires size { length runs.now ≡ length job.now.order.now }
     requires runs { AreFound (setting_view job.now.version job.now.contracts.now) job.now.calls.now runs.now }
     requires supply { IsSupply (setting_view job.now.version job.now.contracts.now) job.now.calls.now supply }
     ensures serial { IfOk result (λ folded. Serial (setting_view job.now.version job.now.contracts.now) job.now.calls.now job.now.order.now cells.now.cells (positions folded.core.receipts.items folded.core.touched.items) folded.core.cells.cells) }
@@ -206,7 +220,8 @@ pub(crate) fn fold<'a, A: Allocator + Copy, P: Pace>(
     let mut again: u32 = 0;
     for (position, number) in job.order.iter().enumerate() {
         turn_over(job, position, &mut supply);
-        let done = execute_one(job, *number, &runs[position], &mut supply, &mut current)?;
+        let run = made_at(job, runs, position);
+        let done = execute_one(job, *number, run, &mut supply, &mut current)?;
         receipts.push(done.executed.receipt)?;
         touched.push(done.executed.touched)?;
         again += u32::from(done.again);

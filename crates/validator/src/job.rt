@@ -1,9 +1,9 @@
 //! What the workers share, and what they hand back.
 
+use block::Position;
 use call::Call;
 use interp::finished::Finished;
 use link::deployed::Deployed as Contract;
-use lock_profile::Profile;
 use pace::Pace;
 use spec_ledger::Version;
 use speculation::Share;
@@ -18,7 +18,7 @@ pub(crate) struct Job<'s, 'a, A: Allocator, P: Pace> {
     /// The version of the block, by whose rules the calls run.
     pub(crate) version: Version,
     pub(crate) order: &'s [u32],
-    pub(crate) profiles: &'s [Profile<A>],
+    pub(crate) positions: &'s [Position<A>],
     pub(crate) pace: &'s P,
 }
 
@@ -47,15 +47,6 @@ pub(crate) struct Came<'a, A: Allocator> {
 pub(crate) struct Part<'a, A: Allocator> {
     pub(crate) contracts: &'a [Contract<A>],
     pub(crate) made: Vec<Made<'a, A>, A>,
-}
-
-/// What workers made of the calls of a block before their turn.
-#[derive(Drop)]
-pub(crate) struct Ready<'a, A: Allocator> {
-    /// By position the run that was made.
-    pub(crate) runs: Vec<Option<Made<'a, A>>, A>,
-    /// By batches of positions, the last first, the calls that were run over copies of the cells. Where there are none, none were.
-    pub(crate) shares: Vec<Share<'a, A>, A>,
 }
 
 /// What workers over copies prepared, handed out in the order of the block.

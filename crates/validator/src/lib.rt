@@ -1,5 +1,6 @@
-//! Validation of a block: workers run its calls at once, each once those that it waits for have ended, and the verdict is what the calls come to when they run one after another
-//! (Dickerson, Gazzillo, Herlihy, Koskinen, "Adding Concurrency to Smart Contracts", PODC 2017, section 4: the fork-join program of a validator).
+//! Validation of a block: workers run its calls at once, over copies of the cells or each once those that it waits for have ended, and the verdict is what
+//! the calls come to when they run one after another (Dickerson, Gazzillo, Herlihy, Koskinen, "Adding Concurrency to Smart Contracts", PODC 2017, section 4: the
+//! fork-join program of a validator).
 #![tactic(auto)]
 
 mod attempt;
@@ -10,28 +11,39 @@ mod fold;
 mod job;
 mod profile;
 mod shared;
+mod trial;
 mod verdict;
 mod workers;
 
-ghost use Rattle.std.specs.Prelude.{◌≡◌, ◌≤◌, ◌<◌, ℕ, All, IfOk, length};
-ghost use Rattle.spec_block.specs.Worlds.{order_of};
+ghost use Rattle.std.specs.Prelude.{◌≡◌, ◌≤◌, ◌<◌, ◌↔◌, ℕ, All, IfErr, IfOk, IsTrue, length};
+ghost use Rattle.spec_block.specs.Worlds.{order_of, profiles_of};
+ghost use Rattle.spec_block.specs.Bytes.{SpellsBlock};
 ghost use Rattle.spec_block.specs.Schedule.{HaveTurns};
+ghost use Rattle.spec_block.specs.Serial.{setting_of};
 ghost use Rattle.spec_block.specs.Verdicts.{HoldsOf, IsVerdictOf};
-ghost use Rattle.block_judge.specs.Judging.{IsFirstFrom};
+ghost use Rattle.interp.specs.Lent.{setting_view};
+ghost use Rattle.block_judge.specs.Judging.{IfRejected, IsFirstFrom};
 ghost use Rattle.world.specs.Views.{world_view};
+ghost use Rattle.validator.specs.Handed.{AreShares};
 ghost use Rattle.validator.specs.Judged.{told_by};
+ghost use Rattle.validator.specs.Tried.{IsJudged, IsTrial};
 
+use crate::copies::{Beside, CopyJob, judge_beside};
 use crate::end::conclude;
 use crate::fold::{fold, open_supply};
-use crate::job::{Job, Ready};
+use crate::job::Job;
+use crate::trial::Trial;
 pub use crate::verdict::Verdict;
-use crate::workers::run_ahead;
+use crate::workers::{Runners, run_ahead, runners_of};
+use block::Block;
 pub use block_judge::Reason;
-use block_judge::{Fit, Unfit, judge};
+use block_judge::{Unfit, numbers_of, spelled_by};
 use call::Call;
 use pace::Pace;
+use speculation::{Share, Task};
 use std::alloc::{Allocator, Global};
 use std::sync::Wait;
+use std::sync::atomic::AtomicU64;
 use std::thread::Threads;
 use world::World;
 use wtypes::NoMemory;
@@ -45,43 +57,130 @@ pub struct Validated<A: Allocator = Global> {
     pub again: u32,
 }
 
-/// Runs the calls of a block that passes so far, and compares what they come to with what it says.
-fn run<R: Threads + Wait + Sync, A: Allocator + Copy + Send + Sync, P: Pace>(
-    rt: &R,
-    alloc: A,
-    world: &World<A>,
-    calls: &[Call],
-    fit: &Fit<A>,
-    workers: u32,
-    pace: &P,
-) -> Result<Validated<A>, NoMemory>
-    requires few { length fit.now.order.items ≤ 65535 }
-    requires profiles { length fit.now.profiles.items ≤ 65535 }
-    requires positions { length fit.now.block.positions ≡ length fit.now.order.items }
-    requires order { fit.now.order.items ≡ order_of fit.now.block }
-    requires known { All (λ number. number < length calls.now) fit.now.order.items }
-    requires turns { HaveTurns fit.now.profiles.items }
-    requires workers { 1 ≤ workers }
-    ensures verdict { IfOk result (λ v. (fuel : ℕ) → IsFirstFrom (HoldsOf (world_view world.now) calls.now fuel fit.now.block) 8 (told_by v.verdict)) }
-    ensures again { IfOk result (λ v. v.again ≤ length fit.now.order.items) }
+/// Whether these are numbers of calls, of which there are so many.
+fn are_known(order: &[u32], calls: usize) -> bool
+    ensures { IsTrue result ↔ All (λ number. number < calls) order.now }
 {
-    let job = Job {
-        alloc,
-        contracts: world.contracts(),
-        calls,
-        version: fit.block.version(),
-        order: &fit.order,
-        profiles: &fit.profiles,
-        pace,
+    for number in order {
+        if *number as usize >= calls {
+            return false;
+        }
+    }
+    true
+}
+
+/// Judges a block, and where workers over copies of the cells pay, runs those of its calls meanwhile that wait for none of the others.
+fn judge_and_prepare<'a, R: Threads + Wait + Sync, A: Allocator + Copy + Send + Sync, P: Pace>(
+    rt: &R,
+    job: &Job<'_, 'a, A, P>,
+    trial: &Trial<'_, A>,
+    runners: Runners,
+    workers: u32,
+) -> Result<Beside<'a, A>, NoMemory>
+    requires trial { IsTrial trial.now }
+    requires workers { 1 ≤ workers }
+    ensures judged { IfOk result (λ beside. IsJudged trial.now beside.judged) }
+    ensures shares { IfOk result (λ beside. AreShares (setting_view job.now.version job.now.contracts.now) job.now.calls.now beside.shares.items) }
+{
+    if runners != Runners::Copying || !are_known(job.order, job.calls.len()) {
+        return Ok(Beside {
+            judged: trial.judge(job.alloc),
+            shares: Vec::new(job.alloc),
+        });
+    }
+    let copy_job = CopyJob {
+        alloc: job.alloc,
+        task: Task {
+            contracts: job.contracts,
+            calls: job.calls,
+            version: job.version,
+        },
+        order: job.order,
+        positions: job.positions,
+        cells: trial.world.cells(),
+        drawn: AtomicU64::new(0),
+        pace: job.pace,
     };
-    let Ready { runs, shares } = run_ahead(rt, &job, world.cells(), fit.block.fuel(), workers)?;
-    let supply = open_supply(&job, shares)?;
-    let folded = fold(&job, world.cells(), &runs, supply)?;
-    let verdict = conclude(alloc, world, &fit.block, folded.core)?;
+    judge_beside(rt, &copy_job, trial, workers)
+}
+
+/// Runs the calls of a block that passes so far, and compares what they come to with what it says.
+fn run<'a, R: Threads + Wait + Sync, A: Allocator + Copy + Send + Sync, P: Pace>(
+    rt: &R,
+    job: &Job<'_, 'a, A, P>,
+    trial: &Trial<'_, A>,
+    shares: Vec<Share<'a, A>, A>,
+    runners: Runners,
+    workers: u32,
+) -> Result<Validated<A>, NoMemory>
+    requires setting { setting_view job.now.version job.now.contracts.now ≡ setting_of trial.now.block.now.version (world_view trial.now.world.now) }
+    requires calls { job.now.calls.now ≡ trial.now.calls.now }
+    requires order { job.now.order.now ≡ order_of trial.now.block.now }
+    requires positions { job.now.positions.now ≡ trial.now.block.now.positions }
+    requires few { length trial.now.block.now.positions ≤ 65535 }
+    requires known { All (λ number. number < length job.now.calls.now) job.now.order.now }
+    requires turns { HaveTurns (profiles_of trial.now.block.now) }
+    requires shares { AreShares (setting_view job.now.version job.now.contracts.now) job.now.calls.now shares.items }
+    requires workers { 1 ≤ workers }
+    ensures verdict { IfOk result (λ v. (fuel : ℕ) → IsFirstFrom (HoldsOf (world_view trial.now.world.now) trial.now.calls.now fuel trial.now.block.now) 8 (told_by v.verdict)) }
+    ensures again { IfOk result (λ v. v.again ≤ length trial.now.block.now.positions) }
+{
+    let cells = trial.world.cells();
+    let runs = run_ahead(rt, job, cells, runners, workers)?;
+    let supply = open_supply(job, shares)?;
+    let folded = fold(job, cells, &runs, supply)?;
+    let verdict = conclude(job.alloc, trial.world, trial.block, folded.core)?;
     Ok(Validated {
         verdict,
         again: folded.again,
     })
+}
+
+/// The verdict on a block that was read.
+fn verdict_of<R: Threads + Wait + Sync, A: Allocator + Copy + Send + Sync, P: Pace>(
+    rt: &R,
+    alloc: A,
+    trial: &Trial<'_, A>,
+    workers: u32,
+    pace: &P,
+) -> Result<Validated<A>, NoMemory>
+    requires trial { IsTrial trial.now }
+    requires workers { 1 ≤ workers }
+    ensures { IfOk result (λ v. IsFirstFrom (HoldsOf (world_view trial.now.world.now) trial.now.calls.now trial.now.fuel trial.now.block.now) 1 (told_by v.verdict)) }
+{
+    let job = Job {
+        alloc,
+        contracts: trial.world.contracts(),
+        calls: trial.calls,
+        version: trial.block.version(),
+        order: trial.order,
+        positions: trial.block.positions(),
+        pace,
+    };
+    let runners = runners_of(&job, trial.world.cells(), trial.block.fuel(), workers);
+    let Beside { judged, shares } = judge_and_prepare(rt, &job, trial, runners, workers)?;
+    match judged {
+        Ok(()) => run(rt, &job, trial, shares, runners, workers),
+        Err(Unfit::Rejected(reason)) => Ok(Validated {
+            verdict: Verdict::Reject(reason),
+            again: 0,
+        }),
+        Err(Unfit::NoMemory) => Err(NoMemory),
+    }
+}
+
+/// The block that the bytes spell; or the verdict on them, of these calls over this world with this fuel as of all others.
+fn spelled_for<A: Allocator + Copy>(
+    alloc: A,
+    _world: &World<A>,
+    _calls: &[Call],
+    _fuel: u64,
+    bytes: &[u8],
+) -> Result<Block<A>, Unfit>
+    ensures spelled { IfOk result (SpellsBlock bytes.now) }
+    ensures rejected { IfErr result (λ unfit. IfRejected unfit (IsVerdictOf (world_view _world.now) _calls.now _fuel bytes.now)) }
+{
+    spelled_by(alloc, bytes)
 }
 
 /// As [`validate_in`], with how many positions the caller had to run again: a measure of the workers' use, on which no verdict rests.
@@ -104,23 +203,33 @@ pub fn find_verdict<R: Threads + Wait + Sync, A: Allocator + Copy + Send + Sync,
     ensures verdict { IfOk result (λ v. IsVerdictOf (world_view world.now) calls.now block_fuel bytes.now (told_by v.verdict)) }
 {
     block_judge::first_is_verdict();
-    match judge(alloc, world, calls, block_fuel, bytes) {
-        Ok(fit) => {
-            fit.block.hold();
-            let validated = run(rt, alloc, world, calls, &fit, workers, pace)?;
-            Ok(validated)
+    let block = match spelled_for(alloc, world, calls, block_fuel, bytes) {
+        Ok(block) => block,
+        Err(Unfit::Rejected(reason)) => {
+            return Ok(Validated {
+                verdict: Verdict::Reject(reason),
+                again: 0,
+            });
         }
-        Err(Unfit::Rejected(reason)) => Ok(Validated {
-            verdict: Verdict::Reject(reason),
-            again: 0,
-        }),
-        Err(Unfit::NoMemory) => Err(NoMemory),
-    }
+        Err(Unfit::NoMemory) => return Err(NoMemory),
+    };
+    block.hold();
+    let order = numbers_of(alloc, &block)?;
+    let trial = Trial {
+        world,
+        calls,
+        fuel: block_fuel,
+        block: &block,
+        order: &order,
+    };
+    let validated = verdict_of(rt, alloc, &trial, workers, pace)?;
+    Ok(validated)
 }
 
 /// The verdict on the bytes of a block of these calls over a world, with this fuel for the block: the first of the nine reasons that holds, or else
-/// the world after the block. This many workers, of which the calling thread is one, run the calls at once, each as soon as those that it waits for have
-/// ended; the pace is told each attempt and each operation of theirs, and may stop a worker there. What no worker ran the caller runs. Where workers do not pay
+/// the world after the block. This many workers, of which the calling thread is one, run calls at once: each as soon as those that it waits for have
+/// ended; or, in a block of 512 calls or more, over copies of the cells, those that wait for none, while one of the workers judges the block. The pace is told each
+/// attempt of theirs, and each operation but those over copies, and may stop a worker there. What no worker ran the caller runs. Where workers do not pay
 /// (`gain`), by the fuel and the turns that a block of 512 calls or more names, none is started, and the pace is told nothing.
 ///
 /// # Errors

@@ -1,13 +1,52 @@
-//! What a position's call may ask for.
+//! The profiles of a block's positions, and what a position's call may ask for.
 
-ghost use Rattle.std.specs.Prelude.{◌≡◌};
+ghost use Rattle.std.specs.Prelude.{◌≡◌, IfOk};
 ghost use Rattle.spec_ledger.specs.Modes.{mode_of};
+ghost use Rattle.block_judge.specs.Turned.{lists_of};
 
 use abstract_locks::join_to;
+use block::Position;
 use lock_profile::Profile;
-use spec_ledger::{Mode, Op};
+use spec_ledger::{Mode, NoMemory, Op};
 use std::alloc::Allocator;
 use storage::lock;
+
+/// The profile of a position once more.
+fn profile_of<A: Allocator + Copy>(alloc: A, position: &Position<A>) -> Result<Profile<A>, NoMemory>
+    ensures { IfOk result (λ copy. copy ≡ position.now.profile) }
+{
+    let profile = position.profile();
+    profile.hold();
+    let entries = Vec::from_slice(alloc, profile.entries())?;
+    let Some(copy) = Profile::from_sorted(entries) else {
+        unreachable!()
+    };
+    Ok(copy)
+}
+
+/// The profiles of all positions once more.
+pub(crate) fn profiles_of<A: Allocator + Copy>(
+    alloc: A,
+    positions: &[Position<A>],
+) -> Result<Vec<Profile<A>, A>, NoMemory>
+    ensures { IfOk result (λ copy. copy.items ≡ lists_of positions.now) }
+{
+    let mut copy = Vec::new(alloc);
+    for position in positions {
+        copy.push(profile_of(alloc, position)?)?;
+    }
+    Ok(copy)
+}
+
+/// Whether the call of a profile waits for none of the others: the turn of each of its locks is the first.
+pub(crate) fn is_first<A: Allocator>(profile: &Profile<A>) -> bool {
+    for entry in profile.entries() {
+        if entry.turn != 0 {
+            return false;
+        }
+    }
+    true
+}
 
 /// The mode that an operation asks for.
 fn mode(op: Op) -> Mode

@@ -3,23 +3,23 @@
 ghost use Rattle.std.specs.Prelude.{◌≡◌, ◌≤◌, ◌<◌, All, IfOk, OnOk, length};
 ghost use Rattle.spec_block.specs.Schedule.{HaveTurns};
 ghost use Rattle.interp.specs.Lent.{setting_view};
-ghost use Rattle.validator.specs.Handed.{AreFound, AreMade, ArePartsMade, AreShares, IsMade};
+ghost use Rattle.block_judge.specs.Turned.{lists_of};
+ghost use Rattle.validator.specs.Handed.{AreFound, AreMade, ArePartsMade, IsMade};
 
 use crate::attempt::attempt;
-use crate::copies::{CopyJob, is_first, run_on_copies};
-use crate::job::{Came, Job, Made, Part, Ready};
+use crate::job::{Came, Job, Made, Part};
+use crate::profile::{is_first, profiles_of};
 use crate::shared::Shared;
 use ahead::Ahead;
+use block::Position;
 use gain::{
     MANY, are_apart, are_few, are_long, are_wide, count_waves, least_mean, least_mean_on_copies,
     weight,
 };
 use lanes::{Lane, Thief, lanes};
-use lock_profile::Profile;
 use pace::Pace;
 use schedule::{Board, Graph};
 use spec_ledger::NoMemory;
-use speculation::{Share, Task};
 use std::alloc::Allocator;
 use std::sync::atomic::{AtomicBool, AtomicU64, Ordering};
 use std::sync::{Mutex, Wait};
@@ -223,31 +223,31 @@ fn are_wide_enough(waves: &[u32]) -> bool {
 }
 
 /// Runs the calls of a block at once, each over what its predecessors left, and gives the runs by position. A call that asks for an operation outside
-/// its published locks and modes has none, nor has one whose worker the pace stopped, nor any where all workers were stopped before it, or where so many wait
-/// for one another that none is started.
+/// its published locks and modes has none, nor has one whose worker the pace stopped, nor any where all workers were stopped before it. Where so many wait
+/// for one another that no worker is started, there is no run.
 fn run_ready<'a, R: Threads + Wait + Sync, A: Allocator + Copy + Send + Sync, P: Pace>(
     rt: &R,
     job: &Job<'_, 'a, A, P>,
     cells: &Cells<A>,
     workers: u32,
 ) -> Result<Vec<Option<Made<'a, A>>, A>, NoMemory>
-    requires few { length job.now.profiles.now ≤ 65535 }
+    requires few { length job.now.positions.now ≤ 65535 }
     requires known { All (λ number. number < length job.now.calls.now) job.now.order.now }
-    requires turns { HaveTurns job.now.profiles.now }
+    requires turns { HaveTurns (lists_of job.now.positions.now) }
     requires workers { 1 ≤ workers }
-    ensures runs { IfOk result (λ runs. AreFound (setting_view job.now.version job.now.contracts.now) job.now.calls.now runs.items) }
-    ensures size { IfOk result (λ runs. length runs.items ≡ length job.now.order.now) }
+    ensures { IfOk result (λ runs. AreFound (setting_view job.now.version job.now.contracts.now) job.now.calls.now runs.items) }
 {
-    let graph = Graph::of(job.alloc, job.profiles)?;
+    let profiles = profiles_of(job.alloc, job.positions)?;
+    let graph = Graph::of(job.alloc, &profiles)?;
     if !are_wide_enough(graph.waves()) {
-        return no_runs(job);
+        return Ok(Vec::new(job.alloc));
     }
     let board = Board::open(job.alloc, &graph)?;
     let ready = Vec::from_slice(job.alloc, board.ready())?;
     let shared = Shared {
         board: Mutex::new(board),
-        ahead: Mutex::new(Ahead::open(job.alloc, cells, job.profiles.len())?),
-        rest: AtomicU64::new(job.profiles.len() as u64),
+        ahead: Mutex::new(Ahead::open(job.alloc, cells, job.positions.len())?),
+        rest: AtomicU64::new(job.positions.len() as u64),
         lacked: AtomicBool::new(false),
     };
     let mut pairs = lanes(job.alloc, workers)?;
@@ -258,11 +258,11 @@ fn run_ready<'a, R: Threads + Wait + Sync, A: Allocator + Copy + Send + Sync, P:
     Ok(runs)
 }
 
-/// How many positions of the block wait for none of the others.
-fn count_first<A: Allocator>(profiles: &[Profile<A>]) -> u32 {
+/// How many of the positions wait for none of the others.
+fn count_first<A: Allocator>(positions: &[Position<A>]) -> u32 {
     let mut count = 0u32;
-    for profile in profiles {
-        if is_first(profile) {
+    for position in positions {
+        if is_first(position.profile()) {
             count = count.saturating_add(1);
         }
     }
@@ -286,68 +286,57 @@ fn copies_pay<A: Allocator + Copy, P: Pace>(
             count * weight(count, fuel),
             workers,
         )
-        && are_apart(count, count_first(job.profiles))
+        && are_apart(count, count_first(job.positions))
 }
 
-/// Runs the calls of a block that wait for none of the others over copies of the cells, and gives what they came to by batches of positions, the last first.
-fn run_first<'a, R: Threads + Wait + Sync, A: Allocator + Copy + Send + Sync, P: Pace>(
-    rt: &R,
-    job: &Job<'_, 'a, A, P>,
+/// By whom calls are run before their turn.
+#[derive(Clone, Copy, Debug, PartialEq, Eq)]
+pub(crate) enum Runners {
+    /// By workers over cells that they share, each call as soon as those that it waits for have ended.
+    Sharing,
+    /// By workers over copies of the cells, the calls that wait for none of the others.
+    Copying,
+    /// By nobody.
+    Nobody,
+}
+
+/// By whom the calls of a block are run before their turn, which use so much fuel together as it says.
+pub(crate) fn runners_of<A: Allocator + Copy, P: Pace>(
+    job: &Job<'_, '_, A, P>,
     cells: &Cells<A>,
+    fuel: u64,
     workers: u32,
-) -> Result<Vec<Share<'a, A>, A>, NoMemory>
-    requires { All (λ number. number < length job.now.calls.now) job.now.order.now }
-    ensures { IfOk result (λ shares. AreShares (setting_view job.now.version job.now.contracts.now) job.now.calls.now shares.items) }
+) -> Runners
+    requires { length job.now.order.now ≤ 65535 }
 {
-    let job = CopyJob {
-        alloc: job.alloc,
-        task: Task {
-            contracts: job.contracts,
-            calls: job.calls,
-            version: job.version,
-        },
-        order: job.order,
-        profiles: job.profiles,
-        cells,
-        drawn: AtomicU64::new(0),
-        pace: job.pace,
-    };
-    run_on_copies(rt, &job, workers)
+    let count = job.order.len();
+    if count < MANY {
+        Runners::Sharing
+    } else if copies_pay(job, cells, fuel, workers) {
+        Runners::Copying
+    } else if are_long(least_mean(workers), count as u32, fuel) {
+        Runners::Sharing
+    } else {
+        Runners::Nobody
+    }
 }
 
-/// Runs the calls of a block, which use so much fuel together as it says, before their turn. Where that is so little that workers over cells that they share
-/// do not pay, those that wait for none of the others are run over copies; and where these do not pay either, none.
+/// Runs the calls of a block before their turn, where workers over cells that they share do, and gives the runs by position.
 pub(crate) fn run_ahead<'a, R: Threads + Wait + Sync, A: Allocator + Copy + Send + Sync, P: Pace>(
     rt: &R,
     job: &Job<'_, 'a, A, P>,
     cells: &Cells<A>,
-    fuel: u64,
+    runners: Runners,
     workers: u32,
-) -> Result<Ready<'a, A>, NoMemory>
-    requires few { length job.now.profiles.now ≤ 65535 }
-    requires positions { length job.now.order.now ≤ 65535 }
+) -> Result<Vec<Option<Made<'a, A>>, A>, NoMemory>
+    requires few { length job.now.positions.now ≤ 65535 }
     requires known { All (λ number. number < length job.now.calls.now) job.now.order.now }
-    requires turns { HaveTurns job.now.profiles.now }
+    requires turns { HaveTurns (lists_of job.now.positions.now) }
     requires workers { 1 ≤ workers }
-    ensures runs { IfOk result (λ ready. AreFound (setting_view job.now.version job.now.contracts.now) job.now.calls.now ready.runs.items) }
-    ensures size { IfOk result (λ ready. length ready.runs.items ≡ length job.now.order.now) }
-    ensures shares { IfOk result (λ ready. AreShares (setting_view job.now.version job.now.contracts.now) job.now.calls.now ready.shares.items) }
+    ensures { IfOk result (λ runs. AreFound (setting_view job.now.version job.now.contracts.now) job.now.calls.now runs.items) }
 {
-    let count = job.order.len();
-    if count < MANY || are_long(least_mean(workers), count as u32, fuel) {
-        return Ok(Ready {
-            runs: run_ready(rt, job, cells, workers)?,
-            shares: Vec::new(job.alloc),
-        });
+    match runners {
+        Runners::Sharing => run_ready(rt, job, cells, workers),
+        Runners::Copying | Runners::Nobody => Ok(Vec::new(job.alloc)),
     }
-    if !copies_pay(job, cells, fuel, workers) {
-        return Ok(Ready {
-            runs: no_runs(job)?,
-            shares: Vec::new(job.alloc),
-        });
-    }
-    Ok(Ready {
-        runs: no_runs(job)?,
-        shares: run_first(rt, job, cells, workers)?,
-    })
 }

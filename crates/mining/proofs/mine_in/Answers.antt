@@ -11,26 +11,19 @@ use Rattle.spec_block.specs.Serial.{setting_of}
 use Rattle.serial.specs.Positions.{positions as ran_of}
 use Rattle.world.specs.Views.{world_view}
 use Rattle.serial_block.proofs.Causes.{are_possible}
-use Rattle.serial_block.proofs.Limits.{used_within}
 use Rattle.mining.proofs.Orders.{few, left_is, order_again}
 use Rattle.mining.proofs.mine_in.Goals as goal
 
-pub seal-requires-clause-order : goal.seal-requires-clause-order
-seal-requires-clause-order g c =
+pub seal_by-requires-clause-order : goal.seal_by-requires-clause-order
+seal_by-requires-clause-order g c =
     let core = c.in_ok-order.field-0 in
     let at_most = few (limits c.args.calls.now) core.order.items c.args.block_fuel c.in_ok-order.ensures.admissible in
     omega (arith, at_most, length-map c.args.calls.now (λ call. call.fuel), ap length c.deref.ensures.value, c.requires.calls)
 
-pub seal-requires-clause-possible : goal.seal-requires-clause-possible
-seal-requires-clause-possible g c =
+pub seal_by-requires-clause-possible : goal.seal_by-requires-clause-possible
+seal_by-requires-clause-possible g c κs within =
     let core = c.in_ok-order.field-0 in
     are_possible _ _ _ _ core.receipts.items core.touched.items _ (c.in_ok-order.ensures.receipts ∙ sym c.in_ok-order.ensures.touched) c.in_ok-order.ensures.serial
-
-pub seal-requires-clause-fuel : goal.seal-requires-clause-fuel
-seal-requires-clause-fuel g c =
-    let core = c.in_ok-order.field-0 in
-    let within = used_within _ _ _ _ core.receipts.items core.touched.items _ (c.in_ok-order.ensures.receipts ∙ sym c.in_ok-order.ensures.touched) c.in_ok-order.ensures.serial in
-    omega (arith, within, c.in_ok-order.ensures.admissible.within, c.ranges.block_fuel.fits)
 
 pub returns-clause-headline : goal.returns-clause-headline
 returns-clause-headline g c =

@@ -1,21 +1,31 @@
-use Rattle.std.proofs.Common.{◌≡◌, ◌∙◌, sym, subst}
+use Rattle.std.proofs.Common.{List, ◌∙◌, sym, subst}
 use Rattle.serial.specs.Positions.{positions as ran_of}
-use Rattle.spec_block.specs.Serial.{setting_of}
+use Rattle.spec_block.specs.Worlds.{Call}
+use Rattle.spec_block.specs.Verdicts.{RunOf}
 use Rattle.interp.specs.Lent.{setting_view}
 use Rattle.world.specs.Views.{world_view}
+use Rattle.validator.proofs.Fits.{as_many_numbers, run_of}
 use Rattle.validator.specs.Handed.{AreFound}
-use Rattle.validator.proofs.Fits.{run_of}
 use Rattle.validator.proofs.run.Goals as goal
 
 pub returns-clause-verdict : goal.returns-clause-verdict
 returns-clause-verdict g c = λ fuel.
-    let world = world_view c.args.world.now in
-    let calls = c.args.calls.now in
+    let world = world_view c.args.trial.now.world.now in
+    let block = c.args.trial.now.block.now in
     let core = c.in_ok-folded.folded.core in
-    let same_setting : setting_view c.version.result c.contracts.result.now ≡ setting_of c.args.fit.now.block.version world = λ k. record { contracts = c.contracts.ensures.contracts k; version = c.version.ensures k } in
-    c.in_ok-verdict.ensures calls fuel
-    (run_of world calls c.args.fit.now.block (setting_view c.version.result c.contracts.result.now) c.deref.result.now c.cells-2.result.now.cells (ran_of core.receipts.items core.touched.items) core.cells.cells
-    same_setting (c.deref.ensures.value ∙ c.requires.order) c.cells-2.ensures c.in_ok-folded.ensures.serial)
+    let job = c.args.job.now in
+    c.in_ok-verdict.ensures c.args.trial.now.calls.now fuel
+    (subst (λ (calls : List Call). RunOf world calls block (ran_of core.receipts.items core.touched.items) core.cells.cells) c.requires.calls
+    (run_of world job.calls.now block (setting_view job.version job.contracts.now) job.order.now c.cells-cells.result.now.cells (ran_of core.receipts.items core.touched.items) core.cells.cells
+    c.requires.setting c.requires.order c.cells-cells.ensures c.in_ok-folded.ensures.serial))
 
 pub fold-requires-clause-runs : goal.fold-requires-clause-runs
-fold-requires-clause-runs g c κs within = subst (AreFound (setting_view c.version.result c.contracts.result.now) c.args.calls.now) (sym c.deref-3.ensures.value) c.in_ok-runs.ensures.runs
+fold-requires-clause-runs g c κs within =
+    let job = c.args.job.now in
+    subst (AreFound (setting_view job.version job.contracts.now) job.calls.now) (sym c.deref.ensures.value) c.in_ok-runs.ensures
+
+pub conclude-requires-clause-receipts : goal.conclude-requires-clause-receipts
+conclude-requires-clause-receipts g c = c.in_ok-folded.ensures.receipts ∙ sym (as_many_numbers c.args.trial.now.block.now c.args.job.now.order.now c.requires.order)
+
+pub conclude-requires-clause-touched : goal.conclude-requires-clause-touched
+conclude-requires-clause-touched g c = c.in_ok-folded.ensures.touched ∙ sym (as_many_numbers c.args.trial.now.block.now c.args.job.now.order.now c.requires.order)

@@ -1,5 +1,5 @@
 use mir.Val.{bool_byte}
-use Rattle.std.proofs.Common.{◌<◌, ◌≤◌, Bool, true, false, IfSome, [], length, get_or, sym, ap, subst, arith}
+use Rattle.std.proofs.Common.{◌<◌, ◌≤◌, Bool, true, false, [], length, get_or, sym, ap, subst, arith}
 use Rattle.std.proofs.lemmas.List.{take_all}
 use Rattle.std.proofs.lemmas.List.Elements.{All-get_or}
 use Rattle.std.proofs.lemmas.Option.{slice_get-get_or}
@@ -8,7 +8,6 @@ use Rattle.spec_execution.specs.Serial.{Serial}
 use Rattle.interp.specs.Lent.{setting_view}
 use Rattle.serial.specs.Positions.{positions}
 use Rattle.serial.proofs.Orders.{length_more, serial_more}
-use Rattle.validator.specs.Handed.{IsMade}
 use Rattle.validator.proofs.fold.fold.Goals as goal
 
 no_call : ContractCall
@@ -61,14 +60,6 @@ loop-position-init g c =
       supply = c.requires.supply;
       again = omega arith;
     }
-
-pub execute_one-requires-clause-run : goal.execute_one-requires-clause-run
-execute_one-requires-clause-run g c κs within =
-    let job = c.args.job.now in
-    let is = IsMade (setting_view job.version job.contracts.now) job.calls.now in
-    let size = c.requires.size in
-    let test = c.loop-position-test.true in
-    subst (λ o. IfSome o is) (sym c.index-runs-position.is) (All-get_or (λ o. IfSome o is) c.args.runs.now c.loop-position.position c.index-runs-position.result (omega (arith, size, test)) c.requires.runs)
 
 pub returns-clause-serial : goal.returns-clause-serial
 returns-clause-serial g c =

@@ -1,0 +1,35 @@
+-- A block that is judged, and what is found of it.
+use Rattle.std.specs.Prelude.{◌≡◌, ◌≤◌, ◌<◌, List, All, IfErr, IfOk, IfSome, OnOk, Result, length}
+use Rattle.spec_execution.specs.Configuration.{Setting}
+use Rattle.spec_execution.specs.Run.{ContractCall}
+use Rattle.spec_block.specs.Worlds.{order_of, profiles_of}
+use Rattle.spec_block.specs.Schedule.{HaveTurns}
+use Rattle.spec_block.specs.Verdicts.{HoldsOf}
+use Rattle.world.specs.Views.{world_view}
+use Rattle.block_judge.specs.declared.reason.Unfit.{Unfit}
+use Rattle.block_judge.specs.Judging.{IfRejected, IsFirstFrom, NoneFrom}
+use Rattle.validator.specs.declared.copies.Own.{Own}
+use Rattle.validator.specs.declared.trial.Trial.{Trial}
+use Rattle.validator.specs.Handed.{AreBatches}
+
+-- the order is the block's, and all is within the limits
+pub record IsTrial {A : Type 0} (t : Trial A) : Type 0 where
+  pub calls : length t.calls.now ≤ 65535
+  pub order : t.order.now ≡ order_of t.block.now
+  pub few : length (order_of t.block.now) ≤ 65535
+  pub profiles : length (profiles_of t.block.now) ≤ 65535
+
+-- the first of the reasons 2 to 7 that holds, or none
+pub record IsJudged {A U : Type 0} (t : Trial A) (judged : Result U Unfit) : Type 0 where
+  pub rejected : IfErr judged (λ unfit. IfRejected unfit (IsFirstFrom (HoldsOf (world_view t.world.now) t.calls.now t.fuel t.block.now) 1))
+  pub passed : OnOk judged (NoneFrom (HoldsOf (world_view t.world.now) t.calls.now t.fuel t.block.now) 1 8)
+  pub known : OnOk judged (All (λ number. number < length t.calls.now) (order_of t.block.now))
+  pub turns : OnOk judged (HaveTurns (profiles_of t.block.now))
+
+-- what a worker hands back: what it found of the block, if it judged it, and calls with their footprints
+pub record IsOwn {A : Type 0} (t : Trial A) (setting : Setting) (calls : List ContractCall) (own : Own A) : Type 0 where
+  pub judged : IfSome own.judged (IsJudged t)
+  pub part : IfOk own.part (λ part. AreBatches setting calls part.batches.items)
+
+abbrev pub AreOwn : {A : Type 0} → Trial A → Setting → List ContractCall → List (Own A) → Type 0
+AreOwn t setting calls owns = All (IsOwn t setting calls) owns

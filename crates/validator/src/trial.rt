@@ -1,0 +1,32 @@
+//! A block that was read, and what it is judged by.
+
+ghost use Rattle.validator.specs.Tried.{IsJudged, IsTrial};
+
+use block::Block;
+use block_judge::{Unfit, judge_block};
+use call::Call;
+use std::alloc::Allocator;
+use world::World;
+
+/// A block of calls over a world, with the fuel that it may have.
+#[derive(Drop)]
+pub(crate) struct Trial<'s, A: Allocator> {
+    pub(crate) world: &'s World<A>,
+    pub(crate) calls: &'s [Call],
+    pub(crate) fuel: u64,
+    pub(crate) block: &'s Block<A>,
+    /// The numbers of its calls, by position.
+    pub(crate) order: &'s [u32],
+}
+
+impl<A: Allocator + Copy> Trial<'_, A> {
+    /// The first of the reasons 2 to 7 that holds of the block, without running a call.
+    pub(crate) fn judge(&self, alloc: A) -> Result<(), Unfit>
+        requires { IsTrial self.now }
+        ensures { IsJudged self.now result }
+    {
+        judge_block(
+            alloc, self.world, self.calls, self.fuel, self.block, self.order,
+        )
+    }
+}
