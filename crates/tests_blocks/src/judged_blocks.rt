@@ -6,6 +6,7 @@ use block_judge::Unfit::{NoMemory, Rejected};
 use block_judge::{Fit, Reason, Unfit, judge};
 use call::Call;
 use codec::{Failures, MemorySink};
+use lock_profile::Profile;
 use spec_ledger::{Outcome, Receipt, Version};
 use std::alloc::Global;
 use world::{World, digest_world};

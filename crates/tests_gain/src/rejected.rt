@@ -106,7 +106,12 @@ fn four_workers_say_what_one_says(rt: HostRuntime) -> Result<(), Fail> {
         }
     }
     for number in [4, 7, 8, 9] {
-        equal(&rt, &number, &seen.get(number).is_some_and(|count| *count > 0), &true);
+        equal(
+            &rt,
+            &number,
+            &seen.get(number).is_some_and(|count| *count > 0),
+            &true,
+        );
     }
     Ok(())
 }
