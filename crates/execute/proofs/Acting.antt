@@ -1,25 +1,23 @@
 -- What the steps of the code do to the parts.
-use Rattle.std.proofs.Common.{true≢false, false, ◌≡◌, ℕ, ◌+◌, ◌≤◌, List, [], ◌∷◌, ◌++◌, length, drop, refl, sym, ap, ◌∙◌, subst, Vec, Result, Ok, Err, IfOk, IfErr, true, arith, length-append}
+use Rattle.std.proofs.Common.{◌≡◌, ℕ, ◌+◌, ◌≤◌, List, [], ◌∷◌, ◌++◌, length, drop, refl, sym, ap, ◌∙◌, subst, Vec, Result, Ok, Err, IfOk, IfErr, true, arith, length-append}
 use Rattle.wtypes.specs.declared.Value.{Value}
 use Rattle.wtypes.specs.declared.PlainInstr.{PlainInstr}
-use Rattle.wtypes.specs.declared.LoadOp.{LoadOp}
-use Rattle.wtypes.specs.declared.StoreOp.{StoreOp}
-use Rattle.wtypes.specs.declared.PlainInstr.TheVariants.{Call, CallIndirect, Br, BrIf, Return, GlobalGet, GlobalSet, Load, Store, MemorySize, MemoryGrow, LocalTee}
+use Rattle.wtypes.specs.declared.PlainInstr.TheVariants.{Call, LocalTee}
 use Rattle.spec_syntax.specs.Syntax.{Plain}
 use Rattle.module_tree.specs.declared.instr.Instr.{Instr}
 use Rattle.spec_execution.specs.Configuration.{Contract, State, Config, End, Trap}
-use Rattle.spec_execution.specs.Reduction.{Goes, reduce, execute, execute_plain}
+use Rattle.spec_execution.specs.Reduction.{Next, Goes, reduce, execute, execute_plain}
 use Rattle.spec_execution.specs.Run.{Reduces}
 use Rattle.frames.specs.declared.parts.Entry.{Entry}
 use Rattle.frames.specs.declared.parts.Parts.{Parts}
 use Rattle.operands.specs.declared.lent.Lent.{Lent}
 use Rattle.operands.specs.declared.plain.After.{After}
 use Rattle.operands.specs.declared.plain.After.TheVariants as after
-use Rattle.sequences.specs.Meaning.{Item, Open, height, outermost, at, config, Stands, IsOrdered, calling, listed, frames}
-use Rattle.sequences.specs.Forms.{operands, runs_on, runs_on_instance, IsReadyFor}
+use Rattle.sequences.specs.Meaning.{Item, Open, height, outermost, at, config, Stands, IsOrdered, IsSafeAt, Charged, calling, listed, frames}
+use Rattle.sequences.specs.Forms.{operands, runs_on, IsReadyFor}
 use Rattle.sequences.specs.Finding.{ready_for}
 use Rattle.operands.specs.Lent.{contract_of}
-use Rattle.sequences.specs.Plain.{onto, at_once, by_two}
+use Rattle.sequences.specs.Plain.{onto, Done, at_once, by_two}
 use Rattle.operands.specs.Plain.{Did}
 use Rattle.operands.specs.Taking.{plain_takes_memory}
 use Rattle.spec_execution.specs.Turns.{Frees, none}
@@ -77,18 +75,28 @@ led_parts {A} l p q n op a o here same untouched there d b safe suits =
     (led c u (opens_of p.entries.items) p.stack.items p.locals.items n op (items_of q.code.now) there oo a q.stack.items q.locals.items d)))
 
 -- the instruction to come finds what it takes, where it is not stuck
+module _ (c : Contract) (b : State) (es : List Open) (stack locals : List Value) (code : List Item) (safe : IsSafeAt c (mk b es stack locals code)) (ordered : IsOrdered (mk b es stack locals code)) (n : ℕ) (op : PlainInstr) (is : List Item)
+    (here : code ≡ record { ordinal = n; instr = Plain op } ∷ is) (on : runs_on op ≡ true) where
+  abbrev inside : List Item → Next
+  inside js = reduce c (frames es 0) (at b locals) (onto (drop (height es) stack) []) (listed js End)
+
+  pub place : (height es + operands op ≤ length stack) × IsReadyFor op stack locals
+  unfolding reduce execute
+  place = ready_for c b es stack locals (listed is End) ordered.stands op on
+      (λ h. fine_at c b es stack locals (listed code End) safe.fine.not_stuck (ap inside here ∙ h))
+      (λ s y e. fine_after_at c b s es stack locals s.locals (listed code End) y safe.after.not_stuck (ap inside here ∙ e))
+
+  pub charged_done : (stack' locals' : List Value) → Done op stack locals stack' locals' → Charged c (mk b es stack locals code) (mk b es stack' locals' is)
+  charged_done stack' locals' d = subst (λ (js : List Item). Charged c (mk b es stack locals js) (mk b es stack' locals' is)) (sym here)
+      (led c b es stack locals n op is place.0 (subst (λ (js : List Item). IsOrdered (mk b es stack locals js)) here ordered) after.Ran stack' locals' d)
+
 module _ {A : Type 0} (l : Lent A) (p q : Parts A) (rest : List (Instr A)) (r : IsReadyToRun l p) where
   module _ (n : ℕ) (op : PlainInstr) (is : items_of p.code.now ≡ record { ordinal = n; instr = Plain op } ∷ items_of rest) (on : runs_on op ≡ true) where
     abbrev es : List Open
     es = opens_of p.entries.items
 
     pub ready_plain : (height es + operands op ≤ length p.stack.items) × IsReadyFor op p.stack.items p.locals.items
-    unfolding reduce execute
-    ready_plain = ready_for (contract_of l) (based r.base p.instance) es p.stack.items p.locals.items (listed (items_of rest) End) (r.ordered r.base).stands op on
-        (λ h. fine_at (contract_of l) (based r.base p.instance) es p.stack.items p.locals.items (listed (items_of p.code.now) End) r.safe.fine.not_stuck
-        (ap (λ (js : List Item). reduce (contract_of l) (frames es 0) (at (based r.base p.instance) p.locals.items) (onto (drop (height es) p.stack.items) []) (listed js End)) is ∙ h))
-        (λ s y e. fine_after_at (contract_of l) (based r.base p.instance) s es p.stack.items p.locals.items s.locals (listed (items_of p.code.now) End) y r.safe.after.not_stuck
-        (ap (λ (js : List Item). reduce (contract_of l) (frames es 0) (at (based r.base p.instance) p.locals.items) (onto (drop (height es) p.stack.items) []) (listed js End)) is ∙ e))
+    ready_plain = place (contract_of l) (based r.base p.instance) es p.stack.items p.locals.items (items_of p.code.now) r.safe (r.ordered r.base) n op (items_of rest) is on
 
     pub led_first : q.code.now ≡ rest → q.entries ≡ p.entries → q.instance ≡ p.instance → (a : After) → Did op p.stack.items p.locals.items a q.stack.items q.locals.items → Led l p a q
     led_first after same untouched a did = led_parts l p q n op a r.ordered (is ∙ ap (λ js. record { ordinal = n; instr = Plain op } ∷ items_of js) (sym after)) same untouched ready_plain.0 did

@@ -12,7 +12,7 @@ use Rattle.wtypes.specs.declared.TrapCode.TheVariants.{MemoryOutOfBounds}
 use Rattle.wtypes.specs.declared.PlainInstr.TheVariants.{Load, Store, MemorySize, MemoryGrow}
 use Rattle.spec_syntax.specs.Syntax.{Plain}
 use Rattle.spec_numeric.specs.Operators.{type_of, bits_of, value_of}
-use Rattle.spec_numeric.specs.Storage.{load_type, load_width, extended, store_type, store_width, number_of_bytes, bytes_of_number}
+use Rattle.spec_numeric.specs.Storage.{load_type, load_width, extended, store_type, store_width, bytes_of_number}
 use Rattle.spec_numeric.specs.Memory.{load, written}
 use Rattle.spec_execution.specs.Configuration.{Contract, Seq, Val, End, State, Trap, values}
 use Rattle.spec_execution.specs.Reduction.{Next, Goes, Traps, reduce, execute, execute_plain, with_number, answered, loaded, stored, grown, with_memory, pages, most_pages}

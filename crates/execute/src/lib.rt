@@ -2,3 +2,4 @@
 #![tactic(auto)]
 
 pub mod steps;
+pub mod strides;

@@ -231,7 +231,7 @@ fn chosen_label(labels: &[u32], fallback: u32, choice: Value) -> u32
 }
 
 // How many values a block leaves.
-fn arity(block: &Option<ValType>) -> usize
+pub(crate) fn arity(block: &Option<ValType>) -> usize
     ensures { result ≡ arity_of block.now }
 {
     match block {
@@ -241,7 +241,7 @@ fn arity(block: &Option<ValType>) -> usize
 }
 
 // The first instruction, and those behind it.
-fn first<'a, A: Allocator + Copy>(code: &'a [Instr<A>]) -> (&'a Instr<A>, &'a [Instr<A>])
+pub(crate) fn first<'a, A: Allocator + Copy>(code: &'a [Instr<A>]) -> (&'a Instr<A>, &'a [Instr<A>])
     requires { 0 < length code.now }
     ensures { code.now ≡ result.0.now ∷ result.1.now }
 {

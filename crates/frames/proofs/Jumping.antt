@@ -52,6 +52,9 @@ drop_reverse n xs le =
 pub label_within : {A : Type 0} (l : ℕ) (es : List (Entry A)) (o : Open) (os : List Open) → drop l (opens_of es) ≡ o ∷ os → l ≤ length es
 label_within l es o os h = omega (arith, ap length h, length-drop l (opens_of es), length_map open_of (reverse es), length_reverse es)
 
+pub label_below : {A : Type 0} (l : ℕ) (es : List (Entry A)) (o : Open) (os : List Open) → drop l (opens_of es) ≡ o ∷ os → l + 1 ≤ length es
+label_below l es o os h = omega (arith, ap length h, length-drop l (opens_of es), length_map open_of (reverse es), length_reverse es)
+
 pub opens_left : {A : Type 0} (l : ℕ) (es : List (Entry A)) → l ≤ length es → opens_of (take (length es - l) es) ≡ drop l (opens_of es)
 opens_left l es le = sym (drop_map open_of l (reverse es) ∙ ap (map open_of) (drop_reverse l es le))
 

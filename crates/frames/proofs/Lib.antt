@@ -1,5 +1,6 @@
 pub mod Settling
 pub mod Jumping
+pub mod Repeating
 pub mod Entering
 pub mod Copying
 pub mod Placing

@@ -1,12 +1,15 @@
 // Branches and returns.
-ghost use Rattle.std.specs.Prelude.{◌≡◌, ◌+◌, ◌-◌, ◌≤◌, ◌++◌, length, take, drop};
+ghost use Rattle.std.specs.Prelude.{◌≡◌, ◌+◌, ◌-◌, ◌≤◌, ◌++◌, length, take, drop, IfSome, None, true, false};
 ghost use Rattle.frames.specs.Views.{opens_of, scope_of};
 ghost use Rattle.frames.specs.Steps.{IsCounted};
 ghost use Rattle.sequences.specs.Branches.{IsTarget, in_call, is_frame};
-ghost use Rattle.frames.specs.Branches.{Jumps};
+ghost use Rattle.frames.specs.Branches.{Jumps, IsLoop, IsNoLoop, LeadsToLoop, Repeats};
 
+use crate::calls::keep_room;
 use crate::parts::{Entry, Kind, Parts};
+use module_tree::instr::Instr;
 use std::alloc::Allocator;
+use std::mem;
 use wtypes::Value;
 
 /// Branches to the label that stands so many labels out.
@@ -19,6 +22,47 @@ pub fn branch<'a, A: Allocator + Copy>(parts: &mut Parts<'a, A>, label: u32)
 {
     let left = parts.entries.len() - label as usize;
     jump(parts, left);
+}
+
+/// Branches to a label and executes the instruction of its loop, where it is one that keeps no value: the loop stays open. False where it is not, and nothing is done.
+#[inline(always)]
+pub fn repeat<'a, A: Allocator + Copy>(parts: &mut Parts<'a, A>, label: u32) -> bool
+    requires target { IsTarget (opens_of parts.old.entries.items) parts.old.stack.items (drop label (opens_of parts.old.entries.items)) }
+    requires counted { IsCounted parts.old }
+    ensures repeats { result ≡ true → Repeats parts.old (drop label (opens_of parts.old.entries.items)) parts.new }
+    ensures other { result ≡ false → LeadsToLoop (drop label (opens_of parts.old.entries.items)) → ⊥ }
+    ensures same { result ≡ false → parts.new ≡ parts.old }
+    ensures counted { IsCounted parts.new }
+    ensures instance { parts.new.instance ≡ parts.old.instance }
+{
+    let left = parts.entries.len() - label as usize;
+    let entry = &parts.entries[left - 1];
+    let height = entry.height;
+    let Some(body) = loop_body(entry) else {
+        return false;
+    };
+    parts.entries.truncate(left);
+    parts.stack.truncate(height);
+    parts.code = body;
+    true
+}
+
+// The code of the body of a loop that keeps no value.
+#[inline(always)]
+fn loop_body<'b, 'a, A: Allocator + Copy>(entry: &'b Entry<'a, A>) -> Option<&'a [Instr<A>]>
+    ensures found { IfSome result (λ body. IsLoop entry.now body.now) }
+    ensures other { result ≡ None → IsNoLoop entry.now }
+{
+    let Kind::Loop = &entry.kind else {
+        return None;
+    };
+    if entry.arity != 0 || entry.from.is_empty() {
+        return None;
+    }
+    match &entry.from[0] {
+        Instr::Loop(_, _, body) => Some(body),
+        _ => None,
+    }
 }
 
 /// Returns from the innermost call.
@@ -77,7 +121,8 @@ fn jump<'a, A: Allocator + Copy>(parts: &mut Parts<'a, A>, left: usize)
             Kind::Loop => {}
             Kind::Frame(_, saved) => {
                 parts.depth -= 1;
-                parts.locals = saved;
+                let left = mem::replace(&mut parts.locals, saved);
+                keep_room(&mut parts.spare, left);
             }
         }
     }

@@ -1,5 +1,5 @@
 // Calls of the module's functions.
-ghost use Rattle.std.specs.Prelude.{◌≡◌, ◌++◌, map, IfOk};
+ghost use Rattle.std.specs.Prelude.{◌≡◌, ◌++◌, [], map, IfOk};
 ghost use Rattle.spec_execution.specs.Reduction.{zero_of};
 ghost use Rattle.frames.specs.Steps.{IsOrderedParts, IsCounted};
 ghost use Rattle.frames.specs.Calls.{CanEnter, Enters};
@@ -34,7 +34,8 @@ pub fn enter<'a, A: Allocator + Copy>(
         return Ok(false);
     }
     let height = parts.stack.len() - form.params.len();
-    let locals = new_locals(alloc, &parts.stack[height..], &function.locals)?;
+    let room = take_room(alloc, &mut parts.spare)?;
+    let locals = fill(room, &parts.stack[height..], &function.locals)?;
     let saved = mem::replace(&mut parts.locals, locals);
     parts.entries.push(Entry {
         kind: Kind::Frame(func, saved),
@@ -57,7 +58,21 @@ pub fn new_locals<A: Allocator + Copy>(
 ) -> Result<Vec<Value, A>, AllocError>
     ensures { IfOk result (λ locals. locals.items ≡ args.now ++ map zero_of declared.now) }
 {
-    let mut locals = args.to_vec(alloc)?;
+    fill(Vec::new(alloc), args, declared)
+}
+
+// The same in the room of an empty list.
+#[inline(always)]
+fn fill<A: Allocator + Copy>(
+    room: Vec<Value, A>,
+    args: &[Value],
+    declared: &[ValType],
+) -> Result<Vec<Value, A>, AllocError>
+    requires { room.items ≡ [] }
+    ensures { IfOk result (λ locals. locals.items ≡ args.now ++ map zero_of declared.now) }
+{
+    let mut locals = room;
+    locals.extend_from_slice(args)?;
     for t in declared {
         let zero = match t {
             ValType::I32 => Value::I32(0),
@@ -66,4 +81,35 @@ pub fn new_locals<A: Allocator + Copy>(
         locals.push(zero)?;
     }
     Ok(locals)
+}
+
+// An empty list for the locals of a call, in the room of a call that was left, where there is one.
+#[inline(always)]
+fn take_room<A: Allocator + Copy>(
+    alloc: A,
+    spare: &mut Vec<Vec<Value, A>, A>,
+) -> Result<Vec<Value, A>, AllocError>
+    ensures { IfOk result (λ room. room.items ≡ []) }
+{
+    match spare.pop() {
+        Some(mut room) => {
+            room.clear();
+            Ok(room)
+        }
+        None => {
+            spare.reserve(1)?;
+            Ok(Vec::new(alloc))
+        }
+    }
+}
+
+// Keeps the room of a call that is left, where there is a place for it. Takes no memory.
+#[inline(always)]
+pub(crate) fn keep_room<A: Allocator + Copy>(
+    spare: &mut Vec<Vec<Value, A>, A>,
+    left: Vec<Value, A>,
+) {
+    if spare.len() < spare.capacity() {
+        spare.push_reserved(left);
+    }
 }

@@ -106,5 +106,6 @@ pub fn copy_parts<'a, A: Allocator + Copy>(
         stack: parts.stack.to_vec(alloc)?,
         locals: parts.locals.to_vec(alloc)?,
         instance: copy_instance(alloc, &parts.instance)?,
+        spare: Vec::new(alloc),
     })
 }

@@ -46,4 +46,6 @@ pub struct Parts<'a, A: Allocator + Copy> {
     pub locals: Vec<Value, A>,
     /// The instance.
     pub instance: Instance<A>,
+    /// Lists of calls that were left, whose room serves the locals of calls to come. What they hold says nothing.
+    pub spare: Vec<Vec<Value, A>, A>,
 }

@@ -9,7 +9,7 @@ use Rattle.interp.specs.declared.turns.Turn.{Turn}
 use Rattle.interp.specs.declared.turns.Turn.TheVariants as turn
 use Rattle.interp.specs.Progress.{LastIs}
 use Rattle.interp.specs.Shown.{last_level}
-use Rattle.interp.specs.declared.machine.Level.{Level}
+use Rattle.interp.specs.declared.run.Level.{Level}
 use Rattle.interp.specs.Run.{level_of, levels_of, IsAround, AreAround}
 
 pub levels_push : {A : Type 0} (args : List Value) (ls : List (Level A)) (l : Level A) → levels_of args (ls ++ l ∷ []) ≡ level_of args l ∷ levels_of args ls

@@ -17,7 +17,7 @@ use Rattle.sequences.specs.Meaning.{View, height, calling, invoking, state, IsOr
 use Rattle.sequences.specs.Tails.{with_tail}
 use Rattle.interp.specs.declared.turns.Status.{Status}
 use Rattle.interp.specs.declared.turns.Status.TheVariants as status
-use Rattle.interp.specs.declared.machine.Level.{Level}
+use Rattle.interp.specs.declared.run.Level.{Level}
 use Rattle.interp.specs.Machine.{HasRoom}
 use Rattle.interp.specs.Run.{args_of, view_of, level_of, levels_of, told_on, IsAround, AreAround, IsCopyOf, AreCopiesOf}
 

@@ -7,7 +7,7 @@ use Rattle.spec_execution.specs.Levels.{no_answer}
 use Rattle.frames.specs.Steps.{IsCounted}
 use Rattle.frames.specs.Waiting.{alone}
 use Rattle.interp.specs.declared.turns.Status.TheVariants as status
-use Rattle.interp.specs.declared.machine.Run.{Run}
+use Rattle.interp.specs.declared.run.Run.{Run}
 use Rattle.interp.specs.Progress.{IsStartOf}
 use Rattle.interp.specs.Machine.{Seen, progress, IsBegunAs}
 use Rattle.interp.specs.Run.{seen, IsBegun, IsFirst}

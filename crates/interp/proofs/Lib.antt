@@ -19,3 +19,4 @@ pub mod Outermost
 pub mod OuterLevel
 pub mod Fresh
 pub mod Telling
+pub mod Striding

@@ -5,8 +5,8 @@ use Rattle.spec_execution.specs.Levels as spec
 use Rattle.spec_execution.specs.Turns.{state_of}
 use Rattle.sequences.specs.Meaning.{state}
 use Rattle.interp.specs.Shown.{last_level, outermost}
-use Rattle.interp.specs.declared.machine.Level.{Level}
-use Rattle.interp.specs.declared.machine.Run.{Run}
+use Rattle.interp.specs.declared.run.Level.{Level}
+use Rattle.interp.specs.declared.run.Run.{Run}
 use Rattle.interp.specs.Machine.{progress}
 use Rattle.interp.specs.Run.{seen, view_of, level_of, levels_of}
 use Rattle.interp.proofs.Around.{outer_first}

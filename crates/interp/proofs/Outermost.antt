@@ -2,7 +2,7 @@
 use Rattle.std.proofs.Common.{◌≡◌, ℕ, true, false, true≢false, List, [], length, sym, ap, ◌∙◌}
 use Rattle.std.specs.Prelude.{◌==◌}
 use Rattle.wtypes.specs.declared.Value.{Value}
-use Rattle.interp.specs.declared.machine.Level.{Level}
+use Rattle.interp.specs.declared.run.Level.{Level}
 use Rattle.interp.specs.Run.{levels_of}
 use Rattle.interp.proofs.Around.{none_kept}
 use Rattle.interp.proofs.Outlook.{no_items}

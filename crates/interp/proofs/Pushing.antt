@@ -24,8 +24,8 @@ use Rattle.sequences.specs.Meaning.{calling}
 use Rattle.sequences.specs.Tails.{with_tail}
 use Rattle.interp.specs.declared.turns.Status.TheVariants as status
 use Rattle.interp.specs.declared.turns.Turn.TheVariants as turn
-use Rattle.interp.specs.declared.machine.Run.{Run}
-use Rattle.interp.specs.declared.machine.Level.{Level}
+use Rattle.interp.specs.declared.run.Run.{Run}
+use Rattle.interp.specs.declared.run.Level.{Level}
 use Rattle.interp.specs.Progress.{Progress, IsSameCall}
 use Rattle.interp.specs.Machine.{Seen, progress, IsBegunAs, HasBegun, HasGoneOn}
 use Rattle.interp.specs.Run.{seen, levels_of, waiting_level, pushed_run, HasPushed, IsAround, AreAround, IsToEnter, IsFreshLevel, IsBegun, IsFirst, IsKept, IsToCall}

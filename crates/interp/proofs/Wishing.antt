@@ -8,7 +8,7 @@ use Rattle.sequences.specs.Finding.{read_at}
 use Rattle.sequences.specs.Hosting.{arity_of}
 use Rattle.interp.specs.declared.turns.Turn.{Turn}
 use Rattle.interp.specs.declared.turns.Turn.TheVariants as turn
-use Rattle.interp.specs.declared.machine.Run.{Run}
+use Rattle.interp.specs.declared.run.Run.{Run}
 use Rattle.interp.specs.Progress.{Progress, IsSameCall}
 use Rattle.interp.specs.Machine.{Seen, progress, IsCalling, IsSame, HasAskedFor}
 use Rattle.interp.specs.Run.{seen, IsToCall, IsWished}

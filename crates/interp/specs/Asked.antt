@@ -3,8 +3,8 @@ use Rattle.std.specs.Prelude.{ℕ, ℤ, pos, Option, Some, None}
 use Rattle.wtypes.specs.declared.Value.{Value}
 use Rattle.spec_execution.specs.Reduction as spec
 use Rattle.spec_execution.specs.Levels.{signed_of}
-use Rattle.interp.specs.declared.machine.Wish.{Wish}
-use Rattle.interp.specs.declared.machine.Wish.TheVariants as wish
+use Rattle.interp.specs.declared.replies.Wish.{Wish}
+use Rattle.interp.specs.declared.replies.Wish.TheVariants as wish
 use Rattle.interp.specs.Machine.{params_of}
 
 abbrev pub wish_of_code : Wish → spec.Wish

@@ -4,8 +4,8 @@ use Rattle.wtypes.specs.declared.Value.{Value}
 use Rattle.wtypes.specs.declared.Value.TheVariants as value
 use Rattle.module_tree.specs.Modules.{module_view}
 use Rattle.spec_typing.specs.Linking.{IsLinked}
-use Rattle.interp.specs.declared.machine.Run.{Run}
-use Rattle.interp.specs.declared.machine.Level.{Level}
+use Rattle.interp.specs.declared.run.Run.{Run}
+use Rattle.interp.specs.declared.run.Level.{Level}
 use Rattle.opening.specs.Views as opening_views
 use Rattle.link.specs.declared.deployed.Deployed.{Deployed}
 use Rattle.sequences.specs.Meaning.{View, height, whole, listed, calling, invoking, state, IsOrdered}

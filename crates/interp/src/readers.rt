@@ -6,7 +6,8 @@ ghost use Rattle.interp.specs.Run.{seen, IsKept};
 ghost use Rattle.interp.specs.Progress.{GoesOn, IsLeftNext};
 ghost use Rattle.interp.specs.Shown.{is_out, leaves_stack, ending, stack_shown, locals_shown, place_shown, outermost, IsShown, AreReadOf, IsReadOf, is_fallen};
 
-use crate::machine::{Level, Machine, Run};
+use crate::machine::Machine;
+use crate::run::{Level, Run};
 use crate::turns::Status;
 use frames::copies::{copy_parts, copy_waiting};
 use frames::places::{height_of_call, place_in_code};

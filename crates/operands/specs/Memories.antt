@@ -1,5 +1,5 @@
 -- Loads and stores.
-use Rattle.std.specs.Prelude.{replicate, ◌*◌, ◌-◌, ◌^◌, ◌≡◌, ℕ, ◌+◌, ◌≤◌, ◌<◌, List, [], ◌∷◌, ◌++◌, length, Ok, Err}
+use Rattle.std.specs.Prelude.{replicate, ◌*◌, ◌-◌, ◌^◌, ◌≡◌, ℕ, ◌+◌, ◌≤◌, ◌<◌, List, [], ◌∷◌, ◌++◌, length, Result, Ok, Err}
 use Rattle.wtypes.specs.declared.Value.{Value}
 use Rattle.wtypes.specs.declared.ValType.TheVariants.{I32}
 use Rattle.wtypes.specs.declared.LoadOp.{LoadOp}
@@ -10,10 +10,22 @@ use Rattle.spec_numeric.specs.Operators.{type_of, bits_of, value_of}
 use Rattle.spec_numeric.specs.Storage.{load_type, load_width, extended, store_type, store_width, bytes_of_number}
 use Rattle.spec_numeric.specs.Memory.{load, written}
 use Rattle.memory.specs.Linear.{Memory}
+use Rattle.memory.specs.declared.StoreRefusal.{StoreRefusal}
+use Rattle.memory.specs.declared.StoreRefusal.TheVariants as refusal
 use Rattle.spec_execution.specs.Reduction.{pages}
 use Rattle.spec_syntax.specs.Profile.{page_size}
 use Rattle.operands.specs.declared.plain.After.{After}
 use Rattle.operands.specs.declared.plain.After.TheVariants as after
+
+-- the value of the number at an address
+pub record IsAt (o : LoadOp) (offset : ℕ) (memory : List ℕ) (address v : Value) : Type 0 where
+  pub number : ℕ
+  pub there : load memory (bits_of address + offset) (load_width o) ≡ Ok number
+  pub is : v ≡ value_of (load_type o) (extended o number)
+
+abbrev pub Loaded : LoadOp → ℕ → List ℕ → Value → Result Value TrapCode → Type 0
+Loaded o offset memory address (Ok v) = IsAt o offset memory address v
+Loaded o offset memory address (Err t) = load memory (bits_of address + offset) (load_width o) ≡ Err t
 
 -- the value at an address, in the place of the address
 pub record IsLoaded (o : LoadOp) (offset : ℕ) (memory : List ℕ) (stack stack' : List Value) : Type 0 where
@@ -43,6 +55,13 @@ pub record HasPlace (o : StoreOp) (stack : List Value) : Type 0 where
   pub before : stack ≡ kept ++ address ∷ value ∷ []
   pub address_type : type_of address ≡ I32
   pub value_type : type_of value ≡ store_type o
+
+-- The value was written at the address, or nothing was. A refusal for want of memory comes only in range.
+abbrev pub StoredAt : {U : Type 0} → StoreOp → ℕ → Memory → Value → Value → Result U StoreRefusal → Memory → Type 0
+StoredAt o offset old address value (Ok u) new =
+    (bits_of address + offset + store_width o ≤ length old.bytes) × (new ≡ record old { bytes = written (bits_of address + offset) (bytes_of_number (store_width o) (bits_of value)) old.bytes })
+StoredAt o offset old address value (Err (refusal.Trap code)) new = (code ≡ MemoryOutOfBounds) × (length old.bytes < bits_of address + offset + store_width o) × (new ≡ old)
+StoredAt o offset old address value (Err refusal.NoMemory) new = (bits_of address + offset + store_width o ≤ length old.bytes) × (new ≡ old)
 
 -- the value was written at the address
 pub record IsStored (o : StoreOp) (offset : ℕ) (old new : Memory) (stack stack' : List Value) : Type 0 where

@@ -2,6 +2,7 @@
 #![tactic(auto)]
 
 pub mod elements;
+pub mod held;
 pub mod lent;
 pub mod memories;
 pub mod plain;

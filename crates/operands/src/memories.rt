@@ -5,14 +5,14 @@ ghost use Rattle.spec_numeric.specs.Operators.{type_of, bits_of, value_of};
 ghost use Rattle.spec_numeric.specs.Storage as storage;
 ghost use Rattle.spec_execution.specs.Reduction.{pages};
 ghost use Rattle.sequences.specs.Forms.{HasOne};
-ghost use Rattle.operands.specs.Memories.{DidLoad, DidStore, DidGrow, HasPlace};
+ghost use Rattle.operands.specs.Memories.{DidLoad, DidStore, DidGrow, HasPlace, Loaded, StoredAt};
 
 use crate::plain::After;
 use crate::values::{bits, pop_top, put_back};
 use memory::{Linear, StoreRefusal};
 use module_tree::width::{load_width, store_width};
 use std::alloc::{AllocError, Allocator};
-use wtypes::{LoadOp, NoMemory, StoreOp, Value};
+use wtypes::{LoadOp, NoMemory, StoreOp, TrapCode, Value};
 
 /// Loads a value.
 #[inline(always)]
@@ -25,13 +25,34 @@ pub fn execute_load<A: Allocator + Copy>(
     requires { HasOne val_type.I32 stack.old.items }
     ensures { DidLoad operator offset memory.now.bytes stack.old.items result stack.new.items }
 {
-    let at = address(pop_top(stack));
-    match memory.load(at, offset, load_width(operator)) {
-        Ok(number) => {
-            put_back(stack, extend(operator, number));
+    let place = pop_top(stack);
+    match loaded(operator, offset, place, memory) {
+        Ok(value) => {
+            put_back(stack, value);
             After::Ran
         }
         Err(code) => After::Fell(code),
+    }
+}
+
+/// The value that a load reads at a place.
+///
+/// # Errors
+///
+/// The trap: its bytes do not all lie in memory.
+#[inline(always)]
+pub fn loaded<A: Allocator + Copy>(
+    operator: LoadOp,
+    offset: u32,
+    place: Value,
+    memory: &Linear<A>,
+) -> Result<Value, TrapCode>
+    requires { type_of place ≡ val_type.I32 }
+    ensures { Loaded operator offset memory.now.bytes place result }
+{
+    match memory.load(address(place), offset, load_width(operator)) {
+        Ok(number) => Ok(extend(operator, number)),
+        Err(code) => Err(code),
     }
 }
 
@@ -48,12 +69,31 @@ pub fn execute_store<A: Allocator + Copy>(
     ensures max { memory.new.max ≡ memory.old.max }
 {
     let value = pop_top(stack);
-    let at = address(pop_top(stack));
-    match memory.store(at, offset, store_width(operator), bits(value)) {
+    let place = pop_top(stack);
+    match stored(operator, offset, place, value, memory) {
         Ok(()) => Ok(After::Ran),
         Err(StoreRefusal::Trap(code)) => Ok(After::Fell(code)),
         Err(StoreRefusal::NoMemory) => Err(AllocError),
     }
+}
+
+/// Stores a value at a place.
+///
+/// # Errors
+///
+/// The trap: its bytes do not all lie in memory; else a page was refused. Nothing changes.
+#[inline(always)]
+pub fn stored<A: Allocator + Copy>(
+    operator: StoreOp,
+    offset: u32,
+    place: Value,
+    value: Value,
+    memory: &mut Linear<A>,
+) -> Result<(), StoreRefusal>
+    requires { type_of place ≡ val_type.I32 }
+    ensures { StoredAt operator offset memory.old place value result memory.new }
+{
+    memory.store(address(place), offset, store_width(operator), bits(value))
 }
 
 /// Grows memory.

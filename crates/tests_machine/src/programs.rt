@@ -511,3 +511,29 @@ pub const FALLING_AT_THE_START: [u8; 75] = [
     0x73, 0x61, 0x6d, 0x65, 0x00, 0x02, 0x08, 0x01, 0x01, 0x0a, 0x10, 0x02, 0x09, 0x00, 0x42, 0x01,
     0x42, 0x05, 0x10, 0x00, 0x00, 0x0b, 0x04, 0x00, 0x20, 0x00, 0x0b,
 ];
+
+// Calls whose locals stand in the room of calls that were left:
+//
+//     (module
+//       (func $dirty (param i64) (local i64 i32)
+//         (local.set 1 (i64.const -1)) (local.set 2 (i32.const 7)) (local.set 0 (i64.const 5)))
+//       (func $clean (result i64) (local i64 i32 i64)
+//         (i64.add (local.get 0) (i64.add (i64.extend_i32_u (local.get 1)) (local.get 2))))
+//       (func $pair (param i64) (result i64) (local i64)
+//         (if (i64.eqz (local.get 0)) (then (return (local.get 1))))
+//         (local.set 1 (i64.const 9))
+//         (i64.add (call $pair (i64.sub (local.get 0) (i64.const 1))) (call $clean)))
+//       (func (export "after_one") (result i64) (call $dirty (i64.const 1)) (call $clean))
+//       (func (export "after_many") (result i64) (call $pair (i64.const 20)))
+//       (func (export "kept") (result i64) (local i64)
+//         (local.set 0 (i64.const 3)) (call $dirty (i64.const 1)) (drop (call $pair (i64.const 5))) (local.get 0)))
+
+pub const REUSED: [u8; 172] = [
+    0, 97, 115, 109, 1, 0, 0, 0, 1, 14, 3, 96, 1, 126, 0, 96, 0, 1, 126, 96, 1, 126, 1, 126, 3, 7,
+    6, 0, 1, 2, 1, 1, 1, 7, 33, 3, 9, 97, 102, 116, 101, 114, 95, 111, 110, 101, 0, 3, 10, 97, 102,
+    116, 101, 114, 95, 109, 97, 110, 121, 0, 4, 4, 107, 101, 112, 116, 0, 5, 10, 102, 6, 18, 2, 1,
+    126, 1, 127, 66, 127, 33, 1, 65, 7, 33, 2, 66, 5, 33, 0, 11, 17, 3, 1, 126, 1, 127, 1, 126, 32,
+    0, 32, 1, 173, 32, 2, 124, 124, 11, 27, 1, 1, 126, 32, 0, 80, 4, 64, 32, 1, 15, 11, 66, 9, 33,
+    1, 32, 0, 66, 1, 125, 16, 2, 16, 1, 124, 11, 8, 0, 66, 1, 16, 0, 16, 1, 11, 6, 0, 66, 20, 16,
+    2, 11, 19, 1, 1, 126, 66, 3, 33, 0, 66, 1, 16, 0, 66, 5, 16, 2, 26, 32, 0, 11,
+];

@@ -5,7 +5,7 @@ use crate::assertions::equal;
 use crate::machines::{DEEP, End, contracts_of, run, run_as};
 use crate::programs::{
     COUNTDOWN, DECLARED_BETWEEN, DECLARED_BEYOND, ELEMENTS, EMPTY_START, ENDLESS_START, EXPORTS,
-    FALLING, GROWTH, IMPORTED_ELEMENTS, LARGE_AT_FIRST, PAGES, ROWS, SIGNS, STARTED,
+    FALLING, GROWTH, IMPORTED_ELEMENTS, LARGE_AT_FIRST, PAGES, REUSED, ROWS, SIGNS, STARTED,
 };
 use interp::machine::Machine;
 use interp::start::StartRefusal;
@@ -115,6 +115,17 @@ const NUMBERS_AND_STORES: [Returned; 15] = [
 #[test]
 fn numbers_and_stores(rt: HostRuntime) -> Result<(), Fail> {
     assert_values(&rt, rt.alloc(), &ROWS, &NUMBERS_AND_STORES)
+}
+
+const IN_ROOM_OF_CALLS_THAT_WERE_LEFT: [Returned; 3] = [
+    ("after_one", Value::I64(0)),
+    ("after_many", Value::I64(0)),
+    ("kept", Value::I64(3)),
+];
+
+#[test]
+fn locals_in_room_of_calls_that_were_left(rt: HostRuntime) -> Result<(), Fail> {
+    assert_values(&rt, rt.alloc(), &REUSED, &IN_ROOM_OF_CALLS_THAT_WERE_LEFT)
 }
 
 const GROWN: [Returned; 5] = [

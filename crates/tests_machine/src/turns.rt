@@ -6,7 +6,9 @@ use crate::machines::{
     DEEP, End, assert_turns, contracts_of, finished, make_turn, play, run, started, turn_on,
     turn_on_by_one, unfinished,
 };
-use crate::programs::{ASKING_FIRST, FALLING, HOST, IMPORTED_ELEMENTS, PAGES, ROWS, STORING};
+use crate::programs::{
+    ASKING_FIRST, EXPORTS, FALLING, HOST, IMPORTED_ELEMENTS, PAGES, REUSED, ROWS, STORING,
+};
 use interp::finished::Finished;
 use interp::machine::Machine;
 use interp::turns::Turn;
@@ -136,6 +138,40 @@ fn turns_in_one_call(rt: HostRuntime) -> Result<(), Fail> {
     )?;
     for asked in &ASKED {
         assert_same_in_one_call(&rt, alloc, &contracts, asked)?;
+    }
+    Ok(())
+}
+
+// The number of a contract, an export without arguments, and the most fuel that it gets.
+type Bounded<'b> = (u32, &'b str, u64);
+
+// Constants, locals, operators, loads, stores, branches, loops and calls, one behind another.
+const IN_EACH_TURN: [Bounded; 15] = [
+    (0, "fac10", 100),
+    (0, "sum100", 40),
+    (0, "pick2", 12),
+    (0, "pick9", 12),
+    (0, "tee", 5),
+    (0, "branch_out", 10),
+    (0, "returns", 8),
+    (0, "load16u", 4),
+    (0, "store", 9),
+    (0, "out", 4),
+    (0, "div0", 5),
+    (1, "whole", 9),
+    (1, "signs", 12),
+    (2, "after_one", 24),
+    (2, "after_many", 60),
+];
+
+#[test]
+fn fuel_ends_in_each_turn(rt: HostRuntime) -> Result<(), Fail> {
+    let alloc = rt.alloc();
+    let contracts = contracts_of(alloc, &[&EXPORTS, &ROWS, &REUSED])?;
+    for (number, name, most) in &IN_EACH_TURN {
+        for fuel in 0..*most {
+            assert_same_in_one_call(&rt, alloc, &contracts, &(*number, *name, &[], fuel))?;
+        }
     }
     Ok(())
 }

@@ -172,7 +172,7 @@ returns-then-bits-eq0-clause-led g c =
     let js_are = items_numbered _ c.in-If.unmet.items counted.1 in
     let kept = c.pop_top-choice-in-If.new.stack.items in
     let a = c.pop_top-choice-in-If.result in
-    let popped_parts : Parts g.row.A.Denot = record { code = p.code; entries = p.entries; depth = p.depth; stack = c.pop_top-choice-in-If.new.stack; locals = p.locals; instance = p.instance } in
+    let popped_parts : Parts g.row.A.Denot = record { code = p.code; entries = p.entries; depth = p.depth; stack = c.pop_top-choice-in-If.new.stack; locals = p.locals; instance = p.instance; spare = p.spare } in
     let q = c.open-then-bits-eq0.new.parts in
     if_ok c.open-then-bits-eq0.result (λ x. HasOpened popped_parts kind.Block n c.arity-count.result rest c.deref-then-bits-eq0.result.now x q) (λ x. Led c.args.lent.now p x q)
     (λ x h. subst (λ (y : After). Led c.args.lent.now p y q) (sym h.ran) (λ b safe suits.
@@ -208,7 +208,7 @@ returns-else-bits-eq0-clause-led g c =
     let js_are = items_numbered _ c.in-If.met.items counted.0 in
     let kept = c.pop_top-choice-in-If.new.stack.items in
     let a = c.pop_top-choice-in-If.result in
-    let popped_parts : Parts g.row.A.Denot = record { code = p.code; entries = p.entries; depth = p.depth; stack = c.pop_top-choice-in-If.new.stack; locals = p.locals; instance = p.instance } in
+    let popped_parts : Parts g.row.A.Denot = record { code = p.code; entries = p.entries; depth = p.depth; stack = c.pop_top-choice-in-If.new.stack; locals = p.locals; instance = p.instance; spare = p.spare } in
     let q = c.open-else-bits-eq0.new.parts in
     if_ok c.open-else-bits-eq0.result (λ x. HasOpened popped_parts kind.Block n c.arity-count.result rest c.deref-else-bits-eq0.result.now x q) (λ x. Led c.args.lent.now p x q)
     (λ x h. subst (λ (y : After). Led c.args.lent.now p y q) (sym h.ran) (λ b safe suits.

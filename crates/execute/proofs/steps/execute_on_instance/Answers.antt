@@ -100,7 +100,7 @@ returns-in-Store-clause-led g c =
     let n = c.requires.here.ordinal in
     let is = items_of c.args.rest.now in
     let here = c.requires.here.here ∙ ap (λ (o : PlainInstr). record { ordinal = n; instr = Plain o } ∷ is) c.in-Store.is in
-    let q : Parts g.row.A.Denot = record { code = c.args.rest; entries = p.entries; depth = p.depth; stack = c.execute_store-after.new.stack; locals = p.locals; instance = record { globals = p.instance.globals; memory = c.execute_store-after.new.memory; table = p.instance.table } } in
+    let q : Parts g.row.A.Denot = record { code = c.args.rest; entries = p.entries; depth = p.depth; stack = c.execute_store-after.new.stack; locals = p.locals; instance = record { globals = p.instance.globals; memory = c.execute_store-after.new.memory; table = p.instance.table }; spare = p.spare } in
     if_ok c.execute_store-after.result (λ a. DidStore c.in-Store.operator c.in-Store.offset p.instance.memory c.execute_store-after.new.memory p.stack.items a q.stack.items) (λ a. Led c.args.lent.now p a q)
     (λ a d b safe suits.
     let k = contract_of c.args.lent.now in

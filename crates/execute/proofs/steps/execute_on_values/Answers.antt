@@ -15,7 +15,7 @@ pub returns : goal.returns
 returns g c =
     let p = c.args.parts.now in
     let r = c.requires.ready in
-    let q : Parts g.row.A.Denot = record { code = c.args.rest; entries = p.entries; depth = p.depth; stack = c.execute_plain-after.new.stack; locals = c.execute_plain-after.new.locals; instance = p.instance } in
+    let q : Parts g.row.A.Denot = record { code = c.args.rest; entries = p.entries; depth = p.depth; stack = c.execute_plain-after.new.stack; locals = c.execute_plain-after.new.locals; instance = p.instance; spare = p.spare } in
     record {
       led = if_ok c.execute_plain-after.result (λ a. Did c.args.op.now p.stack.items p.locals.items a q.stack.items q.locals.items) (λ a. Led c.args.lent.now p a q)
           (led_first c.args.lent.now p q c.args.rest.now r c.requires.here.ordinal c.args.op.now c.requires.here.here c.requires.on_values refl refl refl) c.execute_plain-after.ensures.did;

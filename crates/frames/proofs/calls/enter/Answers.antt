@@ -85,6 +85,6 @@ returns-clause-counted g c =
     let p = c.args.parts.now in
     let f = c.index-function.result.now in
     let eg = slice_get_read m.funcs.items _ (c.args.func - length l.hosts.now) f refl (call_found m l.hosts.now l.number l.version (view (base_of l) p) c.args.func c.requires.call.fine c.requires.call.defined) c.index-function.ensures in
-    let q : Parts g.row.A.Denot = record { code = c.deref-parts.result; entries = c.push.new.self; depth = p.depth + 1; stack = c.truncate.new.self; locals = c.replace-saved.new.dest; instance = p.instance } in
+    let q : Parts g.row.A.Denot = record { code = c.deref-parts.result; entries = c.push.new.self; depth = p.depth + 1; stack = c.truncate.new.self; locals = c.replace-saved.new.dest; instance = p.instance; spare = c.take_room.new.spare } in
     let e : Entry g.row.A.Denot = record { kind = Frame c.args.func c.replace-saved.result; ordinal = 0; arity = c.len-3.result; height = c.len.result - c.len-2.result; from = p.code } in
     pushed_counted p q e c.in_ok-push.ensures.items c.requires.counted (subst (λ is. AreNumbered is) (sym c.deref-parts.ensures.value) (body_counted m (c.args.func - length l.hosts.now) f eg m.numbered)) c.requires.counted.code refl (omega arith)

@@ -4,7 +4,7 @@ use Rattle.spec_ledger.specs.declared.Step.{Step}
 use Rattle.spec_execution.specs.Configuration.{Contract, Seq}
 use Rattle.spec_execution.specs.Levels as spec
 use Rattle.spec_execution.specs.Levels.{asks_in}
-use Rattle.interp.specs.declared.machine.Level.{Level}
+use Rattle.interp.specs.declared.run.Level.{Level}
 use Rattle.sequences.specs.Meaning.{View}
 use Rattle.operands.specs.declared.lent.Lent.{Lent}
 use Rattle.operands.specs.Lent.{base_of, contract_of}

@@ -1,0 +1,81 @@
+use Rattle.std.proofs.Common.{◌≡◌, ◌+◌, ◌-◌, ◌≤◌, ◌<◌, ℕ, zero, suc, vec_len, vec_capacity, refl, sym, ap, subst, ◌∙◌, arith}
+use Rattle.sequences.specs.Meaning.{View}
+use Rattle.operands.specs.Lent.{contract_of, base_of}
+use Rattle.frames.specs.declared.parts.Parts.{Parts}
+use Rattle.frames.specs.Steps.{IsOrderedParts}
+use Rattle.frames.specs.Views.{view, items_of}
+use Rattle.execute.specs.Strides.{Walks, none, PushesNext}
+use Rattle.execute.proofs.Walking.{walks_join, walks_settled, safe_after, nothing_left}
+use Rattle.execute.proofs.Holding.{items_some}
+use Rattle.execute.proofs.strides.stride.Goals as goal
+use Rattle.execute.proofs.strides.stride.Goals.{then-is_empty, else-is_empty}
+
+some_turn : (n : ℕ) → (n ≡ 0 → ⊥) → 0 < n
+some_turn zero h = absurd (h refl)
+some_turn (suc n) h = omega arith
+
+pub strides-init : goal.strides-init
+strides-init g c = record { walked = none _; ordered = c.requires.ordered; counted = c.requires.counted; max = refl; within = omega arith; unmoved = λ z. refl }
+
+pub begin-more-requires-clause-ordered : goal.begin-more-requires-clause-ordered
+begin-more-requires-clause-ordered g c = elim c.if-is_empty.branch [
+  | then-is_empty w ↦ subst (λ (q : Parts g.row.A.Denot). IsOrderedParts q) (sym w.parts-is) (λ b. (w.settle.ensures.settles (contract_of c.args.lent.now) b).ordered)
+  | else-is_empty w ↦ subst (λ (q : Parts g.row.A.Denot). IsOrderedParts q) (sym w.parts-is) c.strides.invariant.ordered
+]
+
+pub begin-more-requires-clause-safe : goal.begin-more-requires-clause-safe
+begin-more-requires-clause-safe g c =
+    let k = contract_of c.args.lent.now in
+    let b = base_of c.args.lent.now in
+    let v : View = view b c.args.parts.now in
+    let come : Walks k v c.strides.made (view b c.if-is_empty.parts) = elim c.if-is_empty.branch [
+      | then-is_empty w ↦ subst (λ (q : Parts g.row.A.Denot). Walks k v c.strides.made (view b q)) (sym w.parts-is)
+          (walks_settled k v _ _ c.strides.made c.strides.invariant.walked (items_some c.args.parts.now.code.now c.requires.some) (ap items_of (nothing_left c.strides.parts.code.now (sym c.is_empty.ensures ∙ w.if-is_empty.true))) (w.settle.ensures.settles k b))
+      | else-is_empty w ↦ subst (λ (q : Parts g.row.A.Denot). Walks k v c.strides.made (view b q)) (sym w.parts-is) c.strides.invariant.walked
+    ] in
+    let le : c.strides.made + (c.args.most - c.strides.made) ≤ c.args.most = let h = c.strides.invariant.within in omega (arith, h) in
+    safe_after k v _ c.args.most c.strides.made (c.args.most - c.strides.made) c.requires.safe come le
+
+pub strides-preserved : goal.strides-preserved
+strides-preserved g c =
+    let k = contract_of c.args.lent.now in
+    let b = base_of c.args.lent.now in
+    let v : View = view b c.args.parts.now in
+    let come : Walks k v c.strides.made (view b c.if-is_empty.parts) = elim c.if-is_empty.branch [
+      | then-is_empty w ↦ subst (λ (q : Parts g.row.A.Denot). Walks k v c.strides.made (view b q)) (sym w.parts-is)
+          (walks_settled k v _ _ c.strides.made c.strides.invariant.walked (items_some c.args.parts.now.code.now c.requires.some) (ap items_of (nothing_left c.strides.parts.code.now (sym c.is_empty.ensures ∙ w.if-is_empty.true))) (w.settle.ensures.settles k b))
+      | else-is_empty w ↦ subst (λ (q : Parts g.row.A.Denot). Walks k v c.strides.made (view b q)) (sym w.parts-is) c.strides.invariant.walked
+    ] in
+    let max : c.if-is_empty.parts.instance.memory.max ≡ c.args.parts.now.instance.memory.max = elim c.if-is_empty.branch [
+      | then-is_empty w ↦ ap (λ (q : Parts g.row.A.Denot). q.instance.memory.max) w.parts-is ∙ (ap (λ i. i.memory.max) w.settle.ensures.instance ∙ c.strides.invariant.max)
+      | else-is_empty w ↦ ap (λ (q : Parts g.row.A.Denot). q.instance.memory.max) w.parts-is ∙ c.strides.invariant.max
+    ] in
+    let e = c.begin-more.ensures in
+    let le = e.within in
+    record { walked = walks_join k v _ _ c.strides.made c.begin-more.result come e.walked; ordered = e.ordered; counted = e.counted; max = e.max ∙ max; within = let h = c.strides-test.true in omega (arith, le, h); unmoved = let some = c.if-more-eq0.false in λ z. absurd (omega (arith, z, some)) }
+
+pub returns-then-more-eq0-clause-walked : goal.returns-then-more-eq0-clause-walked
+returns-then-more-eq0-clause-walked g c =
+    let k = contract_of c.args.lent.now in
+    let b = base_of c.args.lent.now in
+    let v : View = view b c.args.parts.now in
+    let come : Walks k v c.strides.made (view b c.if-is_empty.parts) = elim c.if-is_empty.branch [
+      | then-is_empty w ↦ subst (λ (q : Parts g.row.A.Denot). Walks k v c.strides.made (view b q)) (sym w.parts-is)
+          (walks_settled k v _ _ c.strides.made c.strides.invariant.walked (items_some c.args.parts.now.code.now c.requires.some) (ap items_of (nothing_left c.strides.parts.code.now (sym c.is_empty.ensures ∙ w.if-is_empty.true))) (w.settle.ensures.settles k b))
+      | else-is_empty w ↦ subst (λ (q : Parts g.row.A.Denot). Walks k v c.strides.made (view b q)) (sym w.parts-is) c.strides.invariant.walked
+    ] in
+    let is : c.strides.made + c.begin-more.result ≡ c.strides.made = let z = c.if-more-eq0.true in omega (arith, z) in
+    subst (λ (n : ℕ). Walks k v n (view b c.begin-more.new.parts)) is (walks_join k v _ _ c.strides.made c.begin-more.result come c.begin-more.ensures.walked)
+
+pub returns-then-more-eq0-clause-moves : goal.returns-then-more-eq0-clause-moves
+returns-then-more-eq0-clause-moves g c most room next =
+    some_turn c.strides.made
+    (λ z.
+    let same : c.strides.parts ≡ c.args.parts.now = c.strides.invariant.unmoved z in
+    let still : c.if-is_empty.parts ≡ c.args.parts.now = elim c.if-is_empty.branch [
+      | then-is_empty w ↦ absurd (c.requires.some (ap (λ (q : Parts g.row.A.Denot). q.code.now) (sym same) ∙ nothing_left c.strides.parts.code.now (sym c.is_empty.ensures ∙ w.if-is_empty.true)))
+      | else-is_empty w ↦ w.parts-is ∙ same
+    ] in
+    let turn = c.begin-more.ensures.moves (subst (λ (q : Parts g.row.A.Denot). vec_len q.stack < vec_capacity q.stack) (sym still) room) (subst (λ (q : Parts g.row.A.Denot). PushesNext q.code.now) (sym still) next) in
+    let zero = c.if-more-eq0.true in
+    omega (arith, turn, zero))
