@@ -4,24 +4,19 @@ ghost use Rattle.interp.specs.Progress.{IsFree};
 
 use interp::finished::Finished;
 use interp::machine::Machine;
-use interp::turns::Turn;
 use std::alloc::Allocator;
+use turn_loop::next_wish;
 
-/// Makes the turns of a run up to its end. `None` where the host was asked for an operation, or where memory was refused.
+/// Makes the turns of a run up to its end, as who executes calls does. `None` where the run asked for something, or where memory was refused.
 pub fn run_to_end<'a, A: Allocator + Copy>(mut machine: Machine<'a, A>) -> Option<Finished<'a, A>>
     requires { IsFree machine.status }
     ensures setting { IfSome result (λ f. f.setting ≡ machine.entry.setting) }
     ensures call { IfSome result (λ f. f.call ≡ machine.entry.call) }
 {
-    'turns: loop {
-        match machine.next() {
-            Turn::Stepped => {}
-            Turn::Enter => {}
-            Turn::Leave(_) => {}
-            Turn::Host(_) => return None,
-            Turn::NoMemory => return None,
-            Turn::Done(_) => break,
-        }
+    match next_wish(&mut machine) {
+        Ok(None) => {}
+        Ok(Some(_)) => return None,
+        Err(_) => return None,
     }
     match machine.finish() {
         Ok(finished) => Some(finished),
