@@ -5,6 +5,5 @@
 pub mod instances;
 pub mod readers;
 pub mod runs;
-pub mod steps;
 pub mod tells;
 pub mod turning;

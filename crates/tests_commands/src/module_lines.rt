@@ -1,6 +1,6 @@
 //! Lines of words that assemble, check and deploy modules, at each fault in turn.
 
-use command_rows::{Line, unlike};
+use crate::rows::{Line, unlike};
 use file_rows::Wanted::{self, Absent, All, Cut, Front, Line as Is, Part as Holds, Text, Usage};
 use file_rows::{File, HEADER, MODULES, NOTHING, Part, WORLD, WORLD_OF_NOPS, WORLD_OF_TWO};
 use std::alloc::Global;

@@ -1,6 +1,6 @@
 //! Lines of words that debug a call, over modules whose bytes another program made.
 
-use command_rows::{Line, unlike};
+use crate::rows::{Line, unlike};
 use file_rows::Wanted::{self, Part as Holds, Text};
 use file_rows::{
     BUMP_OF_2, FIRST_AND_LAST_OF_2, File, NOTHING, OPENED, OPENED_OF_2, Part, TWO_OF_2,

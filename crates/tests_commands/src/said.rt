@@ -1,7 +1,6 @@
 //! What a line of words prints and says, over files that stay.
 
 use codec::{Failures, MemorySink};
-use command_rows::run_line;
 use pace::NoPace;
 use std::alloc::Global;
 use std::process::Abort;
@@ -9,6 +8,7 @@ use std::str::from_utf8;
 use std::sync::Wait;
 use std::test::Fail;
 use std::thread::Threads;
+use wblock_commands::run_line;
 use wblock_io::MemoryFiles;
 use wblock_line::Status;
 

@@ -1,13 +1,11 @@
 //! Lines of words over files in memory and what they come to, as rows of plain data.
-#![tactic(auto)]
-
 use codec::MemorySink;
 use file_rows::{File, Wanted, failing, fits, holding, holds, words_of};
 use pace::NoPace;
 use std::alloc::{AllocError, Global};
 use std::sync::Wait;
 use std::thread::Threads;
-pub use wblock_commands::{run_line, usage_text};
+use wblock_commands::run_line;
 use wblock_io::MemoryFiles;
 use wblock_line::Status;
 

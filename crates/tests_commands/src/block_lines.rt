@@ -1,6 +1,6 @@
 //! Lines of words that mine and validate, at each fault in turn.
 
-use command_rows::{Line, unlike};
+use crate::rows::{Line, unlike};
 use file_rows::Wanted::{self, Absent, All, Cut, Front, Part as Holds, Text};
 use file_rows::{
     BUMP, BUMP_OF_2, FIRST_AND_LAST, FIRST_AND_LAST_OF_2, File, LEFT, LEFT_OF_2, NO_CALLS,

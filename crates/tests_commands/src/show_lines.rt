@@ -1,6 +1,6 @@
 //! Lines of words that show what is in a module, a world or a block, by its name.
 
-use command_rows::{Line, unlike};
+use crate::rows::{Line, unlike};
 use file_rows::Wanted::{self, Line as Is, Part as Holds, Text};
 use file_rows::{BUMP, File, HEADER, NOTHING, WORLD_OF_NONE};
 use std::alloc::Global;

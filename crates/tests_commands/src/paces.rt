@@ -1,7 +1,6 @@
 //! That the numbers of workers and of tries that a line asks for reach the threads that run its calls.
 
 use codec::{Failures, MemorySink};
-use command_rows::run_line;
 use file_rows::{File, WORLD, holding, words_of};
 use pace::{Pace, Step};
 use std::alloc::Global;
@@ -9,6 +8,7 @@ use std::sync::Wait;
 use std::sync::atomic::{AtomicBool, AtomicU64, Ordering};
 use std::test::Fail;
 use std::thread::{self, Threads};
+use wblock_commands::run_line;
 use wblock_io::MemoryFiles;
 use wblock_line::Status;
 

@@ -1,9 +1,9 @@
 //! What is said of lines that ask for nothing.
 
-use command_rows::usage_text;
 use file_rows::words_of;
 use std::alloc::Global;
 use std::test::Fail;
+use wblock_commands::usage_text;
 
 /// Lines that ask for nothing although the command line takes them.
 const TAKEN: [&str; 5] = [
