@@ -21,8 +21,13 @@ chains of 10,000|each tenth|chains 10000 200
 ROWS
     return
   fi
+  # so many that the start of the threads weighs little
   for length in 7 100 1000 10000; do
-    count=$((length < 10000 ? 20000 : 2000))
+    case $length in
+      1000) count=60000 ;;
+      10000) count=10000 ;;
+      *) count=20000 ;;
+    esac
     for shared in 0 15 100; do
       echo "$(grouped $length) instructions|$shared of 100|calls $length $shared $count"
     done
@@ -30,7 +35,7 @@ ROWS
   cat <<'ROWS'
 32,767 readers, then 32,768 adders|all, a counter|groups 65535
 100 instructions, a chain|each tenth|chains 100 20000
-10,000 instructions, a chain|each tenth|chains 10000 2000
+10,000 instructions, a chain|each tenth|chains 10000 10000
 ROWS
 }
 

@@ -65,13 +65,13 @@ const WITH_5: &[u8] = b"after 771327414d62d43fc9ac4f25b2072caf6a5f630b2a3fde2819
 const WITH_2: &[u8] = b"after 09c01476d491558048df3d2e326244fada59b60b436bb77a2a13e141164b53a1\n";
 
 /// `bump(7,5)`.
-const ONE_BUMP: [Part; 1] = [(1, b"0 100 bump i64:7 i64:5\n")];
+const ONE_BUMP: &[Part] = &[(1, b"0 100 bump i64:7 i64:5\n")];
 
 /// `bump(7,6)`.
-const OTHER_BUMP: [Part; 1] = [(1, b"0 100 bump i64:7 i64:6\n")];
+const OTHER_BUMP: &[Part] = &[(1, b"0 100 bump i64:7 i64:6\n")];
 
 /// Three calls `bump(7,1)` with less and less fuel.
-const THREE_BUMPS: [Part; 3] = [
+const THREE_BUMPS: &[Part] = &[
     (1, b"0 60 bump i64:7 i64:1\n"),
     (1, b"0 50 bump i64:7 i64:1\n"),
     (1, b"0 40 bump i64:7 i64:1\n"),
@@ -81,10 +81,10 @@ const THREE_BUMPS: [Part; 3] = [
 const PEEK_AND_SET: [Part; 2] = [(1, b"0 100 peek i64:1\n"), (1, b"0 100 set i64:1 i64:9\n")];
 
 /// The example contract's world with no cells, and `bump(7,5)`.
-const OF_BUMP: [File; 2] = [("w", &WORLD), ("c", &ONE_BUMP)];
+const OF_BUMP: &[File] = &[("w", &WORLD), ("c", ONE_BUMP)];
 
 /// These with the block of the call.
-const OF_BLOCK: [File; 3] = [("w", &WORLD), ("c", &ONE_BUMP), ("b", &[(1, &BUMP_OF_2)])];
+const OF_BLOCK: &[File] = &[("w", &WORLD), ("c", ONE_BUMP), ("b", &[(1, &BUMP_OF_2)])];
 
 /// The block of `bump(7,5)`.
 const A_BLOCK: (&str, Wanted) = ("b", All(&[(1, &BUMP_OF_2)]));
@@ -105,42 +105,42 @@ const IS_LEFT: Wanted = All(&[(1, b"left 0\nfuel 0\n"), (1, BEFORE), (1, SAME)])
 /// What is printed of its block that is accepted.
 const ACCEPTED: Wanted = All(&[(1, b"accept\n"), (1, WITH_5)]);
 
-const CHAINED: [Row; 6] = [
+const CHAINED: &[Row] = &[
     (
         "mine --workers=1 w c --fuel 100 b n",
-        &OF_BUMP,
+        OF_BUMP,
         BUMPED,
         &[A_BLOCK, NEXT],
     ),
     (
         "validate w c b --fuel=100 --workers 2",
-        &OF_BLOCK,
+        OF_BLOCK,
         ACCEPTED,
         &[("w", All(&WORLD)), ("n", Absent)],
     ),
     // who validates may go on from the miner's next world
     (
         "validate --next n w c b --fuel=100",
-        &OF_BLOCK,
+        OF_BLOCK,
         ACCEPTED,
         &[A_BLOCK, NEXT],
     ),
     (
         "validate w c b --fuel=100 --next=w --workers=1",
-        &OF_BLOCK,
+        OF_BLOCK,
         ACCEPTED,
         &[A_BLOCK, ("w", All(&WORLD_WITH_5))],
     ),
     // the next world is a world, and may take the place of the one before
     (
         "mine w c b w --fuel=100",
-        &OF_BUMP,
+        OF_BUMP,
         BUMPED,
         &[A_BLOCK, ("w", All(&WORLD_WITH_5))],
     ),
     (
         "mine n c b o --fuel=99 --tries=1",
-        &[("n", &WORLD_WITH_5), ("c", &ONE_BUMP)],
+        &[("n", &WORLD_WITH_5), ("c", ONE_BUMP)],
         Front(b"left 0\nfuel 0\nbefore 7713"),
         &[("o", All(&WORLD_WITH_5)), NEXT],
     ),
@@ -148,10 +148,10 @@ const CHAINED: [Row; 6] = [
 
 #[test]
 fn what_is_mined_is_accepted(rt: HostRuntime) -> Result<(), Fail> {
-    are_done(&rt, rt.alloc(), &CHAINED)
+    are_done(&rt, rt.alloc(), CHAINED)
 }
 
-const MINED: [Row; 5] = [
+const MINED: &[Row] = &[
     (
         "mine w c b n --fuel=0 --workers=4",
         &[("w", &WORLD), ("c", &[])],
@@ -160,26 +160,26 @@ const MINED: [Row; 5] = [
     ),
     (
         "mine w c b n --fuel=100 --workers=1",
-        &OF_BUMP,
+        OF_BUMP,
         BUMPED,
         &[A_BLOCK, NEXT],
     ),
     (
         "mine w c b n --fuel=99 --workers=1",
-        &OF_BUMP,
+        OF_BUMP,
         IS_LEFT,
         &[("n", All(&WORLD))],
     ),
     (
         "mine w c b n --fuel=99",
-        &[("w", &WORLD), ("c", &OTHER_BUMP)],
+        &[("w", &WORLD), ("c", OTHER_BUMP)],
         IS_LEFT,
         &[("b", All(&[(1, &LEFT_OF_2)]))],
     ),
     // limits count, and not the fuel used
     (
         "mine w c b n --fuel=100 --workers=1",
-        &[("w", &WORLD), ("c", &THREE_BUMPS)],
+        &[("w", &WORLD), ("c", THREE_BUMPS)],
         All(&[
             (1, b"0 call 0 returned fuel 3\n1 call 2 returned fuel 3\n"),
             (1, b"left 1\nfuel 6\n"),
@@ -195,11 +195,11 @@ const MINED: [Row; 5] = [
 
 #[test]
 fn calls_are_published_or_left(rt: HostRuntime) -> Result<(), Fail> {
-    are_done(&rt, rt.alloc(), &MINED)
+    are_done(&rt, rt.alloc(), MINED)
 }
 
 /// Calls of the contract that adds five to a counter, and the lines of their block up to its digests.
-const RECEIPTS: [(&str, &str); 8] = [
+const RECEIPTS: &[(&str, &str)] = &[
     ("", "fuel 0\n"),
     (
         "0 100 run i64:7\n0 100 run i64:8\n",
@@ -217,7 +217,7 @@ const RECEIPTS: [(&str, &str); 8] = [
 ];
 
 /// Calls of the contract that asks itself, and the lines of their block up to its digests.
-const RECEIPTS_OF_LEVELS: [(&str, &str); 7] = [
+const RECEIPTS_OF_LEVELS: &[(&str, &str)] = &[
     (
         "0 100 try i32:0 i64:7\n",
         "0 call 0 returned i64:7 fuel 13 asks 1\nfuel 13\n",
@@ -251,7 +251,8 @@ const RECEIPTS_OF_LEVELS: [(&str, &str); 7] = [
 #[test]
 fn prints_the_rows(rt: HostRuntime) -> Result<(), Fail> {
     let alloc = rt.alloc();
-    for (calls, lines) in RECEIPTS {
+    for row in RECEIPTS {
+        let (calls, lines) = *row;
         let front = format!(in alloc; "{lines}before ")?;
         let calls: [Part; 1] = [(1, calls.as_bytes())];
         let files: [File; 2] = [("w", &WORLD_OF_FIRST), ("c", &calls)];
@@ -270,7 +271,8 @@ fn prints_the_rows(rt: HostRuntime) -> Result<(), Fail> {
 #[test]
 fn prints_the_levels(rt: HostRuntime) -> Result<(), Fail> {
     let alloc = rt.alloc();
-    for (calls, lines) in RECEIPTS_OF_LEVELS {
+    for row in RECEIPTS_OF_LEVELS {
+        let (calls, lines) = *row;
         let front = format!(in alloc; "{lines}before ")?;
         let calls: [Part; 1] = [(1, calls.as_bytes())];
         let files: [File; 2] = [("w", &WORLD_OF_ASKING), ("c", &calls)];
@@ -287,7 +289,7 @@ fn prints_the_levels(rt: HostRuntime) -> Result<(), Fail> {
 }
 
 /// A world, calls, the refusal of the first of the two that is refused, and a part of the sentence that is said.
-const REFUSALS: [(&[Part], &[Part], &[u8], &str); 7] = [
+const REFUSALS: &[(&[Part], &[Part], &[u8], &str)] = &[
     (
         &[(1, b"WBWE")],
         &[(1, b"0 1")],
@@ -333,19 +335,20 @@ const REFUSALS: [(&[Part], &[Part], &[u8], &str); 7] = [
 ];
 
 /// No file is written.
-const NONE_WRITTEN: [(&str, Wanted); 2] = [("b", Absent), ("n", Absent)];
+const NONE_WRITTEN: &[(&str, Wanted)] = &[("b", Absent), ("n", Absent)];
 
 #[test]
 fn tells_refused_worlds_and_calls(rt: HostRuntime) -> Result<(), Fail> {
     let alloc = rt.alloc();
-    for (world, calls, line, part) in REFUSALS {
+    for row in REFUSALS {
+        let (world, calls, line, part) = *row;
         let files: [File; 2] = [("w", world), ("c", calls)];
         let out: [Part; 3] = [(1, b"refused "), (1, line), (1, b"\n")];
         for words in ["mine w c b n --fuel=100", "validate w c b --fuel=100"] {
             comes_to(
                 &rt,
                 alloc,
-                (words, &files, All(&out), &NONE_WRITTEN),
+                (words, &files, All(&out), NONE_WRITTEN),
                 Refused,
                 Holds(part),
             )?;
@@ -375,7 +378,7 @@ fn changed(alloc: Global, bytes: &[u8], changes: &[(usize, u8)]) -> Result<Vec<u
     Ok(copy)
 }
 
-const JUDGED: [Judged; 34] = [
+const JUDGED: &[Judged] = &[
     (
         &NO_CALLS,
         &[],
@@ -412,7 +415,7 @@ const JUDGED: [Judged; 34] = [
     (
         &BUMP,
         &[],
-        &ONE_BUMP,
+        ONE_BUMP,
         100,
         b"accept\nafter 771327414d62d43fc9ac4f25b2072caf6a5f630b2a3fde2819bf8f990bd82d69\n",
         "",
@@ -420,7 +423,7 @@ const JUDGED: [Judged; 34] = [
     (
         &BUMP_OF_2,
         &[],
-        &ONE_BUMP,
+        ONE_BUMP,
         100,
         b"accept\nafter 771327414d62d43fc9ac4f25b2072caf6a5f630b2a3fde2819bf8f990bd82d69\n",
         "",
@@ -428,7 +431,7 @@ const JUDGED: [Judged; 34] = [
     (
         &FIRST_AND_LAST,
         &[],
-        &THREE_BUMPS,
+        THREE_BUMPS,
         100,
         b"accept\nafter 09c01476d491558048df3d2e326244fada59b60b436bb77a2a13e141164b53a1\n",
         "",
@@ -436,7 +439,7 @@ const JUDGED: [Judged; 34] = [
     (
         &FIRST_AND_LAST_OF_2,
         &[],
-        &THREE_BUMPS,
+        THREE_BUMPS,
         100,
         b"accept\nafter 09c01476d491558048df3d2e326244fada59b60b436bb77a2a13e141164b53a1\n",
         "",
@@ -461,7 +464,7 @@ const JUDGED: [Judged; 34] = [
     (
         &BUMP,
         &[(4, 2)],
-        &ONE_BUMP,
+        ONE_BUMP,
         100,
         b"reject 1\n",
         "block, byte 138: the block ends here, and the file goes on",
@@ -469,7 +472,7 @@ const JUDGED: [Judged; 34] = [
     (
         &BUMP_OF_2,
         &[(4, 1)],
-        &ONE_BUMP,
+        ONE_BUMP,
         100,
         b"reject 1\n",
         "block, byte 134: the block ends here, and the file goes on",
@@ -478,7 +481,7 @@ const JUDGED: [Judged; 34] = [
     (
         &BUMP_OF_2,
         &[(88, 1)],
-        &ONE_BUMP,
+        ONE_BUMP,
         100,
         b"reject 8 0\n",
         "block: position 0 has another receipt",
@@ -486,7 +489,7 @@ const JUDGED: [Judged; 34] = [
     (
         &BUMP_OF_2,
         &[(112, 1)],
-        &ONE_BUMP,
+        ONE_BUMP,
         100,
         b"reject 7 0\n",
         "block: position 0 has turns other than those of its modes",
@@ -494,7 +497,7 @@ const JUDGED: [Judged; 34] = [
     (
         &BUMP_OF_2,
         &[(111, 2)],
-        &ONE_BUMP,
+        ONE_BUMP,
         100,
         b"reject 8 0\n",
         "block: position 0 has another receipt",
@@ -502,7 +505,7 @@ const JUDGED: [Judged; 34] = [
     (
         &BUMP_OF_2,
         &[(116, 8)],
-        &ONE_BUMP,
+        ONE_BUMP,
         100,
         b"reject 9\n",
         "block: the total fuel or the digest after is not",
@@ -511,7 +514,7 @@ const JUDGED: [Judged; 34] = [
     (
         &BUMP,
         &[(0, 0)],
-        &ONE_BUMP,
+        ONE_BUMP,
         100,
         b"reject 1\n",
         "block, byte 0: the file does not begin as a block does",
@@ -519,7 +522,7 @@ const JUDGED: [Judged; 34] = [
     (
         &BUMP,
         &[(8, 0)],
-        &ONE_BUMP,
+        ONE_BUMP,
         100,
         b"reject 2\n",
         "block: the digest before is not the world's; name the file WORLD",
@@ -527,7 +530,7 @@ const JUDGED: [Judged; 34] = [
     (
         &BUMP,
         &[(76, 1)],
-        &ONE_BUMP,
+        ONE_BUMP,
         100,
         b"reject 4 0\n",
         "block: position 0 has a number that is no call's or stood before; do not take it",
@@ -535,7 +538,7 @@ const JUDGED: [Judged; 34] = [
     (
         &BUMP,
         &[(108, 1)],
-        &ONE_BUMP,
+        ONE_BUMP,
         100,
         b"reject 7 0\n",
         "block: position 0 has turns other than those of its modes",
@@ -543,7 +546,7 @@ const JUDGED: [Judged; 34] = [
     (
         &BUMP,
         &[(107, 2)],
-        &ONE_BUMP,
+        ONE_BUMP,
         100,
         b"reject 8 0\n",
         "block: position 0 has another receipt",
@@ -551,7 +554,7 @@ const JUDGED: [Judged; 34] = [
     (
         &BUMP,
         &[(112, 8)],
-        &ONE_BUMP,
+        ONE_BUMP,
         100,
         b"reject 9\n",
         "block: the total fuel or the digest after is not",
@@ -560,7 +563,7 @@ const JUDGED: [Judged; 34] = [
     (
         &BUMP,
         &[],
-        &ONE_BUMP,
+        ONE_BUMP,
         99,
         b"reject 5\n",
         "block: the limits of the ordered calls exceed the block's fuel; give the `--fuel`",
@@ -568,7 +571,7 @@ const JUDGED: [Judged; 34] = [
     (
         &BUMP,
         &[],
-        &OTHER_BUMP,
+        OTHER_BUMP,
         100,
         b"reject 3\n",
         "block: the digest of the calls is not that of the calls; name the file CALLS",
@@ -576,7 +579,7 @@ const JUDGED: [Judged; 34] = [
     (
         &LEFT,
         &[],
-        &OTHER_BUMP,
+        OTHER_BUMP,
         100,
         b"reject 6 0\n",
         "block: call 0 is left out though there was room for it; give the `--fuel`",
@@ -660,18 +663,19 @@ const JUDGED: [Judged; 34] = [
 ];
 
 /// What the file of the next world holds before.
-const KEPT: [Part; 1] = [(1, b"kept")];
+const KEPT: &[Part] = &[(1, b"kept")];
 
 /// An accepted block leaves a world there.
 const A_WORLD: After = &[("n", Front(b"WBWD"))];
 
 /// A rejected block leaves the file of the next world as it was.
-const AS_BEFORE: After = &[("n", All(&KEPT))];
+const AS_BEFORE: After = &[("n", All(KEPT))];
 
 #[test]
 fn judges_blocks(rt: HostRuntime) -> Result<(), Fail> {
     let alloc = rt.alloc();
-    for (block, changes, calls, fuel, verdict, part) in JUDGED {
+    for row in JUDGED {
+        let (block, changes, calls, fuel, verdict, part) = *row;
         let (status, err, after) = if verdict.starts_with(b"accept") {
             (Done, NOTHING, A_WORLD)
         } else {
@@ -680,7 +684,7 @@ fn judges_blocks(rt: HostRuntime) -> Result<(), Fail> {
         let words = format!(in alloc; "validate w c b --fuel={fuel} --next=n")?;
         let block = changed(alloc, block, changes)?;
         let block: [Part; 1] = [(1, &block)];
-        let files: [File; 4] = [("w", &WORLD), ("c", calls), ("b", &block), ("n", &KEPT)];
+        let files: [File; 4] = [("w", &WORLD), ("c", calls), ("b", &block), ("n", KEPT)];
         comes_to(
             &rt,
             alloc,
@@ -728,10 +732,10 @@ const PART_OF_BLOCK: (&str, Wanted) = ("b", Cut(&[(1, &BUMP_OF_2)]));
 const PART_OF_NEXT: (&str, Wanted) = ("n", Cut(&WORLD_WITH_5));
 
 // the block is put in two pieces, and the world in three
-const CUT_SHORT: [Fault; 10] = [
-    (Some(0), None, b"w", &NONE_WRITTEN),
-    (Some(1), None, b"c", &NONE_WRITTEN),
-    (Some(2), None, b"b", &NONE_WRITTEN),
+const CUT_SHORT: &[Fault] = &[
+    (Some(0), None, b"w", NONE_WRITTEN),
+    (Some(1), None, b"c", NONE_WRITTEN),
+    (Some(2), None, b"b", NONE_WRITTEN),
     (Some(3), None, b"b", &[PART_OF_BLOCK, ("n", Absent)]),
     (Some(4), None, b"b", &[PART_OF_BLOCK, ("n", Absent)]),
     (Some(5), None, b"n", &[A_BLOCK, ("n", Absent)]),
@@ -742,7 +746,7 @@ const CUT_SHORT: [Fault; 10] = [
 ];
 
 // the three files are read before
-const NEXT_CUT_SHORT: [Fault; 5] = [
+const NEXT_CUT_SHORT: &[Fault] = &[
     (Some(3), None, b"n", &[("n", Absent)]),
     (Some(4), None, b"n", &[PART_OF_NEXT]),
     (Some(5), None, b"n", &[PART_OF_NEXT]),
@@ -754,15 +758,15 @@ const NEXT_CUT_SHORT: [Fault; 5] = [
 fn the_next_world_is_written_last(rt: HostRuntime) -> Result<(), Fail> {
     let alloc = rt.alloc();
     let words = "mine w c b n --fuel=100";
-    fails_as_told(&rt, alloc, words, &OF_BUMP, &CUT_SHORT)?;
+    fails_as_told(&rt, alloc, words, OF_BUMP, CUT_SHORT)?;
     let words = "validate w c b --fuel=100 --next n";
-    fails_as_told(&rt, alloc, words, &OF_BLOCK, &NEXT_CUT_SHORT)
+    fails_as_told(&rt, alloc, words, OF_BLOCK, NEXT_CUT_SHORT)
 }
 
 /// The example contract's world with no cells, no calls and their block.
-const OF_NO_CALLS: [File; 3] = [("w", &WORLD), ("c", &[]), ("b", &[(1, &NO_CALLS)])];
+const OF_NO_CALLS: &[File] = &[("w", &WORLD), ("c", &[]), ("b", &[(1, &NO_CALLS)])];
 
-const NOT_READ: [Fault; 3] = [
+const NOT_READ: &[Fault] = &[
     (Some(0), None, b"w", &[("n", Absent)]),
     (Some(1), None, b"c", &[("n", Absent)]),
     (Some(2), None, b"b", &[("n", Absent)]),
@@ -771,20 +775,8 @@ const NOT_READ: [Fault; 3] = [
 #[test]
 fn tells_the_file_that_is_not_read(rt: HostRuntime) -> Result<(), Fail> {
     let alloc = rt.alloc();
-    fails_as_told(
-        &rt,
-        alloc,
-        "validate w c b --fuel=100",
-        &OF_BLOCK,
-        &NOT_READ,
-    )?;
-    fails_as_told(
-        &rt,
-        alloc,
-        "validate w c b --fuel=0",
-        &OF_NO_CALLS,
-        &NOT_READ,
-    )?;
+    fails_as_told(&rt, alloc, "validate w c b --fuel=100", OF_BLOCK, NOT_READ)?;
+    fails_as_told(&rt, alloc, "validate w c b --fuel=0", OF_NO_CALLS, NOT_READ)?;
     let words = "mine w c o n --fuel=5 --workers=2";
-    fails_as_told(&rt, alloc, words, &OF_NO_CALLS, &NOT_READ[..2])
+    fails_as_told(&rt, alloc, words, OF_NO_CALLS, &NOT_READ[..2])
 }

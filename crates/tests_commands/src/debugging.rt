@@ -43,7 +43,7 @@ fn comes_to<R: Abort + Threads + Wait + Sync>(
 }
 
 /// Sessions whose commands are all done.
-const ALL_DONE: [Session; 7] = [
+const ALL_DONE: &[Session] = &[
     // back over host calls and stores
     (
         "debug w c 0 step:4 stack back:2 cont",
@@ -93,7 +93,7 @@ const ALL_DONE: [Session; 7] = [
 ];
 
 /// Sessions with a command that is refused, and a part of what is said.
-const REFUSED_IN_PART: [(Session, &str); 3] = [
+const REFUSED_IN_PART: &[(Session, &str)] = &[
     (
         (
             "debug w c 0 step:1 locals cont back:9",
@@ -130,16 +130,18 @@ const PLACE: &str = "debug w c 0 place";
 #[test]
 fn debugs_calls(rt: HostRuntime) -> Result<(), Fail> {
     for row in ALL_DONE {
+        let row = *row;
         comes_to(&rt, rt.alloc(), row, None, Done, NOTHING)?;
     }
-    for (row, part) in REFUSED_IN_PART {
+    for row in REFUSED_IN_PART {
+        let (row, part) = *row;
         comes_to(&rt, rt.alloc(), row, None, Refused, Holds(part))?;
     }
     Ok(())
 }
 
 /// Calls that do not start, what is printed of them, and a part of what is said.
-const NOT_STARTED: [(&[Part], &[u8], &str); 5] = [
+const NOT_STARTED: &[(&[Part], &[u8], &str)] = &[
     (
         &[(1, b"1 100 down\n")],
         b"refused start 6\n",
@@ -169,7 +171,8 @@ const NOT_STARTED: [(&[Part], &[u8], &str); 5] = [
 
 #[test]
 fn tells_why_a_call_does_not_start(rt: HostRuntime) -> Result<(), Fail> {
-    for (calls, line, part) in NOT_STARTED {
+    for row in NOT_STARTED {
+        let (calls, line, part) = *row;
         let row: Session = (PLACE, &WORLD_OF_LOOP, calls, line);
         comes_to(&rt, rt.alloc(), row, None, Refused, Holds(part))?;
     }
@@ -177,7 +180,7 @@ fn tells_why_a_call_does_not_start(rt: HostRuntime) -> Result<(), Fail> {
 }
 
 /// Lines that ask for a call that is not there.
-const NOT_THERE: [Session; 3] = [
+const NOT_THERE: &[Session] = &[
     (
         "debug w c 1 place",
         &WORLD,
@@ -201,6 +204,7 @@ const NOT_THERE: [Session; 3] = [
 #[test]
 fn takes_the_call_of_a_number(rt: HostRuntime) -> Result<(), Fail> {
     for row in NOT_THERE {
+        let row = *row;
         comes_to(
             &rt,
             rt.alloc(),
@@ -214,7 +218,7 @@ fn takes_the_call_of_a_number(rt: HostRuntime) -> Result<(), Fail> {
 }
 
 /// Lines, after how many calls of the files one fails, and the file that is said to fail.
-const FAULTS: [(&str, Option<u64>, &[u8]); 3] = [
+const FAULTS: &[(&str, Option<u64>, &[u8])] = &[
     ("debug w x 0 place", None, b"file x\n"),
     (PLACE, Some(0), b"file w\n"),
     (PLACE, Some(1), b"file c\n"),
@@ -222,7 +226,8 @@ const FAULTS: [(&str, Option<u64>, &[u8]); 3] = [
 
 #[test]
 fn tells_the_file_that_is_not_read(rt: HostRuntime) -> Result<(), Fail> {
-    for (words, fails, said) in FAULTS {
+    for row in FAULTS {
+        let (words, fails, said) = *row;
         let row: Session = (words, &WORLD_OF_LOOP, &[], b"");
         comes_to(&rt, rt.alloc(), row, fails, NotReached, Text(said))?;
     }
@@ -230,13 +235,13 @@ fn tells_the_file_that_is_not_read(rt: HostRuntime) -> Result<(), Fail> {
 }
 
 /// `open`, `enter` and `wide`, which stand in the blocks, and a call that is left.
-const OF_DOOR: [Part; 1] = [(1, b"0 100 open\n0 100 enter\n0 100 wide\n0 7 open\n")];
+const OF_DOOR: &[Part] = &[(1, b"0 100 open\n0 100 enter\n0 100 wide\n0 7 open\n")];
 
 /// The block in version 1.
 const IN_1: [Part; 1] = [(1, &OPENED)];
 
 /// The block in version 2.
-const IN_2: [Part; 1] = [(1, &OPENED_OF_2)];
+const IN_2: &[Part] = &[(1, &OPENED_OF_2)];
 
 /// `bump(7,5)` of the example contract.
 const ONE_BUMP: [Part; 1] = [(1, b"0 100 bump i64:7 i64:5\n")];
@@ -262,28 +267,28 @@ type InBlock<'a> = (
     Wanted<'a>,
 );
 
-const IN_BLOCKS: [InBlock; 22] = [
+const IN_BLOCKS: &[InBlock] = &[
     // what is put before it is there in the block alone
     (
         "debug w c 1 cont",
-        &OF_DOOR,
-        &IN_2,
+        OF_DOOR,
+        IN_2,
         Done,
         b"5 done trapped 1 fuel 5\n",
         Text(b""),
     ),
     (
         "debug w c 1 step:2 stack cont stack back:4 stack --block b",
-        &OF_DOOR,
-        &IN_2,
+        OF_DOOR,
+        IN_2,
         Done,
         b"2 at 3 2\nstack i64:5\n6 done returned i64:5 fuel 6\nstack i64:5\n2 at 3 2\nstack i64:5\n",
         Text(b""),
     ),
     (
         "debug w c 0 cont --block b",
-        &OF_DOOR,
-        &IN_2,
+        OF_DOOR,
+        IN_2,
         Done,
         b"3 done returned fuel 3\n",
         Text(b""),
@@ -291,16 +296,16 @@ const IN_BLOCKS: [InBlock; 22] = [
     // the first call of the order, also back over what it puts
     (
         "debug w c 0 step:1 stack cont locals back:1 stack --block b",
-        &OF_DOOR,
-        &IN_2,
+        OF_DOOR,
+        IN_2,
         Done,
         b"1 at 2 1\nstack i64:1\n3 done returned fuel 3\nlocals\n2 at 2 2\nstack i64:1 i64:5\n",
         Text(b""),
     ),
     (
         "debug w c 1 break:3:5 cont globals stack step:1 stack back:3 clear:3:5 cont back:9 --block b",
-        &OF_DOOR,
-        &IN_2,
+        OF_DOOR,
+        IN_2,
         Refused,
         b"ok\n4 at 3 5\nglobals\nstack\n5 at 3 6\nstack i64:1\n2 at 3 2\nok\n6 done returned i64:5 fuel 6\nrefused 1\n",
         Holds("command 10: no turn was made so long ago: "),
@@ -333,7 +338,7 @@ const IN_BLOCKS: [InBlock; 22] = [
     // by the rules of the block's version, and alone by those of version 2
     (
         "debug w c 2 cont",
-        &OF_DOOR,
+        OF_DOOR,
         &IN_1,
         Done,
         b"2 done returned i32:1 fuel 2\n",
@@ -341,7 +346,7 @@ const IN_BLOCKS: [InBlock; 22] = [
     ),
     (
         "debug --block=b w c 1 cont",
-        &OF_DOOR,
+        OF_DOOR,
         &IN_1,
         Done,
         b"6 done returned i64:5 fuel 6\n",
@@ -349,7 +354,7 @@ const IN_BLOCKS: [InBlock; 22] = [
     ),
     (
         "debug --block b w c 2 cont",
-        &OF_DOOR,
+        OF_DOOR,
         &IN_1,
         Done,
         b"2 done returned i32:-1 fuel 2\n",
@@ -357,8 +362,8 @@ const IN_BLOCKS: [InBlock; 22] = [
     ),
     (
         "debug --block b w c 2 cont",
-        &OF_DOOR,
-        &IN_2,
+        OF_DOOR,
+        IN_2,
         Done,
         b"2 done returned i32:1 fuel 2\n",
         Text(b""),
@@ -366,8 +371,8 @@ const IN_BLOCKS: [InBlock; 22] = [
     // a call that does not stand in it
     (
         "debug w c 3 cont --block b",
-        &OF_DOOR,
-        &IN_2,
+        OF_DOOR,
+        IN_2,
         Refused,
         b"refused left 3\n",
         Holds("block: call 3 does not stand in it; "),
@@ -383,8 +388,8 @@ const IN_BLOCKS: [InBlock; 22] = [
     // a call that is not there, for which the block is not read
     (
         "debug w c 4 cont --block x",
-        &OF_DOOR,
-        &IN_2,
+        OF_DOOR,
+        IN_2,
         Usage,
         b"",
         Holds("usage: there is no call 4 "),
@@ -392,7 +397,7 @@ const IN_BLOCKS: [InBlock; 22] = [
     // a block that goes on, that is cut, that is empty, of another world, and of other calls
     (
         "debug w c 1 cont --block b",
-        &OF_DOOR,
+        OF_DOOR,
         &[(1, &OPENED_OF_2), (1, b"\0")],
         Refused,
         b"reject 1\n",
@@ -408,7 +413,7 @@ const IN_BLOCKS: [InBlock; 22] = [
     ),
     (
         "debug w c 0 cont --block b",
-        &OF_DOOR,
+        OF_DOOR,
         &[],
         Refused,
         b"reject 1\n",
@@ -416,8 +421,8 @@ const IN_BLOCKS: [InBlock; 22] = [
     ),
     (
         "debug n c 1 cont --block b",
-        &OF_DOOR,
-        &IN_2,
+        OF_DOOR,
+        IN_2,
         Refused,
         b"reject 2\n",
         Holds("block: the digest before is not the world's; "),
@@ -425,7 +430,7 @@ const IN_BLOCKS: [InBlock; 22] = [
     (
         "debug w c 1 cont --block b",
         &[(1, b"0 100 open\n0 100 enter\n0 100 wide\n0 8 open\n")],
-        &IN_2,
+        IN_2,
         Refused,
         b"reject 3\n",
         Holds("block: the digest of the calls is not that of the calls; "),
@@ -434,15 +439,15 @@ const IN_BLOCKS: [InBlock; 22] = [
     (
         "debug w c 0 cont --block x",
         &[(1, b"0 100 open")],
-        &IN_2,
+        IN_2,
         Refused,
         b"refused calls 1 1\n",
         Holds("calls, line 1, column 11: the last line is not ended"),
     ),
     (
         "debug w c 1 cont --block x",
-        &OF_DOOR,
-        &IN_2,
+        OF_DOOR,
+        IN_2,
         NotReached,
         b"",
         Text(b"file x\n"),
@@ -450,7 +455,7 @@ const IN_BLOCKS: [InBlock; 22] = [
 ];
 
 /// After how many calls of the files one fails, and the file that is said to fail.
-const FAULTS_IN_BLOCK: [(u64, &[u8]); 3] = [(0, b"file w\n"), (1, b"file c\n"), (2, b"file b\n")];
+const FAULTS_IN_BLOCK: &[(u64, &[u8])] = &[(0, b"file w\n"), (1, b"file c\n"), (2, b"file b\n")];
 
 /// A line comes to what its row says, where the files fail after so many calls.
 fn comes_to_in_block<R: Abort + Threads + Wait + Sync>(
@@ -485,11 +490,13 @@ fn comes_to_in_block<R: Abort + Threads + Wait + Sync>(
 #[test]
 fn debugs_calls_in_blocks(rt: HostRuntime) -> Result<(), Fail> {
     for row in IN_BLOCKS {
+        let row = *row;
         comes_to_in_block(&rt, rt.alloc(), &row, None)?;
     }
     let words = "debug w c 1 cont --block b";
-    for (calls, said) in FAULTS_IN_BLOCK {
-        let row: InBlock = (words, &OF_DOOR, &IN_2, NotReached, b"", Text(said));
+    for row in FAULTS_IN_BLOCK {
+        let (calls, said) = *row;
+        let row: InBlock = (words, OF_DOOR, IN_2, NotReached, b"", Text(said));
         comes_to_in_block(&rt, rt.alloc(), &row, Some(calls))?;
     }
     Ok(())

@@ -80,7 +80,7 @@ fn are_refused<R: Abort + Threads + Wait + Sync>(
 }
 
 /// Lines that would write over what they read, or over what they wrote, and what is said of each.
-const SLIPS: [(&str, &str); 10] = [
+const SLIPS: &[(&str, &str)] = &[
     ("asm text text", "usage: TEXT and MODULE are both `text`"),
     ("text m m", "usage: MODULE and TEXT are both `m`"),
     ("deploy w w", "usage: MODULE and WORLD are both `w`"),
@@ -116,7 +116,8 @@ const SLIPS: [(&str, &str); 10] = [
 
 #[test]
 fn nothing_is_overwritten_by_a_slip(rt: HostRuntime) -> Result<(), Fail> {
-    for (words, part) in SLIPS {
+    for row in SLIPS {
+        let (words, part) = *row;
         let row = (words, NOTHING, Holds(part), OLD);
         // no file is read: the first call of the files would fail
         comes_to(&rt, rt.alloc(), row, (Some(0), None), Misused)?;
@@ -125,7 +126,7 @@ fn nothing_is_overwritten_by_a_slip(rt: HostRuntime) -> Result<(), Fail> {
 }
 
 /// Lines that ask to be told of the program, and a part of what is printed.
-const TOLD: [(&str, &str); 13] = [
+const TOLD: &[(&str, &str)] = &[
     ("--help", "Usage: wblock <COMMAND>"),
     ("-h", "Usage: wblock <COMMAND>"),
     ("asm -h", "Usage: wblock asm <TEXT> <MODULE>"),
@@ -146,7 +147,8 @@ const TOLD: [(&str, &str); 13] = [
 
 #[test]
 fn tells_of_the_program(rt: HostRuntime) -> Result<(), Fail> {
-    for (words, part) in TOLD {
+    for row in TOLD {
+        let (words, part) = *row;
         let row = (words, Holds(part), NOTHING, OLD);
         comes_to(&rt, rt.alloc(), row, CALM, Done)?;
     }
@@ -154,7 +156,7 @@ fn tells_of_the_program(rt: HostRuntime) -> Result<(), Fail> {
 }
 
 /// Numbers at the ends of the ranges that help tells, and past them: the command line's reader and the program's own agree.
-const RANGES: [(&str, Status); 14] = [
+const RANGES: &[(&str, Status)] = &[
     ("check contract --heap=1023", Misused),
     ("check nops --heap=16777216", Done),
     ("check contract --heap=16777217", Misused),
@@ -173,7 +175,8 @@ const RANGES: [(&str, Status); 14] = [
 
 #[test]
 fn takes_the_ranges_that_help_tells(rt: HostRuntime) -> Result<(), Fail> {
-    for (words, status) in RANGES {
+    for row in RANGES {
+        let (words, status) = *row;
         let (out, err) = match status {
             Done => (Front(b"valid "), NOTHING),
             NotReached => (NOTHING, Text(b"file a\n")),
@@ -210,7 +213,7 @@ fn no_words_show_the_stored_run(rt: HostRuntime) -> Result<(), Fail> {
     comes_to(&rt, rt.alloc(), ("", SHOWN, NOTHING, OLD), CALM, Done)
 }
 
-const VALID: [(&str, &str); 5] = [
+const VALID: &[(&str, &str)] = &[
     ("check contract", "valid 6 functions"),
     ("check nops", "valid 1 functions"),
     ("check nops --heap 1048576", "valid 1 functions"),
@@ -218,7 +221,7 @@ const VALID: [(&str, &str); 5] = [
     ("check pages", "valid 0 functions"),
 ];
 
-const NOT_VALID: [Refusal; 10] = [
+const NOT_VALID: &[Refusal] = &[
     (
         "check short",
         "refused load 1 4",
@@ -274,13 +277,14 @@ const NOT_VALID: [Refusal; 10] = [
 
 #[test]
 fn checks_modules(rt: HostRuntime) -> Result<(), Fail> {
-    for (words, line) in VALID {
+    for row in VALID {
+        let (words, line) = *row;
         comes_to(&rt, rt.alloc(), (words, Is(line), NOTHING, OLD), CALM, Done)?;
     }
-    are_refused(&rt, rt.alloc(), &NOT_VALID)
+    are_refused(&rt, rt.alloc(), NOT_VALID)
 }
 
-const DEPLOYED: [Row; 2] = [
+const DEPLOYED: &[Row] = &[
     (
         "deploy w contract",
         Text(b"deployed 1 contracts\n"),
@@ -298,12 +302,13 @@ const DEPLOYED: [Row; 2] = [
 #[test]
 fn deploys_modules(rt: HostRuntime) -> Result<(), Fail> {
     for row in DEPLOYED {
+        let row = *row;
         comes_to(&rt, rt.alloc(), row, CALM, Done)?;
     }
     Ok(())
 }
 
-const NOT_DEPLOYED: [Refusal; 11] = [
+const NOT_DEPLOYED: &[Refusal] = &[
     (
         "deploy w contract other front",
         "refused deploy 2 0 module 1",
@@ -363,7 +368,7 @@ const NOT_DEPLOYED: [Refusal; 11] = [
 
 #[test]
 fn tells_the_first_refused_module(rt: HostRuntime) -> Result<(), Fail> {
-    are_refused(&rt, rt.alloc(), &NOT_DEPLOYED)
+    are_refused(&rt, rt.alloc(), NOT_DEPLOYED)
 }
 
 /// The whole of what is said of a module that imports `get` of `env`.
@@ -371,7 +376,7 @@ const NO_HOST_CALL: &str =
     "module 0: import 0, `env` `get`: it is no host call; a contract imports functions of the module `boost` alone: `get`, `has`, `put`, `del`, `add`, `total`, `ask`, `answer`; this import is (func (param i64) (result i64))";
 
 /// After how many calls of the standard error one fails, and what then stands there.
-const UNHEARD: [(Option<u64>, Wanted); 4] = [
+const UNHEARD: &[(Option<u64>, Wanted)] = &[
     (None, Is(NO_HOST_CALL)),
     (Some(0), Text(b"")),
     (Some(1), Text(b"mod")),
@@ -380,7 +385,8 @@ const UNHEARD: [(Option<u64>, Wanted); 4] = [
 
 #[test]
 fn a_failing_standard_error_changes_no_status(rt: HostRuntime) -> Result<(), Fail> {
-    for (err_fails, err) in UNHEARD {
+    for row in UNHEARD {
+        let (err_fails, err) = *row;
         let row = ("deploy w env", Is("refused deploy 1 0 module 0"), err, OLD);
         comes_unheard_to(&rt, rt.alloc(), row, CALM, err_fails, Refused)?;
     }
@@ -401,7 +407,7 @@ const TWO: &str = "deploy w contract nops";
 /// What the file `w` holds where the text of a memory of 1,025 pages is written to it.
 const PAGES: Wanted = Text(b"(module\n  (memory 1025)\n)\n");
 
-const FAULTS: [Fault; 14] = [
+const FAULTS: &[Fault] = &[
     ("asm absent w", CALM, b"absent", b"", OLD),
     ("deploy w contract absent", CALM, b"absent", b"", OLD),
     (TWO, (Some(0), None), b"contract", b"", OLD),
@@ -432,7 +438,8 @@ const FAULTS: [Fault; 14] = [
 
 #[test]
 fn tells_faults_of_files(rt: HostRuntime) -> Result<(), Fail> {
-    for (words, fails, name, printed, world) in FAULTS {
+    for row in FAULTS {
+        let (words, fails, name, printed, world) = *row;
         let err: [Part; 3] = [(1, b"file "), (1, name), (1, b"\n")];
         let row = (words, Text(printed), All(&err), world);
         comes_to(&rt, rt.alloc(), row, fails, NotReached)?;
@@ -443,7 +450,7 @@ fn tells_faults_of_files(rt: HostRuntime) -> Result<(), Fail> {
 }
 
 /// Lines that the command line does not take.
-const NOT_TAKEN: [&str; 23] = [
+const NOT_TAKEN: &[&str] = &[
     "check",
     "check contract nops",
     "check contract --heap",
@@ -470,7 +477,7 @@ const NOT_TAKEN: [&str; 23] = [
 ];
 
 /// Lines that the command line takes and that ask for nothing.
-const NOTHING_ASKED: [&str; 12] = [
+const NOTHING_ASKED: &[&str] = &[
     "check contract --heap 1023",
     "check contract --heap 16777217",
     "check contract --heap=01024",
@@ -500,8 +507,8 @@ fn are_misused<R: Abort + Threads + Wait + Sync>(
 
 #[test]
 fn tells_usage(rt: HostRuntime) -> Result<(), Fail> {
-    are_misused(&rt, rt.alloc(), &NOT_TAKEN, Usage)?;
-    are_misused(&rt, rt.alloc(), &NOTHING_ASKED, Usage)
+    are_misused(&rt, rt.alloc(), NOT_TAKEN, Usage)?;
+    are_misused(&rt, rt.alloc(), NOTHING_ASKED, Usage)
 }
 
 #[test]
@@ -513,7 +520,7 @@ fn a_world_has_at_most_1024_contracts(rt: HostRuntime) -> Result<(), Fail> {
 }
 
 /// Texts, the refusal of each, and a part of the sentence that is said.
-const TEXTS: [(&[Part], &[u8], &str); 12] = [
+const TEXTS: &[(&[Part], &[u8], &str)] = &[
     (
         &[(1, b"(module 7x)")],
         b"1 8",
@@ -605,7 +612,8 @@ fn is_assembled<R: Abort + Threads + Wait + Sync>(
 
 #[test]
 fn tells_each_refusal_of_a_text(rt: HostRuntime) -> Result<(), Fail> {
-    for (text, place, part) in TEXTS {
+    for row in TEXTS {
+        let (text, place, part) = *row;
         let out: [Part; 3] = [(1, b"refused assemble "), (1, place), (1, b"\n")];
         let streams = (All(&out), Holds(part));
         is_assembled(&rt, rt.alloc(), text, Refused, streams, Absent)?;

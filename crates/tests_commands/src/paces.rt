@@ -103,10 +103,10 @@ impl Pace for Clash {
 }
 
 /// The world of the example contract, and sixty calls that commute.
-const SIXTY: [File; 2] = [("w", &WORLD), ("c", &[(60, b"0 100 bump i64:7 i64:1\n")])];
+const SIXTY: &[File] = &[("w", &WORLD), ("c", &[(60, b"0 100 bump i64:7 i64:1\n")])];
 
 /// Lines that run one after another over the same files, and how many threads each gathers.
-const WORKERS: [(&str, u64); 7] = [
+const WORKERS: &[(&str, u64)] = &[
     ("mine w c b n --fuel=6000 --workers=1", 1),
     ("mine w c b n --fuel=6000 --workers=3", 3),
     ("mine w c b n --fuel=6000", 4),
@@ -133,8 +133,9 @@ fn status_of<R: Threads + Wait + Sync, P: Pace>(
 #[test]
 fn as_many_workers_run_as_are_asked_for(rt: HostRuntime) -> Result<(), Fail> {
     let alloc = rt.alloc();
-    let mut files = holding(alloc, 1_000, &SIXTY, None)?;
-    for (line, workers) in WORKERS {
+    let mut files = holding(alloc, 1_000, SIXTY, None)?;
+    for row in WORKERS {
+        let (line, workers) = *row;
         let pace = Gather(Count::of(workers));
         let status = status_of(&rt, alloc, line, &mut files, &pace)?;
         assert_eq!(rt; (status, pace.0.total()), (Status::Done, workers), "{line}");
@@ -143,7 +144,7 @@ fn as_many_workers_run_as_are_asked_for(rt: HostRuntime) -> Result<(), Fail> {
 }
 
 /// The world of the example contract, a call that adds to a counter and gives its total, and one that adds to it.
-const CLASHING: [File; 2] = [
+const CLASHING: &[File] = &[
     ("w", &WORLD),
     (
         "c",
@@ -155,7 +156,7 @@ const CLASHING: [File; 2] = [
 ];
 
 /// Lines, and how often each tries the first call in vain.
-const TRIES: [(&str, u64); 4] = [
+const TRIES: &[(&str, u64)] = &[
     ("mine w c b n --fuel=200 --workers=2 --tries=1", 1),
     ("mine w c b n --fuel=200 --workers=2", 3),
     ("mine w c b n --fuel=200 --workers=2 --tries=5", 5),
@@ -165,8 +166,9 @@ const TRIES: [(&str, u64); 4] = [
 #[test]
 fn a_call_is_tried_as_often_as_is_asked_for(rt: HostRuntime) -> Result<(), Fail> {
     let alloc = rt.alloc();
-    let mut files = holding(alloc, 1_000, &CLASHING, None)?;
-    for (line, tries) in TRIES {
+    let mut files = holding(alloc, 1_000, CLASHING, None)?;
+    for row in TRIES {
+        let (line, tries) = *row;
         let pace = Clash {
             acted: Count::of(1),
             refused: Count::of(tries),

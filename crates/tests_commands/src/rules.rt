@@ -41,13 +41,12 @@ fn breaks_a_rule<R: Abort + Threads + Wait + Sync>(
 }
 
 /// A function of a type that is not there, which no text can say.
-const UNTYPED: [u8; 24] =
-    *b"\0asm\x01\0\0\0\x01\x04\x01\x60\0\0\x03\x02\x01\x01\x0a\x04\x01\x02\0\x0b";
+const UNTYPED: &[u8] = b"\0asm\x01\0\0\0\x01\x04\x01\x60\0\0\x03\x02\x01\x01\x0a\x04\x01\x02\0\x0b";
 
 #[test]
 fn tells_of_a_type_that_is_not_there(rt: HostRuntime) -> Result<(), Fail> {
     let alloc = rt.alloc();
-    let modules: [File; 1] = [("m", &[(1, &UNTYPED)])];
+    let modules: [File; 1] = [("m", &[(1, UNTYPED)])];
     let mut files = holding(alloc, 100, &modules, None)?;
     is_refused(
         &rt,
@@ -59,7 +58,7 @@ fn tells_of_a_type_that_is_not_there(rt: HostRuntime) -> Result<(), Fail> {
 }
 
 /// A row for each other rule.
-const RULES: [Row; 19] = [
+const RULES: &[Row] = &[
     (
         "(module (type (func (result i32) (result i32))))",
         "refused check 2 - 0",
@@ -160,7 +159,7 @@ const RULES: [Row; 19] = [
 #[test]
 fn tells_each_rule(rt: HostRuntime) -> Result<(), Fail> {
     for row in RULES {
-        breaks_a_rule(&rt, rt.alloc(), row)?;
+        breaks_a_rule(&rt, rt.alloc(), *row)?;
     }
     Ok(())
 }
@@ -172,7 +171,7 @@ const OPERAND: &str =
 /// A module in text, the instruction of function 0 whose operands are at fault, and what is said of it.
 type Taken<'a> = (&'a str, u32, &'a str);
 
-const TAKEN: [Taken; 17] = [
+const TAKEN: &[Taken] = &[
     (
         "(module (func (call $f (i32.const 1) (i64.const 2))) (func $f (param i64) (param i64)))",
         2,
@@ -265,7 +264,8 @@ const TAKEN: [Taken; 17] = [
 #[test]
 fn tells_the_operands(rt: HostRuntime) -> Result<(), Fail> {
     let alloc = rt.alloc();
-    for (text, ordinal, part) in TAKEN {
+    for row in TAKEN {
+        let (text, ordinal, part) = *row;
         let line = format!(in alloc; "refused check 17 0 {ordinal}")?;
         let sentence = format!(in alloc; "function 0, instruction {ordinal}{OPERAND}{part}")?;
         breaks_a_rule(&rt, alloc, (text, line.as_str(), sentence.as_str()))?;
@@ -277,7 +277,7 @@ fn tells_the_operands(rt: HostRuntime) -> Result<(), Fail> {
 const END: &str =
     ": operands at the end not exactly the result; functions and instructions count from 0, imports first; this ";
 
-const ENDS: [Taken; 6] = [
+const ENDS: &[Taken] = &[
     (
         "(module (func (block (i32.const 1))))",
         0,
@@ -313,7 +313,8 @@ const ENDS: [Taken; 6] = [
 #[test]
 fn tells_what_stands_at_an_end(rt: HostRuntime) -> Result<(), Fail> {
     let alloc = rt.alloc();
-    for (text, ordinal, part) in ENDS {
+    for row in ENDS {
+        let (text, ordinal, part) = *row;
         let line = format!(in alloc; "refused check 18 0 {ordinal}")?;
         let sentence = format!(in alloc; "function 0, instruction {ordinal}{END}{part}")?;
         breaks_a_rule(&rt, alloc, (text, line.as_str(), sentence.as_str()))?;

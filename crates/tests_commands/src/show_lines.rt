@@ -57,7 +57,7 @@ const BLOCK_JSON: &[u8] =
     b"{\"after\":\"771327414d62d43fc9ac4f25b2072caf6a5f630b2a3fde2819bf8f990bd82d69\",\"before\":\"ddc5e3d488f3844cdf731c6e2fcdb213a1eea2313f8fc0baf8aaafed8b7d0b92\",\"calls\":\"a8a35b41354dbd2c577ff182442012dc4c4916391d0b4e93a54326892d3293fb\",\"figures\":{\"chain\":{\"fuel\":\"3\",\"positions\":1},\"outcomes\":[{\"code\":null,\"outcome\":\"returned\",\"positions\":1}],\"shared\":[],\"speed_up\":\"1.00\",\"total_fuel\":\"3\",\"waves\":1},\"fuel\":\"3\",\"kind\":\"block\",\"positions\":[{\"asks\":0,\"call\":0,\"called\":null,\"code\":null,\"fuel\":\"3\",\"locks\":[{\"contract\":0,\"key\":\"7\",\"kind\":\"counter\",\"mode\":\"add\",\"turn\":0}],\"outcome\":\"returned\",\"position\":0,\"value\":null,\"wave\":0}],\"version\":1}\n";
 
 /// The files that the rows name.
-const FILES: [File; 6] = [
+const FILES: &[File] = &[
     ("m", &[(1, &HEADER)]),
     ("w", &WORLD_OF_NONE),
     ("b", &[(1, &BUMP)]),
@@ -75,7 +75,7 @@ const CALM: Fails = (None, None);
 /// A line, which calls fail, how the line ends, what it prints and what is said.
 type Row<'a> = (&'a str, Fails, Status, Wanted<'a>, Wanted<'a>);
 
-const ROWS: [Row; 38] = [
+const ROWS: &[Row] = &[
     ("show m", CALM, Done, Text(MODULE), NOTHING),
     ("show w", CALM, Done, Text(WORLD), NOTHING),
     ("show b", CALM, Done, Text(BLOCK), NOTHING),
@@ -244,7 +244,7 @@ fn comes_to<R: Abort + Threads + Wait + Sync>(
     ];
     let line = Line {
         words,
-        files: &FILES,
+        files: FILES,
         file_fails,
         out_fails,
         err_fails: None,
@@ -260,7 +260,7 @@ fn comes_to<R: Abort + Threads + Wait + Sync>(
 #[test]
 fn shows_what_is_in_files(rt: HostRuntime) -> Result<(), Fail> {
     for row in ROWS {
-        comes_to(&rt, rt.alloc(), &row)?;
+        comes_to(&rt, rt.alloc(), &*row)?;
     }
     Ok(())
 }
@@ -272,7 +272,7 @@ const PICTURE: &[u8] =
 /// A line that draws that block, which calls fail, how it ends, what it prints and says, and what stands in the file of the picture.
 type Drawing<'a> = (&'a str, Fails, Status, Wanted<'a>, Wanted<'a>, Wanted<'a>);
 
-const DRAWINGS: [Drawing; 6] = [
+const DRAWINGS: &[Drawing] = &[
     (
         "show b --svg p",
         CALM,
@@ -337,7 +337,7 @@ fn draws<R: Abort + Threads + Wait + Sync>(
     let after: [(&str, Wanted); 2] = [("b", Text(&BUMP)), ("p", picture)];
     let line = Line {
         words,
-        files: &FILES,
+        files: FILES,
         file_fails,
         out_fails,
         err_fails: None,
@@ -353,7 +353,7 @@ fn draws<R: Abort + Threads + Wait + Sync>(
 #[test]
 fn draws_a_block(rt: HostRuntime) -> Result<(), Fail> {
     for row in DRAWINGS {
-        draws(&rt, rt.alloc(), &row)?;
+        draws(&rt, rt.alloc(), &*row)?;
     }
     Ok(())
 }

@@ -26,7 +26,7 @@ fn goes_round<R: Abort + Threads + Wait + Sync>(
 }
 
 /// Texts of valid modules.
-const VALID: [&str; 9] = [
+const VALID: &[&str] = &[
     "(module)",
     // functions: parameters, results, locals, calls, a start function
     "(module (type (func (param i32))) (func $sum (param $a i64) (param i64) (result i64) (local i32) (local $c i64) (local.set $c (i64.add (local.get $a) (local.get 1))) (local.get $c)) (func (export \"twice\") (param i64) (result i64) (call $sum (local.get 0) (local.get 0))) (func $begin (drop (call $sum (i64.const -9223372036854775808) (i64.const 9223372036854775807)))) (start $begin))",
@@ -64,7 +64,7 @@ fn comes_back<R: Abort + Threads + Wait + Sync>(
 /// A module, and its shortest spelling.
 type Spelled<'a> = (&'a [Part<'a>], &'a [Part<'a>]);
 
-const SPELLED: [Spelled; 4] = [
+const SPELLED: &[Spelled] = &[
     // the name of a custom section is no more than passed over
     (&[(1, &HEADER), (1, b"\0\x05\x04name")], &[(1, &HEADER)]),
     // the size of the section and the pages of the memory in more bytes than they need
@@ -116,11 +116,12 @@ fn is_shortened<R: Abort + Threads + Wait + Sync>(
 
 #[test]
 fn a_text_gives_its_module_again(rt: HostRuntime) -> Result<(), Fail> {
-    for text in VALID {
+    for row in VALID {
+        let text = *row;
         comes_back(&rt, rt.alloc(), text)?;
     }
     for row in SPELLED {
-        is_shortened(&rt, rt.alloc(), &row)?;
+        is_shortened(&rt, rt.alloc(), &*row)?;
     }
     Ok(())
 }
@@ -137,7 +138,7 @@ const SET: &str = "
 ";
 
 /// Modules that are valid, some of which can be no contract, and a part of their texts.
-const WRITTEN: [(&str, &str); 6] = [
+const WRITTEN: &[(&str, &str)] = &[
     ("text contract w", SET),
     ("text nops w", "\n    nop ;; 999\n"),
     (
@@ -151,7 +152,8 @@ const WRITTEN: [(&str, &str); 6] = [
 
 #[test]
 fn writes_texts(rt: HostRuntime) -> Result<(), Fail> {
-    for (words, part) in WRITTEN {
+    for row in WRITTEN {
+        let (words, part) = *row;
         let row = (words, Front(b"text "), NOTHING, Holds(part));
         comes_to(&rt, rt.alloc(), row, CALM, Done)?;
     }
@@ -159,7 +161,7 @@ fn writes_texts(rt: HostRuntime) -> Result<(), Fail> {
 }
 
 /// Files that hold no valid module, and the line of each.
-const NOT_VALID: [(&str, &str); 7] = [
+const NOT_VALID: &[(&str, &str)] = &[
     ("text", "refused load 1 0\n"),
     ("short", "refused load 1 4\n"),
     ("float", "refused load 2 14\n"),
@@ -186,7 +188,7 @@ fn is_refused<R: Abort + Threads + Wait + Sync>(
 }
 
 /// A function of 63,000 `nop`, the text of which has more than 1,048,576 bytes.
-const LONG: [Part; 5] = [
+const LONG: &[Part] = &[
     (1, &HEADER),
     (1, b"\x01\x04\x01\x60\0\0\x03\x02\x01\0"),
     (1, b"\x0a\x9e\xec\x03\x01\x9a\xec\x03\0"),
@@ -197,10 +199,11 @@ const LONG: [Part; 5] = [
 #[test]
 fn modules_without_a_text(rt: HostRuntime) -> Result<(), Fail> {
     let alloc = rt.alloc();
-    for (name, line) in NOT_VALID {
+    for row in NOT_VALID {
+        let (name, line) = *row;
         is_refused(&rt, alloc, name, line)?;
     }
-    let modules: [File; 1] = [("m", &LONG)];
+    let modules: [File; 1] = [("m", LONG)];
     let mut files = holding(alloc, 100_000, &modules, None)?;
     let (line, _nothing) = said(&rt, alloc, &mut files, &["check", "m"], Done)?;
     assert_eq!(rt; line.as_str(), "valid 1 functions\n");

@@ -6,7 +6,7 @@ use std::test::Fail;
 use wblock_commands::usage_text;
 
 /// Lines that ask for nothing although the command line takes them.
-const TAKEN: [&str; 5] = [
+const TAKEN: &[&str] = &[
     "asm t m",
     "check --heap=2000 m",
     "deploy w m n",
@@ -15,7 +15,7 @@ const TAKEN: [&str; 5] = [
 ];
 
 /// Lines that the command line does not take, and what stands in what is said of them.
-const NOT_TAKEN: [(&str, &str); 13] = [
+const NOT_TAKEN: &[(&str, &str)] = &[
     ("check", "Usage: "),
     ("mine w c b n", "Usage: "),
     ("mine w c b --fuel=5", "Usage: "),
@@ -39,10 +39,12 @@ fn said(alloc: Global, line: &str) -> Result<String, Fail> {
 
 #[test]
 fn tells_what_is_wrong(rt: HostRuntime) -> Result<(), Fail> {
-    for line in TAKEN {
+    for row in TAKEN {
+        let line = *row;
         assert!(rt; said(rt.alloc(), line)?.starts_with("usage: "), "{line}");
     }
-    for (line, part) in NOT_TAKEN {
+    for row in NOT_TAKEN {
+        let (line, part) = *row;
         let text = said(rt.alloc(), line)?;
         assert!(rt; text.contains(part) && text.ends_with('\n'), "{text}");
     }
