@@ -4,4 +4,5 @@
 pub mod expressions;
 pub mod modules;
 pub mod numbers;
+pub mod readers;
 pub mod trees;

@@ -3,5 +3,6 @@
 
 pub mod book;
 pub mod closing;
+pub mod looks;
 pub mod parts;
 pub mod shards;

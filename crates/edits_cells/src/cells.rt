@@ -1,13 +1,14 @@
 //! Cells.
 
-ghost use Rattle.std.specs.Prelude.{◌≡◌, ◌≢◌, ◌≤◌, ◌↔◌, Some, IfOk, IsTrue, OnOk, OnErr, if◌then◌else◌, length, take, drop};
-ghost use Rattle.spec_ledger.specs.Book.{back_all};
-ghost use Rattle.std.specs.FinMap as finite;
-ghost use Rattle.spec_ledger.specs.Cells.{cells_after, reply_to, inverse_to, back, set_at};
+ghost use Rattle.std.specs.Prelude.{◌≡◌, ◌≢◌, ◌≤◌, ◌↔◌, Some, IfOk, IsTrue, OnOk, OnErr, if◌then◌else◌, length, take, drop, ◌<◌, ◌^◌};
+ghost use Rattle.spec_ledger.specs.Book.{back_all, has_returned};
+ghost use Rattle.spec_ledger.specs.Cells.{cells_after, reply_to, inverse_to, back, set_at, lock_of};
 ghost use Rattle.storage.specs.Counts.{AreUnsettled, IsUnsettled, closed, closed_all, opened};
+ghost use Rattle.std.specs.FinMap as finite;
 
+use spec_ledger::Outcome;
 use std::alloc::Allocator;
-use storage::{Cells, Inverse, Kind, Lock, NoMemory, Op, Reply};
+use storage::{Cells, Entries, Inverse, Kind, Lock, NoMemory, Op, Reply};
 
 /// As [`storage::Cells::get`].
 pub fn get<A: Allocator + Copy>(cells: &Cells<A>, lock: Lock) -> Option<u64>
@@ -101,4 +102,58 @@ pub fn has_cells_of<A: Allocator + Copy>(cells: &Cells<A>, other: &Cells<A>) -> 
     ensures { IsTrue result ↔ (cells.now.cells ≡ other.now.cells) }
 {
     cells.has_cells_of(other)
+}
+
+/// As [`storage::Cells::entries`].
+pub fn entries<A: Allocator + Copy>(cells: &Cells<A>) -> Entries<'_>
+    ensures cells { result ≡ finite.entries cells.now.cells }
+    ensures fits { length result < 2 ^ 63 }
+{
+    cells.entries()
+}
+
+/// As [`storage::Cells::insert`].
+pub fn insert<A: Allocator + Copy>(
+    cells: &mut Cells<A>,
+    lock: Lock,
+    value: u64,
+) -> Result<(), NoMemory>
+    requires { lock.kind ≡ Kind.Counter → 0 < value }
+    ensures cells { OnOk result (cells.new.cells ≡ finite.insert cells.old.cells lock value) }
+    ensures unsettled { OnOk result (cells.new.unsettled ≡ cells.old.unsettled) }
+    ensures err { OnErr result (cells.new ≡ cells.old) }
+{
+    cells.insert(lock, value)
+}
+
+/// As [`storage::take_all_back`].
+pub fn take_all_back<A: Allocator + Copy>(cells: &mut Cells<A>, inverses: Vec<Inverse, A>)
+    requires { AreUnsettled inverses.items cells.old.unsettled }
+    ensures cells { cells.new.cells ≡ back_all inverses.items cells.old.cells }
+    ensures unsettled { cells.new.unsettled ≡ closed_all inverses.items cells.old.unsettled }
+{
+    storage::take_all_back(cells, inverses);
+}
+
+/// As [`storage::settle_all`].
+pub fn settle_all<A: Allocator + Copy>(cells: &mut Cells<A>, inverses: Vec<Inverse, A>)
+    requires { AreUnsettled inverses.items cells.old.unsettled }
+    ensures cells { cells.new.cells ≡ cells.old.cells }
+    ensures unsettled { cells.new.unsettled ≡ closed_all inverses.items cells.old.unsettled }
+{
+    storage::settle_all(cells, inverses);
+}
+
+/// As [`storage::returned`].
+pub fn returned(outcome: Outcome) -> bool
+    ensures { result ≡ has_returned outcome }
+{
+    storage::returned(outcome)
+}
+
+/// As [`storage::lock`].
+pub fn lock(op: Op) -> Lock
+    ensures { result ≡ lock_of op }
+{
+    storage::lock(op)
 }

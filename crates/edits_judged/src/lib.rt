@@ -6,3 +6,4 @@ pub mod bodies;
 pub mod calls;
 pub mod links;
 pub mod modules;
+pub mod readers;

@@ -3,7 +3,7 @@
 ghost use Rattle.std.specs.Prelude.{◌≡◌, ◌≤◌, ◌++◌, ◌∷◌, [], All, IfErr, IfNone, IfOk, IfSome, OnErr, OnOk, length, replicate};
 ghost use Rattle.lanes.specs.Lanes.{HasStolen, IsNewPair};
 ghost use Rattle.spec_ledger.specs.Cells.{reply_to};
-ghost use Rattle.ahead.specs.Changing.{acted, ended};
+ghost use Rattle.ahead.specs.Changing.{acted, ended, done_at, back_to};
 
 use ahead::Ahead;
 use lanes::{Lane, Thief};
@@ -77,4 +77,18 @@ pub fn end<A: Allocator + Copy>(ahead: &mut Ahead<A>, position: usize, stand: bo
     ensures { ahead.new ≡ ended ahead.old position stand }
 {
     ahead.end(position, stand);
+}
+
+/// As [`ahead::Ahead::count`].
+pub fn count<A: Allocator + Copy>(ahead: &Ahead<A>, position: usize) -> usize
+    ensures { result ≡ length (done_at ahead.now position) }
+{
+    ahead.count(position)
+}
+
+/// As [`ahead::Ahead::take_back_to`].
+pub fn take_back_to<A: Allocator + Copy>(ahead: &mut Ahead<A>, position: usize, mark: usize)
+    ensures { ahead.new ≡ back_to ahead.old position mark }
+{
+    ahead.take_back_to(position, mark);
 }

@@ -1,12 +1,12 @@
 //! Runs of machines.
 
-ghost use Rattle.std.specs.Prelude.{◌≡◌, IfOk, IfErr, MatchResult};
+ghost use Rattle.std.specs.Prelude.{◌≡◌, IfOk, IfErr, MatchResult, IfSome, IfNone};
 ghost use Rattle.spec_ledger.specs.declared.Version.TheVariants.{Two};
 ghost use Rattle.spec_execution.specs.Run.{opening};
 ghost use Rattle.spec_execution.specs.Levels.{asks_in};
 ghost use Rattle.interp.specs.Lent.{setting_view};
 ghost use Rattle.interp.specs.Progress.{NextIs, IsFree, IsProgress, IsAwaited, HasAnswered, IsFinishOf, IsUnfinished, IsStartOf};
-ghost use Rattle.interp.specs.Starting.{IsRefusedFor, HasPlace, wrong_in};
+ghost use Rattle.interp.specs.Starting.{IsRefusedFor, HasPlace, wrong_in, IsOpened, IsRejection};
 
 use call::Call;
 use interp::finished::Finished;
@@ -14,7 +14,7 @@ use interp::machine::Machine;
 use interp::start::StartRefusal;
 use interp::turns::Turn;
 use link::deployed::Deployed;
-use spec_ledger::{Reply, Version};
+use spec_ledger::{Outcome, Reply, Version};
 use std::alloc::Allocator;
 
 /// As [`interp::machine::Machine::start`].
@@ -85,4 +85,24 @@ pub fn asks<A: Allocator + Copy>(finished: &Finished<A>) -> u32
     ensures { result ≡ asks_in finished.now.trace }
 {
     finished.asks()
+}
+
+/// As [`interp::finished::Finished::outcome`].
+pub fn outcome<'a, A: Allocator + Copy>(finished: &Finished<'a, A>) -> Outcome
+    ensures { result ≡ finished.now.outcome }
+{
+    finished.outcome()
+}
+
+/// As [`interp::finished::Finished::rejected`].
+pub fn rejected<'a, A: Allocator + Copy>(
+    alloc: A,
+    contracts: &'a [Deployed<A>],
+    call: &'a Call,
+    version: Version,
+) -> Option<Finished<'a, A>>
+    ensures some { IfSome result (λ f. IsRejection (setting_view version contracts.now) call.now f) }
+    ensures none { IfNone result (IsOpened (opening (setting_view version contracts.now) call.now)) }
+{
+    Finished::rejected(alloc, contracts, call, version)
 }

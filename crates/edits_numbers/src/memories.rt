@@ -1,13 +1,13 @@
 //! Linear memory.
 
-ghost use Rattle.std.specs.Prelude.{◌≡◌, ◌+◌, ◌*◌, ◌<◌, ◌≤◌, ◌^◌, length, replicate, IfOk, IsErrOf};
+ghost use Rattle.std.specs.Prelude.{◌≡◌, ◌+◌, ◌*◌, ◌<◌, ◌≤◌, ◌^◌, length, replicate, IfOk, IsErrOf, take, drop};
 ghost use Rattle.spec_syntax.specs.Profile.{page_size, page_limit};
 ghost use Rattle.spec_numeric.specs.Storage.{bytes_of_number};
 ghost use Rattle.spec_numeric.specs.Memory.{load};
-ghost use Rattle.memory.specs.Linear.{Stored, Grown};
+ghost use Rattle.memory.specs.Linear.{Stored, Grown, pages};
 
 use memory::{Linear, NoMemory, StoreRefusal};
-use std::alloc::Allocator;
+use std::alloc::{AllocError, Allocator};
 use wtypes::TrapCode;
 
 /// As [`memory::Linear::new`].
@@ -78,4 +78,31 @@ pub fn write_all<A: Allocator + Clone + Drop>(
     ensures some { IsErrOf result StoreRefusal.NoMemory → 0 < length bytes.now }
 {
     memory.write_all(at, bytes)
+}
+
+/// As [`memory::Linear::size`].
+pub fn size<A: Allocator + Clone + Drop>(memory: &Linear<A>) -> u32
+    ensures { result ≡ pages memory.now }
+{
+    memory.size()
+}
+
+/// As [`memory::Linear::len`].
+pub fn len<A: Allocator + Clone + Drop>(memory: &Linear<A>) -> usize
+    ensures { result ≡ length memory.now.bytes }
+{
+    memory.len()
+}
+
+/// As [`memory::Linear::bytes`].
+pub fn bytes<B: Allocator, A: Allocator + Clone + Drop>(
+    memory: &Linear<A>,
+    alloc: B,
+    from: usize,
+    count: usize,
+) -> Result<Vec<u8, B>, AllocError>
+    requires { from + count ≤ length memory.now.bytes }
+    ensures { IfOk result (λ bytes. bytes.items ≡ take count (drop from memory.now.bytes)) }
+{
+    memory.bytes(alloc, from, count)
 }

@@ -52,3 +52,11 @@ pub fn append_position<A: Allocator>(
 {
     records::append_position(version, out, position)
 }
+
+/// As [`records::append_value`].
+pub fn append_value<A: Allocator>(out: &mut Vec<u8, A>, value: Value) -> Result<(), AllocError>
+    ensures bytes { OnOk result (out.new.items ≡ out.old.items ++ value_bytes value) }
+    ensures front { take (length out.old.items) out.new.items ≡ out.old.items }
+{
+    records::append_value(out, value)
+}

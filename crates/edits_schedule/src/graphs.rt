@@ -76,3 +76,18 @@ pub fn waves_of<A: Allocator + Copy>(
     let waves = schedule::waves_of(alloc, profiles)?;
     Ok(waves)
 }
+
+/// As [`schedule::Graph::waves`].
+pub fn waves<A: Allocator + Copy>(graph: &Graph<A>) -> &[u32]
+    ensures { result.now ≡ graph.now.waves }
+{
+    graph.waves()
+}
+
+/// As [`schedule::Board::ready`].
+pub fn ready<A: Allocator + Copy>(board: &Board<A>) -> &[u32]
+    ensures rising { IsStrictlyIncreasing result.now }
+    ensures exact { (j : ℕ) → Contains result.now j ↔ ((j < length board.now.profiles) × ((i : ℕ) → ¬ (IsEdge board.now.profiles i j))) }
+{
+    board.ready()
+}

@@ -4,14 +4,14 @@ ghost use Rattle.std.specs.Prelude.{◌≡◌, IfOk, IfErr};
 ghost use Rattle.spec_execution.specs.Run.{opening};
 ghost use Rattle.interp.specs.Lent.{setting_view};
 ghost use Rattle.interp.specs.Starting.{IsRefusedFor, HasPlace, wrong_in};
-ghost use Rattle.debugger.specs.Sight.{place_at, globals_at};
-ghost use Rattle.debugger.specs.Commands.{IsOpened, Steps, GoesBack, Continues, Breaks};
+ghost use Rattle.debugger.specs.Sight.{place_at, globals_at, ending_at, level_at, asks_at, stack_at};
+ghost use Rattle.debugger.specs.Commands.{IsOpened, Steps, GoesBack, Continues, Breaks, code_of, Clears, Reads};
 
 use call::Call;
 use debugger::Contract;
 use debugger::session::{Refusal, Session};
 use interp::start::StartRefusal;
-use spec_ledger::Version;
+use spec_ledger::{Outcome, Version};
 use std::alloc::Allocator;
 use storage::Cells;
 use wtypes::Value;
@@ -81,4 +81,61 @@ pub fn globals<'b, 'a, A: Allocator + Copy>(session: &'b Session<'a, A>) -> &'b 
     ensures { result.now ≡ globals_at session.now }
 {
     session.globals()
+}
+
+/// As [`debugger::session::Refusal::code`].
+pub fn code(refusal: Refusal) -> u8
+    ensures { result ≡ code_of refusal }
+{
+    refusal.code()
+}
+
+/// As [`debugger::session::Session::clear`].
+pub fn clear<'a, A: Allocator + Copy>(
+    session: &mut Session<'a, A>,
+    func: u32,
+    ordinal: u32,
+) -> Result<(), Refusal>
+    ensures { Clears session.old (func, ordinal) result session.new }
+{
+    session.clear(func, ordinal)
+}
+
+/// As [`debugger::session::Session::ending`].
+pub fn ending<'a, A: Allocator + Copy>(session: &Session<'a, A>) -> Option<Outcome>
+    ensures { result ≡ ending_at session.now }
+{
+    session.ending()
+}
+
+/// As [`debugger::session::Session::level`].
+pub fn level<'a, A: Allocator + Copy>(session: &Session<'a, A>) -> usize
+    ensures { result ≡ level_at session.now }
+{
+    session.level()
+}
+
+/// As [`debugger::session::Session::asks`].
+pub fn asks<'a, A: Allocator + Copy>(session: &Session<'a, A>) -> u32
+    ensures { result ≡ asks_at session.now }
+{
+    session.asks()
+}
+
+/// As [`debugger::session::Session::stack`].
+pub fn stack<'b, 'a, A: Allocator + Copy>(session: &'b Session<'a, A>) -> &'b [Value]
+    ensures { result.now ≡ stack_at session.now }
+{
+    session.stack()
+}
+
+/// As [`debugger::session::Session::bytes`].
+pub fn bytes<'a, A: Allocator + Copy>(
+    session: &Session<'a, A>,
+    from: u64,
+    count: u64,
+) -> Result<Vec<u8, A>, Refusal>
+    ensures { Reads session.now from count result }
+{
+    session.bytes(from, count)
 }

@@ -1,7 +1,6 @@
 //! The book in shards.
 
 ghost use Rattle.std.specs.Prelude.{◌≡◌, ◌≤◌, ◌⊎◌, ◌↔◌, ◌++◌, ◌∷◌, ℕ, [], Err, IfErr, IfOk, OnErr, OnOk, false, length, replicate, slice_set, true};
-ghost use Rattle.std.specs.FinMap as finite;
 ghost use Rattle.std.specs.List.{AllByRecursion};
 ghost use Rattle.spec_ledger.specs.Book.{AreDistinct, Content, IsDefined, call_is_new, settled};
 ghost use Rattle.spec_ledger.specs.Cells.{lock_of};
@@ -13,15 +12,17 @@ ghost use Rattle.shard.specs.Shard.{HasToWait, IsOver, IsReady, Shard as TheShar
 ghost use Rattle.shards.specs.Taking.{HasOtherSteps, HoldsOfAShard, HoldsOfTheJournal};
 ghost use Rattle.shards.specs.Marks.{IsOutside, closing};
 ghost use Rattle.spec_ledger.specs.declared.Step.TheVariants as TheStep;
+ghost use Rattle.std.specs.FinMap as finite;
 
 use boost::book::{
     BeginRefusal, Closed, CommitRefusal, EnterRefusal, LeaveRefusal, OpRefusal, Run,
 };
 use shard_parts::CloseRefusal;
 use shards::{Gate, Shards, Ticket};
-use spec_ledger::{Op, Reply};
+use spec_ledger::{NoMemory, Op, Reply};
 use std::alloc::Allocator;
 use std::sync::Wait;
+use storage::Cells;
 
 /// As [`Shards::begin`].
 pub fn begin<G: Gate, A: Allocator + Copy>(
@@ -122,4 +123,19 @@ pub fn close<G: Gate, A: Allocator + Copy>(
     ensures settled { IfOk result (λ closed. closed.cells.unsettled ≡ finite.empty) }
 {
     book.close()
+}
+
+/// As [`shards::Shards::open`].
+pub fn open<'g, G: Gate, A: Allocator + Copy>(
+    alloc: A,
+    opening: Cells<A>,
+    calls: u32,
+    shards: u32,
+    gate: &'g G,
+) -> Result<Shards<'g, G, A>, NoMemory>
+    requires { (1 ≤ shards) × (shards ≤ 16) }
+    ensures opening { IfOk result (λ book. book.opening ≡ opening.cells) }
+    ensures shards { IfOk result (λ book. book.shards ≡ shards) }
+{
+    Shards::open(alloc, opening, calls, shards, gate)
 }

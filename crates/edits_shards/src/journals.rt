@@ -1,12 +1,15 @@
 //! The journal.
 
-ghost use Rattle.std.specs.Prelude.{◌≡◌, ◌≢◌, ◌≤◌, ◌↔◌, ℕ, Err, IfOk, OnErr, length};
-ghost use Rattle.spec_ledger.specs.Book.{call_is_new};
+ghost use Rattle.std.specs.Prelude.{◌≡◌, ◌≢◌, ◌≤◌, ◌↔◌, ℕ, Err, IfOk, OnErr, length, [], replicate, IsTrue};
+ghost use Rattle.spec_ledger.specs.Book.{call_is_new, AreDistinct};
 ghost use Rattle.journal.specs.Journals.{Begins, Commits, IsLive, after_undo};
+ghost use Rattle.std.specs.List.{AllByRecursion};
+ghost use Rattle.spec_ledger.specs.Modes.{touched};
 
+use boost::attempt::Entry;
 use boost::book::{BeginRefusal, CommitRefusal};
-use journal::Journal;
-use spec_ledger::{Outcome, Step};
+use journal::{Journal, Standing};
+use spec_ledger::{NoMemory, Outcome, Step};
 use std::alloc::Allocator;
 
 /// As [`Journal::begin`].
@@ -42,4 +45,29 @@ pub fn commit<A: Allocator + Copy>(
     ensures err { OnErr result (journal.new ≡ journal.old) }
 {
     journal.commit(call, number, trace, outcome)
+}
+
+/// As [`journal::Journal::open`].
+pub fn open<A: Allocator + Copy>(alloc: A, calls: u32) -> Result<Journal<A>, NoMemory>
+    ensures entries { IfOk result (λ journal. journal.entries ≡ []) }
+    ensures standings { IfOk result (λ journal. journal.standings ≡ replicate calls Standing.Idle) }
+    ensures begun { IfOk result (λ journal. journal.begun ≡ replicate calls 0) }
+{
+    Journal::open(alloc, calls)
+}
+
+/// As [`journal::Journal::is_live`].
+pub fn is_live<A: Allocator + Copy>(journal: &Journal<A>, call: u32, number: u64) -> bool
+    ensures { IsTrue result ↔ IsLive journal.now call number }
+{
+    journal.is_live(call, number)
+}
+
+/// As [`journal::Journal::into_entries`].
+pub fn into_entries<A: Allocator + Copy>(journal: Journal<A>) -> Vec<Entry<A>, A>
+    ensures entries { result.items ≡ journal.entries }
+    ensures distinct { AreDistinct result.items }
+    ensures modes { AllByRecursion (λ e. e.modes ≡ touched e.trace) result.items }
+{
+    journal.into_entries()
 }

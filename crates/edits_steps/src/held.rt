@@ -1,12 +1,15 @@
 //! What instructions make of values that stand beside the stack, and of memory.
-ghost use Rattle.std.specs.Prelude.{◌≡◌, ◌<◌, length, true, false, None, IfSome};
-ghost use Rattle.wtypes.specs.declared.ValType.TheVariants as val_type;
+
+ghost use Rattle.std.specs.Prelude.{◌≡◌, ◌<◌, length, true, false, None, IfSome, IfOk};
 ghost use Rattle.spec_numeric.specs.Operators.{type_of};
 ghost use Rattle.operands.specs.Held.{Pushes, Joins, Changes, Writes, IsReadyToPush, IsReadyToJoin, IsReadyToChange, TakesTwo, JoinsNone, pushes, joins, changes};
-ghost use Rattle.operands.specs.Memories.{Loaded, StoredAt};
+ghost use Rattle.operands.specs.Memories.{Loaded, StoredAt, DidLoad, DidStore, HasPlace, DidGrow};
+ghost use Rattle.sequences.specs.Forms.{HasOne};
+ghost use Rattle.wtypes.specs.declared.ValType.TheVariants as val_type;
 
 use memory::{Linear, StoreRefusal};
-use std::alloc::Allocator;
+use operands::plain::After;
+use std::alloc::{AllocError, Allocator};
 use wtypes::{LoadOp, PlainInstr, StoreOp, TrapCode, Value};
 
 /// As [`operands::held::pushed`].
@@ -77,4 +80,43 @@ pub fn stored<A: Allocator + Copy>(
     ensures { StoredAt operator offset memory.old place value result memory.new }
 {
     operands::memories::stored(operator, offset, place, value, memory)
+}
+
+/// As [`operands::memories::execute_load`].
+pub fn execute_load<A: Allocator + Copy>(
+    operator: LoadOp,
+    offset: u32,
+    stack: &mut Vec<Value, A>,
+    memory: &Linear<A>,
+) -> After
+    requires { HasOne val_type.I32 stack.old.items }
+    ensures { DidLoad operator offset memory.now.bytes stack.old.items result stack.new.items }
+{
+    operands::memories::execute_load(operator, offset, stack, memory)
+}
+
+/// As [`operands::memories::execute_store`].
+pub fn execute_store<A: Allocator + Copy>(
+    operator: StoreOp,
+    offset: u32,
+    stack: &mut Vec<Value, A>,
+    memory: &mut Linear<A>,
+) -> Result<After, AllocError>
+    requires { HasPlace operator stack.old.items }
+    ensures did { IfOk result (λ a. DidStore operator offset memory.old memory.new stack.old.items a stack.new.items) }
+    ensures max { memory.new.max ≡ memory.old.max }
+{
+    operands::memories::execute_store(operator, offset, stack, memory)
+}
+
+/// As [`operands::memories::execute_grow`].
+pub fn execute_grow<A: Allocator + Copy>(
+    stack: &mut Vec<Value, A>,
+    memory: &mut Linear<A>,
+) -> Result<(), AllocError>
+    requires { HasOne val_type.I32 stack.old.items }
+    ensures did { IfOk result (λ _. DidGrow memory.old memory.new stack.old.items stack.new.items) }
+    ensures max { memory.new.max ≡ memory.old.max }
+{
+    operands::memories::execute_grow(stack, memory)
 }

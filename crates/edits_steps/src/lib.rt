@@ -3,6 +3,7 @@
 #![tactic(auto)]
 
 pub mod held;
+pub mod jumps;
 pub mod labels;
 pub mod steps;
 pub mod strides;
