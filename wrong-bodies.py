@@ -1,9 +1,10 @@
 #!/usr/bin/env python3
 """Tries wrong bodies: the prover has to refuse each edit in crates/NAME/must-fail/ and crates/NAME/wrong-bodies/ (docs/WRONG_BODIES.md).
 
-    wrong-bodies.py NAME..    those of these crates
-    wrong-bodies.py --all     those of all crates
-    wrong-bodies.py --list    how many each crate has, in both folders
+    wrong-bodies.py NAME..        those of these crates
+    wrong-bodies.py --wrappers    those on wrappers, in the crates edits_*, as the gate does
+    wrong-bodies.py --all         those of all crates
+    wrong-bodies.py --list        how many each crate has, in both folders
 
 A check says of each function whether it is proved, so all wrong bodies of a crate are tried at once: each but the first of a function stands in a copy of
 it, under a name of its own. An edit is refused where its function is not proved; behind it stand the goals that were not, `false` where values are known
@@ -268,6 +269,7 @@ def first_error(ran):
 def main():
     parser = argparse.ArgumentParser(description="Tries wrong bodies, which the prover has to refuse.")
     parser.add_argument("names", nargs="*", metavar="NAME", help="crates whose wrong bodies are tried")
+    parser.add_argument("--wrappers", action="store_true", help="those on wrappers, in the crates edits_*")
     parser.add_argument("--all", action="store_true", help="those of all crates")
     parser.add_argument("--list", action="store_true", help="only say how many each crate has")
     parser.add_argument("--jobs", type=int, default=len(os.sched_getaffinity(0)), help="checks at once (as many as processors)")
@@ -279,10 +281,10 @@ def main():
             gate, beside = (len(list((it.folder / part).glob("*.edit"))) for part in FOLDERS)
             print(f"{it.name}: {gate + beside}, of which `rt ci` tries {gate}")
         return 0
-    chosen = kept if given.all else [it for it in kept if it.name in given.names]
+    chosen = [it for it in kept if given.all or it.name in given.names or given.wrappers and it.name.startswith("edits_")]
     lacking = [it for it in given.names if it not in [crate.name for crate in kept]]
     if lacking or not chosen:
-        parser.error(f"{lacking[0]} has no wrong bodies" if lacking else "name crates, or say --all")
+        parser.error(f"{lacking[0]} has no wrong bodies" if lacking else "name crates, or say --wrappers or --all")
     missing = [it for crate in chosen for it in below(crate, known) if not library(it).is_dir()]
     kit = shutil.which("rt")
     if missing or not kit:
