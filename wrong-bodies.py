@@ -7,8 +7,8 @@
     wrong-bodies.py --list        how many each crate has, in both folders
 
 A check says of each function whether it is proved, so all wrong bodies of a crate are tried at once: each but the first of a function stands in a copy of
-it, under a name of its own. An edit is refused where its function is not proved; behind it stand the goals that were not, `false` where values are known
-that break one. An edit whose function has proof files, or that reaches beyond one function, gets no copy, but a check of its own where another one is in its way.
+it, under a name of its own. An edit is refused where its function is not proved by itself; behind it stand the goals that were not, `false` where values are
+known that break one, `at a limit` where the search gave up. An edit whose function has proof files, or that reaches beyond one function, gets no copy, but a check of its own where another one is in its way.
 
 It stands over the libraries that `rt ci` or `rt all check` left in crates/*/out. Its status is 1 where an edit is not refused or cannot be tried, and 2 where
 it could not begin.
@@ -232,7 +232,10 @@ def judge(round, ran):
     for place, edit in round.tried.items():
         path = place and path_of(round.crate, *place, round.texts[place[0]])
         why = unproved.get(path) if place else next(iter(unproved.values()), None)
-        if why:
+        if why and (why.startswith("could not tell") or why.startswith("no proof: it calls")):
+            # nothing is known of the body itself
+            lines.append((False, f"{edit.name}: NOT TRIED: {why[:200]}"))
+        elif why:
             lines.append((True, f"{edit.name}: refused: {why_refused(why, said)}"))
         elif not place or path in found:
             lines.append((False, f"{edit.name}: PROVED"))
