@@ -43,55 +43,62 @@ pub fn stride<'a, A: Allocator + Copy>(
         if parts.code.is_empty() {
             settle(parts);
         }
-        let more = begin(lent, parts, most - made);
-        if more == 0 {
+        let (more, ends) = begin(lent, parts, most - made);
+        made += more;
+        if ends {
             break;
         }
-        made += more;
     }
     made
 }
 
-// Begins with the instruction to come, and goes on while a value stands beside the stack.
+// Begins with the instruction to come, and goes on while a value stands beside the stack. Tells the turns, and whether the strides end there.
 #[inline(always)]
-fn begin<'a, A: Allocator + Copy>(lent: &Lent<'a, A>, parts: &mut Parts<'a, A>, most: u64) -> u64
+fn begin<'a, A: Allocator + Copy>(
+    lent: &Lent<'a, A>,
+    parts: &mut Parts<'a, A>,
+    most: u64,
+) -> (u64, bool)
     requires some { 0 < most }
     requires ordered { IsOrderedParts parts.old }
     requires counted { IsCounted parts.old }
     requires safe { IsSafeFor (contract_of lent.now) (view (base_of lent.now) parts.old) most }
-    ensures walked { Walks (contract_of lent.now) (view (base_of lent.now) parts.old) result (view (base_of lent.now) parts.new) }
-    ensures within { result ≤ most }
+    ensures walked { Walks (contract_of lent.now) (view (base_of lent.now) parts.old) result.0 (view (base_of lent.now) parts.new) }
+    ensures within { result.0 ≤ most }
+    ensures ends { result.1 ≡ false → 0 < result.0 }
     ensures ordered { IsOrderedParts parts.new }
     ensures counted { IsCounted parts.new }
     ensures max { parts.new.instance.memory.max ≡ parts.old.instance.memory.max }
-    ensures moves { vec_len parts.old.stack < vec_capacity parts.old.stack → PushesNext parts.old.code.now → 0 < result }
+    ensures moves { vec_len parts.old.stack < vec_capacity parts.old.stack → PushesNext parts.old.code.now → 0 < result.0 }
 {
     if parts.stack.len() >= parts.stack.capacity() {
-        return 0;
+        return (0, true);
     }
     let Some((op, rest)) = plain(parts.code) else {
         if enter_label(lent, parts) {
-            return 1;
+            return (1, false);
         }
-        return 0;
+        return (0, true);
     };
     match pushed(op, &parts.locals) {
         Some(value) => {
             parts.code = rest;
-            1 + hold(lent, parts, value, most - 1)
+            let (made, ends) = hold(lent, parts, value, most - 1);
+            (1 + made, ends)
         }
         None => {
             if let PlainInstr::Br(label) = op {
-                return go_to(parts, *label, most);
+                return (go_to(parts, *label, most), false);
             }
             if !takes_top(op) {
-                return 0;
+                return (0, true);
             }
             if parts.stack.is_empty() {
-                return 0;
+                return (0, true);
             }
             let value = pop_top(&mut parts.stack);
-            hold(lent, parts, value, most)
+            let (made, ends) = hold(lent, parts, value, most);
+            (made, ends || made == 0)
         }
     }
 }
@@ -136,30 +143,31 @@ fn go_to<'a, A: Allocator + Copy>(parts: &mut Parts<'a, A>, label: u32, left: u6
     1
 }
 
-// Goes on with a value beside the stack, which is on top of it again at last.
+// Goes on with a value beside the stack, which is on top of it again at last. Tells the turns, and whether the strides end there, as far as it is known.
 #[inline(always)]
 fn hold<'a, A: Allocator + Copy>(
     lent: &Lent<'a, A>,
     parts: &mut Parts<'a, A>,
     first: Value,
     most: u64,
-) -> u64
+) -> (u64, bool)
     requires room { vec_len parts.old.stack < vec_capacity parts.old.stack }
     requires ordered { IsOrdered (holding (base_of lent.now) parts.old first) }
     requires counted { IsCounted parts.old }
     requires safe { IsSafeFor (contract_of lent.now) (holding (base_of lent.now) parts.old first) most }
-    ensures walked { Walks (contract_of lent.now) (holding (base_of lent.now) parts.old first) result (view (base_of lent.now) parts.new) }
-    ensures within { result ≤ most }
+    ensures walked { Walks (contract_of lent.now) (holding (base_of lent.now) parts.old first) result.0 (view (base_of lent.now) parts.new) }
+    ensures within { result.0 ≤ most }
     ensures ordered { IsOrderedParts parts.new }
     ensures counted { IsCounted parts.new }
     ensures max { parts.new.instance.memory.max ≡ parts.old.instance.memory.max }
 {
     let mut held = first;
     let mut made: u64 = 0;
+    let mut ends = false;
     'held: while made < most {
         let Some((op, rest)) = plain(parts.code) else {
             if enter_if(lent, parts, held) {
-                return made + 1;
+                return (made + 1, false);
             }
             break;
         };
@@ -190,15 +198,16 @@ fn hold<'a, A: Allocator + Copy>(
                 None => {
                     let gone = let_go(lent, parts, op, rest, held, most - made);
                     if gone > 0 {
-                        return made + gone;
+                        return (made + gone, false);
                     }
+                    ends = !matches!(op, PlainInstr::Br(_));
                     break;
                 }
             },
         }
     }
     put_back(&mut parts.stack, held);
-    made
+    (made, ends)
 }
 
 // The first instruction, where it holds no other one, and those behind it.

@@ -83,15 +83,23 @@ nil_of (x ∷ xs) e = absurd (omega (arith, eqb-true _ _ e))
 pub comes_settled : {A : Type 0} (c : Contract) (args : List Value) (b : State) (p q : Parts A) (w : Option (Waiting A)) → Settles c (view b p) (view b q) → Waits c args w → Comes c args b p w q w
 comes_settled c args b p q w settled waits = record { frees = frees_joined (tail_of args w) c _ _ settled.frees; ordered = settled.ordered; waits = waits }
 
--- free reductions up to the end of the start function, the call of the entry, and free reductions behind it
-pub comes_entered : {A : Type 0} (c : Contract) (args : List Value) (b : State) (p p1 p2 p3 : Parts A) (w : Waiting A) → IsPrepared c args w → Settles c (view b p) (view b p1) → p1.code.now ≡ [] → opens_of p1.entries.items ≡ [] →
-    HasBeenEntered p1 w p2 → Settles c (view b p2) (view b p3) → Comes c args b p (Some w) p3 None
-comes_entered c args b p p1 p2 p3 w prepared first at_end none_open is second = record {
-  frees = Frees_join c _ _ _ (frees_joined tail c _ _ first.frees)
-      (subst (λ (x : Config). Frees c x (with_tail End (config (view b p3)))) (sym called)
+-- free reductions before those
+pub comes_after : {A : Type 0} (c : Contract) (args : List Value) (b : State) (p p1 q : Parts A) (w x : Option (Waiting A)) → Settles c (view b p) (view b p1) → Comes c args b p1 w q x → Comes c args b p w q x
+comes_after c args b p p1 q w x first then_on = record {
+  frees = Frees_join c _ _ _ (frees_joined (tail_of args w) c _ _ first.frees) then_on.frees;
+  ordered = then_on.ordered;
+  waits = then_on.waits;
+}
+
+-- the call of the entry at the end of the start function, and free reductions behind it
+pub comes_entered : {A : Type 0} (c : Contract) (args : List Value) (b : State) (p1 p2 p3 : Parts A) (w : Waiting A) → IsPrepared c args w → p1.code.now ≡ [] → opens_of p1.entries.items ≡ [] →
+    HasBeenEntered p1 w p2 → Settles c (view b p2) (view b p3) → Comes c args b p1 (Some w) p3 None
+comes_entered c args b p1 p2 p3 w prepared at_end none_open is second = record {
+  frees =
+      subst (λ (x : Config). Frees c x (with_tail End (config (view b p3)))) (sym called)
       (one_more _ _ _ (prepared.reduces (view b p1).base p1.stack.items p1.locals.items)
       (subst (λ (x : Config). Frees c (config (entered (view b p1).base w p1.stack.items p1.locals.items)) x) (sym (with_no_tail (config (view b p3))))
-      (subst (λ (v : View). Frees c (config v) (config (view b p3))) (is b) second.frees))));
+      (subst (λ (v : View). Frees c (config v) (config (view b p3))) (is b) second.frees)));
   ordered = second.ordered;
   waits = tt;
 }

@@ -1,5 +1,5 @@
 // Calls of the module's functions.
-ghost use Rattle.std.specs.Prelude.{◌≡◌, ◌++◌, [], map, IfOk};
+ghost use Rattle.std.specs.Prelude.{◌≡◌, ◌≤◌, ◌+◌, ◌++◌, [], map, IfOk, length, vec_capacity};
 ghost use Rattle.spec_execution.specs.Reduction.{zero_of};
 ghost use Rattle.frames.specs.Steps.{IsOrderedParts, IsCounted};
 ghost use Rattle.frames.specs.Calls.{CanEnter, Enters};
@@ -13,7 +13,11 @@ use wtypes::{ValType, Value};
 /// The most frames that stand in one another.
 const MOST_FRAMES: usize = 256;
 
+/// For how many rooms of calls that were left there are places, at least, where one was looked for and none was there.
+const ROOMS: usize = 16;
+
 /// Starts a function of the module, and tells whether there was room for its frame.
+#[inline(always)]
 pub fn enter<'a, A: Allocator + Copy>(
     alloc: A,
     lent: &Lent<'a, A>,
@@ -34,8 +38,9 @@ pub fn enter<'a, A: Allocator + Copy>(
         return Ok(false);
     }
     let height = parts.stack.len() - form.params.len();
-    let room = take_room(alloc, &mut parts.spare)?;
-    let locals = fill(room, &parts.stack[height..], &function.locals)?;
+    let count = form.params.len() + function.locals.len();
+    let room = take_room(alloc, &mut parts.spare, count)?;
+    let locals = fill(room, &parts.stack[height..], &function.locals);
     let saved = mem::replace(&mut parts.locals, locals);
     parts.entries.push(Entry {
         kind: Kind::Frame(func, saved),
@@ -58,49 +63,55 @@ pub fn new_locals<A: Allocator + Copy>(
 ) -> Result<Vec<Value, A>, AllocError>
     ensures { IfOk result (λ locals. locals.items ≡ args.now ++ map zero_of declared.now) }
 {
-    fill(Vec::new(alloc), args, declared)
+    let room = Vec::with_capacity(alloc, args.len() + declared.len())?;
+    Ok(fill(room, args, declared))
 }
 
-// The same in the room of an empty list.
+// The same in an empty list that has room for them.
 #[inline(always)]
 fn fill<A: Allocator + Copy>(
     room: Vec<Value, A>,
     args: &[Value],
     declared: &[ValType],
-) -> Result<Vec<Value, A>, AllocError>
-    requires { room.items ≡ [] }
-    ensures { IfOk result (λ locals. locals.items ≡ args.now ++ map zero_of declared.now) }
+) -> Vec<Value, A>
+    requires empty { room.items ≡ [] }
+    requires room { length args.now + length declared.now ≤ vec_capacity room }
+    ensures { result.items ≡ args.now ++ map zero_of declared.now }
 {
     let mut locals = room;
-    locals.extend_from_slice(args)?;
+    for value in args {
+        locals.push_reserved(*value);
+    }
     for t in declared {
         let zero = match t {
             ValType::I32 => Value::I32(0),
             ValType::I64 => Value::I64(0),
         };
-        locals.push(zero)?;
+        locals.push_reserved(zero);
     }
-    Ok(locals)
+    locals
 }
 
-// An empty list for the locals of a call, in the room of a call that was left, where there is one.
+// An empty list with room for so many, in the room of a call that was left, where there is one that has it.
 #[inline(always)]
 fn take_room<A: Allocator + Copy>(
     alloc: A,
     spare: &mut Vec<Vec<Value, A>, A>,
+    count: usize,
 ) -> Result<Vec<Value, A>, AllocError>
-    ensures { IfOk result (λ room. room.items ≡ []) }
+    ensures empty { IfOk result (λ room. room.items ≡ []) }
+    ensures room { IfOk result (λ room. count ≤ vec_capacity room) }
 {
     match spare.pop() {
         Some(mut room) => {
-            room.clear();
-            Ok(room)
+            if room.capacity() >= count {
+                room.clear();
+                return Ok(room);
+            }
         }
-        None => {
-            spare.reserve(1)?;
-            Ok(Vec::new(alloc))
-        }
+        None => spare.reserve(ROOMS)?,
     }
+    Vec::with_capacity(alloc, count)
 }
 
 // Keeps the room of a call that is left, where there is a place for it. Takes no memory.

@@ -1,5 +1,5 @@
 // The entry of a call, which is entered when the start function has ended.
-ghost use Rattle.std.specs.Prelude.{◌≡◌, ◌≤◌, [], length, None, IfOk};
+ghost use Rattle.std.specs.Prelude.{◌≡◌, ◌≤◌, [], length, None, IfOk, IsSome};
 ghost use Rattle.frames.specs.Views.{opens_of};
 ghost use Rattle.operands.specs.Lent.{contract_of};
 ghost use Rattle.frames.specs.Steps.{IsOrderedParts, IsCounted, IsReadyParts};
@@ -73,11 +73,34 @@ pub fn settle_all<'a, A: Allocator + Copy>(
     ensures instance { parts.new.instance ≡ parts.old.instance }
 {
     settle(parts);
-    if parts.code.is_empty() {
-        if let Some(entry) = waiting.take() {
+    if parts.code.is_empty() && waiting.is_some() {
+        enter_last(parts, waiting);
+    }
+}
+
+// Enters the function that waits, where nothing is open and no code is left, and settles. It is a function of its own so that the turns before pay nothing for it.
+#[inline(never)]
+fn enter_last<'a, A: Allocator + Copy>(
+    parts: &mut Parts<'a, A>,
+    waiting: &mut Option<Waiting<'a, A>>,
+)
+    requires counted { IsCounted parts.old }
+    requires at_end { parts.old.code.now ≡ [] }
+    requires none_open { opens_of parts.old.entries.items ≡ [] }
+    requires place { HasEach waiting.old }
+    requires waits { IsSome waiting.old }
+    ensures comes { AllCome parts.old waiting.old parts.new waiting.new }
+    ensures ready { IsReadyParts parts.new }
+    ensures last { waiting.new ≡ None }
+    ensures counted { IsCounted parts.new }
+    ensures instance { parts.new.instance ≡ parts.old.instance }
+{
+    match waiting.take() {
+        Some(entry) => {
             enter_waiting(parts, entry);
             settle(parts);
         }
+        None => unreachable!(),
     }
 }
 

@@ -1,4 +1,4 @@
-use Rattle.std.proofs.Common.{◌≡◌, ◌≤◌, ◌+◌, ◌-◌, true, false, refl, sym, ap, subst, ◌∙◌, arith, ◌∷◌, List, drop}
+use Rattle.std.proofs.Common.{◌≡◌, ◌≤◌, ◌<◌, ℕ, zero, suc, nat_eq, ◌+◌, ◌-◌, true, false, refl, sym, ap, subst, ◌∙◌, arith, ◌∷◌, List, drop}
 use Rattle.wtypes.specs.declared.Value.{Value}
 use Rattle.module_tree.specs.declared.instr.Instr.{Instr}
 use Rattle.sequences.specs.Meaning.{Item, View, IsOrdered}
@@ -34,6 +34,11 @@ pushes_not {A} code op rest f other next =
     let same : Plain op ≡ Plain next.op = ap (λ (x : Item). x.instr) (first_item (sym f.here ∙ there)) in
     let clash : true ≡ false = sym next.pushing ∙ (ap pushes (sym (operator same)) ∙ other) in
     absurd (cc (clash))
+
+-- a number of turns that is not 0
+some_made : (n : ℕ) → nat_eq n 0 ≡ false → 0 < n
+some_made zero e = let clash : true ≡ false = e in absurd (cc (clash))
+some_made (suc n) e = omega arith
 
 pub returns-then-len-capacity-clause-walked : goal.returns-then-len-capacity-clause-walked
 returns-then-len-capacity-clause-walked g c = none _
@@ -116,8 +121,8 @@ pushed-requires g c =
     subst (λ (ls : List Value). IsReadyToPush c.in-Some.op.now ls) (sym c.deref.ensures.value)
     (first_push c.args.lent.now p p.code.now safe (c.requires.ordered (base_of c.args.lent.now)) c.in-Some.op.now c.in-Some.rest.now f)
 
-pub hold-requires-clause-ordered : goal.hold-requires-clause-ordered
-hold-requires-clause-ordered g c =
+pub hold-made-requires-clause-ordered : goal.hold-made-requires-clause-ordered
+hold-made-requires-clause-ordered g c =
     let p = c.args.parts.now in
     let f = c.in-Some.ensures.first in
     let some = items_some p.code.now (first_some p.code.now c.in-Some.op.now c.in-Some.rest.now f) in
@@ -126,8 +131,8 @@ hold-requires-clause-ordered g c =
     let h = subst (λ (ls : List Value). Pushes c.in-Some.op.now ls c.in-Some-pushed.value) c.deref.ensures.value c.in-Some-pushed.ensures.pushed in
     (pushed_first c.args.lent.now p p.code.now safe (c.requires.ordered (base_of c.args.lent.now)) c.in-Some.op.now c.in-Some.rest.now f c.in-Some-pushed.value h).ordered
 
-pub hold-requires-clause-safe : goal.hold-requires-clause-safe
-hold-requires-clause-safe g c =
+pub hold-made-requires-clause-safe : goal.hold-made-requires-clause-safe
+hold-made-requires-clause-safe g c =
     let k = contract_of c.args.lent.now in
     let p = c.args.parts.now in
     let f = c.in-Some.ensures.first in
@@ -149,15 +154,15 @@ returns-in-Some-pushed-clause-walked g c =
     let safe = c.requires.safe 0 v c.requires.some (none v) some in
     let h = subst (λ (ls : List Value). Pushes c.in-Some.op.now ls c.in-Some-pushed.value) c.deref.ensures.value c.in-Some-pushed.ensures.pushed in
     let first = pushed_first c.args.lent.now p p.code.now safe (c.requires.ordered (base_of c.args.lent.now)) c.in-Some.op.now c.in-Some.rest.now f c.in-Some-pushed.value h in
-    walks_join k v _ _ 1 c.hold.result (walks_once k v _ some first) c.hold.ensures.walked
+    walks_join k v _ _ 1 c.hold-made.result.0 (walks_once k v _ some first) c.hold-made.ensures.walked
 
-pub hold-requires-in-None-clause-ordered : goal.hold-requires-in-None-clause-ordered
-hold-requires-in-None-clause-ordered g c =
+pub hold-made-requires-in-None-clause-ordered : goal.hold-made-requires-in-None-clause-ordered
+hold-made-requires-in-None-clause-ordered g c =
     let p = c.args.parts.now in
     subst (λ (s : List Value). IsOrdered (mk (based (base_of c.args.lent.now) p.instance) (opens_of p.entries.items) s p.locals.items (items_of p.code.now))) c.pop_top-value.ensures.items (c.requires.ordered (base_of c.args.lent.now))
 
-pub hold-requires-in-None-clause-safe : goal.hold-requires-in-None-clause-safe
-hold-requires-in-None-clause-safe g c =
+pub hold-made-requires-in-None-clause-safe : goal.hold-made-requires-in-None-clause-safe
+hold-made-requires-in-None-clause-safe g c =
     let p = c.args.parts.now in
     subst (λ (s : List Value). IsSafeFor (contract_of c.args.lent.now) (mk (based (base_of c.args.lent.now) p.instance) (opens_of p.entries.items) s p.locals.items (items_of p.code.now)) c.args.most) c.pop_top-value.ensures.items c.requires.safe
 
@@ -167,5 +172,16 @@ returns-then-not-takes_top-clause-moves g c room next = absurd (pushes_not c.arg
 pub returns-then-is_empty-clause-moves : goal.returns-then-is_empty-clause-moves
 returns-then-is_empty-clause-moves g c room next = absurd (pushes_not c.args.parts.now.code.now c.in-Some.op.now c.in-Some.rest.now c.in-Some.ensures.first (c.in-None.ensures.other refl) next)
 
-pub returns-else-is_empty-clause-moves : goal.returns-else-is_empty-clause-moves
-returns-else-is_empty-clause-moves g c room next = absurd (pushes_not c.args.parts.now.code.now c.in-Some.op.now c.in-Some.rest.now c.in-Some.ensures.first (c.in-None.ensures.other refl) next)
+pub returns-then-ends-clause-ends : goal.returns-then-ends-clause-ends
+returns-then-ends-clause-ends g c goes_on =
+    let clash : true ≡ false = sym c.if-ends.true ∙ goes_on in
+    absurd (cc (clash))
+
+pub returns-then-ends-clause-moves : goal.returns-then-ends-clause-moves
+returns-then-ends-clause-moves g c room next = absurd (pushes_not c.args.parts.now.code.now c.in-Some.op.now c.in-Some.rest.now c.in-Some.ensures.first (c.in-None.ensures.other refl) next)
+
+pub returns-else-ends-clause-ends : goal.returns-else-ends-clause-ends
+returns-else-ends-clause-ends g c = some_made c.hold-made-in-None.result.0
+
+pub returns-else-ends-clause-moves : goal.returns-else-ends-clause-moves
+returns-else-ends-clause-moves g c room next = absurd (pushes_not c.args.parts.now.code.now c.in-Some.op.now c.in-Some.rest.now c.in-Some.ensures.first (c.in-None.ensures.other refl) next)

@@ -52,10 +52,10 @@ strides-preserved g c =
     ] in
     let e = c.begin-more.ensures in
     let le = e.within in
-    record { walked = walks_join k v _ _ c.strides.made c.begin-more.result come e.walked; ordered = e.ordered; counted = e.counted; max = e.max ∙ max; within = let h = c.strides-test.true in omega (arith, le, h); unmoved = let some = c.if-more-eq0.false in λ z. absurd (omega (arith, z, some)) }
+    record { walked = walks_join k v _ _ c.strides.made c.begin-more.result.0 come e.walked; ordered = e.ordered; counted = e.counted; max = e.max ∙ max; within = let h = c.strides-test.true in omega (arith, le, h); unmoved = let some = e.ends c.if-ends.false in λ z. absurd (omega (arith, z, some)) }
 
-pub returns-then-more-eq0-clause-walked : goal.returns-then-more-eq0-clause-walked
-returns-then-more-eq0-clause-walked g c =
+pub returns-then-ends-clause-walked : goal.returns-then-ends-clause-walked
+returns-then-ends-clause-walked g c =
     let k = contract_of c.args.lent.now in
     let b = base_of c.args.lent.now in
     let v : View = view b c.args.parts.now in
@@ -64,18 +64,16 @@ returns-then-more-eq0-clause-walked g c =
           (walks_settled k v _ _ c.strides.made c.strides.invariant.walked (items_some c.args.parts.now.code.now c.requires.some) (ap items_of (nothing_left c.strides.parts.code.now (sym c.is_empty.ensures ∙ w.if-is_empty.true))) (w.settle.ensures.settles k b))
       | else-is_empty w ↦ subst (λ (q : Parts g.row.A.Denot). Walks k v c.strides.made (view b q)) (sym w.parts-is) c.strides.invariant.walked
     ] in
-    let is : c.strides.made + c.begin-more.result ≡ c.strides.made = let z = c.if-more-eq0.true in omega (arith, z) in
-    subst (λ (n : ℕ). Walks k v n (view b c.begin-more.new.parts)) is (walks_join k v _ _ c.strides.made c.begin-more.result come c.begin-more.ensures.walked)
+    walks_join k v _ _ c.strides.made c.begin-more.result.0 come c.begin-more.ensures.walked
 
-pub returns-then-more-eq0-clause-moves : goal.returns-then-more-eq0-clause-moves
-returns-then-more-eq0-clause-moves g c most room next =
-    some_turn c.strides.made
+pub returns-then-ends-clause-moves : goal.returns-then-ends-clause-moves
+returns-then-ends-clause-moves g c most room next =
+    some_turn (c.strides.made + c.begin-more.result.0)
     (λ z.
-    let same : c.strides.parts ≡ c.args.parts.now = c.strides.invariant.unmoved z in
+    let same : c.strides.parts ≡ c.args.parts.now = c.strides.invariant.unmoved (omega (arith, z)) in
     let still : c.if-is_empty.parts ≡ c.args.parts.now = elim c.if-is_empty.branch [
       | then-is_empty w ↦ absurd (c.requires.some (ap (λ (q : Parts g.row.A.Denot). q.code.now) (sym same) ∙ nothing_left c.strides.parts.code.now (sym c.is_empty.ensures ∙ w.if-is_empty.true)))
       | else-is_empty w ↦ w.parts-is ∙ same
     ] in
     let turn = c.begin-more.ensures.moves (subst (λ (q : Parts g.row.A.Denot). vec_len q.stack < vec_capacity q.stack) (sym still) room) (subst (λ (q : Parts g.row.A.Denot). PushesNext q.code.now) (sym still) next) in
-    let zero = c.if-more-eq0.true in
-    omega (arith, turn, zero))
+    omega (arith, turn, z))

@@ -72,11 +72,11 @@ returns-clause-entered g c =
     let cut = c.len.result - c.len-2.result in
     started_view m l.hosts.now l.number l.version v c.args.func f t fine le (c.requires.ordered (base_of l)) eg et cut
     (omega (arith, fits, c.len.ensures, c.len-2.ensures, t.params.ok.0, p.stack.ok.0))
-    _ (open_of (record { kind = Frame c.args.func c.replace-saved.result; ordinal = 0; arity = c.len-3.result; height = cut; from = p.code }))
+    _ (open_of (record { kind = Frame c.args.func c.replace-saved.result; ordinal = 0; arity = c.len-5.result; height = cut; from = p.code }))
     (omega (arith, c.requires.counted.count, c.if-parts-ge-MOST_FRAMES.false)) refl (ap opens_of c.in_ok-push.ensures.items ∙ opens_push p.entries.items _) c.truncate.ensures.items
     (ap items_of c.deref-parts.ensures.value ∙ body_numbered m (c.args.func - length l.hosts.now) f eg m.numbered)
-    (ap (λ v. v.items) c.replace-saved.ensures.after ∙ (c.in_ok-locals.ensures ∙ locals_made zero_of cut v.stack c.deref.result.now f.locals.items c.deref-2.result.now c.deref.ensures.value c.deref-2.ensures.value))
-    (ap (λ ls. frame c.args.func ls) (ap (λ v. v.items) c.replace-saved.ensures.value)) (c.len-3.ensures ∙ t.results.ok.0) refl refl
+    (ap (λ v. v.items) c.replace-saved.ensures.after ∙ (c.fill-locals.ensures ∙ locals_made zero_of cut v.stack c.deref.result.now f.locals.items c.deref-2.result.now c.deref.ensures.value c.deref-2.ensures.value))
+    (ap (λ ls. frame c.args.func ls) (ap (λ v. v.items) c.replace-saved.ensures.value)) (c.len-5.ensures ∙ t.results.ok.0) refl refl
 
 pub returns-clause-counted : goal.returns-clause-counted
 returns-clause-counted g c =
@@ -86,5 +86,5 @@ returns-clause-counted g c =
     let f = c.index-function.result.now in
     let eg = slice_get_read m.funcs.items _ (c.args.func - length l.hosts.now) f refl (call_found m l.hosts.now l.number l.version (view (base_of l) p) c.args.func c.requires.call.fine c.requires.call.defined) c.index-function.ensures in
     let q : Parts g.row.A.Denot = record { code = c.deref-parts.result; entries = c.push.new.self; depth = p.depth + 1; stack = c.truncate.new.self; locals = c.replace-saved.new.dest; instance = p.instance; spare = c.take_room.new.spare } in
-    let e : Entry g.row.A.Denot = record { kind = Frame c.args.func c.replace-saved.result; ordinal = 0; arity = c.len-3.result; height = c.len.result - c.len-2.result; from = p.code } in
+    let e : Entry g.row.A.Denot = record { kind = Frame c.args.func c.replace-saved.result; ordinal = 0; arity = c.len-5.result; height = c.len.result - c.len-2.result; from = p.code } in
     pushed_counted p q e c.in_ok-push.ensures.items c.requires.counted (subst (λ is. AreNumbered is) (sym c.deref-parts.ensures.value) (body_counted m (c.args.func - length l.hosts.now) f eg m.numbered)) c.requires.counted.code refl (omega arith)
