@@ -9,10 +9,7 @@ use Rattle.std.proofs.Crossing as std
 use Rattle.std.proofs.CrossingOver as over
 use Rattle.std.proofs.MapsCrossingOver as maps_over
 use Rattle.spec_ledger.proofs.Entry.TheSendSync as entry
-use Rattle.spec_ledger.proofs.Receipt.TheSendSync as receipt
 use Rattle.spec_ledger.proofs.Version.TheSendSync as version
-use Rattle.std.proofs.option.Option.TheSendSync as option
-use Rattle.std.proofs.result.Result.TheSendSync as result
 use Rattle.schedule.specs.contracts.board.Board as board_row
 use Rattle.std.specs.contracts.vec.Vec as vec_row
 use Rattle.link.specs.contracts.deployed.Deployed as contract_row
@@ -24,8 +21,13 @@ use Rattle.ahead.specs.contracts.Ahead as ahead_row
 use Rattle.lock_profile.specs.contracts.Profile as profile_row
 use Rattle.records.specs.contracts.position.Position as position_row
 use Rattle.serial_block.proofs.Crossing.{crosses, vec_send, vec_sync, contract_sync, contracts_send, cells_sync, finished_send}
-use Rattle.speculation.proofs.Crossing.{share_send, task_sync}
-use Rattle.validator.specs.contracts.copies.Batch as batch_row
+use Rattle.handover.specs.declared.rule.Fact as fact
+use Rattle.handover.specs.contracts.handover.Handover as line_row
+use Rattle.handover.specs.contracts.pass.Pass as pass_row
+use Rattle.handover.proofs.handover.Handover.TheSendSync as line
+use Rattle.handover.proofs.pass.Pass.TheSendSync as pass
+use Rattle.speculation.specs.contracts.Task as task_row
+use Rattle.speculation.proofs.Crossing.{share_send, task_send, task_sync}
 use Rattle.validator.specs.contracts.copies.Batches as batches_row
 use Rattle.validator.specs.contracts.copies.CopyJob as copy_job_row
 use Rattle.validator.specs.contracts.copies.Own as own_row
@@ -33,7 +35,10 @@ use Rattle.validator.specs.contracts.trial.Trial as trial_row
 use Rattle.validator.specs.contracts.job.Made as made_row
 use Rattle.validator.specs.contracts.job.Part as part_row
 use Rattle.validator.specs.contracts.job.Job as job_row
+use Rattle.validator.specs.contracts.ordered.Ordered as ordered_row
+use Rattle.validator.specs.contracts.post.Post as post_row
 use Rattle.validator.specs.contracts.shared.Shared as shared_row
+use Rattle.validator.specs.contracts.supply.Batch as batch_row
 
 module _ (B : RattleType) (g : Ghosts B.Denot) (send : IsSend B) (sync : IsSync B) (frees : Frees g g.dealloc_token) where
   made_send : (a : NamedLft) → IsSend (made_row.the_row a B g)
@@ -49,7 +54,7 @@ module _ (B : RattleType) (g : Ghosts B.Denot) (send : IsSend B) (sync : IsSync 
   profile_sync = let vec = vec_sync B g send sync frees in search (crosses, entry.the_sync, vec) depth 60 fits 100000
 
   position_sync : IsSync (position_row.the_row B g)
-  position_sync = search (crosses, receipt.the_sync, profile_sync) depth 60 fits 100000
+  position_sync = search (crosses, profile_sync) depth 60 fits 100000
 
   board_send : IsSend (board_row.the_row B g)
   board_send = search (sendable, std.crosses, over.crosses, maps_over.crosses) depth 60 fits 100000
@@ -72,7 +77,7 @@ module _ (B : RattleType) (g : Ghosts B.Denot) (send : IsSend B) (sync : IsSync 
           (
             search crosses depth 60 fits 100000,
             (
-              search (crosses, version.the_field_sync, version.the_sync) depth 60 fits 100000,
+              search (crosses, version.the_sync) depth 60 fits 100000,
               (
                 search crosses depth 60 fits 100000,
                 (
@@ -95,40 +100,51 @@ module _ (B : RattleType) (g : Ghosts B.Denot) (send : IsSend B) (sync : IsSync 
       let contracts = contracts_send B g send sync frees in
       search (crosses, over.crosses, vec, contracts, batch_send) depth 60 fits 100000
 
-  -- and the workers may share their job, where they may share the pace
-  pub copy_job_sync : (a b : NamedLft) (P : RattleType) → IsSync P → IsSync (copy_job_row.the_row a b B P g)
-  copy_job_sync a b P pace =
+  -- threads may share the queue of a job
+  line_sync : (a : NamedLft) (F : RattleType) (f : fact.Ghosts F.Denot (task_row.the_row a B g).Denot (batch_row.the_row a B g).Denot) → IsSync (line_row.the_row (task_row.the_row a B g) (batch_row.the_row a B g) F B f g)
+  line_sync a F f = line.the_sync (task_row.the_row a B g) (batch_row.the_row a B g) F B f g (task_send B g send sync frees a) (batch_send a) send (task_sync B g send sync frees a) sync frees
+
+  pass_send : (a : NamedLft) → IsSend (pass_row.the_row (task_row.the_row a B g) (batch_row.the_row a B g))
+  pass_send a = pass.the_send (task_row.the_row a B g) (batch_row.the_row a B g) (task_send B g send sync frees a) (batch_send a)
+
+  -- and a post may go to its thread
+  pub post_send : (a b : NamedLft) → IsSend (post_row.the_row a b B g)
+  post_send a b = declared_send (post_row.the_type a b B g) (search (crosses, line_sync) depth 60 fits 100000, (pass_send b, tt))
+
+  ordered_sync : (a b : NamedLft) → IsSync (ordered_row.the_row a b B g)
+  ordered_sync a b =
       let cells = cells_sync B g send sync frees in
-      declared_sync (copy_job_row.the_type a b B P g) (
+      declared_sync (ordered_row.the_type a b B g) (
         as_row_sync (row_field B) sync,
-        (
-          task_sync B g send sync frees b,
-          (
-            search crosses depth 60 fits 100000,
-            (
-              search (crosses, position_sync) depth 60 fits 100000,
-              (
-                search (crosses, cells) depth 60 fits 100000,
-                (search (sendable, std.crosses) depth 60 fits 100000, (as_row_sync (row_field (ShrRef a.mir a.lft P)) (shr_sync a.mir a.lft P pace), tt)),
-              ),
-            ),
-          ),
-        ),
+        (task_sync B g send sync frees b, (search crosses depth 60 fits 100000, (search (crosses, cells) depth 60 fits 100000, tt))),
       )
 
-  world_sync : IsSync (world_row.the_row B g)
+  pub world_sync : IsSync (world_row.the_row B g)
   world_sync =
       let contracts = vec_sync B g send sync frees (contract_row.the_row B g) (contract_sync B g send sync frees) in
       let cells = cells_sync B g send sync frees in
       declared_sync (world_row.the_type B g) (as_row_sync (row_field (vec_row.the_row (contract_row.the_row B g) B g)) contracts, (as_row_sync (row_field (cells_row.the_row B g)) cells, tt))
 
   block_sync : IsSync (block_row.the_row B g)
-  block_sync = let vec = vec_sync B g send sync frees in search (crosses, vec, version.the_sync, position_sync) depth 60 fits 100000
+  block_sync = let vec = vec_sync B g send sync frees in search (crosses, vec, position_sync) depth 60 fits 100000
 
-  -- the workers may share what they judge
-  pub trial_sync : (a : NamedLft) → IsSync (trial_row.the_row a B g)
+  trial_sync : (a : NamedLft) → IsSync (trial_row.the_row a B g)
   trial_sync a = search (crosses, world_sync, block_sync) depth 60 fits 100000
+
+  -- the workers may share their job, where they may share the pace
+  pub copy_job_sync : (a b : NamedLft) (P : RattleType) → IsSync P → IsSync (copy_job_row.the_row a b B P g)
+  copy_job_sync a b P pace =
+      declared_sync (copy_job_row.the_type a b B P g) (
+        ordered_sync a b,
+        (
+          search (crosses, position_sync) depth 60 fits 100000,
+          (
+            search (crosses, trial_sync) depth 60 fits 100000,
+            (search (sendable, std.crosses) depth 60 fits 100000, (as_row_sync (row_field (ShrRef a.mir a.lft P)) (shr_sync a.mir a.lft P pace), tt)),
+          ),
+        ),
+      )
 
   -- and what one hands back may go to the thread that joins it
   pub own_send : (a : NamedLft) → IsSend (own_row.the_row a B g)
-  own_send a = search (crosses, over.crosses, option.the_send, result.the_send, unfit.the_send, batches_send) depth 60 fits 100000
+  own_send a = search (crosses, over.crosses, unfit.the_send, batches_send) depth 60 fits 100000

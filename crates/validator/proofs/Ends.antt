@@ -1,5 +1,6 @@
 -- The last two reasons, and acceptance.
-use Rattle.std.proofs.Common.{◌≡◌, ◌⊎◌, ℕ, ◌<◌, ◌≤◌, List, subst, ⊎_elim, arith, ◌≢◌}
+use Rattle.std.proofs.Common.{◌≡◌, ◌⊎◌, ℕ, ◌<◌, ◌≤◌, Bool, IsTrue, List, false, true, refl, subst, ⊎_elim, arith, ◌≢◌}
+use Rattle.std.specs.Prelude.{not}
 use Rattle.sha2.specs.Sha256.{sha256}
 use Rattle.spec_ledger.specs.declared.Receipt.{Receipt}
 use Rattle.spec_ledger.specs.declared.Version.{Version}
@@ -48,3 +49,12 @@ module _ (one : (version : Version) (world : World) (calls : List Call) (order :
 -- what was found of the lists that were lent
 pub shown : (P : List Position → List Ran → Type 0) (xs ys : List Position) (rs ss : List Receipt) (ms ns : List Modes) → xs ≡ ys → rs ≡ ss → ms ≡ ns → P xs (ran_of rs ms) → P ys (ran_of ss ns)
 shown P xs ys rs ss ms ns a b c p = subst (λ (t : List Position × (List Receipt × List Modes)). P t.0 (ran_of t.1.0 t.1.1)) (λ k. (a k, (b k, c k))) p
+
+-- a condition that is turned about
+pub is_so : (b : Bool) → not b ≡ false → IsTrue b
+is_so true h = refl
+is_so false h = absurd (cc)
+
+pub is_not_so : (b : Bool) → not b ≡ true → ¬ (IsTrue b)
+is_not_so true h so = absurd (cc)
+is_not_so false h so = absurd (cc)

@@ -2,4 +2,5 @@ pub mod Agreeing
 pub mod Crossing
 pub mod Ends
 pub mod Fits
+pub mod Folds
 pub mod Runs

@@ -1,10 +1,23 @@
--- What a verdict of the code stands for.
-use Rattle.spec_block.specs.Verdicts.{Verdict, Accept}
+-- What a verdict of the code stands for, and what it is found by.
+use Rattle.std.specs.Prelude.{◌≡◌, ◌↔◌, ℕ, List, IfNone, IfSome, IsTrue}
+use Rattle.spec_ledger.specs.declared.Receipt.{Receipt}
+use Rattle.spec_ledger.specs.Modes.{Modes}
+use Rattle.serial.specs.Positions.{positions as ran_of}
+use Rattle.serial_block.specs.Ordered.{used_by}
+use Rattle.spec_block.specs.Worlds.{Block}
+use Rattle.spec_block.specs.Verdicts.{IsLeast, IsOther, Verdict, Accept}
 use Rattle.block_judge.specs.Judging.{told}
 use Rattle.world.specs.Views.{world_view}
+use Rattle.validator.specs.declared.compare.Compared.{Compared}
 use Rattle.validator.specs.declared.verdict.Verdict as code
 use Rattle.validator.specs.declared.verdict.Verdict.TheVariants as verdict
 
 abbrev pub told_by : {A : Type 0} → code.Verdict A → Verdict
 told_by (verdict.Accept w) = Accept (world_view w)
 told_by (verdict.Reject r) = told r
+
+-- how a block stands to calls that came to these receipts and locks
+pub record IsCompared (block : Block) (receipts : List Receipt) (touched : List Modes) (c : Compared) : Type 0 where
+  pub other : IfSome c.deviating (IsLeast (IsOther block.positions (ran_of receipts touched)))
+  pub same : IfNone c.deviating ((position : ℕ) → ¬ (IsOther block.positions (ran_of receipts touched) position))
+  pub total : IsTrue c.is_total ↔ (block.fuel ≡ used_by receipts)

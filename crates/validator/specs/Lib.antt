@@ -1,3 +1,4 @@
+pub mod Folded
 pub mod Handed
 pub mod Judged
 pub mod Tried

@@ -1,13 +1,12 @@
 -- A block that is judged, and what is found of it.
-use Rattle.std.specs.Prelude.{◌≡◌, ◌≤◌, ◌<◌, List, All, IfErr, IfOk, IfSome, OnOk, Result, length}
-use Rattle.spec_execution.specs.Configuration.{Setting}
-use Rattle.spec_execution.specs.Run.{ContractCall}
+use Rattle.std.specs.Prelude.{◌≡◌, ◌≤◌, ◌<◌, All, IfErr, IfOk, OnOk, Result, length}
 use Rattle.spec_block.specs.Worlds.{order_of, profiles_of}
 use Rattle.spec_block.specs.Schedule.{HaveTurns}
 use Rattle.spec_block.specs.Verdicts.{HoldsOf}
 use Rattle.world.specs.Views.{world_view}
 use Rattle.block_judge.specs.declared.reason.Unfit.{Unfit}
 use Rattle.block_judge.specs.Judging.{IfRejected, IsFirstFrom, NoneFrom}
+use Rattle.validator.specs.declared.copies.CopyJob.{CopyJob}
 use Rattle.validator.specs.declared.copies.Own.{Own}
 use Rattle.validator.specs.declared.trial.Trial.{Trial}
 use Rattle.validator.specs.Handed.{AreBatches}
@@ -26,10 +25,7 @@ pub record IsJudged {A U : Type 0} (t : Trial A) (judged : Result U Unfit) : Typ
   pub known : OnOk judged (All (λ number. number < length t.calls.now) (order_of t.block.now))
   pub turns : OnOk judged (HaveTurns (profiles_of t.block.now))
 
--- what a worker hands back: what it found of the block, if it judged it, and calls with their footprints
-pub record IsOwn {A : Type 0} (t : Trial A) (setting : Setting) (calls : List ContractCall) (own : Own A) : Type 0 where
-  pub judged : IfSome own.judged (IsJudged t)
-  pub part : IfOk own.part (λ part. AreBatches setting calls part.batches.items)
-
-abbrev pub AreOwn : {A : Type 0} → Trial A → Setting → List ContractCall → List (Own A) → Type 0
-AreOwn t setting calls owns = All (IsOwn t setting calls) owns
+-- what the worker that judges hands back: what it found of the block, and calls with their footprints
+pub record IsOwn {A P : Type 0} (job : CopyJob A P) (own : Own A) : Type 0 where
+  pub judged : IsJudged job.trial.now own.judged
+  pub part : IfOk own.part (λ part. AreBatches job.ordered.task part.batches.items)

@@ -6,8 +6,9 @@ ghost use Rattle.serial.specs.Positions.{positions as ran_of};
 ghost use Rattle.serial_block.specs.Ordered.{used_by};
 ghost use Rattle.spec_block.specs.Worlds.{held_in};
 ghost use Rattle.spec_block.specs.Verdicts.{Agrees, IsLeast, IsOther};
+ghost use Rattle.validator.specs.Judged.{IsCompared};
 
-use block::Position;
+use block::{Block, Position};
 use lock_profile::{Held, Touched};
 use spec_ledger::{Entry, Receipt};
 use std::alloc::Allocator;
@@ -54,7 +55,7 @@ fn agrees<A: Allocator>(position: &Position<A>, receipt: Receipt, touched: &Touc
 }
 
 /// The least position that does not agree with these receipts and locks.
-pub(crate) fn first_deviating<A: Allocator>(
+fn first_deviating<A: Allocator>(
     positions: &[Position<A>],
     receipts: &[Receipt],
     touched: &[Touched<A>],
@@ -74,7 +75,7 @@ pub(crate) fn first_deviating<A: Allocator>(
 }
 
 /// Whether this is the fuel that calls with these receipts used.
-pub(crate) fn is_total(fuel: u64, receipts: &[Receipt]) -> bool
+fn is_total(fuel: u64, receipts: &[Receipt]) -> bool
     ensures { IsTrue result ↔ (fuel ≡ used_by receipts.now) }
 {
     let mut rest = fuel;
@@ -85,4 +86,30 @@ pub(crate) fn is_total(fuel: u64, receipts: &[Receipt]) -> bool
         }
     }
     rest == 0
+}
+
+/// How what a block says of its calls stands to what they came to.
+#[derive(Clone, Copy, Debug, PartialEq, Eq)]
+pub(crate) struct Compared {
+    /// The least position that does not agree, if one does not.
+    pub(crate) deviating: Option<u32>,
+    /// Whether the block names the fuel that they used.
+    pub(crate) is_total: bool,
+}
+
+/// Compares what a block says of its calls with what they came to, and gives the memory of that back.
+pub(crate) fn compare<A: Allocator>(
+    block: &Block<A>,
+    receipts: Vec<Receipt, A>,
+    touched: Vec<Touched<A>, A>,
+) -> Compared
+    requires few { length block.now.positions < 2 ^ 32 }
+    requires receipts { length receipts.items ≡ length block.now.positions }
+    requires touched { length touched.items ≡ length block.now.positions }
+    ensures { IsCompared block.now receipts.items touched.items result }
+{
+    Compared {
+        deviating: first_deviating(block.positions(), &receipts, &touched),
+        is_total: is_total(block.fuel(), &receipts),
+    }
 }

@@ -1,17 +1,21 @@
 //! The calls of a block that wait for none of the others, each run over a copy of the cells before the block, which nobody else changes and each call leaves
-//! as it was, while the caller judges the block.
+//! as it was, while one of the workers judges the block.
 
 ghost use Rattle.std.specs.Prelude.{◌≡◌, ◌≤◌, ◌<◌, All, IfOk, IfSome, OnOk, length};
-ghost use Rattle.interp.specs.Lent.{setting_view};
-ghost use Rattle.speculation.specs.Shares.{IsCopyOf};
-ghost use Rattle.validator.specs.Handed.{AreBatches, AreShares, IsShare};
-ghost use Rattle.validator.specs.Tried.{AreOwn, IsJudged, IsOwn, IsTrial};
+ghost use Rattle.handover.specs.Passes.{IsPassOf};
+ghost use Rattle.speculation.specs.Shares.{IsCopyOf, IsShareOf};
+ghost use Rattle.validator.specs.Handed.{AreBatches, AreParts, IsPostOf};
+ghost use Rattle.validator.specs.Tried.{IsOwn, IsTrial};
 
 use crate::attempt::told;
+use crate::ordered::Ordered;
+use crate::post::Post;
 use crate::profile::is_first;
+use crate::supply::{BATCH, Batch};
 use crate::trial::Trial;
 use block::Position;
 use block_judge::Unfit;
+use handover::{Fact, Handover, Pass};
 use link::deployed::Deployed as Contract;
 use pace::{Pace, Step};
 use spec_ledger::NoMemory;
@@ -23,28 +27,39 @@ use std::thread;
 use std::thread::Threads;
 use storage::Cells;
 
-/// How many positions a worker takes at a time.
-pub(crate) const BATCH: usize = 16;
+/// Where the workers hand over the batches that they ran.
+pub(crate) type Line<'a, A> = Handover<Task<'a, A>, Batch<'a, A>, Footprints, A>;
+
+/// By what a thread calls there.
+pub(crate) type LinePass<'a, A> = Pass<Task<'a, A>, Batch<'a, A>>;
+
+/// That what is handed over are footprints of calls of the task.
+pub(crate) struct Footprints;
+
+impl<'a, A: Allocator> Fact<Task<'a, A>, Batch<'a, A>> for Footprints {
+    ghost use Rattle.speculation.specs.Shares.{IsShareOf};
+
+    ghost holds = { λ task batch. IsShareOf task batch.share };
+}
 
 /// What the workers share: the calls that a block orders, and the cells before it.
 #[derive(Drop)]
 pub(crate) struct CopyJob<'s, 'a, A: Allocator, P: Pace> {
-    pub(crate) alloc: A,
-    pub(crate) task: Task<'a, A>,
-    pub(crate) order: &'s [u32],
+    pub(crate) ordered: Ordered<'s, 'a, A>,
     pub(crate) positions: &'s [Position<A>],
-    pub(crate) cells: &'s Cells<A>,
+    /// The block that orders them, which one of the workers judges.
+    pub(crate) trial: &'s Trial<'s, A>,
     /// How many batches of positions were drawn.
     pub(crate) drawn: AtomicU64,
     pub(crate) pace: &'s P,
 }
 
-/// Calls of a batch of positions, the last first.
+/// A batch that was run.
 #[derive(Drop)]
-pub(crate) struct Batch<'a, A: Allocator> {
-    /// How many batches come before it.
-    pub(crate) nth: usize,
-    pub(crate) share: Share<'a, A>,
+pub(crate) struct Ran<'a, A: Allocator> {
+    pub(crate) batch: Batch<'a, A>,
+    /// Whether the pace stops the worker.
+    pub(crate) stops: bool,
 }
 
 /// The batches of a worker, and the contracts that the calls ran over. (Without the contracts at their side, it is not known of a list of these that the
@@ -55,57 +70,150 @@ pub(crate) struct Batches<'a, A: Allocator> {
     pub(crate) batches: Vec<Batch<'a, A>, A>,
 }
 
+/// Draws the next batch, if one is left.
+pub(crate) fn draw<A: Allocator + Copy, P: Pace>(job: &CopyJob<'_, '_, A, P>) -> Option<usize> {
+    let nth = job.drawn.fetch_add(1, Ordering::SeqCst) as usize;
+    if nth > job.ordered.order.len() / BATCH {
+        return None;
+    }
+    Some(nth)
+}
+
 /// Runs the calls of a batch that wait for none of the others over a worker's copy. Answers whether the pace stops the worker.
-fn run_batch<A: Allocator + Copy, P: Pace>(
+fn run_calls<A: Allocator + Copy, P: Pace>(
     job: &CopyJob<'_, '_, A, P>,
     copy: &mut Cells<A>,
     nth: usize,
     share: &mut Share<'_, A>,
 ) -> Result<bool, NoMemory>
-    requires known { All (λ number. number < length job.now.task.calls.now) job.now.order.now }
-    requires copy { IsCopyOf job.now.cells.now copy.old }
-    requires share { IsShare (setting_view job.now.task.version job.now.task.contracts.now) job.now.task.calls.now share.old }
-    ensures copy { OnOk result (IsCopyOf job.now.cells.now copy.new) }
-    ensures share { OnOk result (IsShare (setting_view job.now.task.version job.now.task.contracts.now) job.now.task.calls.now share.new) }
+    requires known { All (λ number. number < length job.now.ordered.task.calls.now) job.now.ordered.order.now }
+    requires copy { IsCopyOf job.now.ordered.cells.now copy.old }
+    requires share { IsShareOf job.now.ordered.task share.old }
+    ensures copy { OnOk result (IsCopyOf job.now.ordered.cells.now copy.new) }
+    ensures share { OnOk result (IsShareOf job.now.ordered.task share.new) }
 {
+    let Ordered {
+        alloc,
+        task,
+        order,
+        cells,
+    } = &job.ordered;
     for offset in 0..BATCH {
         let position = nth.saturating_mul(BATCH).saturating_add(offset);
-        if position >= job.order.len() || position >= job.positions.len() {
+        if position >= order.len() || position >= job.positions.len() {
             return Ok(false);
         }
         if !is_first(job.positions[position].profile()) {
             continue;
         }
-        let call = job.order[position];
+        let call = order[position];
         if told(job.pace, Step::Attempt { call, nth: 0 }) {
             return Ok(true);
         }
-        prepare(job.alloc, &job.task, job.cells, copy, call, share)?;
+        prepare(*alloc, task, cells, copy, call, share)?;
     }
     Ok(false)
 }
 
-/// Runs batches, until none is left or the pace stops the worker.
-fn run_batches<'a, A: Allocator + Copy, P: Pace>(
+/// Runs a batch over a worker's copy.
+pub(crate) fn run_batch<'a, A: Allocator + Copy, P: Pace>(
     job: &CopyJob<'_, 'a, A, P>,
     copy: &mut Cells<A>,
-    batches: &mut Vec<Batch<'a, A>, A>,
-) -> Result<(), NoMemory>
-    requires known { All (λ number. number < length job.now.task.calls.now) job.now.order.now }
-    requires copy { IsCopyOf job.now.cells.now copy.old }
-    requires batches { AreBatches (setting_view job.now.task.version job.now.task.contracts.now) job.now.task.calls.now batches.old.items }
-    ensures { OnOk result (AreBatches (setting_view job.now.task.version job.now.task.contracts.now) job.now.task.calls.now batches.new.items) }
+    nth: usize,
+) -> Result<Ran<'a, A>, NoMemory>
+    requires known { All (λ number. number < length job.now.ordered.task.calls.now) job.now.ordered.order.now }
+    requires copy { IsCopyOf job.now.ordered.cells.now copy.old }
+    ensures copy { OnOk result (IsCopyOf job.now.ordered.cells.now copy.new) }
+    ensures batch { IfOk result (λ ran. IsShareOf job.now.ordered.task ran.batch.share) }
 {
-    let last = job.order.len() / BATCH;
-    for _ in 0..job.order.len() {
-        let nth = job.drawn.fetch_add(1, Ordering::SeqCst) as usize;
-        if nth > last {
+    let mut share = begin(job.ordered.alloc, job.ordered.task, BATCH)?;
+    let stops = run_calls(job, copy, nth, &mut share)?;
+    share.prepared.reverse();
+    Ok(Ran {
+        batch: Batch { nth, share },
+        stops,
+    })
+}
+
+/// Gives a batch to the caller, or keeps it where the line is full or another thread is in the way. Answers whether it was given.
+fn give<'a, A: Allocator + Copy, P: Pace>(
+    _job: &CopyJob<'_, 'a, A, P>,
+    post: &mut Post<'_, 'a, A>,
+    batch: Batch<'a, A>,
+    kept: &mut Vec<Batch<'a, A>, A>,
+) -> Result<bool, NoMemory>
+    requires post { IsPostOf _job.now post.old }
+    requires batch { IsShareOf _job.now.ordered.task batch.share }
+    requires kept { AreBatches _job.now.ordered.task kept.old.items }
+    ensures post { IsPostOf _job.now post.new }
+    ensures kept { OnOk result (AreBatches _job.now.ordered.task kept.new.items) }
+{
+    if let Err(back) = post.line.give(&mut post.pass, batch) {
+        kept.push(back)?;
+        return Ok(false);
+    }
+    Ok(true)
+}
+
+/// Hands a batch over, and those that were kept before, as far as it can be done now.
+fn hand_over<'a, A: Allocator + Copy, P: Pace>(
+    job: &CopyJob<'_, 'a, A, P>,
+    post: &mut Post<'_, 'a, A>,
+    batch: Batch<'a, A>,
+    kept: &mut Vec<Batch<'a, A>, A>,
+) -> Result<(), NoMemory>
+    requires post { IsPostOf job.now post.old }
+    requires batch { IsShareOf job.now.ordered.task batch.share }
+    requires kept { AreBatches job.now.ordered.task kept.old.items }
+    ensures post { IsPostOf job.now post.new }
+    ensures kept { OnOk result (AreBatches job.now.ordered.task kept.new.items) }
+{
+    let before = kept.len();
+    let mut next = batch;
+    for _ in 0..before {
+        if !give(job, post, next, kept)? {
             return Ok(());
         }
-        let mut share = begin(job.alloc, job.task, BATCH)?;
-        let stops = run_batch(job, copy, nth, &mut share)?;
-        share.prepared.reverse();
-        batches.push(Batch { nth, share })?;
+        let Some(last) = kept.pop() else {
+            return Ok(());
+        };
+        next = last;
+    }
+    give(job, post, next, kept)?;
+    Ok(())
+}
+
+/// Takes a batch that a worker handed over.
+pub(crate) fn receive<'a, A: Allocator + Copy, P: Pace>(
+    _job: &CopyJob<'_, 'a, A, P>,
+    post: &mut Post<'_, 'a, A>,
+) -> Option<Batch<'a, A>>
+    requires { IsPostOf _job.now post.old }
+    ensures post { IsPostOf _job.now post.new }
+    ensures batch { IfSome result (λ batch. IsShareOf _job.now.ordered.task batch.share) }
+{
+    post.line.take(&mut post.pass)
+}
+
+/// Runs batches and hands them over, until none is left or the pace stops the worker.
+fn run_batches<'a, A: Allocator + Copy, P: Pace>(
+    job: &CopyJob<'_, 'a, A, P>,
+    mut post: Post<'_, 'a, A>,
+    copy: &mut Cells<A>,
+    kept: &mut Vec<Batch<'a, A>, A>,
+) -> Result<(), NoMemory>
+    requires known { All (λ number. number < length job.now.ordered.task.calls.now) job.now.ordered.order.now }
+    requires post { IsPostOf job.now post }
+    requires copy { IsCopyOf job.now.ordered.cells.now copy.old }
+    requires kept { AreBatches job.now.ordered.task kept.old.items }
+    ensures { OnOk result (AreBatches job.now.ordered.task kept.new.items) }
+{
+    for _ in 0..job.ordered.order.len() {
+        let Some(nth) = draw(job) else {
+            return Ok(());
+        };
+        let Ran { batch, stops } = run_batch(job, copy, nth)?;
+        hand_over(job, &mut post, batch, kept)?;
         if stops {
             return Ok(());
         }
@@ -113,180 +221,89 @@ fn run_batches<'a, A: Allocator + Copy, P: Pace>(
     Ok(())
 }
 
-/// Runs batches over a copy of the cells.
+/// Runs batches over a copy of the cells, and answers those that it has not handed over.
 fn work_on_copy<'a, A: Allocator + Copy, P: Pace>(
     job: &CopyJob<'_, 'a, A, P>,
+    post: Post<'_, 'a, A>,
 ) -> Result<Batches<'a, A>, NoMemory>
-    requires { All (λ number. number < length job.now.task.calls.now) job.now.order.now }
-    ensures { IfOk result (λ part. AreBatches (setting_view job.now.task.version job.now.task.contracts.now) job.now.task.calls.now part.batches.items) }
+    requires known { All (λ number. number < length job.now.ordered.task.calls.now) job.now.ordered.order.now }
+    requires post { IsPostOf job.now post }
+    ensures { IfOk result (λ part. AreBatches job.now.ordered.task part.batches.items) }
 {
-    let mut copy = job.cells.copy(job.alloc)?;
-    let mut batches = Vec::new(job.alloc);
-    run_batches(job, &mut copy, &mut batches)?;
+    let alloc = job.ordered.alloc;
+    let mut copy = job.ordered.cells.copy(alloc)?;
+    let mut batches = Vec::new(alloc);
+    run_batches(job, post, &mut copy, &mut batches)?;
     Ok(Batches {
-        contracts: job.task.contracts,
+        contracts: job.ordered.task.contracts,
         batches,
     })
 }
 
-/// What a worker found of the block, if it judged it, and the batches that it ran.
+/// What the worker that judges the block found of it, and the batches that it has not handed over.
 #[derive(Drop)]
 pub(crate) struct Own<'a, A: Allocator> {
-    pub(crate) judged: Option<Result<(), Unfit>>,
+    pub(crate) judged: Result<(), Unfit>,
     pub(crate) part: Result<Batches<'a, A>, NoMemory>,
 }
 
-/// Runs batches over a copy of the cells; the worker of seat 0 judges the block before. Where it is rejected nobody draws a further batch.
-fn work<'a, A: Allocator + Copy, P: Pace>(
+/// Judges the block, and then runs batches over a copy of the cells. Where it is rejected nobody draws a further batch.
+pub(crate) fn judge_and_work<'a, A: Allocator + Copy, P: Pace>(
     job: &CopyJob<'_, 'a, A, P>,
-    trial: &Trial<'_, A>,
-    seat: u32,
+    post: Post<'_, 'a, A>,
 ) -> Own<'a, A>
-    requires known { All (λ number. number < length job.now.task.calls.now) job.now.order.now }
-    requires trial { IsTrial trial.now }
-    ensures { IsOwn trial.now (setting_view job.now.task.version job.now.task.contracts.now) job.now.task.calls.now result }
+    requires known { All (λ number. number < length job.now.ordered.task.calls.now) job.now.ordered.order.now }
+    requires trial { IsTrial job.now.trial.now }
+    requires post { IsPostOf job.now post }
+    ensures { IsOwn job.now result }
 {
-    if seat != 0 {
-        return Own {
-            judged: None,
-            part: work_on_copy(job),
-        };
-    }
-    let judged = trial.judge(job.alloc);
+    let judged = job.trial.judge(job.ordered.alloc);
     if judged.is_err() {
         job.drawn.store(u64::from(u32::MAX), Ordering::SeqCst);
     }
     Own {
-        judged: Some(judged),
-        part: work_on_copy(job),
+        judged,
+        part: work_on_copy(job, post),
     }
 }
 
-/// Runs the workers, each over a copy of its own.
-fn run_workers<'a, R: Threads + Wait + Sync, A: Allocator + Copy + Send + Sync, P: Pace>(
+/// Runs a worker for each post, each over a copy of its own.
+pub(crate) fn run_workers<'a, R: Threads + Wait + Sync, A: Allocator + Copy + Send + Sync, P: Pace>(
     rt: &R,
     job: &CopyJob<'_, 'a, A, P>,
-    trial: &Trial<'_, A>,
-    workers: u32,
-) -> Result<Vec<Own<'a, A>, A>, NoMemory>
-    requires known { All (λ number. number < length job.now.task.calls.now) job.now.order.now }
-    requires trial { IsTrial trial.now }
-    ensures { IfOk result (λ owns. AreOwn trial.now (setting_view job.now.task.version job.now.task.contracts.now) job.now.task.calls.now owns.items) }
+    posts: Vec<Post<'_, 'a, A>, A>,
+) -> Result<Vec<Result<Batches<'a, A>, NoMemory>, A>, NoMemory>
+    requires known { All (λ number. number < length job.now.ordered.task.calls.now) job.now.ordered.order.now }
+    requires posts { All (IsPostOf job.now) posts.items }
+    ensures { IfOk result (λ parts. AreParts job.now.ordered.task parts.items) }
 {
-    let mut seats = Vec::new(job.alloc);
-    for seat in 0..workers {
-        seats.push(seat)?;
-    }
-    let owns = thread::map_vec(
+    let parts = thread::map_vec(
         rt,
-        seats,
-        &|seat: u32| -> Own<A>
-            requires { All (λ number. number < length job.now.task.calls.now) job.now.order.now × IsTrial trial.now }
-            ensures { IsOwn trial.entry.now (setting_view job.entry.now.task.version job.entry.now.task.contracts.now) job.entry.now.task.calls.now result }
-        { work(job, trial, seat) },
+        posts,
+        &|post: Post<A>| -> Result<Batches<A>, NoMemory>
+            requires { All (λ number. number < length job.now.ordered.task.calls.now) job.now.ordered.order.now × IsPostOf job.now post }
+            ensures { IfOk result (λ part. AreBatches job.entry.now.ordered.task part.batches.items) }
+        { work_on_copy(job, post) },
     )?;
-    Ok(owns)
+    Ok(parts)
 }
 
-/// Puts a batch in its place.
-fn place<'a, A: Allocator + Copy, P: Pace>(
-    _job: &CopyJob<'_, 'a, A, P>,
-    shares: &mut Vec<Share<'a, A>, A>,
-    batch: Batch<'a, A>,
-)
-    requires shares { AreShares (setting_view _job.now.task.version _job.now.task.contracts.now) _job.now.task.calls.now shares.old.items }
-    requires batch { IsShare (setting_view _job.now.task.version _job.now.task.contracts.now) _job.now.task.calls.now batch.share }
-    ensures { AreShares (setting_view _job.now.task.version _job.now.task.contracts.now) _job.now.task.calls.now shares.new.items }
-{
-    let Batch { nth, share } = batch;
-    if nth < shares.len() {
-        shares[nth] = share;
-    }
-}
-
-/// Puts the batches of a worker in their places.
-fn place_all<'a, A: Allocator + Copy, P: Pace>(
+/// A post for each of so many workers.
+pub(crate) fn make_posts<'l, 'a, A: Allocator + Copy, P: Pace>(
     job: &CopyJob<'_, 'a, A, P>,
-    shares: &mut Vec<Share<'a, A>, A>,
-    mut batches: Vec<Batch<'a, A>, A>,
-)
-    requires shares { AreShares (setting_view job.now.task.version job.now.task.contracts.now) job.now.task.calls.now shares.old.items }
-    requires batches { AreBatches (setting_view job.now.task.version job.now.task.contracts.now) job.now.task.calls.now batches.items }
-    ensures { AreShares (setting_view job.now.task.version job.now.task.contracts.now) job.now.task.calls.now shares.new.items }
+    line: &'l Line<'a, A>,
+    own: &mut LinePass<'a, A>,
+    count: u32,
+) -> Result<Vec<Post<'l, 'a, A>, A>, NoMemory>
+    requires task { line.now.key ≡ job.now.ordered.task }
+    requires own { IsPassOf line.now own.old }
+    ensures own { IsPassOf line.now own.new }
+    ensures posts { IfOk result (λ posts. All (IsPostOf job.now) posts.items) }
 {
-    while let Some(batch) = batches.pop() {
-        place(job, shares, batch);
+    let mut posts = Vec::new(job.ordered.alloc);
+    for _ in 0..count {
+        let pass = line.another(own);
+        posts.push(Post { line, pass })?;
     }
-}
-
-/// Puts the batches of all workers in their places, and gives what one found of the block. A want of memory of one is that of all.
-fn take_in<'a, A: Allocator + Copy, P: Pace>(
-    job: &CopyJob<'_, 'a, A, P>,
-    _trial: &Trial<'_, A>,
-    shares: &mut Vec<Share<'a, A>, A>,
-    mut owns: Vec<Own<'a, A>, A>,
-) -> Result<Option<Result<(), Unfit>>, NoMemory>
-    requires shares { AreShares (setting_view job.now.task.version job.now.task.contracts.now) job.now.task.calls.now shares.old.items }
-    requires owns { AreOwn _trial.now (setting_view job.now.task.version job.now.task.contracts.now) job.now.task.calls.now owns.items }
-    ensures shares { OnOk result (AreShares (setting_view job.now.task.version job.now.task.contracts.now) job.now.task.calls.now shares.new.items) }
-    ensures judged { IfOk result (λ found. IfSome found (IsJudged _trial.now)) }
-{
-    let mut found = None;
-    while let Some(own) = owns.pop() {
-        place_all(job, shares, own.part?.batches);
-        if own.judged.is_some() {
-            found = own.judged;
-        }
-    }
-    Ok(found)
-}
-
-/// A share of no calls for each batch of positions.
-fn no_shares<'a, A: Allocator + Copy, P: Pace>(
-    job: &CopyJob<'_, 'a, A, P>,
-) -> Result<Vec<Share<'a, A>, A>, NoMemory>
-    ensures { IfOk result (λ shares. AreShares (setting_view job.now.task.version job.now.task.contracts.now) job.now.task.calls.now shares.items) }
-{
-    let mut shares = Vec::new(job.alloc);
-    for _ in 0..job.order.len() / BATCH + 1 {
-        shares.push(begin(job.alloc, job.task, 0)?)?;
-    }
-    Ok(shares)
-}
-
-/// What was found of a block, and what its calls that wait for none of the others came to.
-#[derive(Drop)]
-pub(crate) struct Beside<'a, A: Allocator> {
-    pub(crate) judged: Result<(), Unfit>,
-    /// By batches of positions, the last first.
-    pub(crate) shares: Vec<Share<'a, A>, A>,
-}
-
-/// Judges a block while so many workers, of which the one that judges it is one, run those of its calls that wait for none of the others. A call
-/// has no share whose worker the pace stopped before it.
-pub(crate) fn judge_beside<
-    'a,
-    R: Threads + Wait + Sync,
-    A: Allocator + Copy + Send + Sync,
-    P: Pace,
->(
-    rt: &R,
-    job: &CopyJob<'_, 'a, A, P>,
-    trial: &Trial<'_, A>,
-    workers: u32,
-) -> Result<Beside<'a, A>, NoMemory>
-    requires known { All (λ number. number < length job.now.task.calls.now) job.now.order.now }
-    requires trial { IsTrial trial.now }
-    ensures judged { IfOk result (λ beside. IsJudged trial.now beside.judged) }
-    ensures shares { IfOk result (λ beside. AreShares (setting_view job.now.task.version job.now.task.contracts.now) job.now.task.calls.now beside.shares.items) }
-{
-    let owns = run_workers(rt, job, trial, workers)?;
-    let mut shares = no_shares(job)?;
-    let found = take_in(job, trial, &mut shares, owns)?;
-    shares.reverse();
-    let judged = match found {
-        Some(judged) => judged,
-        None => trial.judge(job.alloc),
-    };
-    Ok(Beside { judged, shares })
+    Ok(posts)
 }

@@ -3,20 +3,24 @@
 ghost use Rattle.std.specs.Prelude.{◌≡◌, ◌≤◌, ◌↔◌, ℕ, List, IfOk, IsTrue, length};
 ghost use Rattle.serial.specs.Positions.{positions as ran_of};
 ghost use Rattle.spec_block.specs.Worlds.{Call as TheCall};
+ghost use Rattle.sha2.specs.Sha256.{sha256};
+ghost use Rattle.spec_block.specs.Bytes.{world_bytes};
 ghost use Rattle.spec_block.specs.Blocks.{world_after as after};
 ghost use Rattle.spec_block.specs.Verdicts.{HoldsOf, RunOf};
 ghost use Rattle.block_judge.specs.Judging.{IsFirstFrom};
 ghost use Rattle.world.specs.Views.{world_view};
-ghost use Rattle.validator.specs.Judged.{told_by};
+ghost use Rattle.validator.specs.Judged.{IsCompared, told_by};
 
-use crate::compare::{first_deviating, is_total};
+use crate::compare::{Compared, compare};
 use crate::verdict::Verdict;
 use block::Block;
 use block_judge::Reason;
+use lock_profile::Touched;
 use serial::Core;
 use serial_block::copied;
-use spec_ledger::NoMemory;
+use spec_ledger::{NoMemory, Receipt};
 use std::alloc::Allocator;
+use std::thread::{Threads, join};
 use storage::Cells;
 use world::{World, digest_world};
 
@@ -37,12 +41,49 @@ fn world_after<A: Allocator + Copy>(
     Ok(World::new(copied(alloc, world.contracts())?, cells))
 }
 
+/// Compares what a block says of its calls with what they came to, and gives the digest of the world after them, each of the two by a thread of its own where
+/// there are two workers or more.
+fn compare_and_digest<R: Threads + Sync, A: Allocator + Copy + Send + Sync>(
+    rt: &R,
+    alloc: &A,
+    block: &Block<A>,
+    receipts: Vec<Receipt, A>,
+    touched: Vec<Touched<A>, A>,
+    next: &World<A>,
+    workers: u32,
+) -> Result<(Compared, [u8; 32]), NoMemory>
+    requires few { length block.now.positions ≤ 65535 }
+    requires receipts { length receipts.items ≡ length block.now.positions }
+    requires touched { length touched.items ≡ length block.now.positions }
+    ensures compared { IfOk result (λ r. IsCompared block.now receipts.items touched.items r.0) }
+    ensures digest { IfOk result (λ r. r.1 ≡ sha256 (world_bytes (world_view next.now))) }
+{
+    if workers < 2 {
+        let compared = compare(block, receipts, touched);
+        let digest = digest_world(*alloc, next)?;
+        return Ok((compared, digest));
+    }
+    let (digest, compared) = join(
+        rt,
+        move || -> Result<[u8; 32], NoMemory>
+            ensures { IfOk result (λ digest. digest ≡ sha256 (world_bytes (world_view next.entry.now))) }
+        { digest_world(*alloc, next) },
+        move || -> Compared
+            requires { (length block.now.positions ≤ 65535) × (length receipts.items ≡ length block.now.positions) × (length touched.items ≡ length block.now.positions) }
+            ensures { IsCompared block.entry.now receipts.items touched.items result }
+        { compare(block, receipts, touched) },
+    );
+    Ok((compared, digest?))
+}
+
 /// The verdict on a block whose order came to `core`, which none of the first seven reasons speaks against.
-pub(crate) fn conclude<A: Allocator + Copy>(
+pub(crate) fn conclude<R: Threads + Sync, A: Allocator + Copy + Send + Sync>(
+    rt: &R,
     alloc: A,
     world: &World<A>,
     block: &Block<A>,
     core: Core<A>,
+    workers: u32,
 ) -> Result<Verdict<A>, NoMemory>
     requires few { length block.now.positions ≤ 65535 }
     requires receipts { length core.receipts.items ≡ length block.now.positions }
@@ -50,14 +91,21 @@ pub(crate) fn conclude<A: Allocator + Copy>(
     ensures { IfOk result (λ verdict. (calls : List TheCall) (fuel : ℕ) → RunOf (world_view world.now) calls block.now (ran_of core.receipts.items core.touched.items) core.cells.cells → IsFirstFrom (HoldsOf (world_view world.now) calls fuel block.now) 8 (told_by verdict)) }
 {
     spec_block::one_serial_run();
-    if let Some(position) = first_deviating(block.positions(), &core.receipts, &core.touched) {
+    let Core {
+        receipts,
+        touched,
+        cells,
+    } = core;
+    let next = world_after(alloc, world, cells)?;
+    let (compared, digest) = compare_and_digest(
+        rt, &alloc, block, receipts, touched, &next, workers,
+    )?;
+    if let Some(position) = compared.deviating {
         return Ok(Verdict::Reject(Reason::Deviates(position)));
     }
-    if !is_total(block.fuel(), &core.receipts) {
+    if !compared.is_total {
         return Ok(Verdict::Reject(Reason::WrongEnd));
     }
-    let next = world_after(alloc, world, core.cells)?;
-    let digest = digest_world(alloc, &next)?;
     if !is_digest(block.after(), &digest) {
         return Ok(Verdict::Reject(Reason::WrongEnd));
     }

@@ -6,7 +6,6 @@ use interp::finished::Finished;
 use link::deployed::Deployed as Contract;
 use pace::Pace;
 use spec_ledger::Version;
-use speculation::Share;
 use std::alloc::Allocator;
 
 /// What the workers share: the calls that a block orders, and what it publishes of them by position.
@@ -47,13 +46,4 @@ pub(crate) struct Came<'a, A: Allocator> {
 pub(crate) struct Part<'a, A: Allocator> {
     pub(crate) contracts: &'a [Contract<A>],
     pub(crate) made: Vec<Made<'a, A>, A>,
-}
-
-/// What workers over copies prepared, handed out in the order of the block.
-#[derive(Drop)]
-pub(crate) struct Supply<'a, A: Allocator> {
-    /// The calls of the batch of positions at which the order is, the last first.
-    pub(crate) share: Share<'a, A>,
-    /// Those of the batches behind it, the last first.
-    pub(crate) later: Vec<Share<'a, A>, A>,
 }

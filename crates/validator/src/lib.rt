@@ -9,13 +9,17 @@ mod copies;
 mod end;
 mod fold;
 mod job;
+mod leading;
+mod ordered;
+mod post;
 mod profile;
 mod shared;
+mod supply;
 mod trial;
 mod verdict;
 mod workers;
 
-ghost use Rattle.std.specs.Prelude.{◌≡◌, ◌≤◌, ◌<◌, ◌↔◌, ℕ, All, IfErr, IfOk, IsTrue, length};
+ghost use Rattle.std.specs.Prelude.{◌≡◌, ◌≤◌, ◌<◌, ◌↔◌, ℕ, All, IfErr, IfOk, IfSome, IsTrue, length};
 ghost use Rattle.spec_block.specs.Worlds.{order_of, profiles_of};
 ghost use Rattle.spec_block.specs.Bytes.{SpellsBlock};
 ghost use Rattle.spec_block.specs.Schedule.{HaveTurns};
@@ -24,14 +28,16 @@ ghost use Rattle.spec_block.specs.Verdicts.{HoldsOf, IsVerdictOf};
 ghost use Rattle.interp.specs.Lent.{setting_view};
 ghost use Rattle.block_judge.specs.Judging.{IfRejected, IsFirstFrom};
 ghost use Rattle.world.specs.Views.{world_view};
-ghost use Rattle.validator.specs.Handed.{AreShares};
+ghost use Rattle.validator.specs.Folded.{IsLed, IsLedOf};
 ghost use Rattle.validator.specs.Judged.{told_by};
 ghost use Rattle.validator.specs.Tried.{IsJudged, IsTrial};
 
-use crate::copies::{Beside, CopyJob, judge_beside};
+use crate::copies::CopyJob;
 use crate::end::conclude;
-use crate::fold::{fold, open_supply};
+use crate::fold::{Folding, fold};
 use crate::job::Job;
+use crate::leading::{Beside, Led, judge_beside, open_led};
+use crate::ordered::Ordered;
 use crate::trial::Trial;
 pub use crate::verdict::Verdict;
 use crate::workers::{Runners, run_ahead, runners_of};
@@ -40,7 +46,8 @@ pub use block_judge::Reason;
 use block_judge::{Unfit, numbers_of, spelled_by};
 use call::Call;
 use pace::Pace;
-use speculation::{Share, Task};
+use serial::Core;
+use speculation::Task;
 use std::alloc::{Allocator, Global};
 use std::sync::Wait;
 use std::sync::atomic::AtomicU64;
@@ -78,30 +85,48 @@ fn judge_and_prepare<'a, R: Threads + Wait + Sync, A: Allocator + Copy + Send + 
     workers: u32,
 ) -> Result<Beside<'a, A>, NoMemory>
     requires trial { IsTrial trial.now }
+    requires order { job.now.order.now ≡ order_of trial.now.block.now }
     requires workers { 1 ≤ workers }
     ensures judged { IfOk result (λ beside. IsJudged trial.now beside.judged) }
-    ensures shares { IfOk result (λ beside. AreShares (setting_view job.now.version job.now.contracts.now) job.now.calls.now beside.shares.items) }
+    ensures led { IfOk result (λ beside. IfSome beside.led (IsLed (setting_view job.now.version job.now.contracts.now) job.now.calls.now job.now.order.now (world_view trial.now.world.now).cells)) }
 {
     if runners != Runners::Copying || !are_known(job.order, job.calls.len()) {
         return Ok(Beside {
             judged: trial.judge(job.alloc),
-            shares: Vec::new(job.alloc),
+            led: None,
         });
     }
     let copy_job = CopyJob {
-        alloc: job.alloc,
-        task: Task {
-            contracts: job.contracts,
-            calls: job.calls,
-            version: job.version,
+        ordered: Ordered {
+            alloc: job.alloc,
+            task: Task {
+                contracts: job.contracts,
+                calls: job.calls,
+                version: job.version,
+            },
+            order: job.order,
+            cells: trial.world.cells(),
         },
-        order: job.order,
         positions: job.positions,
-        cells: trial.world.cells(),
+        trial,
         drawn: AtomicU64::new(0),
         pace: job.pace,
     };
-    judge_beside(rt, &copy_job, trial, workers)
+    judge_beside(rt, &copy_job, workers)
+}
+
+/// What was folded; where nobody folded, nothing is.
+fn led_so_far<'a, A: Allocator + Copy>(
+    ordered: &Ordered<'_, 'a, A>,
+    led: Option<Led<'a, A>>,
+) -> Result<Led<'a, A>, NoMemory>
+    requires { IfSome led (IsLedOf ordered.now) }
+    ensures { IfOk result (IsLedOf ordered.now) }
+{
+    match led {
+        Some(led) => Ok(led),
+        None => open_led(ordered, 0),
+    }
 }
 
 /// Runs the calls of a block that passes so far, and compares what they come to with what it says.
@@ -109,7 +134,7 @@ fn run<'a, R: Threads + Wait + Sync, A: Allocator + Copy + Send + Sync, P: Pace>
     rt: &R,
     job: &Job<'_, 'a, A, P>,
     trial: &Trial<'_, A>,
-    shares: Vec<Share<'a, A>, A>,
+    led: Option<Led<'a, A>>,
     runners: Runners,
     workers: u32,
 ) -> Result<Validated<A>, NoMemory>
@@ -120,20 +145,37 @@ fn run<'a, R: Threads + Wait + Sync, A: Allocator + Copy + Send + Sync, P: Pace>
     requires few { length trial.now.block.now.positions ≤ 65535 }
     requires known { All (λ number. number < length job.now.calls.now) job.now.order.now }
     requires turns { HaveTurns (profiles_of trial.now.block.now) }
-    requires shares { AreShares (setting_view job.now.version job.now.contracts.now) job.now.calls.now shares.items }
+    requires led { IfSome led (IsLed (setting_view job.now.version job.now.contracts.now) job.now.calls.now job.now.order.now (world_view trial.now.world.now).cells) }
     requires workers { 1 ≤ workers }
     ensures verdict { IfOk result (λ v. (fuel : ℕ) → IsFirstFrom (HoldsOf (world_view trial.now.world.now) trial.now.calls.now fuel trial.now.block.now) 8 (told_by v.verdict)) }
     ensures again { IfOk result (λ v. v.again ≤ length trial.now.block.now.positions) }
 {
     let cells = trial.world.cells();
     let runs = run_ahead(rt, job, cells, runners, workers)?;
-    let supply = open_supply(job, shares)?;
-    let folded = fold(job, cells, &runs, supply)?;
-    let verdict = conclude(job.alloc, trial.world, trial.block, folded.core)?;
-    Ok(Validated {
-        verdict,
-        again: folded.again,
-    })
+    let ordered = Ordered {
+        alloc: job.alloc,
+        task: Task {
+            contracts: job.contracts,
+            calls: job.calls,
+            version: job.version,
+        },
+        order: job.order,
+        cells,
+    };
+    let Led { folding, supply } = led_so_far(&ordered, led)?;
+    let Folding {
+        receipts,
+        touched,
+        cells: after,
+        again,
+    } = fold(&ordered, &runs, supply, folding)?;
+    let core = Core {
+        receipts,
+        touched,
+        cells: after,
+    };
+    let verdict = conclude(rt, job.alloc, trial.world, trial.block, core, workers)?;
+    Ok(Validated { verdict, again })
 }
 
 /// The verdict on a block that was read.
@@ -158,9 +200,9 @@ fn verdict_of<R: Threads + Wait + Sync, A: Allocator + Copy + Send + Sync, P: Pa
         pace,
     };
     let runners = runners_of(&job, trial.world.cells(), trial.block.fuel(), workers);
-    let Beside { judged, shares } = judge_and_prepare(rt, &job, trial, runners, workers)?;
+    let Beside { judged, led } = judge_and_prepare(rt, &job, trial, runners, workers)?;
     match judged {
-        Ok(()) => run(rt, &job, trial, shares, runners, workers),
+        Ok(()) => run(rt, &job, trial, led, runners, workers),
         Err(Unfit::Rejected(reason)) => Ok(Validated {
             verdict: Verdict::Reject(reason),
             again: 0,

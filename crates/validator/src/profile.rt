@@ -1,6 +1,6 @@
 //! The profiles of a block's positions, and what a position's call may ask for.
 
-ghost use Rattle.std.specs.Prelude.{◌≡◌, IfOk};
+ghost use Rattle.std.specs.Prelude.{◌≡◌, ◌≤◌, IfOk};
 ghost use Rattle.spec_ledger.specs.Modes.{mode_of};
 ghost use Rattle.block_judge.specs.Turned.{lists_of};
 
@@ -46,6 +46,19 @@ pub(crate) fn is_first<A: Allocator>(profile: &Profile<A>) -> bool {
         }
     }
     true
+}
+
+/// How many groups hold one after another the lock that the most do. The calls take no fewer waves, whoever runs them.
+pub(crate) fn most_groups<A: Allocator>(positions: &[Position<A>]) -> u64
+    ensures { result ≤ 4294967296 }
+{
+    let mut last = 0u32;
+    for position in positions {
+        for entry in position.profile().entries() {
+            last = last.max(entry.turn);
+        }
+    }
+    u64::from(last) + 1
 }
 
 /// The mode that an operation asks for.

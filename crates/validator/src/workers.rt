@@ -8,7 +8,7 @@ ghost use Rattle.validator.specs.Handed.{AreFound, AreMade, ArePartsMade, IsMade
 
 use crate::attempt::attempt;
 use crate::job::{Came, Job, Made, Part};
-use crate::profile::{is_first, profiles_of};
+use crate::profile::{is_first, most_groups, profiles_of};
 use crate::shared::Shared;
 use ahead::Ahead;
 use block::Position;
@@ -314,7 +314,9 @@ pub(crate) fn runners_of<A: Allocator + Copy, P: Pace>(
         Runners::Sharing
     } else if copies_pay(job, cells, fuel, workers) {
         Runners::Copying
-    } else if are_long(least_mean(workers), count as u32, fuel) {
+    } else if are_long(least_mean(workers), count as u32, fuel)
+        && are_wide(count as u32, most_groups(job.positions))
+    {
         Runners::Sharing
     } else {
         Runners::Nobody

@@ -7,7 +7,7 @@ use Rattle.validator.proofs.fold.execute_by_footprint.Goals as goal
 
 pub returns-clause-executed : goal.returns-clause-executed
 returns-clause-executed g c =
-    let job = c.args.job.now in
+    let task = c.args.ordered.now.task in
     let is : c.in-Some.prepared.call ≡ c.args.number = omega (arith, c.if-prepared-number.false) in
-    subst (λ number. IfSome c.in_ok-executed.executed (λ e. (call : ContractCall) → slice_get job.calls.now number ≡ Some call → Executes (setting_view job.version job.contracts.now) call c.args.cells.now.cells c.follow.new.cells.cells e.receipt e.touched)) is
+    subst (λ number. IfSome c.in_ok-executed.executed (λ e. (call : ContractCall) → slice_get task.calls.now number ≡ Some call → Executes (setting_view task.version task.contracts.now) call c.args.cells.now.cells c.follow.new.cells.cells e.receipt e.touched)) is
     c.in_ok-executed.ensures.executed

@@ -1,0 +1,7 @@
+use Rattle.speculation.specs.Shares.{IsCopyOf}
+use Rattle.validator.specs.Folded.{IsLedOf}
+use Rattle.validator.specs.Handed.{IsPostOf}
+use Rattle.validator.proofs.leading.lead.Given as goal
+
+abbrev pub invariant-loop : goal.invariant-loop
+invariant-loop g l = record { post : IsPostOf l.job l.post; copy : IsCopyOf l.job.ordered.cells.now l.copy; led : IsLedOf l.job.ordered l.led }
