@@ -25,6 +25,19 @@ const APART: &Row = &Row {
     again: 0,
 };
 
+/// A call on each of 512 cells, so long that one worker has a copy.
+const ALONE: &Row = &Row {
+    name: "a long call on each cell",
+    calls: 512,
+    cells: 512,
+    others: 0,
+    rounds: 555,
+    workers: 1,
+    by: Who::OnCopies,
+    validated: Who::OnCopies,
+    again: 0,
+};
+
 /// A byte of the block, the number that takes its place, and the reason that holds then: the digests stand at 8 and 40, the numbers of the calls and what is
 /// said of them from 76 on (`docs/REFERENCE.md`).
 const CHANGES: &[(usize, u8, Reason)] = &[
@@ -49,7 +62,7 @@ fn judged<R: Threads + Wait + Sync>(
     if workers < 1 {
         return Err(Fail::from("outside the conditions"));
     }
-    let world = world_of(alloc, APART.others)?;
+    let world = world_of(alloc, 0)?;
     let pace = counting(false);
     let Ok(found) = find_verdict(rt, alloc, &world, calls, AMPLE, bytes, workers, &pace) else {
         return Err(Fail::from("refused"));
@@ -82,6 +95,21 @@ fn what_needs_no_run_is_found_beside_the_runs(rt: HostRuntime) -> Result<(), Fai
         equal(&rt, at, &found, &Some(*reason));
         let runs = matches!(reason, Reason::WrongWorld | Reason::WrongCalls);
         equal(&rt, at, &(who == Who::OnCopies), &runs);
+    }
+    Ok(())
+}
+
+/// One worker runs no call of a block before it has judged it.
+#[test]
+fn one_worker_judges_before_it_runs(rt: HostRuntime) -> Result<(), Fail> {
+    let calls = calls_of(rt.alloc(), ALONE, "spin")?;
+    let bytes = block_of(&rt, rt.alloc(), ALONE, &calls)?;
+    let came = judged(&rt, rt.alloc(), &calls, &bytes, ALONE.workers)?;
+    equal(&rt, &ALONE.name, &came, &(None, ALONE.validated));
+    for (at, byte, reason) in CHANGES {
+        let other = changed(rt.alloc(), &bytes, *at, *byte)?;
+        let came = judged(&rt, rt.alloc(), &calls, &other, ALONE.workers)?;
+        equal(&rt, at, &came, &(Some(*reason), Who::Caller));
     }
     Ok(())
 }
