@@ -222,7 +222,7 @@ fn rejected<'a, A: Allocator + Copy>(
     }
 }
 
-/// Runs a live attempt to its end.
+/// Runs a live attempt to its end. A call without fuel for its first instruction is answered before an instance is made.
 fn play<'a, A: Allocator + Copy, R: Wait, P: Pace>(
     rt: &R,
     job: &Job<'_, 'a, A, P>,
@@ -234,6 +234,9 @@ fn play<'a, A: Allocator + Copy, R: Wait, P: Pace>(
 {
     let call = &job.calls[number as usize];
     let _limit = call.fuel();
+    if let Some(finished) = Finished::without_fuel(job.alloc, job.contracts, call, Version::Two) {
+        return Ok(finished);
+    }
     match Machine::start(job.alloc, job.contracts, call) {
         Ok(machine) => run(rt, job, ticket, number, machine),
         Err(StartRefusal::NoMemory) => Err(Stop::NoMemory),

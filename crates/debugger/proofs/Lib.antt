@@ -4,3 +4,4 @@ pub mod Undoing
 pub mod Replies
 pub mod Keeping
 pub mod Spacing
+pub mod Places

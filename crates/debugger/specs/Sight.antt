@@ -1,5 +1,5 @@
 -- What a debugger's session shows.
-use Rattle.std.specs.Prelude.{◌≡◌, ℕ, ◌==◌, List, Option, Some, None, if◌then◌else◌, length, refl}
+use Rattle.std.specs.Prelude.{◌≡◌, ℕ, ◌==◌, List, Option, Some, None, IsSome, if◌then◌else◌, length, refl}
 use Rattle.std.specs.Coded.{Coded, code_by, coded×, coded_ℕ, coded_list}
 use Rattle.wtypes.specs.declared.Value.{Value}
 use Rattle.spec_ledger.specs.contracts.Step as step
@@ -60,6 +60,10 @@ config_at s = shown s.config.inner.contract s.call.fuel s.turns s.config.inner.c
 -- the function and the ordinal of the instruction to come
 abbrev pub place_at : Sight → Option (ℕ × ℕ)
 place_at s = place_of (config_at s)
+
+-- Each state has ended, or else an instruction is to come, and its place is shown.
+abbrev pub StatesHavePlaces : Type 0
+StatesHavePlaces = (s : Sight) → IsSight s → ending_at s ≡ None → IsSome (place_at s)
 
 -- the number of the contract that the innermost level runs, and how many levels are around it
 abbrev pub contract_at : Sight → ℕ

@@ -2,6 +2,8 @@
 //! of each state. A turn is one charged move of whichever level is the innermost, with the free ones that follow it.
 #![tactic(auto)]
 
+ghost use Rattle.debugger.specs.Sight.{StatesHavePlaces};
+
 mod breaks;
 mod cursor;
 mod kept;
@@ -10,3 +12,10 @@ mod undo;
 
 /// A contract, as the machine takes it.
 pub use link::deployed::Deployed as Contract;
+
+/// A law: each state of a session has ended, or else an instruction is to come, and its place is shown.
+pub fn states_have_places()
+    ensures { StatesHavePlaces }
+{
+    soundness::places_are_of_what_comes();
+}

@@ -6,7 +6,7 @@ ghost use Rattle.spec_execution.specs.Run.{opening};
 ghost use Rattle.spec_execution.specs.Levels.{asks_in};
 ghost use Rattle.interp.specs.Lent.{setting_view};
 ghost use Rattle.interp.specs.Progress.{NextIs, IsFree, IsProgress, IsAwaited, HasAnswered, IsFinishOf, IsUnfinished, IsStartOf};
-ghost use Rattle.interp.specs.Starting.{IsRefusedFor, HasPlace, wrong_in, IsOpened, IsRejection};
+ghost use Rattle.interp.specs.Starting.{IsRefusedFor, HasPlace, wrong_in, IsOpened, IsRejection, LacksFuel, IsWithoutFuel};
 
 use call::Call;
 use interp::finished::Finished;
@@ -105,4 +105,17 @@ pub fn rejected<'a, A: Allocator + Copy>(
     ensures none { IfNone result (IsOpened (opening (setting_view version contracts.now) call.now)) }
 {
     Finished::rejected(alloc, contracts, call, version)
+}
+
+/// As [`interp::finished::Finished::without_fuel`].
+pub fn without_fuel<'a, A: Allocator + Copy>(
+    alloc: A,
+    contracts: &'a [Deployed<A>],
+    call: &'a Call,
+    version: Version,
+) -> Option<Finished<'a, A>>
+    ensures some { IfSome result (λ f. IsWithoutFuel (setting_view version contracts.now) call.now f) }
+    ensures none { IfNone result (¬ LacksFuel (setting_view version contracts.now) call.now) }
+{
+    Finished::without_fuel(alloc, contracts, call, version)
 }

@@ -1,11 +1,11 @@
 -- What the innermost level does, among those around it, and where it pauses.
-use Rattle.std.proofs.Common.{◌≡◌, ℕ, ℤ, List, [], ◌∷◌, refl, ap, ◌∙◌}
+use Rattle.std.proofs.Common.{◌≡◌, ℕ, ℤ, List, [], ◌∷◌, refl, ap}
 use Rattle.wtypes.specs.declared.Value.{Value}
 use Rattle.wtypes.specs.declared.TrapCode.{TrapCode}
 use Rattle.spec_ledger.specs.declared.Step.{Step}
 use Rattle.spec_ledger.specs.declared.Step.TheVariants.{Kept, Dropped}
 use Rattle.spec_ledger.specs.declared.Outcome.TheVariants.{Returned, Trapped}
-use Rattle.spec_execution.specs.Configuration.{Setting, Contract, State, Seq, Config, Running, Trap}
+use Rattle.spec_execution.specs.Configuration.{Setting, State, Config, Running, Trap}
 use Rattle.spec_execution.specs.Reduction.{Of, Ask, Answer, Next, Goes, Traps, Asks, Branches, Returns, Ended, Stuck}
 use Rattle.spec_execution.specs.Run.{next, Reduces, result_of}
 use Rattle.spec_execution.specs.Turns as one

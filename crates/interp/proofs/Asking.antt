@@ -26,7 +26,7 @@ use Rattle.sequences.specs.Calls.{HasEntered}
 use Rattle.sequences.specs.Hosting.{arity_of, host_room, host_asks}
 use Rattle.interp.specs.Progress as progress_of
 use Rattle.interp.specs.Progress.{Pauses, IsAsking, HasMoved, HasStepped, HasAsked, HasAnswered, AnsweredAt, NextIs}
-use Rattle.interp.specs.Machine.{Seen, on, first_of, levels, config_of, progress, Reaches, IsWaiting, IsAt, IsMachine, IsCalling, IsSame, IsStarted, HasStarted, IsAskedFor, HasGoneOn, HasAskedFor, params_of, going_on, value_of_reply}
+use Rattle.interp.specs.Machine.{Seen, on, first_of, levels, config_of, progress, Reaches, IsWaiting, IsAt, IsMachine, IsCalling, IsStarted, HasStarted, IsAskedFor, HasGoneOn, HasAskedFor, params_of, going_on, value_of_reply}
 use Rattle.interp.specs.Asked.{args_taken}
 use Rattle.sequences.specs.Charging.{Stands_at, put-append}
 use Rattle.sequences.specs.Tails.{joined, with_tail, joined_next}

@@ -14,7 +14,7 @@ use Rattle.spec_syntax.specs.Syntax.{FuncType, Module}
 use Rattle.spec_syntax.specs.Profile.{host_type}
 use Rattle.spec_typing.specs.Modules.{StartTyped}
 use Rattle.spec_typing.specs.Linking.{IsLinked}
-use Rattle.spec_execution.specs.Configuration.{Setting, Deployed, Contract, Function, Hosted, defined, function_at, function_type, State, Seq, End, Invoke, Config, Running, arguments, fresh}
+use Rattle.spec_execution.specs.Configuration.{Setting, Deployed, Contract, Hosted, defined, function_at, function_type, State, Seq, End, Invoke, Config, Running, arguments, fresh}
 use Rattle.spec_execution.specs.Run.{ContractCall, opening, Opens, after_start, first, result_of}
 use Rattle.spec_execution.specs.Levels.{Level, Levels, by_next, first_level, no_answer, Reached, at_first, IsSafe}
 use Rattle.spec_execution.specs.Turning.{FreeMoves, Rests, to_come, ended}
@@ -45,7 +45,7 @@ use Rattle.frames.specs.Views.{opens_of, items_of}
 use Rattle.frames.specs.Views.{view as view_parts}
 use Rattle.interp.specs.Lent.{contract_view, contracts_view}
 use Rattle.interp.specs.Progress.{IsStartOf}
-use Rattle.interp.specs.Machine.{Seen, on, levels, config_of, first_config, progress, first_of, IsAt, IsLive, IsMachine, IsCalling, IsSame, HasStarted, IsBegunAs, HasBegun}
+use Rattle.interp.specs.Machine.{Seen, on, levels, config_of, first_config, progress, first_of, IsAt, IsLive, IsMachine, IsCalling, HasStarted, IsBegunAs, HasBegun}
 use Rattle.sequences.specs.Joining.{stuck_joined, at_rest}
 use Rattle.sequences.specs.Finding.{read_at}
 use Rattle.interp.proofs.Turning.{innermost, by_frees, never_stuck}

@@ -12,7 +12,7 @@ use Rattle.spec_execution.specs.Levels.{Level, Levels, Move, On, Over, Nowhere, 
 use Rattle.interp.specs.declared.turns.Status.{Status}
 use Rattle.interp.specs.declared.turns.Status.TheVariants as status
 use Rattle.interp.specs.Progress.{IsLeftNext, IsToStop, GoesOn, mark_of}
-use Rattle.interp.specs.Machine.{Seen, on, levels, config_at, config_of, progress, IsMachine, IsLeaving}
+use Rattle.interp.specs.Machine.{Seen, levels, config_at, config_of, progress, IsMachine, IsLeaving}
 use Rattle.sequences.specs.Meaning.{Item, config, state}
 use Rattle.sequences.specs.Plain.{onto}
 use Rattle.sequences.specs.Tails.{with_tail}

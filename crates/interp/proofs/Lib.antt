@@ -15,6 +15,8 @@ pub mod Counting
 pub mod Wishing
 pub mod Pushing
 mod LeftNext
+pub mod Unfuelled
+pub mod Bodies
 pub mod Outermost
 pub mod OuterLevel
 pub mod Fresh

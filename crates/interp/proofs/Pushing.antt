@@ -1,6 +1,6 @@
 -- A level is entered: the one that has asked waits, and a fresh one is the innermost.
-use Rattle.std.proofs.Common.{◌≡◌, ℕ, ℤ, ◌+◌, ◌≤◌, Bool, true, false, nat_lt, List, [], ◌∷◌, ◌++◌, length, refl, sym, ap, ap₂, ◌∙◌, subst, arith, length-append, Option, Some, None, slice_get}
-use Rattle.std.specs.Prelude.{if◌then◌else◌, option_map, Vec, vec_len, vec_capacity}
+use Rattle.std.proofs.Common.{◌≡◌, ℕ, ℤ, ◌+◌, ◌≤◌, Bool, true, false, nat_lt, List, [], ◌∷◌, ◌++◌, length, refl, sym, ap, ap₂, ◌∙◌, subst, arith, Option, Some, None, slice_get}
+use Rattle.std.specs.Prelude.{if◌then◌else◌, option_map, Vec}
 use Rattle.std.proofs.lemmas.Bool.{ltb-false}
 use Rattle.wtypes.specs.declared.Value.{Value}
 use Rattle.wtypes.specs.declared.Value.TheVariants.{I64}
@@ -8,12 +8,10 @@ use Rattle.wtypes.specs.declared.HostCall.{HostCall}
 use Rattle.spec_ledger.specs.declared.Step.{Step}
 use Rattle.spec_ledger.specs.declared.Step.TheVariants.{Opened}
 use Rattle.spec_syntax.specs.Syntax.{FuncType, Func}
-use Rattle.spec_execution.specs.Configuration as spec
-use Rattle.spec_execution.specs.Configuration.{Setting, Contract, Function, Hosted, Defined, function_at}
+use Rattle.spec_execution.specs.Configuration.{Setting, Contract, Function, Hosted, Defined}
 use Rattle.spec_execution.specs.Run.{Opens}
 use Rattle.spec_execution.specs.Levels.{asked, asks_in}
 use Rattle.link.specs.declared.deployed.Deployed.{Deployed}
-use Rattle.link.specs.Parts.{hosts_of}
 use Rattle.opening.specs.Views.{contract_of}
 use Rattle.opening.proofs.Entering.{asked_for}
 use Rattle.frames.specs.Waiting.{IsEntry}
@@ -26,7 +24,7 @@ use Rattle.interp.specs.declared.turns.Status.TheVariants as status
 use Rattle.interp.specs.declared.turns.Turn.TheVariants as turn
 use Rattle.interp.specs.declared.run.Run.{Run}
 use Rattle.interp.specs.declared.run.Level.{Level}
-use Rattle.interp.specs.Progress.{Progress, IsSameCall}
+use Rattle.interp.specs.Progress.{IsSameCall}
 use Rattle.interp.specs.Machine.{Seen, progress, IsBegunAs, HasBegun, HasGoneOn}
 use Rattle.interp.specs.Run.{seen, levels_of, waiting_level, pushed_run, HasPushed, IsAround, AreAround, IsToEnter, IsFreshLevel, IsBegun, IsFirst, IsKept, IsToCall}
 use Rattle.interp.proofs.Around.{levels_push, around_push}

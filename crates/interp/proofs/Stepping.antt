@@ -1,11 +1,11 @@
 -- Turns that step, one after another.
-use Rattle.std.proofs.Common.{◌≡◌, ℕ, ◌+◌, ◌<◌, ◌≤◌, refl, sym, ◌∙◌, subst, arith}
+use Rattle.std.proofs.Common.{◌≡◌, ◌<◌, ◌≤◌, refl, sym, ◌∙◌, subst, arith}
 use Rattle.interp.specs.declared.turns.Status.{Status}
 use Rattle.interp.specs.declared.turns.Status.TheVariants as status
 use Rattle.interp.specs.declared.turns.Turn.{Turn}
 use Rattle.interp.specs.declared.turns.Turn.TheVariants as turn
-use Rattle.interp.specs.Progress.{Progress, NextIs, HasStepped, IsTold, IsToldAt, IsSameCall, WantsMemory, MayTakeMemory, GoesOn, IsFree}
-use Rattle.interp.specs.Machine.{Seen, on, progress, IsAt, IsMachine}
+use Rattle.interp.specs.Progress.{Progress, NextIs, IsToldAt, IsSameCall, WantsMemory, MayTakeMemory, GoesOn, IsFree}
+use Rattle.interp.specs.Machine.{Seen, IsAt, IsMachine}
 use Rattle.interp.specs.Going.{AreSteps, none, one_more, HasTurned}
 
 pub free_of : (x : Status) → GoesOn x → IsFree x

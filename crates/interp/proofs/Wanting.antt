@@ -1,14 +1,14 @@
 -- The instruction to come, where memory may be refused for it.
-use Rattle.std.proofs.Common.{◌≡◌, ◌≢◌, ◌≤◌, ℕ, List, [], ◌∷◌, take, drop, refl, sym, ap, ◌∙◌, subst, arith, Option, Some}
+use Rattle.std.proofs.Common.{◌≡◌, ◌≢◌, ℕ, List, [], ◌∷◌, take, drop, refl, sym, ap, ◌∙◌, subst, arith}
 use Rattle.wtypes.specs.declared.Value.{Value}
 use Rattle.spec_execution.specs.Configuration as c
 use Rattle.spec_execution.specs.Configuration.{Seq, End, Val, Code}
 use Rattle.interp.specs.declared.turns.Status.{Status}
 use Rattle.interp.specs.declared.turns.Status.TheVariants as status
-use Rattle.sequences.specs.Meaning.{Item, Scope, Block, Loop, Frame, Open, put, outer, item, height, around, whole, sequence, state, config, listed}
-use Rattle.sequences.specs.Tails.{joined, with_tail}
+use Rattle.sequences.specs.Meaning.{Item, Scope, Block, Loop, Frame, Open, put, outer, item, height, around, whole, sequence, listed}
+use Rattle.sequences.specs.Tails.{joined}
 use Rattle.execute.specs.Steps.{MayTake}
-use Rattle.interp.specs.Progress.{instr_in, instr_of, MayTakeMemory}
+use Rattle.interp.specs.Progress.{instr_in, MayTakeMemory}
 use Rattle.interp.specs.Machine.{Seen, on, progress, IsMachine}
 use Rattle.interp.proofs.Showing.{Stops, stops_whole}
 use Rattle.interp.proofs.Turning.{live_of}

@@ -10,7 +10,7 @@ use Rattle.interp.specs.declared.turns.Turn.{Turn}
 use Rattle.interp.specs.declared.turns.Turn.TheVariants as turn
 use Rattle.interp.specs.declared.run.Run.{Run}
 use Rattle.interp.specs.Progress.{Progress, IsSameCall}
-use Rattle.interp.specs.Machine.{Seen, progress, IsCalling, IsSame, HasAskedFor}
+use Rattle.interp.specs.Machine.{Seen, progress, HasAskedFor}
 use Rattle.interp.specs.Run.{seen, IsToCall, IsWished}
 use Rattle.interp.proofs.Asking.{wish_room, wish_asks}
 

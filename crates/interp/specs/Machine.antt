@@ -14,7 +14,7 @@ use Rattle.spec_ledger.specs.declared.Outcome.TheVariants.{Returned, Trapped, Ou
 use Rattle.spec_execution.specs.Configuration.{Setting, Contract, Seq, End, Config, Running, Trap, fresh}
 use Rattle.spec_execution.specs.Reduction.{Of, Asks, replied}
 use Rattle.spec_execution.specs.Run.{ContractCall, opening, Opens, next, after_start}
-use Rattle.spec_execution.specs.Levels.{Level, Levels, On, move, back_to, first_level, IsChargedMove, Reached, IsRun, IsSafe}
+use Rattle.spec_execution.specs.Levels.{Level, Levels, move, back_to, first_level, IsChargedMove, Reached, IsRun, IsSafe}
 use Rattle.spec_execution.specs.Turns.{Frees, IsAtRest}
 use Rattle.interp.specs.declared.turns.Status.{Status}
 use Rattle.interp.specs.declared.turns.Status.TheVariants as status

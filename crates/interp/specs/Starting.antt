@@ -1,8 +1,10 @@
 -- Whether a call starts.
-use Rattle.std.specs.Prelude.{◌≡◌, ℕ, List, [], Option, Some, None, slice_get, option_and_then}
-use Rattle.spec_ledger.specs.declared.Outcome.TheVariants.{Rejected}
-use Rattle.spec_execution.specs.Configuration.{Setting}
+use Rattle.std.specs.Prelude.{◌≡◌, ◌≢◌, ℕ, [], Option, Some, slice_get, option_and_then, unwrap_or}
+use Rattle.spec_syntax.specs.Syntax.{nothing}
+use Rattle.spec_ledger.specs.declared.Outcome.TheVariants.{OutOfFuel, Rejected}
+use Rattle.spec_execution.specs.Configuration.{Setting, Contract}
 use Rattle.spec_execution.specs.Run.{ContractCall, Opening, Opens, Refused, opening}
+use Rattle.spec_execution.specs.Places.{body_of}
 use Rattle.opening.specs.Views.{wrong_of}
 use Rattle.interp.specs.declared.start.StartRefusal.{StartRefusal}
 use Rattle.interp.specs.declared.start.StartRefusal.TheVariants.{NoContract, NoExport, NotFunction, ArgCount, ArgType, NoMemory}
@@ -40,3 +42,28 @@ pub record IsRejection (setting : Setting) (call : ContractCall) (f : Played) : 
   pub code : ℕ
   pub outcome : f.outcome ≡ Rejected code
   pub refused : opening setting call ≡ Refused code
+
+-- ---- calls without fuel
+
+-- the number of the function that runs first in a call of this one: the start function's, or else its own
+abbrev pub first_to_run : Contract → ℕ → ℕ
+first_to_run c func = unwrap_or c.deployed.tree.start func
+
+-- The call opens, and the function that runs first has an instruction.
+abbrev pub HasCode : Opening → Type 0
+HasCode (Opens c func) = body_of c (first_to_run c func) ≢ nothing
+HasCode (Refused code) = ⊥
+
+-- The call has no fuel for its first instruction.
+pub record LacksFuel (setting : Setting) (call : ContractCall) : Type 0 where
+  pub code : HasCode (opening setting call)
+  pub no_fuel : call.fuel ≡ 0
+
+-- the empty run of such a call
+pub record IsWithoutFuel (setting : Setting) (call : ContractCall) (f : Played) : Type 0 where
+  pub lent : f.setting ≡ setting
+  pub call_is : f.call ≡ call
+  pub trace : f.trace ≡ []
+  pub used : f.used ≡ 0
+  pub outcome : f.outcome ≡ OutOfFuel
+  pub lacks : LacksFuel setting call

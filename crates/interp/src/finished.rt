@@ -3,12 +3,13 @@ ghost use Rattle.std.specs.Prelude.{◌≡◌, Some, option_map, IfSome, IfNone}
 ghost use Rattle.spec_execution.specs.Run.{opening};
 ghost use Rattle.spec_execution.specs.Levels.{asks_in};
 ghost use Rattle.interp.specs.Played.{IsPlayed};
-ghost use Rattle.interp.specs.Starting.{IsOpened, IsRejection};
+ghost use Rattle.interp.specs.Starting.{IsOpened, IsRejection, LacksFuel, IsWithoutFuel};
 ghost use Rattle.interp.specs.Lent.{setting_view};
 
-use crate::start::open_call;
+use crate::start::{Opened, has_code, open_call};
 use call::Call;
 use link::deployed::Deployed;
+use soundness::deployed_calls_are_safe;
 use spec_ledger::{Outcome, Step, Version};
 use std::alloc::Allocator;
 use std::marker::Model;
@@ -86,6 +87,32 @@ impl<'a, A: Allocator + Copy> Finished<'a, A> {
                 Some(Finished::of(contracts, call, Vec::new(alloc), outcome, 0, 0, version))
             }
         }
+    }
+
+    /// The empty run of a call that has no fuel for its first instruction, and is out of fuel. None where the call has
+    /// fuel, does not open, or runs a function first that has no instruction: the start function, where the module has one,
+    /// or else the entry. Makes no instance, and takes no memory.
+    pub fn without_fuel(
+        alloc: A,
+        contracts: &'a [Deployed<A>],
+        call: &'a Call,
+        version: Version,
+    ) -> Option<Finished<'a, A>>
+        ensures some { IfSome result (λ f. IsWithoutFuel (setting_view version contracts.now) call.now f) }
+        ensures none { IfNone result (¬ LacksFuel (setting_view version contracts.now) call.now) }
+    {
+        if call.fuel() != 0 {
+            return None;
+        }
+        let Ok(Opened { deployed, func }) = open_call(contracts, call) else {
+            return None;
+        };
+        if !has_code(deployed, func) {
+            return None;
+        }
+        deployed_calls_are_safe();
+        let trace = Vec::new(alloc);
+        Some(Finished::of(contracts, call, trace, Outcome::OutOfFuel, 0, 0, version))
     }
 
     /// The contracts.

@@ -1,15 +1,19 @@
 // Whether a call starts.
-ghost use Rattle.std.specs.Prelude.{◌≡◌, ℕ, ◌≤◌, Option, length, IfOk, IfErr};
+ghost use Rattle.std.specs.Prelude.{◌≡◌, ◌↔◌, ℕ, ◌≤◌, Option, length, IfOk, IfErr, IsTrue};
+ghost use Rattle.spec_execution.specs.Configuration.{function_at};
+ghost use Rattle.spec_execution.specs.Places.{body_of_function};
 ghost use Rattle.spec_execution.specs.Run.{opening, Opens, Refused};
+ghost use Rattle.module_tree.specs.View.{instrs_view};
 ghost use Rattle.link.specs.Parts.{hosts_of};
 ghost use Rattle.opening.specs.Views as opening_views;
-ghost use Rattle.opening.specs.Views.{code_of, contract_of};
+ghost use Rattle.opening.specs.Views.{code_of, contract_of, deployed_view};
 ghost use Rattle.spec_ledger.specs.declared.Version.{Version};
 ghost use Rattle.interp.specs.Lent.{setting_view};
-ghost use Rattle.interp.specs.Starting.{IsRefusedFor, HasPlace, wrong_in};
+ghost use Rattle.interp.specs.Starting.{IsRefusedFor, HasPlace, HasCode, wrong_in};
 
 use call::Call;
 use link::deployed::Deployed;
+use module_tree::instr::Instr;
 use opening::{Refusal, entry_of};
 use std::alloc::Allocator;
 use thiserror::Error;
@@ -75,5 +79,32 @@ pub(crate) fn open_call<'a, A: Allocator + Copy>(
     match entry_of(deployed, call) {
         Ok(func) => Ok(Opened { deployed, func }),
         Err(refusal) => Err(refusal),
+    }
+}
+
+// Whether the function that runs first has an instruction, in a call that opens with this one: the start function, where
+// the module has one, or else the entry.
+pub(crate) fn has_code<A: Allocator>(deployed: &Deployed<A>, func: u32) -> bool
+    ensures { (version : Version) (number : ℕ) → IsTrue result ↔ HasCode (Opens (contract_of version number deployed.now) func) }
+{
+    let tree = deployed.module();
+    let first = tree.start.unwrap_or(func);
+    !body_of(deployed, first).is_empty()
+}
+
+// The instructions of a function of the module's own, imports counted first. There are none where it is no such function.
+fn body_of<'a, A: Allocator>(deployed: &'a Deployed<A>, func: u32) -> &'a [Instr<A>]
+    ensures { instrs_view result.now ≡ body_of_function (function_at (deployed_view deployed.now) func) }
+{
+    let tree = deployed.module();
+    let Some(own) = (func as usize).checked_sub(deployed.hosts().len()) else {
+        return &[];
+    };
+    let Some(function) = tree.funcs.get(own) else {
+        return &[];
+    };
+    match tree.types.get(function.type_index as usize) {
+        Some(_) => &function.body,
+        None => &[],
     }
 }

@@ -120,7 +120,7 @@ fn rejected<'a, A: Allocator + Copy>(
 }
 
 /// Runs a call over the cells by the rules of this version, and answers its run with the inverses of its operations, first to last. After want of
-/// memory the cells are as they were.
+/// memory the cells are as they were. A call without fuel for its first instruction is answered before an instance is made.
 pub(crate) fn play<'a, A: Allocator + Copy>(
     alloc: A,
     contracts: &'a [Contract<A>],
@@ -132,6 +132,9 @@ pub(crate) fn play<'a, A: Allocator + Copy>(
     ensures ok { IfOk result (λ r. IsPlayedOver (setting_view version contracts.now) call.now cells.old r.0 cells.new r.1.items) }
     ensures err { OnErr result (cells.new ≡ cells.old) }
 {
+    if let Some(finished) = Finished::without_fuel(alloc, contracts, call, version) {
+        return Ok((finished, Vec::new(alloc)));
+    }
     match Machine::start_as(alloc, contracts, call, version) {
         Ok(machine) => run(alloc, machine, cells),
         Err(StartRefusal::NoMemory) => Err(NoMemory),

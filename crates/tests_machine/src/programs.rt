@@ -373,6 +373,29 @@ pub const EMPTY_START: [u8; 51] = [
 // The same for this text:
 //
 //     (module
+//       (func $again (export "again") (return))
+//       (func $empty (export "empty"))
+//       (start $empty))
+
+pub const NOTHING_AT_THE_START: [u8; 51] = [
+    0, 97, 115, 109, 1, 0, 0, 0, 1, 4, 1, 96, 0, 0, 3, 3, 2, 0, 0, 7, 17, 2, 5, 97, 103, 97, 105,
+    110, 0, 0, 5, 101, 109, 112, 116, 121, 0, 1, 8, 1, 1, 10, 8, 2, 3, 0, 15, 11, 2, 0, 11,
+];
+
+// The same for this text:
+//
+//     (module
+//       (func (export "again") (return))
+//       (func (export "empty")))
+
+pub const NO_START: [u8; 48] = [
+    0, 97, 115, 109, 1, 0, 0, 0, 1, 4, 1, 96, 0, 0, 3, 3, 2, 0, 0, 7, 17, 2, 5, 97, 103, 97, 105,
+    110, 0, 0, 5, 101, 109, 112, 116, 121, 0, 1, 10, 8, 2, 3, 0, 15, 11, 2, 0, 11,
+];
+
+// The same for this text:
+//
+//     (module
 //       (memory 1)
 //       (data (i32.const 8) "")
 //       (func (export "put") (i32.store8 (i32.const 0) (i32.const 1))))

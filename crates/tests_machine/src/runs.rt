@@ -5,8 +5,10 @@ use crate::assertions::equal;
 use crate::machines::{DEEP, End, contracts_of, run, run_as};
 use crate::programs::{
     COUNTDOWN, DECLARED_BETWEEN, DECLARED_BEYOND, ELEMENTS, EMPTY_START, ENDLESS_START, EXPORTS,
-    FALLING, GROWTH, IMPORTED_ELEMENTS, LARGE_AT_FIRST, PAGES, REUSED, ROWS, SIGNS, STARTED,
+    FALLING, GROWTH, IMPORTED_ELEMENTS, LARGE_AT_FIRST, NO_START, NOTHING_AT_THE_START, PAGES,
+    REUSED, ROWS, SIGNS, STARTED,
 };
+use interp::finished::Finished;
 use interp::machine::Machine;
 use interp::start::StartRefusal;
 use link::deployed::Deployed;
@@ -460,4 +462,51 @@ fn the_start_function_uses_the_fuel_of_the_call(rt: HostRuntime) -> Result<(), F
     assert_endings(&rt, alloc, &FALLING, &[], &FUEL_OF_FALLING)?;
     assert_endings(&rt, alloc, &ENDLESS_START, &[], &FUEL_OF_AN_ENDLESS_START)?;
     assert_endings(&rt, alloc, &EMPTY_START, &[], &FUEL_OF_AN_EMPTY_START)
+}
+
+// A module, an export of it without arguments, and whether its call without fuel is answered before an instance is made.
+type Unfuelled<'b> = (&'b [u8], &'b str, bool);
+
+const UNFUELLED: [Unfuelled; 8] = [
+    (&EXPORTS, "fac10", true),
+    (&NO_START, "again", true),
+    (&NO_START, "empty", false),
+    // the start function has instructions
+    (&STARTED, "empty", true),
+    (&EMPTY_START, "empty", true),
+    // it has none
+    (&NOTHING_AT_THE_START, "again", false),
+    (&NOTHING_AT_THE_START, "empty", false),
+    // nothing is exported under the name
+    (&STARTED, "nothing", false),
+];
+
+// What is answered before an instance is made is what a machine comes to.
+fn assert_unfuelled(rt: &impl Abort, alloc: Global, row: &Unfuelled) -> Result<(), Fail> {
+    let (module, name, is_answered) = *row;
+    let contracts = contracts_of(alloc, &[module])?;
+    let call = call(alloc, 0, name, &[], 0)?;
+    let answered = Finished::without_fuel(alloc, &contracts, &call, Version::Two);
+    equal(rt, &name, &answered.is_some(), &is_answered);
+    if let Some(finished) = answered {
+        let expected = run(alloc, &contracts, &call)?;
+        equal(rt, &name, &finished.outcome(), &expected.outcome());
+        equal(rt, &name, &finished.used(), &expected.used());
+        equal(rt, &name, &finished.asks(), &expected.asks());
+        equal(rt, &name, &finished.trace(), &expected.trace());
+    }
+    Ok(())
+}
+
+#[test]
+fn a_call_without_fuel_makes_no_instance(rt: HostRuntime) -> Result<(), Fail> {
+    let alloc = rt.alloc();
+    for row in &UNFUELLED {
+        assert_unfuelled(&rt, alloc, row)?;
+    }
+    let contracts = contracts_of(alloc, &[&EXPORTS])?;
+    let call = call(alloc, 0, "fac10", &[], 1)?;
+    let answered = Finished::without_fuel(alloc, &contracts, &call, Version::Two);
+    equal(&rt, &"with fuel", &answered.is_none(), &true);
+    Ok(())
 }

@@ -1,4 +1,4 @@
-use Rattle.std.proofs.Common.{ap, ◌∙◌, sym, true≢false, length, refl, subst, false}
+use Rattle.std.proofs.Common.{ap, ◌∙◌, sym, true≢false, length, refl, subst}
 use Rattle.std.specs.Prelude.{◌==◌}
 use Rattle.interp.specs.Progress.{GoesOn}
 use Rattle.interp.specs.Run.{seen}
