@@ -1,7 +1,7 @@
 //! What the workers of a validator share: lanes of positions, and the cells ahead of the fold.
 
 ghost use Rattle.std.specs.Prelude.{◌≡◌, ◌≤◌, ◌++◌, ◌∷◌, [], All, IfErr, IfNone, IfOk, IfSome, OnErr, OnOk, length, replicate};
-ghost use Rattle.lanes.specs.Lanes.{HasStolen, IsNewPair};
+ghost use Rattle.lanes.specs.Lanes.{HasStolen, IsNewPair, LeadToOthers};
 ghost use Rattle.spec_ledger.specs.Cells.{reply_to};
 ghost use Rattle.ahead.specs.Changing.{acted, ended, done_at, back_to};
 
@@ -19,6 +19,7 @@ pub fn lanes<A: Allocator + Copy>(
 ) -> Result<Vec<(Lane<A>, Thief<A>), A>, NoMemory>
     ensures size { IfOk result (λ pairs. length pairs.items ≡ workers) }
     ensures new { IfOk result (λ pairs. All IsNewPair pairs.items) }
+    ensures others { IfOk result (λ pairs. LeadToOthers pairs.items) }
 {
     lanes::lanes(alloc, workers)
 }

@@ -1,6 +1,6 @@
 //! The book in shards.
 
-ghost use Rattle.std.specs.Prelude.{◌≡◌, ◌≤◌, ◌⊎◌, ◌↔◌, ◌++◌, ◌∷◌, ℕ, [], Err, IfErr, IfOk, OnErr, OnOk, false, length, replicate, slice_set, true};
+ghost use Rattle.std.specs.Prelude.{◌≡◌, ◌≤◌, ◌⊎◌, ◌++◌, ◌∷◌, ℕ, [], Err, IfErr, IfOk, OnErr, OnOk, false, length, replicate, slice_set, true};
 ghost use Rattle.std.specs.List.{AllByRecursion};
 ghost use Rattle.spec_ledger.specs.Book.{AreDistinct, Content, IsDefined, call_is_new, settled};
 ghost use Rattle.spec_ledger.specs.Cells.{lock_of};
@@ -10,7 +10,7 @@ ghost use Rattle.spec_shards.specs.Shards.{shard_of};
 ghost use Rattle.journal.specs.Journals.{Begins, Commits, IsLive, Journal as TheJournal};
 ghost use Rattle.shard.specs.Shard.{HasToWait, IsOver, IsReady, Shard as TheShard};
 ghost use Rattle.shards.specs.Taking.{HasOtherSteps, HoldsOfAShard, HoldsOfTheJournal};
-ghost use Rattle.shards.specs.Marks.{IsOutside, closing};
+ghost use Rattle.shards.specs.Marks.{IsOutside, closing, marks_of};
 ghost use Rattle.spec_ledger.specs.declared.Step.TheVariants as TheStep;
 ghost use Rattle.std.specs.FinMap as finite;
 
@@ -86,7 +86,8 @@ pub fn leave<G: Gate, A: Allocator + Copy>(
 ) -> Result<(), LeaveRefusal>
     ensures ok { OnOk result (HoldsOfTheJournal (λ old. IsLive old ticket.old.call ticket.old.number)) }
     ensures stale { result ≡ Err LeaveRefusal.Stale → HoldsOfTheJournal (λ old. ¬ (IsLive old ticket.old.call ticket.old.number)) }
-    ensures not_entered { (result ≡ Err LeaveRefusal.NotEntered) ↔ IsOutside ticket.old.marks }
+    ensures not_entered { result ≡ Err LeaveRefusal.NotEntered → IsOutside ticket.old.marks × HoldsOfTheJournal (λ old. IsLive old ticket.old.call ticket.old.number) }
+    ensures inside { OnOk result (¬ (IsOutside ticket.old.marks)) }
     ensures mark { OnOk result (ticket.new.marks ≡ ticket.old.marks ++ closing keep ∷ []) }
     ensures call { ticket.new.call ≡ ticket.old.call }
     ensures number { ticket.new.number ≡ ticket.old.number }
@@ -104,8 +105,9 @@ pub fn commit<G: Gate, A: Allocator + Copy>(
     run: &Run<'_>,
 ) -> Result<u32, (Ticket<A>, CommitRefusal)>
     ensures ok { IfOk result (λ position. HoldsOfTheJournal (λ old. (new : TheJournal) × Commits old new ticket.call ticket.number run.now.trace.now run.now.outcome position)) }
+    ensures marks { IfOk result (λ _. ticket.marks ≡ marks_of run.now.trace.now) }
     ensures stale { IfErr result (λ e. e.1 ≡ CommitRefusal.Stale → HoldsOfTheJournal (λ old. ¬ (IsLive old ticket.call ticket.number)) ⊎ HoldsOfAShard (λ old. IsStale old.book ticket.call ticket.number)) }
-    ensures differs { IfErr result (λ e. e.1 ≡ CommitRefusal.Differs → HasOtherSteps book.now.shards ticket.call ticket.number ticket.touched run.now.trace.now) }
+    ensures differs { IfErr result (λ e. e.1 ≡ CommitRefusal.Differs → HasOtherSteps book.now.shards ticket.call ticket.number ticket.touched ticket.marks run.now.trace.now) }
     ensures ticket { IfErr result (λ e. e.0 ≡ ticket) }
 {
     book.commit(rt, ticket, run)

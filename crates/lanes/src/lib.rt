@@ -5,8 +5,8 @@ mod lane;
 mod rule;
 mod thief;
 
-ghost use Rattle.std.specs.Prelude.{◌≡◌, ◌<◌, ◌+◌, [], All, IfOk, OnOk, length};
-ghost use Rattle.lanes.specs.Lanes.{IsNew, IsNewPair};
+ghost use Rattle.std.specs.Prelude.{◌≡◌, ◌<◌, ◌++◌, ◌∷◌, [], All, IfOk, OnOk, length, map, reverse};
+ghost use Rattle.lanes.specs.Lanes.{HasNothing, HaveWaysToOthers, IsNew, IsNewPair, LeadToOthers, deques_of, ends_of, others};
 
 pub use lane::Lane;
 use std::alloc::Allocator;
@@ -31,8 +31,9 @@ fn add_ways<A: Allocator + Copy>(
     ways: &mut Vec<Way<A>, A>,
     lanes: &[Lane<A>],
 ) -> Result<(), NoMemory>
-    requires { All (λ taken. taken ≡ []) ways.old.items }
-    ensures { OnOk result (All (λ taken. taken ≡ []) ways.new.items) }
+    requires { HasNothing ways.old.items }
+    ensures new { OnOk result (HasNothing ways.new.items) }
+    ensures ends { OnOk result (ends_of ways.new.items ≡ ends_of ways.old.items ++ deques_of lanes.now) }
 {
     for lane in lanes {
         ways.push(Way::open(lane)?)?;
@@ -47,7 +48,8 @@ fn thief_of<A: Allocator + Copy>(
     me: usize,
 ) -> Result<Thief<A>, NoMemory>
     requires { me < length lanes.now }
-    ensures { IfOk result (λ thief. All (λ taken. taken ≡ []) thief) }
+    ensures new { IfOk result HasNothing }
+    ensures ends { IfOk result (λ thief. ends_of thief ≡ others me (deques_of lanes.now)) }
 {
     let mut ways = Vec::new(alloc);
     add_ways(&mut ways, &lanes[me + 1..])?;
@@ -61,7 +63,8 @@ fn thieves_of<A: Allocator + Copy>(
     lanes: &[Lane<A>],
 ) -> Result<Vec<Thief<A>, A>, NoMemory>
     ensures len { IfOk result (λ all. length all.items ≡ length lanes.now) }
-    ensures new { IfOk result (λ all. All (All (λ taken. taken ≡ [])) all.items) }
+    ensures new { IfOk result (λ all. All HasNothing all.items) }
+    ensures ways { IfOk result (λ all. HaveWaysToOthers lanes.now all.items) }
 {
     let mut all = Vec::new(alloc);
     for me in 0..lanes.len() {
@@ -78,9 +81,9 @@ fn push_pair<A: Allocator + Copy>(
 ) -> Result<(), NoMemory>
     requires pairs { All IsNewPair pairs.old.items }
     requires lane { IsNew lane }
-    requires thief { All (λ taken. taken ≡ []) thief }
+    requires thief { HasNothing thief }
     ensures new { OnOk result (All IsNewPair pairs.new.items) }
-    ensures one_more { OnOk result (length pairs.new.items ≡ length pairs.old.items + 1) }
+    ensures pushed { OnOk result (pairs.new.items ≡ pairs.old.items ++ (lane, thief) ∷ []) }
 {
     pairs.push((lane, thief))?;
     Ok(())
@@ -93,10 +96,11 @@ fn paired<A: Allocator + Copy>(
     mut thieves: Vec<Thief<A>, A>,
 ) -> Result<Vec<(Lane<A>, Thief<A>), A>, NoMemory>
     requires lanes { All IsNew lanes.items }
-    requires thieves { All (All (λ taken. taken ≡ [])) thieves.items }
+    requires thieves { All HasNothing thieves.items }
     requires as_many { length thieves.items ≡ length lanes.items }
     ensures new { IfOk result (λ pairs. All IsNewPair pairs.items) }
-    ensures size { IfOk result (λ pairs. length pairs.items ≡ length lanes.items) }
+    ensures lanes { IfOk result (λ pairs. reverse (map (λ pair. pair.0) pairs.items) ≡ lanes.items) }
+    ensures thieves { IfOk result (λ pairs. reverse (map (λ pair. pair.1) pairs.items) ≡ thieves.items) }
 {
     let mut pairs = Vec::new(alloc);
     while let Some(lane) = lanes.pop() {
@@ -119,6 +123,7 @@ pub fn lanes<A: Allocator + Copy>(
 ) -> Result<Vec<(Lane<A>, Thief<A>), A>, NoMemory>
     ensures size { IfOk result (λ pairs. length pairs.items ≡ workers) }
     ensures new { IfOk result (λ pairs. All IsNewPair pairs.items) }
+    ensures others { IfOk result (λ pairs. LeadToOthers pairs.items) }
 {
     let all = empty_lanes(alloc, workers)?;
     let thieves = thieves_of(alloc, &all)?;

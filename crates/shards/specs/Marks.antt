@@ -1,8 +1,8 @@
 -- The marks of an attempt's levels, which its ticket keeps for the shards that it has not touched yet.
-use Rattle.std.specs.Prelude.{◌≡◌, ℕ, ◌+◌, ◌≤◌, Bool, true, false, List, [], length, Vec, vec_len, vec_capacity}
+use Rattle.std.specs.Prelude.{◌≡◌, ℕ, ◌+◌, ◌≤◌, Bool, true, false, List, [], ◌∷◌, length, Vec, vec_len, vec_capacity}
 use Rattle.std.specs.Coded.{Coded, coded_list}
 use Rattle.spec_ledger.specs.declared.Step.{Step}
-use Rattle.spec_ledger.specs.declared.Step.TheVariants.{Kept, Dropped}
+use Rattle.spec_ledger.specs.declared.Step.TheVariants.{Did, Opened, Kept, Dropped}
 use Rattle.spec_ledger.specs.contracts.Step as step
 use Rattle.spec_ledger.specs.Book.{standing_at}
 use Rattle.spec_ledger.specs.Modes.{ops_of}
@@ -24,3 +24,11 @@ IsOutside marks = (standing_at marks).marks ≡ []
 abbrev pub closing : Bool → Step
 closing true = Kept
 closing false = Dropped
+
+-- the marks of a trace, in order
+abbrev pub marks_of : List Step → List Step
+marks_of [] = []
+marks_of (Did op r ∷ t) = marks_of t
+marks_of (Opened ∷ t) = Opened ∷ marks_of t
+marks_of (Kept ∷ t) = Kept ∷ marks_of t
+marks_of (Dropped ∷ t) = Dropped ∷ marks_of t

@@ -1,5 +1,5 @@
 -- A book in shards, as contracts see it.
-use Rattle.std.specs.Prelude.{◌≡◌, refl, ℕ, true}
+use Rattle.std.specs.Prelude.{refl, ℕ}
 use Rattle.std.specs.Coded.{Coded, code_by, coded×, coded_ℕ}
 use Rattle.spec_ledger.specs.Cells.{Cells}
 use Rattle.spec_ledger.specs.Codes.{coded_cells}

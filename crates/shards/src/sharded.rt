@@ -11,8 +11,8 @@ ghost use Rattle.spec_shards.specs.Shards.{part, shard_of};
 ghost use Rattle.shard_parts.specs.Steps.{asks_at};
 ghost use Rattle.journal.specs.Journals.{Begins, Commits, IsJournal, IsLive, Journal as TheJournal, after_undo};
 ghost use Rattle.shard.specs.Shard.{HasToWait, IsOver, IsReady, Shard as TheShard};
-ghost use Rattle.shards.specs.Taking.{HasOtherSteps, HoldsOfAShard, HoldsOfTheJournal, IsLawful};
-ghost use Rattle.shards.specs.Marks.{IsOutside, closing};
+ghost use Rattle.shards.specs.Taking.{HasOtherSteps, HasStrayed, HoldsOfAShard, HoldsOfTheJournal, IsLawful};
+ghost use Rattle.shards.specs.Marks.{IsOutside, closing, marks_of};
 
 use crate::gate::Gate;
 use crate::opening::{Padded, open_all, parts_of};
@@ -23,7 +23,7 @@ use boost::book::{
 use brief_lock::acquire;
 use journal::Journal;
 use shard::Shard;
-use shard_parts::{CloseRefusal, close, home};
+use shard_parts::{CloseRefusal, close, home, is_part};
 use spec_ledger::{Op, Outcome, Reply, Step};
 use std::alloc::{Allocator, Global};
 use std::marker::Model;
@@ -110,7 +110,7 @@ fn strays<A: Allocator + Copy>(ticket: &Ticket<A>, step: Step, shards: u32) -> b
 /// Whether a trace has an operation in a shard that an attempt has not touched.
 fn has_strayed<A: Allocator + Copy>(ticket: &Ticket<A>, trace: &[Step], shards: u32) -> bool
     requires { 0 < shards }
-    ensures { IsTrue result → (shard : ℕ) × (slice_index_or ticket.now.touched shard false ≡ false) × ¬ ([] ≡ part (shard_of shards) shard trace.now) }
+    ensures { IsTrue result → HasStrayed shards ticket.now.touched trace.now }
 {
     for step in trace {
         if strays(ticket, *step, shards) {
@@ -118,6 +118,15 @@ fn has_strayed<A: Allocator + Copy>(ticket: &Ticket<A>, trace: &[Step], shards: 
         }
     }
     false
+}
+
+/// Whether a trace has the marks of an attempt's levels, and no others.
+fn has_marks<A: Allocator + Copy>(ticket: &Ticket<A>, trace: &[Step], shards: u32) -> bool
+    requires { 0 < shards }
+    ensures { IsTrue result ↔ (ticket.now.marks ≡ marks_of trace.now) }
+{
+    // (the shards' numbers are below their count, so that the part of this number has the marks alone)
+    is_part(ticket.marks.steps(), trace, shards, shards)
 }
 
 impl<'g, G: Gate, A: Allocator + Copy> Shards<'g, G, A> {
@@ -342,7 +351,7 @@ impl<'g, G: Gate, A: Allocator + Copy> Shards<'g, G, A> {
     ///
     /// # Errors
     ///
-    /// NotEntered just where the ticket has no open mark; else Stale, where the attempt does not live.
+    /// Stale where the attempt does not live; else NotEntered, where the ticket has no open mark.
     pub fn leave(
         &self,
         rt: &impl Wait,
@@ -351,20 +360,21 @@ impl<'g, G: Gate, A: Allocator + Copy> Shards<'g, G, A> {
     ) -> Result<(), LeaveRefusal>
         ensures ok { OnOk result (HoldsOfTheJournal (λ old. IsLive old ticket.old.call ticket.old.number)) }
         ensures stale { result ≡ Err LeaveRefusal.Stale → HoldsOfTheJournal (λ old. ¬ (IsLive old ticket.old.call ticket.old.number)) }
-        ensures not_entered { (result ≡ Err LeaveRefusal.NotEntered) ↔ IsOutside ticket.old.marks }
+        ensures not_entered { result ≡ Err LeaveRefusal.NotEntered → IsOutside ticket.old.marks × HoldsOfTheJournal (λ old. IsLive old ticket.old.call ticket.old.number) }
+        ensures inside { OnOk result (¬ (IsOutside ticket.old.marks)) }
         ensures mark { OnOk result (ticket.new.marks ≡ ticket.old.marks ++ closing keep ∷ []) }
         ensures call { ticket.new.call ≡ ticket.old.call }
         ensures number { ticket.new.number ≡ ticket.old.number }
         ensures touched { ticket.new.touched ≡ ticket.old.touched }
         ensures err { OnErr result (ticket.new ≡ ticket.old) }
     {
-        if ticket.marks.is_outside() {
-            return Err(LeaveRefusal::NotEntered);
-        }
         let journal = acquire(rt, &self.journal);
         look_at_journal(&journal);
         if !journal.is_live(ticket.call, ticket.number) {
             return Err(LeaveRefusal::Stale);
+        }
+        if ticket.marks.is_outside() {
+            return Err(LeaveRefusal::NotEntered);
         }
         for shard in 0..self.shards.len() {
             if ticket.has_touched(shard) {
@@ -424,13 +434,17 @@ impl<'g, G: Gate, A: Allocator + Copy> Shards<'g, G, A> {
     }
 
     /// Looks at each shard that an attempt has touched, in rising number: that it lives there with the shard's part of the run's trace; and that the trace
-    /// has no operation in another shard.
+    /// has no operation in another shard, and the marks of the ticket.
     fn look(&self, rt: &impl Wait, ticket: &Ticket<A>, trace: &[Step]) -> Result<(), CommitRefusal>
         ensures stale { result ≡ Err CommitRefusal.Stale → HoldsOfAShard (λ old. IsStale old.book ticket.now.call ticket.now.number) }
-        ensures differs { result ≡ Err CommitRefusal.Differs → HasOtherSteps self.now.shards ticket.now.call ticket.now.number ticket.now.touched trace.now }
+        ensures differs { result ≡ Err CommitRefusal.Differs → HasOtherSteps self.now.shards ticket.now.call ticket.now.number ticket.now.touched ticket.now.marks trace.now }
+        ensures marks { OnOk result (ticket.now.marks ≡ marks_of trace.now) }
         ensures memory { result ≢ Err CommitRefusal.NoMemory }
     {
         if has_strayed(ticket, trace, self.count()) {
+            return Err(CommitRefusal::Differs);
+        }
+        if !has_marks(ticket, trace, self.count()) {
             return Err(CommitRefusal::Differs);
         }
         for shard in 0..self.shards.len() {
@@ -455,9 +469,13 @@ impl<'g, G: Gate, A: Allocator + Copy> Shards<'g, G, A> {
         }
     }
 
-    /// Commits a live attempt, whose parts of the trace are those of the run, and answers its position in the journal. The trace is copied first; then the
-    /// journal's lock is held to the end, and under it the lock of one shard at a time. A refusal changes nothing, and hands the ticket back. Where a shard does
-    /// not take the entry, the book is not closed.
+    /// Commits a live attempt, whose parts of the trace and whose marks are those of the run, and answers its position in the journal. The trace is copied
+    /// first; then the journal's lock is held to the end, and under it the lock of one shard at a time. A refusal changes nothing, and hands the ticket back.
+    /// Where a shard does not take the entry, the book is not closed.
+    ///
+    /// # Errors
+    ///
+    /// Memory was refused; or Stale where the attempt does not live, and Differs where the run has other operations, replies or marks than the attempt.
     pub fn commit(
         &self,
         rt: &impl Wait,
@@ -465,8 +483,9 @@ impl<'g, G: Gate, A: Allocator + Copy> Shards<'g, G, A> {
         run: &Run<'_>,
     ) -> Result<u32, (Ticket<A>, CommitRefusal)>
         ensures ok { IfOk result (λ position. HoldsOfTheJournal (λ old. (new : TheJournal) × Commits old new ticket.call ticket.number run.now.trace.now run.now.outcome position)) }
+        ensures marks { IfOk result (λ _. ticket.marks ≡ marks_of run.now.trace.now) }
         ensures stale { IfErr result (λ e. e.1 ≡ CommitRefusal.Stale → HoldsOfTheJournal (λ old. ¬ (IsLive old ticket.call ticket.number)) ⊎ HoldsOfAShard (λ old. IsStale old.book ticket.call ticket.number)) }
-        ensures differs { IfErr result (λ e. e.1 ≡ CommitRefusal.Differs → HasOtherSteps self.now.shards ticket.call ticket.number ticket.touched run.now.trace.now) }
+        ensures differs { IfErr result (λ e. e.1 ≡ CommitRefusal.Differs → HasOtherSteps self.now.shards ticket.call ticket.number ticket.touched ticket.marks run.now.trace.now) }
         ensures ticket { IfErr result (λ e. e.0 ≡ ticket) }
     {
         let Ok(trace) = copied(self.alloc, run.trace) else {

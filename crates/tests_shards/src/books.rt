@@ -46,6 +46,8 @@ pub(crate) enum Act {
     Commit(&'static [Step], Outcome),
     /// As `Commit`, of a book in which nothing was begun.
     CommitElsewhere(&'static [Step], Outcome),
+    /// As `Leave`, of a book in which nothing was begun.
+    LeaveElsewhere(bool),
 }
 
 /// What it is answered.
@@ -144,6 +146,23 @@ fn committed_elsewhere<R: Wait, A: Allocator + Copy>(
     }
 }
 
+/// Leaves a level of another book, which is then closed with no entry. None where it has one.
+fn left_elsewhere<R: Wait, A: Allocator + Copy>(
+    rt: &R,
+    alloc: A,
+    shards: u32,
+    ticket: &mut Ticket<A>,
+    keep: bool,
+) -> Option<Answer> {
+    let book = opened(alloc, &[], shards)?;
+    let answer = Answer::Leave(book.leave(rt, ticket, keep));
+    if book.close().ok()?.entries.is_empty() {
+        Some(answer)
+    } else {
+        None
+    }
+}
+
 /// Begins an attempt. Its ticket comes into the hand.
 fn begun<R: Wait, A: Allocator + Copy>(
     rt: &R,
@@ -190,6 +209,7 @@ fn answered<R: Wait, A: Allocator + Copy>(
         Act::Op(op) => Some(Answer::Op(book.op(rt, ticket, op))),
         Act::Enter => Some(Answer::Enter(book.enter(rt, ticket))),
         Act::Leave(keep) => Some(Answer::Leave(book.leave(rt, ticket, keep))),
+        Act::LeaveElsewhere(keep) => left_elsewhere(rt, alloc, shards, ticket, keep),
         _ => None,
     }
 }

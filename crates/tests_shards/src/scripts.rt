@@ -53,6 +53,8 @@ const LEFT: Answer = Answer::Leave(Ok(()));
 
 const NOT_ENTERED: Answer = Answer::Leave(Err(LeaveRefusal::NotEntered));
 
+const STALE_LEAVE: Answer = Answer::Leave(Err(LeaveRefusal::Stale));
+
 const FIRST: Answer = Answer::Commit(Ok(0));
 
 const SECOND: Answer = Answer::Commit(Ok(1));
@@ -148,6 +150,7 @@ const REFUSED_TOTAL: Script = Script {
             Act::CommitElsewhere(&[TOTAL_OF_100], RETURNED),
             Answer::Commit(Err(CommitRefusal::Stale)),
         ),
+        (1, Act::LeaveElsewhere(true), STALE_LEAVE),
         (1, Act::Commit(&[TOTAL_OF_100], RETURNED), FIRST),
         (1, Act::Begin, Answer::Begin(Err(BeginRefusal::Committed))),
         (0, Act::Begin, BEGUN_AGAIN),
@@ -371,6 +374,36 @@ pub(crate) const GROWTHS: Script = Script {
     entries: 2,
 };
 
+/// A call that enters a level, leaves it and does no operation, and whose run has other marks at first.
+const MARKS_ALONE: Script = Script {
+    opening: &[(Kind::Map, 1, 10)],
+    rows: &[
+        (0, Act::Begin, BEGUN),
+        (0, Act::LeaveElsewhere(false), STALE_LEAVE),
+        (0, Act::Enter, ENTERED),
+        (0, Act::LeaveElsewhere(false), STALE_LEAVE),
+        (0, Act::Leave(true), LEFT),
+        (0, Act::Commit(&[], RETURNED), DIFFERS),
+        (0, Act::Commit(&[Step::Kept], RETURNED), DIFFERS),
+        (
+            0,
+            Act::Commit(&[Step::Opened, Step::Dropped], RETURNED),
+            DIFFERS,
+        ),
+        (
+            0,
+            Act::Commit(
+                &[Step::Opened, Step::Kept, Step::Opened, Step::Kept],
+                RETURNED,
+            ),
+            DIFFERS,
+        ),
+        (0, Act::Commit(&[Step::Opened, Step::Kept], RETURNED), FIRST),
+    ],
+    cells: &[(Kind::Map, 1, Some(10))],
+    entries: 1,
+};
+
 /// Each with what it is called.
 const SCRIPTS: &[(&'static str, Script)] = &[
     ("two bumps", TWO_BUMPS),
@@ -380,6 +413,7 @@ const SCRIPTS: &[(&'static str, Script)] = &[
     ("levels", LEVELS),
     ("levels of a call that fails", FAILED_LEVELS),
     ("growths", GROWTHS),
+    ("marks alone", MARKS_ALONE),
 ];
 
 /// Ends the test where a script does not come to what it says, with any of these numbers of shards.

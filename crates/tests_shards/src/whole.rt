@@ -24,6 +24,12 @@ fn committed_elsewhere(alloc: Global, hand: &mut Option<Ticket>, run: &Run<'_>) 
     committed(&mut book, hand, run)
 }
 
+/// Leaves a level of another book.
+fn left_elsewhere(alloc: Global, ticket: &Ticket, keep: bool) -> Option<Answer> {
+    let mut book = Book::open(alloc, Cells::new(alloc), 2).ok()?;
+    Some(Answer::Leave(book.leave(ticket, keep)))
+}
+
 /// Begins an attempt. Its ticket comes into the hand.
 fn begun(book: &mut Book, hand: &mut Option<Ticket>, call: u32) -> Answer {
     match book.begin(call) {
@@ -63,6 +69,7 @@ fn answered(
         Act::Op(op) => Some(Answer::Op(book.op(ticket, op))),
         Act::Enter => Some(Answer::Enter(book.enter(ticket))),
         Act::Leave(keep) => Some(Answer::Leave(book.leave(ticket, keep))),
+        Act::LeaveElsewhere(keep) => left_elsewhere(alloc, ticket, keep),
         _ => None,
     }
 }

@@ -1,4 +1,4 @@
-use Rattle.std.proofs.Common.{◌≡◌, subst}
+use Rattle.std.proofs.Common.{subst}
 use Rattle.spec_ledger.specs.Book.{Content}
 use Rattle.spec_ledger.specs.Events.{OpDone}
 use Rattle.shard.specs.Shard.{HasToWait, IsReady, Shard}
