@@ -9,7 +9,6 @@ mod mined_core;
 mod outcome;
 mod post;
 mod rest;
-mod sample;
 mod sealing;
 
 ghost use Rattle.std.specs.Prelude.{◌≡◌, ◌≤◌, IfOk, length};
@@ -52,17 +51,20 @@ pub struct Mined<A: Allocator = Global> {
 /// at most so often; the calls that it tried in vain run alone when the workers have ended. The pace is told each step of the
 /// workers, and may stop a worker at any of them: its call, and the calls that nobody drew, then run alone as well. The world is as it was.
 ///
-/// Of 512 calls or more 16 run alone first, and are forgotten. Where workers over copies of the cells pay by these (`gain`), all but the calling thread
+/// Of 512 calls or more at most 16 run alone first, whose limits are together within a 64th of the block's fuel, and are forgotten (`sampling`). Where workers
+/// over copies of the cells pay by these (`gain`), all but the calling thread
 /// run calls over a copy, which the calling thread publishes beside calls of its own, the pace is told the beginning of each call, and a call that found other
 /// cells than there are in the published order runs again alone. Else workers
-/// run the calls as fewer ones; but where they are short, or wait for one another so much that no workers pay, none is started, the pace is told nothing, and
+/// run the calls as fewer ones, also where fewer than four had room or memory was refused to them; but where the calls are short, or wait for one another so
+/// much that no workers pay, none is started, the pace is told nothing, and
 /// all calls run alone.
 ///
 /// Whatever the workers do at once, the block and the world after it are those of its calls run one after another in its order.
 ///
 /// # Errors
 ///
-/// Memory was refused to the caller or to a worker, or a call touched 2^32 locks or more.
+/// Memory was refused to the caller or to a worker, or a call touched 2^32 locks or more. Where this comes of the calls that run first and are
+/// forgotten, it is no error.
 pub fn mine<R: Threads + Wait + Sync, P: Pace>(
     rt: &R,
     alloc: Global,
@@ -88,7 +90,8 @@ pub fn mine<R: Threads + Wait + Sync, P: Pace>(
 ///
 /// # Errors
 ///
-/// Memory was refused to the caller or to a worker, or a call touched 2^32 locks or more.
+/// Memory was refused to the caller or to a worker, or a call touched 2^32 locks or more. Where this comes of the calls that run first and are
+/// forgotten, it is no error.
 pub fn mine_in<R: Threads + Wait + Sync, A: Allocator + Copy + Send + Sync, P: Pace>(
     rt: &R,
     alloc: A,

@@ -14,7 +14,6 @@ ghost use Rattle.mining.specs.Handed.{IsSerialBook};
 use crate::leading::mine_on_copies;
 use crate::outcome::publish;
 use crate::rest::{draw_rest, make_room};
-use crate::sample::{Way, find_way};
 use attempts::{Brake, Job, Worked, work};
 use boost::book::Closed;
 use call::Call;
@@ -22,6 +21,7 @@ use intake::{Intake, Seat};
 use link::deployed::Deployed as Contract;
 use lock_profile::Touched;
 use pace::Pace;
+use sampling::{Way, find_way};
 use shard_parts::CloseRefusal;
 use shards::{NoGate, Shards};
 use spec_ledger::{NoMemory, Receipt};
@@ -57,7 +57,8 @@ pub struct MinedCore<A: Allocator = Global> {
 /// nobody drew. Then these and the calls that were tried in vain or stopped run alone in rising number, and then each other call
 /// that still has room.
 ///
-/// Where copies of the cells pay (as far as 16 of 512 calls or more tell), each worker but the calling thread runs the calls that it draws over a
+/// Where copies of the cells pay (as far as some of 512 calls or more tell, which run first within a 64th of the block's fuel and are forgotten), each worker
+/// but the calling thread runs the calls that it draws over a
 /// copy, and hands them over in batches. The calling thread publishes each by its footprint where the cells that are published so far hold what it found, and
 /// runs and publishes calls that it draws itself while nothing is handed over. The pace is told the beginning of each call. The calls that did not fit run
 /// alone in rising number at the end. Where workers do not pay, none is started, and all calls that have room run alone in rising number.
@@ -70,7 +71,7 @@ pub struct MinedCore<A: Allocator = Global> {
 ///
 /// # Errors
 ///
-/// Memory was refused to the caller or to a worker.
+/// Memory was refused to the caller or to a worker. Where it was to the calls that run first and are forgotten, it is no error.
 pub fn mine_core<'a, R: Threads + Wait + Sync, A: Allocator + Copy + Send + Sync, P: Pace>(
     rt: &R,
     alloc: A,
@@ -96,7 +97,7 @@ pub fn mine_core<'a, R: Threads + Wait + Sync, A: Allocator + Copy + Send + Sync
     ensures left { IfOk result (λ core. AreLeft core.order.items (length calls.now) core.left.items) }
     ensures by_workers { IfOk result (λ core. core.by_workers ≤ length core.order.items) }
 {
-    match find_way(alloc, contracts, cells, calls, workers)? {
+    match find_way(alloc, contracts, cells, calls, block_fuel, workers) {
         Way::Alone => {
             let none = Vec::new(alloc);
             let rest = Ok(Vec::new(alloc));

@@ -3,7 +3,7 @@ use Rattle.spec_ledger.specs.Modes.{Modes}
 use Rattle.spec_ledger.specs.declared.Entry.{Entry}
 use Rattle.spec_block.specs.Schedule.{HaveTurns}
 use Rattle.lock_profile.specs.Turns.{AreTurns}
-use Rattle.mining.proofs.sample.find_way.Goals as goal
+use Rattle.sampling.proofs.look.Goals as goal
 
 pub waves_of-requires-clause-turns : goal.waves_of-requires-clause-turns
 waves_of-requires-clause-turns g c =
