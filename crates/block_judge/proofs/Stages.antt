@@ -1,16 +1,35 @@
 -- Reasons that are looked for one after another.
-use Rattle.std.proofs.Common.{◌≡◌, ℕ, ◌<◌, ◌≤◌, List, inl, sym, subst, ⊎_elim, arith, length, get_or, All}
+use Rattle.std.proofs.Common.{◌≡◌, ℕ, ◌-◌, ◌<◌, ◌≤◌, List, OnOk, inl, inr, sym, subst, ⊎_elim, arith, length, get_or, slice_index, All}
+use Rattle.std.specs.declared.result.Result.{Result}
+use Rattle.std.specs.declared.result.Result.TheVariants.{Ok, Err}
 use Rattle.std.proofs.lemmas.Bool.{cases_lt}
+use Rattle.std.proofs.lemmas.List.{length-map}
 use Rattle.std.proofs.lemmas.Option.{slice_get-get_or}
-use Rattle.spec_ledger.specs.Order.{limits_of}
+use Rattle.spec_ledger.specs.Order.{IsAdmissible, limits_of}
 use Rattle.spec_block.specs.Worlds.{Call, World, Block, order_of, limits}
 use Rattle.spec_block.specs.Bytes.{SpellsBlock}
 use Rattle.spec_block.specs.Verdicts.{Verdict, Malformed, WrongWorld, WrongCalls, BadOrder, OverBudget, RoomLeft, BadTurns, Deviates, WrongEnd, Accept, place, IsLeast, IsBadNumber, HasRoom, HoldsOf, Holds, IsVerdictOf}
-use Rattle.block_judge.specs.Judging.{IsFirstFrom, NoneFrom}
+use Rattle.block_judge.specs.declared.reason.Unfit.{Unfit}
+use Rattle.block_judge.specs.declared.reason.Unfit.TheVariants as unfit
+use Rattle.block_judge.specs.Judging.{IfRejected, IsFirstFrom, IsReasonOf, NoneFrom, told}
 
 module _ (P : Verdict → Type 0) where
   none_joined : (a b c : ℕ) → NoneFrom P a b → NoneFrom P b c → NoneFrom P a c
   none_joined a b c x y v from before = ⊎_elim (λ lt. x v from lt) (λ ge. y v ge before) (cases_lt (place v) b)
+
+module _ (P : Verdict → Type 0) where
+  none_here : (n : ℕ) → NoneFrom P n n
+  none_here n v from before h = absurd (omega (arith, from, before))
+
+  -- the first from a later place on is the first of all where none before holds
+  pub first_joined : (a b : ℕ) (v : Verdict) → a ≤ b → NoneFrom P a b → IsFirstFrom P b v → IsFirstFrom P a v
+  first_joined a b v le none first =
+      record { holds = first.holds; within = (let within = first.within in omega (arith, le, within)); none_before = none_joined P a b (place v) none first.none_before }
+
+-- what follows from one fact follows where nothing is rejected
+pub on_ok : {X E : Type 0} (r : Result X E) (P Q : Type 0) → (P → Q) → OnOk r P → OnOk r Q
+on_ok (Ok x) P Q f p = f p
+on_ok (Err e) P Q f p = tt
 
 -- ---- the order
 
@@ -18,7 +37,28 @@ pub all_known : (calls : List Call) (order : List ℕ) → ((p : ℕ) → ¬ (Is
 all_known calls order none k d below =
     ⊎_elim (λ lt. lt) (λ above. absurd (none k (get_or order k d, slice_get-get_or order k d below, inl above))) (cases_lt (get_or order k d) (length calls))
 
-module _ (world : World) (calls : List Call) (fuel : ℕ) (b : Block) (order : List ℕ) (same : order_of b ≡ order) (first : NoneFrom (HoldsOf world calls fuel b) 1 4) where
+as_many_limits : (calls : List Call) → length (limits calls) ≡ length calls
+as_many_limits calls = length-map calls (λ (c : Call). c.fuel)
+
+-- an order of which none of its reasons holds may be published
+pub order_admissible : (calls : List Call) (fuel : ℕ) (order : List ℕ)
+    → ((p : ℕ) → ¬ (IsBadNumber calls order p)) → limits_of (limits calls) order ≤ fuel → ((c : ℕ) → ¬ (HasRoom calls fuel order c)) → IsAdmissible (limits calls) order fuel
+order_admissible calls fuel order bad within room =
+    record {
+      distinct = λ p call is stood. bad p (call, is, inr stood);
+      known = λ p call is. ⊎_elim (λ lt. (let many = as_many_limits calls in omega (arith, lt, many))) (λ above. absurd (bad p (call, is, inl above))) (cases_lt call (length calls));
+      within = within;
+      no_room_left = λ call known out.
+          ⊎_elim (λ lt. lt) (λ fits. absurd (room call (record { known = (let many = as_many_limits calls in omega (arith, known, many)); left_out = out; fits = fits })))
+          (cases_lt (fuel - limits_of (limits calls) order) (slice_index (limits calls) call));
+    }
+
+-- and has calls alone
+pub admissible_known : (calls : List Call) (fuel : ℕ) (order : List ℕ) → IsAdmissible (limits calls) order fuel → All (λ n. n < length calls) order
+admissible_known calls fuel order admissible k d below =
+    let lt = admissible.known k (get_or order k d) (slice_get-get_or order k d below) in let many = as_many_limits calls in omega (arith, lt, many)
+
+module _ (world : World) (calls : List Call) (fuel : ℕ) (b : Block) (order : List ℕ) (same : order_of b ≡ order) where
   order_none : (n : ℕ) → n ≤ 7 → ((p : ℕ) → ¬ (IsBadNumber calls order p)) → (5 < n → ¬ (fuel < limits_of (limits calls) order)) → (6 < n → (c : ℕ) → ¬ (HasRoom calls fuel order c)) → NoneFrom (HoldsOf world calls fuel b) 4 n
   order_none n le bad budget room Malformed from before h = absurd (omega (arith, from))
   order_none n le bad budget room WrongWorld from before h = absurd (omega (arith, from))
@@ -31,25 +71,53 @@ module _ (world : World) (calls : List Call) (fuel : ℕ) (b : Block) (order : L
   order_none n le bad budget room WrongEnd from before h = absurd (omega (arith, before, le))
   order_none n le bad budget room (Accept w) from before h = absurd (omega (arith, before, le))
 
-  pub bad_order : (p : ℕ) → IsLeast (IsBadNumber calls order) p → IsFirstFrom (HoldsOf world calls fuel b) 1 (BadOrder p)
-  bad_order p least = record { holds = subst (λ o. IsLeast (IsBadNumber calls o) p) (sym same) least; within = omega arith; none_before = first }
+  -- none of its reasons holds of a block in an order that may be published
+  pub admissible_none : IsAdmissible (limits calls) order fuel → NoneFrom (HoldsOf world calls fuel b) 4 7
+  admissible_none admissible =
+      order_none 7 (omega arith)
+      (λ p bad. ⊎_elim (λ above. (let lt = admissible.known p bad.0 bad.1 in let many = as_many_limits calls in omega (arith, lt, many, above))) (λ stood. admissible.distinct p bad.0 bad.1 stood) bad.2)
+      (λ _ over. (let within = admissible.within in omega (arith, within, over)))
+      (λ _ c room. (let known = room.known in let many = as_many_limits calls in let fits = room.fits in let small = admissible.no_room_left c (omega (arith, known, many)) room.left_out in omega (arith, fits, small)))
 
-  pub over_budget : ((p : ℕ) → ¬ (IsBadNumber calls order p)) → fuel < limits_of (limits calls) order → IsFirstFrom (HoldsOf world calls fuel b) 1 OverBudget
-  over_budget bad over = record {
-    holds = subst (λ o. fuel < limits_of (limits calls) o) (sym same) over;
-    within = omega arith;
-    none_before = none_joined (HoldsOf world calls fuel b) 1 4 5 first (order_none 5 (omega arith) bad (λ no. absurd (omega (arith, no))) (λ no. absurd (omega (arith, no))));
-  }
+pub bad_order : (calls : List Call) (order : List ℕ) (fuel p : ℕ) → IsLeast (IsBadNumber calls order) p → IsReasonOf calls order fuel (BadOrder p)
+bad_order calls order fuel p least =
+    record {
+      of_order = omega arith;
+      first = λ world b same. record { holds = subst (λ o. IsLeast (IsBadNumber calls o) p) (sym same) least; within = omega arith; none_before = none_here (HoldsOf world calls fuel b) 4 };
+    }
 
-  pub room_left : ((p : ℕ) → ¬ (IsBadNumber calls order p)) → ¬ (fuel < limits_of (limits calls) order) → (c : ℕ) → IsLeast (HasRoom calls fuel order) c → IsFirstFrom (HoldsOf world calls fuel b) 1 (RoomLeft c)
-  room_left bad budget c least = record {
-    holds = subst (λ o. IsLeast (HasRoom calls fuel o) c) (sym same) least;
-    within = omega arith;
-    none_before = none_joined (HoldsOf world calls fuel b) 1 4 6 first (order_none 6 (omega arith) bad (λ _. budget) (λ no. absurd (omega (arith, no))));
-  }
+pub over_budget : (calls : List Call) (order : List ℕ) (fuel : ℕ) → ((p : ℕ) → ¬ (IsBadNumber calls order p)) → fuel < limits_of (limits calls) order → IsReasonOf calls order fuel OverBudget
+over_budget calls order fuel bad over =
+    record {
+      of_order = omega arith;
+      first = λ world b same. record {
+        holds = subst (λ o. fuel < limits_of (limits calls) o) (sym same) over;
+        within = omega arith;
+        none_before = order_none world calls fuel b order same 5 (omega arith) bad (λ no. absurd (omega (arith, no))) (λ no. absurd (omega (arith, no)));
+      };
+    }
 
-  pub order_passes : ((p : ℕ) → ¬ (IsBadNumber calls order p)) → ¬ (fuel < limits_of (limits calls) order) → ((c : ℕ) → ¬ (HasRoom calls fuel order c)) → NoneFrom (HoldsOf world calls fuel b) 1 7
-  order_passes bad budget room = none_joined (HoldsOf world calls fuel b) 1 4 7 first (order_none 7 (omega arith) bad (λ _. budget) (λ _. room))
+pub room_left : (calls : List Call) (order : List ℕ) (fuel : ℕ) → ((p : ℕ) → ¬ (IsBadNumber calls order p)) → limits_of (limits calls) order ≤ fuel → (c : ℕ) → IsLeast (HasRoom calls fuel order) c → IsReasonOf calls order fuel (RoomLeft c)
+room_left calls order fuel bad within c least =
+    record {
+      of_order = omega arith;
+      first = λ world b same. record {
+        holds = subst (λ o. IsLeast (HasRoom calls fuel o) c) (sym same) least;
+        within = omega arith;
+        none_before = order_none world calls fuel b order same 6 (omega arith) bad (λ _ over. omega (arith, within, over)) (λ no. absurd (omega (arith, no)));
+      };
+    }
+
+-- where the digests are right, the first reason of the order is the first of all
+pub after_digests : (world : World) (calls : List Call) (fuel : ℕ) (b : Block) (order : List ℕ) → order_of b ≡ order → NoneFrom (HoldsOf world calls fuel b) 1 4
+    → (u : Unfit) → IfRejected u (IsReasonOf calls order fuel) → IfRejected u (IsFirstFrom (HoldsOf world calls fuel b) 1)
+after_digests world calls fuel b order same none (unfit.Rejected r) reason = first_joined (HoldsOf world calls fuel b) 1 4 (told r) (omega arith) none (reason.first world b same)
+after_digests world calls fuel b order same none unfit.NoMemory reason = tt
+
+-- and where the order may be published, none of the reasons before the turns holds
+pub before_turns : (world : World) (calls : List Call) (fuel : ℕ) (b : Block) (order : List ℕ) → order_of b ≡ order → NoneFrom (HoldsOf world calls fuel b) 1 4 → IsAdmissible (limits calls) order fuel
+    → NoneFrom (HoldsOf world calls fuel b) 1 7
+before_turns world calls fuel b order same none admissible = none_joined (HoldsOf world calls fuel b) 1 4 7 none (admissible_none world calls fuel b order same admissible)
 
 -- ---- the verdict of the bytes
 

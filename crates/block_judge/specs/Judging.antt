@@ -1,5 +1,5 @@
 -- What is found of a block before its calls are run.
-use Rattle.std.specs.Prelude.{ℕ, ◌<◌, ◌≤◌, List, All, Option, Some, None, length}
+use Rattle.std.specs.Prelude.{◌≡◌, ℕ, ◌<◌, ◌≤◌, List, All, Option, Some, None, length}
 use Rattle.spec_block.specs.Worlds.{Call, World, Block, order_of, profiles_of}
 use Rattle.spec_block.specs.Bytes.{SpellsBlock}
 use Rattle.spec_block.specs.Schedule.{HaveTurns}
@@ -43,6 +43,11 @@ pub record IsFirstFrom (P : Verdict → Type 0) (from : ℕ) (v : Verdict) : Typ
   pub holds : P v
   pub within : from ≤ place v
   pub none_before : NoneFrom P from (place v)
+
+-- the first of the reasons 4 to 6, which the order and the limits alone bring, whatever else a block in this order says
+pub record IsReasonOf (calls : List Call) (order : List ℕ) (fuel : ℕ) (v : Verdict) : Type 0 where
+  pub of_order : place v < 7
+  pub first : (world : World) (block : Block) → order_of block ≡ order → IsFirstFrom (HoldsOf world calls fuel block) 4 v
 
 -- the bytes spell the block, and none of the first seven reasons holds of it
 pub record Passes (world : World) (calls : List Call) (fuel : ℕ) (bytes : List ℕ) (block : Block) : Type 0 where

@@ -18,7 +18,11 @@ fn is_same(a: &[u8; 32], b: &[u8; 32]) -> bool
 }
 
 /// Judges the digests of the world before and of the calls.
-pub(crate) fn judge_digests<A: Allocator + Copy>(
+///
+/// # Errors
+///
+/// The first of the reasons 2 and 3 that holds; or memory was refused.
+pub fn judge_digests<A: Allocator + Copy>(
     alloc: A,
     world: &World<A>,
     calls: &[Call],

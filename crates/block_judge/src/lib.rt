@@ -16,12 +16,11 @@ ghost use Rattle.spec_block.specs.Verdicts.{HoldsOf, IsVerdictOf};
 ghost use Rattle.world.specs.Views.{world_view};
 ghost use Rattle.block_judge.specs.Judging.{IfRejected, IsFirstFrom, NoneFrom, Passes};
 
-use crate::digests::judge_digests;
+pub use crate::digests::judge_digests;
 pub use crate::laws::first_is_verdict;
-use crate::order::judge_order;
-pub use crate::order::numbers_of;
+pub use crate::order::{judge_order, numbers_of};
 pub use crate::reason::{Reason, Unfit};
-use crate::turns::judge_turns;
+pub use crate::turns::judge_turns;
 use block::{Block, BlockRefusal, read_block};
 use call::Call;
 use std::alloc::{Allocator, Global};

@@ -1,10 +1,10 @@
 //! Whether the order of a block may be published.
 
 ghost use Rattle.std.specs.Prelude.{◌≡◌, ◌≤◌, ◌<◌, ◌^◌, ◌+◌, ℕ, All, IfErr, IfNone, IfOk, IfSome, OnOk, false, length, replicate};
-ghost use Rattle.spec_ledger.specs.Order.{limits_of};
-ghost use Rattle.spec_block.specs.Worlds.{Block as TheBlock, World as TheWorld, limits, order_of};
-ghost use Rattle.spec_block.specs.Verdicts.{HasRoom, HoldsOf, IsBadNumber, IsLeast};
-ghost use Rattle.block_judge.specs.Judging.{IfRejected, IsFirstFrom, NoneFrom};
+ghost use Rattle.spec_ledger.specs.Order.{IsAdmissible, limits_of};
+ghost use Rattle.spec_block.specs.Worlds.{limits, order_of};
+ghost use Rattle.spec_block.specs.Verdicts.{HasRoom, IsBadNumber, IsLeast};
+ghost use Rattle.block_judge.specs.Judging.{IfRejected, IsReasonOf};
 ghost use Rattle.block_judge.specs.Marks.{AreMarked};
 
 use crate::reason::{Reason, Unfit};
@@ -86,8 +86,13 @@ fn least_with_room(
     None
 }
 
-/// Judges the order of a block: its numbers, then the sum of its limits, then the calls that are left out.
-pub(crate) fn judge_order<A: Allocator>(
+/// Judges the order of a block of calls with this fuel: its numbers, then the sum of its limits, then the calls that are left out. Nothing is hashed, and no
+/// call runs: who judges the order first knows that the calls of a block which passes stay within its fuel.
+///
+/// # Errors
+///
+/// The first of the reasons 4 to 6 that holds; or memory was refused.
+pub fn judge_order<A: Allocator>(
     alloc: A,
     calls: &[Call],
     fuel: u64,
@@ -95,9 +100,8 @@ pub(crate) fn judge_order<A: Allocator>(
 ) -> Result<(), Unfit>
     requires calls { length calls.now ≤ 65535 }
     requires order { length order.now ≤ 65535 }
-    ensures rejected { (world : TheWorld) (block : TheBlock) → order_of block ≡ order.now → NoneFrom (HoldsOf world calls.now fuel block) 1 4 → IfErr result (λ unfit. IfRejected unfit (IsFirstFrom (HoldsOf world calls.now fuel block) 1)) }
-    ensures passed { OnOk result ((world : TheWorld) (block : TheBlock) → order_of block ≡ order.now → NoneFrom (HoldsOf world calls.now fuel block) 1 4 → NoneFrom (HoldsOf world calls.now fuel block) 1 7) }
-    ensures known { OnOk result (All (λ number. number < length calls.now) order.now) }
+    ensures rejected { IfErr result (λ unfit. IfRejected unfit (IsReasonOf calls.now order.now fuel)) }
+    ensures passed { OnOk result (IsAdmissible (limits calls.now) order.now fuel) }
 {
     let mut marks = vec![in alloc; false; calls.len()]?;
     if let Some(position) = mark(calls, order, &mut marks) {

@@ -95,7 +95,11 @@ fn first_other<A: Allocator + Copy>(
 }
 
 /// Judges the turns of a block.
-pub(crate) fn judge_turns<A: Allocator + Copy>(alloc: A, block: &Block<A>) -> Result<(), Unfit>
+///
+/// # Errors
+///
+/// The turns are others (reason 7); or memory was refused.
+pub fn judge_turns<A: Allocator + Copy>(alloc: A, block: &Block<A>) -> Result<(), Unfit>
     requires { length (profiles_of block.now) ≤ 65535 }
     ensures rejected { (world : TheWorld) (calls : List TheCall) (fuel : ℕ) → NoneFrom (HoldsOf world calls fuel block.now) 1 7 → IfErr result (λ unfit. IfRejected unfit (IsFirstFrom (HoldsOf world calls fuel block.now) 1)) }
     ensures passed { OnOk result ((world : TheWorld) (calls : List TheCall) (fuel : ℕ) → NoneFrom (HoldsOf world calls fuel block.now) 1 7 → NoneFrom (HoldsOf world calls fuel block.now) 1 8) }

@@ -4,8 +4,12 @@
 #[cfg(test)]
 mod assertions;
 #[cfg(test)]
+mod forged;
+#[cfg(test)]
 mod long_lists;
 #[cfg(test)]
 mod rejected;
 #[cfg(test)]
 mod want_of_memory;
+#[cfg(test)]
+mod without_room;

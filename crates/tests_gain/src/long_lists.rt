@@ -424,7 +424,7 @@ pub(crate) fn world_of(alloc: Global, others: u64) -> Result<World, Fail> {
 }
 
 /// The bytes of a block.
-fn written(alloc: Global, block: &Block) -> Result<Vec<u8>, Fail> {
+pub(crate) fn written(alloc: Global, block: &Block) -> Result<Vec<u8>, Fail> {
     if !block.fits_version() {
         return Err(Fail::from("a receipt that is not told"));
     }

@@ -81,8 +81,11 @@ module _ (B : RattleType) (g : Ghosts B.Denot) (send : IsSend B) (sync : IsSync 
               (
                 search crosses depth 60 fits 100000,
                 (
-                  search (crosses, position_sync) depth 60 fits 100000,
-                  (as_row_sync (row_field (ShrRef a.mir a.lft P)) (shr_sync a.mir a.lft P pace), tt),
+                  search crosses depth 60 fits 100000,
+                  (
+                    search (crosses, position_sync) depth 60 fits 100000,
+                    (as_row_sync (row_field (ShrRef a.mir a.lft P)) (shr_sync a.mir a.lft P pace), tt),
+                  ),
                 ),
               ),
             ),
@@ -116,7 +119,7 @@ module _ (B : RattleType) (g : Ghosts B.Denot) (send : IsSend B) (sync : IsSync 
       let cells = cells_sync B g send sync frees in
       declared_sync (ordered_row.the_type a b B g) (
         as_row_sync (row_field B) sync,
-        (task_sync B g send sync frees b, (search crosses depth 60 fits 100000, (search (crosses, cells) depth 60 fits 100000, tt))),
+        (task_sync B g send sync frees b, (search crosses depth 60 fits 100000, (search crosses depth 60 fits 100000, (search (crosses, cells) depth 60 fits 100000, tt)))),
       )
 
   pub world_sync : IsSync (world_row.the_row B g)

@@ -1,17 +1,24 @@
 -- A block that passes the first seven reasons, and what its calls came to.
-use Rattle.std.proofs.Common.{◌≡◌, ℕ, ◌<◌, ◌≤◌, List, All, IfErr, IfOk, length, sym, ap, subst, ◌∙◌, ⊎_elim, arith}
+use Rattle.std.proofs.Common.{◌≡◌, ℕ, ◌≤◌, List, IfErr, IfOk, length, sym, ap, subst, ◌∙◌, ⊎_elim, arith}
+use Rattle.std.specs.Result.{IsErrAnd}
 use Rattle.std.specs.declared.result.Result.{Result}
 use Rattle.std.specs.declared.result.Result.TheVariants.{Ok, Err}
 use Rattle.std.proofs.lemmas.Bool.{cases_lt}
 use Rattle.std.proofs.lemmas.List.{length-map}
 use Rattle.spec_ledger.specs.Cells.{Cells}
+use Rattle.spec_ledger.specs.Order.{IsAdmissible}
 use Rattle.spec_execution.specs.Configuration.{Setting}
 use Rattle.spec_execution.specs.Serial.{Ran, Serial}
-use Rattle.spec_block.specs.Worlds.{Call, World, Block, Position, order_of, profiles_of}
+use Rattle.spec_block.specs.Worlds.{Call, World, Block, Position, limits, order_of, profiles_of}
 use Rattle.spec_block.specs.Bytes.{IsBlock}
 use Rattle.spec_block.specs.Serial.{setting_of}
 use Rattle.spec_block.specs.Verdicts.{Verdict, place, RunOf, HoldsOf}
-use Rattle.block_judge.specs.Judging.{IsFirstFrom, NoneFrom}
+use Rattle.block_judge.specs.declared.reason.Unfit.{Unfit}
+use Rattle.block_judge.specs.Judging.{IfRejected, IsFirstFrom, NoneFrom}
+use Rattle.block_judge.proofs.Stages.{admissible_known}
+use Rattle.world.specs.Views.{world_view}
+use Rattle.validator.specs.declared.trial.Trial.{Trial}
+use Rattle.validator.specs.Tried.{IsJudged, IsTrial, MayRun}
 
 pub as_many_numbers : (b : Block) (order : List ℕ) → order ≡ order_of b → length b.positions ≡ length order
 as_many_numbers b order is = sym (ap (λ (l : List ℕ). length l) is ∙ length-map b.positions (λ (p : Position). p.call))
@@ -21,9 +28,6 @@ few_numbers b block = let many = length-map b.positions (λ (p : Position). p.ca
 
 pub few_profiles : (b : Block) → IsBlock b → length (profiles_of b) ≤ 65535
 few_profiles b block = let many = length-map b.positions (λ (p : Position). p.profile) in let few = block.count in omega (arith, many, few)
-
-pub known_numbers : (calls : List Call) (b : Block) (order : List ℕ) → order ≡ order_of b → All (λ n. n < length calls) (order_of b) → All (λ n. n < length calls) order
-known_numbers calls b order is all = subst (λ (l : List ℕ). All (λ n. n < length calls) l) (sym is) all
 
 -- what ran elsewhere is a run of the block
 pub run_of : (world : World) (calls : List Call) (b : Block) (setting : Setting) (order : List ℕ) (cells : Cells) (ran : List Ran) (last : Cells)
@@ -48,3 +52,14 @@ if_ok (Err e) P Q f p = tt
 pub if_err : {X E : Type 0} (r : Result X E) (P Q : E → Type 0) → ((e : E) → P e → Q e) → IfErr r P → IfErr r Q
 if_err (Ok x) P Q f p = tt
 if_err (Err e) P Q f p = f e p
+
+-- the calls of an order that may be published stay within the fuel
+pub may_run : {A : Type 0} (t : Trial A) → IsTrial t → IsAdmissible (limits t.calls.now) t.order.now t.fuel → MayRun t
+may_run t trial admissible = record { trial = trial; within = record { known = admissible_known t.calls.now t.fuel t.order.now admissible; admissible = admissible } }
+
+module _ {A U : Type 0} (t : Trial A) where
+  -- what an earlier judgement found is what is found
+  pub judged_before : (r : Result U Unfit) (u : Unfit) → IsErrAnd r (λ e. e ≡ u) → IfRejected u (IsFirstFrom (HoldsOf (world_view t.world.now) t.calls.now t.fuel t.block.now) 1) → IsJudged t r
+  judged_before (Ok x) u is first = absurd is
+  judged_before (Err e) u is first =
+      record { rejected = subst (λ (v : Unfit). IfRejected v (IsFirstFrom (HoldsOf (world_view t.world.now) t.calls.now t.fuel t.block.now) 1)) (sym is) first; passed = tt; turns = tt }

@@ -1,5 +1,5 @@
 -- A block that is judged, and what is found of it.
-use Rattle.std.specs.Prelude.{◌≡◌, ◌≤◌, ◌<◌, All, IfErr, IfOk, OnOk, Result, length}
+use Rattle.std.specs.Prelude.{◌≡◌, ◌≤◌, IfErr, IfOk, OnOk, Result, length}
 use Rattle.spec_block.specs.Worlds.{order_of, profiles_of}
 use Rattle.spec_block.specs.Schedule.{HaveTurns}
 use Rattle.spec_block.specs.Verdicts.{HoldsOf}
@@ -9,6 +9,7 @@ use Rattle.block_judge.specs.Judging.{IfRejected, IsFirstFrom, NoneFrom}
 use Rattle.validator.specs.declared.copies.CopyJob.{CopyJob}
 use Rattle.validator.specs.declared.copies.Own.{Own}
 use Rattle.validator.specs.declared.trial.Trial.{Trial}
+use Rattle.validator.specs.Fuel.{IsWithinFuel}
 use Rattle.validator.specs.Handed.{AreBatches}
 
 -- the order is the block's, and all is within the limits
@@ -18,11 +19,15 @@ pub record IsTrial {A : Type 0} (t : Trial A) : Type 0 where
   pub few : length (order_of t.block.now) ≤ 65535
   pub profiles : length (profiles_of t.block.now) ≤ 65535
 
+-- and the calls of its order stay within the block's fuel: none of the reasons 4 to 6 holds
+pub record MayRun {A : Type 0} (t : Trial A) : Type 0 where
+  pub trial : IsTrial t
+  pub within : IsWithinFuel t.calls.now t.order.now t.fuel
+
 -- the first of the reasons 2 to 7 that holds, or none
 pub record IsJudged {A U : Type 0} (t : Trial A) (judged : Result U Unfit) : Type 0 where
   pub rejected : IfErr judged (λ unfit. IfRejected unfit (IsFirstFrom (HoldsOf (world_view t.world.now) t.calls.now t.fuel t.block.now) 1))
   pub passed : OnOk judged (NoneFrom (HoldsOf (world_view t.world.now) t.calls.now t.fuel t.block.now) 1 8)
-  pub known : OnOk judged (All (λ number. number < length t.calls.now) (order_of t.block.now))
   pub turns : OnOk judged (HaveTurns (profiles_of t.block.now))
 
 -- what the worker that judges hands back: what it found of the block, and calls with their footprints

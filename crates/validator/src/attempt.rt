@@ -194,7 +194,7 @@ fn rejected<'a, A: Allocator + Copy>(
     }
 }
 
-/// Runs the call of a number to its end.
+/// Runs the call of a number to its end. A call without fuel for its first instruction is answered before an instance is made.
 fn play<'a, A: Allocator + Copy, R: Wait, P: Pace>(
     rt: &R,
     job: &Job<'_, 'a, A, P>,
@@ -206,6 +206,9 @@ fn play<'a, A: Allocator + Copy, R: Wait, P: Pace>(
 {
     let call = &job.calls[number as usize];
     let _limit = call.fuel();
+    if let Some(finished) = Finished::without_fuel(job.alloc, job.contracts, call, job.version) {
+        return Ok(finished);
+    }
     match Machine::start_as(job.alloc, job.contracts, call, job.version) {
         Ok(machine) => run(rt, job.alloc, place, machine),
         Err(StartRefusal::NoMemory) => Err(Stop::NoMemory),

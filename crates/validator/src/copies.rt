@@ -1,11 +1,12 @@
 //! The calls of a block that wait for none of the others, each run over a copy of the cells before the block, which nobody else changes and each call leaves
 //! as it was, while one of the workers judges the block.
 
-ghost use Rattle.std.specs.Prelude.{◌≡◌, ◌≤◌, ◌<◌, All, IfOk, IfSome, OnOk, length};
+ghost use Rattle.std.specs.Prelude.{◌≡◌, All, IfOk, IfSome, OnOk};
 ghost use Rattle.handover.specs.Passes.{IsPassOf};
 ghost use Rattle.speculation.specs.Shares.{IsCopyOf, IsShareOf};
+ghost use Rattle.validator.specs.Fuel.{IsWithinFuel};
 ghost use Rattle.validator.specs.Handed.{AreBatches, AreParts, IsPostOf};
-ghost use Rattle.validator.specs.Tried.{IsOwn, IsTrial};
+ghost use Rattle.validator.specs.Tried.{IsOwn, MayRun};
 
 use crate::attempt::told;
 use crate::ordered::Ordered;
@@ -49,7 +50,7 @@ pub(crate) struct CopyJob<'s, 'a, A: Allocator, P: Pace> {
     pub(crate) positions: &'s [Position<A>],
     /// The block that orders them, which one of the workers judges.
     pub(crate) trial: &'s Trial<'s, A>,
-    /// How many batches of positions were drawn.
+    /// How many batches of positions were drawn; more than any block has where the block was found to be rejected.
     pub(crate) drawn: AtomicU64,
     pub(crate) pace: &'s P,
 }
@@ -70,6 +71,14 @@ pub(crate) struct Batches<'a, A: Allocator> {
     pub(crate) batches: Vec<Batch<'a, A>, A>,
 }
 
+/// As many batches as no block has.
+const REJECTED: u64 = u32::MAX as u64;
+
+/// Whether the block was found to be rejected.
+pub(crate) fn is_rejected<A: Allocator + Copy, P: Pace>(job: &CopyJob<'_, '_, A, P>) -> bool {
+    job.drawn.load(Ordering::SeqCst) >= REJECTED
+}
+
 /// Draws the next batch, if one is left.
 pub(crate) fn draw<A: Allocator + Copy, P: Pace>(job: &CopyJob<'_, '_, A, P>) -> Option<usize> {
     let nth = job.drawn.fetch_add(1, Ordering::SeqCst) as usize;
@@ -79,14 +88,15 @@ pub(crate) fn draw<A: Allocator + Copy, P: Pace>(job: &CopyJob<'_, '_, A, P>) ->
     Some(nth)
 }
 
-/// Runs the calls of a batch that wait for none of the others over a worker's copy. Answers whether the pace stops the worker.
+/// Runs the calls of a batch that wait for none of the others over a worker's copy, as long as the block is not rejected. Answers whether the pace stops the
+/// worker.
 fn run_calls<A: Allocator + Copy, P: Pace>(
     job: &CopyJob<'_, '_, A, P>,
     copy: &mut Cells<A>,
     nth: usize,
     share: &mut Share<'_, A>,
 ) -> Result<bool, NoMemory>
-    requires known { All (λ number. number < length job.now.ordered.task.calls.now) job.now.ordered.order.now }
+    requires within { IsWithinFuel job.now.ordered.task.calls.now job.now.ordered.order.now job.now.ordered.fuel }
     requires copy { IsCopyOf job.now.ordered.cells.now copy.old }
     requires share { IsShareOf job.now.ordered.task share.old }
     ensures copy { OnOk result (IsCopyOf job.now.ordered.cells.now copy.new) }
@@ -96,11 +106,12 @@ fn run_calls<A: Allocator + Copy, P: Pace>(
         alloc,
         task,
         order,
+        fuel: _,
         cells,
     } = &job.ordered;
     for offset in 0..BATCH {
         let position = nth.saturating_mul(BATCH).saturating_add(offset);
-        if position >= order.len() || position >= job.positions.len() {
+        if position >= order.len() || position >= job.positions.len() || is_rejected(job) {
             return Ok(false);
         }
         if !is_first(job.positions[position].profile()) {
@@ -121,7 +132,7 @@ pub(crate) fn run_batch<'a, A: Allocator + Copy, P: Pace>(
     copy: &mut Cells<A>,
     nth: usize,
 ) -> Result<Ran<'a, A>, NoMemory>
-    requires known { All (λ number. number < length job.now.ordered.task.calls.now) job.now.ordered.order.now }
+    requires within { IsWithinFuel job.now.ordered.task.calls.now job.now.ordered.order.now job.now.ordered.fuel }
     requires copy { IsCopyOf job.now.ordered.cells.now copy.old }
     ensures copy { OnOk result (IsCopyOf job.now.ordered.cells.now copy.new) }
     ensures batch { IfOk result (λ ran. IsShareOf job.now.ordered.task ran.batch.share) }
@@ -202,7 +213,7 @@ fn run_batches<'a, A: Allocator + Copy, P: Pace>(
     copy: &mut Cells<A>,
     kept: &mut Vec<Batch<'a, A>, A>,
 ) -> Result<(), NoMemory>
-    requires known { All (λ number. number < length job.now.ordered.task.calls.now) job.now.ordered.order.now }
+    requires within { IsWithinFuel job.now.ordered.task.calls.now job.now.ordered.order.now job.now.ordered.fuel }
     requires post { IsPostOf job.now post }
     requires copy { IsCopyOf job.now.ordered.cells.now copy.old }
     requires kept { AreBatches job.now.ordered.task kept.old.items }
@@ -226,7 +237,7 @@ fn work_on_copy<'a, A: Allocator + Copy, P: Pace>(
     job: &CopyJob<'_, 'a, A, P>,
     post: Post<'_, 'a, A>,
 ) -> Result<Batches<'a, A>, NoMemory>
-    requires known { All (λ number. number < length job.now.ordered.task.calls.now) job.now.ordered.order.now }
+    requires within { IsWithinFuel job.now.ordered.task.calls.now job.now.ordered.order.now job.now.ordered.fuel }
     requires post { IsPostOf job.now post }
     ensures { IfOk result (λ part. AreBatches job.now.ordered.task part.batches.items) }
 {
@@ -247,19 +258,19 @@ pub(crate) struct Own<'a, A: Allocator> {
     pub(crate) part: Result<Batches<'a, A>, NoMemory>,
 }
 
-/// Judges the block, and then runs batches over a copy of the cells. Where it is rejected nobody draws a further batch.
+/// Judges the block, and then runs batches over a copy of the cells. Where it is rejected nobody begins a further call.
 pub(crate) fn judge_and_work<'a, A: Allocator + Copy, P: Pace>(
     job: &CopyJob<'_, 'a, A, P>,
     post: Post<'_, 'a, A>,
 ) -> Own<'a, A>
-    requires known { All (λ number. number < length job.now.ordered.task.calls.now) job.now.ordered.order.now }
-    requires trial { IsTrial job.now.trial.now }
+    requires within { IsWithinFuel job.now.ordered.task.calls.now job.now.ordered.order.now job.now.ordered.fuel }
+    requires trial { MayRun job.now.trial.now }
     requires post { IsPostOf job.now post }
     ensures { IsOwn job.now result }
 {
     let judged = job.trial.judge(job.ordered.alloc);
     if judged.is_err() {
-        job.drawn.store(u64::from(u32::MAX), Ordering::SeqCst);
+        job.drawn.store(REJECTED, Ordering::SeqCst);
     }
     Own {
         judged,
@@ -273,7 +284,7 @@ pub(crate) fn run_workers<'a, R: Threads + Wait + Sync, A: Allocator + Copy + Se
     job: &CopyJob<'_, 'a, A, P>,
     posts: Vec<Post<'_, 'a, A>, A>,
 ) -> Result<Vec<Result<Batches<'a, A>, NoMemory>, A>, NoMemory>
-    requires known { All (λ number. number < length job.now.ordered.task.calls.now) job.now.ordered.order.now }
+    requires within { IsWithinFuel job.now.ordered.task.calls.now job.now.ordered.order.now job.now.ordered.fuel }
     requires posts { All (IsPostOf job.now) posts.items }
     ensures { IfOk result (λ parts. AreParts job.now.ordered.task parts.items) }
 {
@@ -281,7 +292,7 @@ pub(crate) fn run_workers<'a, R: Threads + Wait + Sync, A: Allocator + Copy + Se
         rt,
         posts,
         &|post: Post<A>| -> Result<Batches<A>, NoMemory>
-            requires { All (λ number. number < length job.now.ordered.task.calls.now) job.now.ordered.order.now × IsPostOf job.now post }
+            requires { IsWithinFuel job.now.ordered.task.calls.now job.now.ordered.order.now job.now.ordered.fuel × IsPostOf job.now post }
             ensures { IfOk result (λ part. AreBatches job.entry.now.ordered.task part.batches.items) }
         { work_on_copy(job, post) },
     )?;

@@ -1,17 +1,20 @@
 //! What the calls of a block come to one after another.
 
-ghost use Rattle.std.specs.Prelude.{◌≡◌, ◌+◌, ◌≤◌, ◌<◌, All, IfOk, IfNone, IfSome, OnOk, Some, length, slice_get};
+ghost use Rattle.std.specs.Prelude.{◌≡◌, ◌+◌, ◌≤◌, ◌<◌, IfOk, IfNone, IfSome, OnOk, Some, length, slice_get};
 ghost use Rattle.std.specs.FinMap as finite;
 ghost use Rattle.spec_execution.specs.Exec.{Executes};
 ghost use Rattle.spec_execution.specs.Run.{ContractCall};
 ghost use Rattle.interp.specs.Lent.{setting_view};
 ghost use Rattle.validator.specs.Folded.{IsFoldingOf};
+ghost use Rattle.validator.specs.Fuel.{IsWithinFuel};
 ghost use Rattle.validator.specs.Handed.{AreFound, IsMade, IsSupplyOf};
 
+use crate::copies::{CopyJob, is_rejected};
 use crate::job::Made;
 use crate::ordered::Ordered;
 use crate::supply::{Supply, has_come, take_next, turn_over};
 use lock_profile::Touched;
+use pace::Pace;
 use serial::{Executed, execute, replay};
 use spec_ledger::{NoMemory, Receipt};
 use speculation::follow;
@@ -121,6 +124,7 @@ fn execute_one<'a, A: Allocator + Copy>(
     supply: &mut Supply<'a, A>,
     cells: &mut Cells<A>,
 ) -> Result<Done<A>, NoMemory>
+    requires within { IsWithinFuel ordered.now.task.calls.now ordered.now.order.now ordered.now.fuel }
     requires known { number < length ordered.now.task.calls.now }
     requires supply { IsSupplyOf ordered.now.task supply.old }
     requires run { IfSome run (λ made. IsMade (setting_view ordered.now.task.version ordered.now.task.contracts.now) ordered.now.task.calls.now made.now) }
@@ -159,7 +163,7 @@ fn fold_next<'a, A: Allocator + Copy>(
     folding: Folding<A>,
 ) -> Result<Folding<A>, NoMemory>
     requires few { length ordered.now.order.now ≤ 65535 }
-    requires known { All (λ number. number < length ordered.now.task.calls.now) ordered.now.order.now }
+    requires within { IsWithinFuel ordered.now.task.calls.now ordered.now.order.now ordered.now.fuel }
     requires more { length folding.receipts.items < length ordered.now.order.now }
     requires run { IfSome run (λ made. IsMade (setting_view ordered.now.task.version ordered.now.task.contracts.now) ordered.now.task.calls.now made.now) }
     requires supply { IsSupplyOf ordered.now.task supply.old }
@@ -188,22 +192,23 @@ fn fold_next<'a, A: Allocator + Copy>(
     })
 }
 
-/// Executes the calls whose batches have come, and all before them.
-pub(crate) fn fold_ready<'a, A: Allocator + Copy>(
-    ordered: &Ordered<'_, 'a, A>,
+/// Executes the calls whose batches have come, and all before them, as long as the block is not rejected.
+pub(crate) fn fold_ready<'a, A: Allocator + Copy, P: Pace>(
+    job: &CopyJob<'_, 'a, A, P>,
     supply: &mut Supply<'a, A>,
     mut folding: Folding<A>,
 ) -> Result<Folding<A>, NoMemory>
-    requires few { length ordered.now.order.now ≤ 65535 }
-    requires known { All (λ number. number < length ordered.now.task.calls.now) ordered.now.order.now }
-    requires supply { IsSupplyOf ordered.now.task supply.old }
-    requires folding { IsFoldingOf ordered.now folding }
-    ensures folding { IfOk result (IsFoldingOf ordered.now) }
-    ensures supply { OnOk result (IsSupplyOf ordered.now.task supply.new) }
+    requires few { length job.now.ordered.order.now ≤ 65535 }
+    requires within { IsWithinFuel job.now.ordered.task.calls.now job.now.ordered.order.now job.now.ordered.fuel }
+    requires supply { IsSupplyOf job.now.ordered.task supply.old }
+    requires folding { IsFoldingOf job.now.ordered folding }
+    ensures folding { IfOk result (IsFoldingOf job.now.ordered) }
+    ensures supply { OnOk result (IsSupplyOf job.now.ordered.task supply.new) }
 {
+    let ordered = &job.ordered;
     for _ in 0..ordered.order.len() {
         let position = folding.receipts.len();
-        if position >= ordered.order.len() || !has_come(supply, position) {
+        if position >= ordered.order.len() || !has_come(supply, position) || is_rejected(job) {
             return Ok(folding);
         }
         folding = fold_next(ordered, None, supply, folding)?;
@@ -219,7 +224,7 @@ pub(crate) fn fold<'a, A: Allocator + Copy>(
     mut folding: Folding<A>,
 ) -> Result<Folding<A>, NoMemory>
     requires few { length ordered.now.order.now ≤ 65535 }
-    requires known { All (λ number. number < length ordered.now.task.calls.now) ordered.now.order.now }
+    requires within { IsWithinFuel ordered.now.task.calls.now ordered.now.order.now ordered.now.fuel }
     requires runs { AreFound (setting_view ordered.now.task.version ordered.now.task.contracts.now) ordered.now.task.calls.now runs.now }
     requires supply { IsSupplyOf ordered.now.task supply }
     requires folding { IsFoldingOf ordered.now folding }

@@ -17,6 +17,8 @@ pub(crate) struct Job<'s, 'a, A: Allocator, P: Pace> {
     /// The version of the block, by whose rules the calls run.
     pub(crate) version: Version,
     pub(crate) order: &'s [u32],
+    /// The fuel that the block may have.
+    pub(crate) fuel: u64,
     pub(crate) positions: &'s [Position<A>],
     pub(crate) pace: &'s P,
 }

@@ -1,14 +1,15 @@
 //! The caller folds what workers over copies of the cells hand over, and runs batches of its own meanwhile.
 
-ghost use Rattle.std.specs.Prelude.{◌≡◌, ◌≤◌, ◌<◌, All, IfOk, IfSome, OnOk, length};
+ghost use Rattle.std.specs.Prelude.{◌≡◌, ◌≤◌, All, IfOk, IfSome, OnOk, length};
 ghost use Rattle.speculation.specs.Shares.{IsShareOf};
 ghost use Rattle.validator.specs.Folded.{IsLedOf};
+ghost use Rattle.validator.specs.Fuel.{IsWithinFuel};
 ghost use Rattle.validator.specs.Handed.{AreBatches, AreParts, IsPostOf, IsSupplyOf};
-ghost use Rattle.validator.specs.Tried.{IsJudged, IsOwn, IsTrial};
+ghost use Rattle.validator.specs.Tried.{IsJudged, IsOwn, MayRun};
 
 use crate::copies::{
-    Batches, CopyJob, Line, Own, Ran, draw, judge_and_work, make_posts, receive, run_batch,
-    run_workers,
+    Batches, CopyJob, Line, Own, Ran, draw, is_rejected, judge_and_work, make_posts, receive,
+    run_batch, run_workers,
 };
 use crate::fold::{Folding, fold_ready, open_folding};
 use crate::ordered::Ordered;
@@ -45,34 +46,34 @@ pub(crate) fn open_led<'a, A: Allocator + Copy>(
 }
 
 /// Puts a batch in its place, and folds the calls that are next.
-fn take_batch<'a, A: Allocator + Copy>(
-    ordered: &Ordered<'_, 'a, A>,
+fn take_batch<'a, A: Allocator + Copy, P: Pace>(
+    job: &CopyJob<'_, 'a, A, P>,
     led: Led<'a, A>,
     batch: Batch<'a, A>,
 ) -> Result<Led<'a, A>, NoMemory>
-    requires few { length ordered.now.order.now ≤ 65535 }
-    requires known { All (λ number. number < length ordered.now.task.calls.now) ordered.now.order.now }
-    requires led { IsLedOf ordered.now led }
-    requires batch { IsShareOf ordered.now.task batch.share }
-    ensures { IfOk result (IsLedOf ordered.now) }
+    requires few { length job.now.ordered.order.now ≤ 65535 }
+    requires within { IsWithinFuel job.now.ordered.task.calls.now job.now.ordered.order.now job.now.ordered.fuel }
+    requires led { IsLedOf job.now.ordered led }
+    requires batch { IsShareOf job.now.ordered.task batch.share }
+    ensures { IfOk result (IsLedOf job.now.ordered) }
 {
     let Led {
         folding,
         mut supply,
     } = led;
-    place(ordered, &mut supply, batch);
-    let folding = fold_ready(ordered, &mut supply, folding)?;
+    place(&job.ordered, &mut supply, batch);
+    let folding = fold_ready(job, &mut supply, folding)?;
     Ok(Led { folding, supply })
 }
 
-/// Folds what is handed over, and while nothing is there runs batches that the caller draws, until none is left or the pace stops the caller.
+/// Folds what is handed over, and while nothing is there runs batches that the caller draws, until none is left, the block is rejected or the pace stops the caller.
 fn lead<'a, A: Allocator + Copy, P: Pace>(
     job: &CopyJob<'_, 'a, A, P>,
     mut led: Led<'a, A>,
     mut post: Post<'_, 'a, A>,
 ) -> Result<Led<'a, A>, NoMemory>
     requires few { length job.now.ordered.order.now ≤ 65535 }
-    requires known { All (λ number. number < length job.now.ordered.task.calls.now) job.now.ordered.order.now }
+    requires within { IsWithinFuel job.now.ordered.task.calls.now job.now.ordered.order.now job.now.ordered.fuel }
     requires post { IsPostOf job.now post }
     requires led { IsLedOf job.now.ordered led }
     ensures { IfOk result (IsLedOf job.now.ordered) }
@@ -80,15 +81,18 @@ fn lead<'a, A: Allocator + Copy, P: Pace>(
     let ordered = &job.ordered;
     let mut copy = ordered.cells.copy(ordered.alloc)?;
     for _ in 0..2 * ordered.order.len() + 2 {
+        if is_rejected(job) {
+            return Ok(led);
+        }
         if let Some(batch) = receive(job, &mut post) {
-            led = take_batch(ordered, led, batch)?;
+            led = take_batch(job, led, batch)?;
             continue;
         }
         let Some(nth) = draw(job) else {
             return Ok(led);
         };
         let Ran { batch, stops } = run_batch(job, &mut copy, nth)?;
-        led = take_batch(ordered, led, batch)?;
+        led = take_batch(job, led, batch)?;
         if stops {
             return Ok(led);
         }
@@ -191,8 +195,8 @@ fn lead_beside<'a, R: Threads + Wait + Sync, A: Allocator + Copy + Send + Sync, 
     own: Post<'_, 'a, A>,
 ) -> (Own<'a, A>, Result<Led<'a, A>, NoMemory>)
     requires few { length job.now.ordered.order.now ≤ 65535 }
-    requires known { All (λ number. number < length job.now.ordered.task.calls.now) job.now.ordered.order.now }
-    requires trial { IsTrial job.now.trial.now }
+    requires within { IsWithinFuel job.now.ordered.task.calls.now job.now.ordered.order.now job.now.ordered.fuel }
+    requires trial { MayRun job.now.trial.now }
     requires led { IsLedOf job.now.ordered led }
     requires first { IsPostOf job.now first }
     requires own { IsPostOf job.now own }
@@ -202,11 +206,11 @@ fn lead_beside<'a, R: Threads + Wait + Sync, A: Allocator + Copy + Send + Sync, 
     join(
         rt,
         move || -> Own<A>
-            requires { All (λ number. number < length job.now.ordered.task.calls.now) job.now.ordered.order.now × IsTrial job.now.trial.now × IsPostOf job.now first }
+            requires { IsWithinFuel job.now.ordered.task.calls.now job.now.ordered.order.now job.now.ordered.fuel × MayRun job.now.trial.now × IsPostOf job.now first }
             ensures { IsOwn job.entry.now result }
         { judge_and_work(job, first) },
         move || -> Result<Led<A>, NoMemory>
-            requires { (length job.now.ordered.order.now ≤ 65535) × All (λ number. number < length job.now.ordered.task.calls.now) job.now.ordered.order.now × IsPostOf job.now own × IsLedOf job.now.ordered led }
+            requires { (length job.now.ordered.order.now ≤ 65535) × IsWithinFuel job.now.ordered.task.calls.now job.now.ordered.order.now job.now.ordered.fuel × IsPostOf job.now own × IsLedOf job.now.ordered led }
             ensures { IfOk result (IsLedOf job.entry.now.ordered) }
         { lead(job, led, own) },
     )
@@ -222,8 +226,8 @@ fn run_all<'a, R: Threads + Wait + Sync, A: Allocator + Copy + Send + Sync, P: P
     last: Post<'_, 'a, A>,
 ) -> Result<Beside<'a, A>, NoMemory>
     requires few { length job.now.ordered.order.now ≤ 65535 }
-    requires known { All (λ number. number < length job.now.ordered.task.calls.now) job.now.ordered.order.now }
-    requires trial { IsTrial job.now.trial.now }
+    requires within { IsWithinFuel job.now.ordered.task.calls.now job.now.ordered.order.now job.now.ordered.fuel }
+    requires trial { MayRun job.now.trial.now }
     requires posts { All (IsPostOf job.now) posts.items }
     requires first { IsPostOf job.now first }
     requires own { IsPostOf job.now own }
@@ -239,11 +243,11 @@ fn run_all<'a, R: Threads + Wait + Sync, A: Allocator + Copy + Send + Sync, P: P
     let (parts, (own, led)) = join(
         rt,
         move || -> Result<Vec<Result<Batches<A>, NoMemory>, A>, NoMemory>
-            requires { All (λ number. number < length job.now.ordered.task.calls.now) job.now.ordered.order.now × All (IsPostOf job.now) posts.items }
+            requires { IsWithinFuel job.now.ordered.task.calls.now job.now.ordered.order.now job.now.ordered.fuel × All (IsPostOf job.now) posts.items }
             ensures { IfOk result (λ parts. AreParts job.entry.now.ordered.task parts.items) }
         { run_workers(rt, job, posts) },
         move || -> (Own<A>, Result<Led<A>, NoMemory>)
-            requires { (length job.now.ordered.order.now ≤ 65535) × All (λ number. number < length job.now.ordered.task.calls.now) job.now.ordered.order.now × IsTrial job.now.trial.now × IsLedOf job.now.ordered led × IsPostOf job.now first × IsPostOf job.now own }
+            requires { (length job.now.ordered.order.now ≤ 65535) × IsWithinFuel job.now.ordered.task.calls.now job.now.ordered.order.now job.now.ordered.fuel × MayRun job.now.trial.now × IsLedOf job.now.ordered led × IsPostOf job.now first × IsPostOf job.now own }
             ensures { IsOwn job.entry.now result.0 × IfOk result.1 (IsLedOf job.entry.now.ordered) }
         { lead_beside(rt, job, led, first, own) },
     );
@@ -256,8 +260,8 @@ fn judge_and_lead<'a, A: Allocator + Copy, P: Pace>(
     own: Post<'_, 'a, A>,
 ) -> Result<Beside<'a, A>, NoMemory>
     requires few { length job.now.ordered.order.now ≤ 65535 }
-    requires known { All (λ number. number < length job.now.ordered.task.calls.now) job.now.ordered.order.now }
-    requires trial { IsTrial job.now.trial.now }
+    requires within { IsWithinFuel job.now.ordered.task.calls.now job.now.ordered.order.now job.now.ordered.fuel }
+    requires trial { MayRun job.now.trial.now }
     requires own { IsPostOf job.now own }
     ensures judged { IfOk result (λ beside. IsJudged job.now.trial.now beside.judged) }
     ensures led { IfOk result (λ beside. IfSome beside.led (IsLedOf job.now.ordered)) }
@@ -282,9 +286,10 @@ pub(crate) fn judge_beside<
     A: Allocator + Copy + Send + Sync,
     P: Pace,
 >(rt: &R, job: &CopyJob<'_, 'a, A, P>, workers: u32) -> Result<Beside<'a, A>, NoMemory>
+    requires fuel { job.now.ordered.fuel ≡ job.now.trial.now.fuel }
     requires few { length job.now.ordered.order.now ≤ 65535 }
-    requires known { All (λ number. number < length job.now.ordered.task.calls.now) job.now.ordered.order.now }
-    requires trial { IsTrial job.now.trial.now }
+    requires within { IsWithinFuel job.now.ordered.task.calls.now job.now.ordered.order.now job.now.ordered.fuel }
+    requires trial { MayRun job.now.trial.now }
     requires workers { 1 ≤ workers }
     ensures judged { IfOk result (λ beside. IsJudged job.now.trial.now beside.judged) }
     ensures led { IfOk result (λ beside. IfSome beside.led (IsLedOf job.now.ordered)) }

@@ -19,18 +19,19 @@ mod trial;
 mod verdict;
 mod workers;
 
-ghost use Rattle.std.specs.Prelude.{◌≡◌, ◌≤◌, ◌<◌, ◌↔◌, ℕ, All, IfErr, IfOk, IfSome, IsTrue, length};
+ghost use Rattle.std.specs.Prelude.{◌≡◌, ◌≤◌, ℕ, IfErr, IfOk, IfSome, length};
 ghost use Rattle.spec_block.specs.Worlds.{order_of, profiles_of};
 ghost use Rattle.spec_block.specs.Bytes.{SpellsBlock};
 ghost use Rattle.spec_block.specs.Schedule.{HaveTurns};
 ghost use Rattle.spec_block.specs.Serial.{setting_of};
 ghost use Rattle.spec_block.specs.Verdicts.{HoldsOf, IsVerdictOf};
 ghost use Rattle.interp.specs.Lent.{setting_view};
-ghost use Rattle.block_judge.specs.Judging.{IfRejected, IsFirstFrom};
+ghost use Rattle.block_judge.specs.Judging.{IfRejected, IsFirstFrom, IsReasonOf, told};
 ghost use Rattle.world.specs.Views.{world_view};
 ghost use Rattle.validator.specs.Folded.{IsLed, IsLedOf};
+ghost use Rattle.validator.specs.Fuel.{IsWithinFuel};
 ghost use Rattle.validator.specs.Judged.{told_by};
-ghost use Rattle.validator.specs.Tried.{IsJudged, IsTrial};
+ghost use Rattle.validator.specs.Tried.{IsJudged, IsTrial, MayRun};
 
 use crate::copies::CopyJob;
 use crate::end::conclude;
@@ -43,7 +44,7 @@ pub use crate::verdict::Verdict;
 use crate::workers::{Runners, run_ahead, runners_of};
 use block::Block;
 pub use block_judge::Reason;
-use block_judge::{Unfit, numbers_of, spelled_by};
+use block_judge::{Unfit, judge_digests, judge_order, numbers_of, spelled_by};
 use call::Call;
 use pace::Pace;
 use serial::Core;
@@ -64,19 +65,7 @@ pub struct Validated<A: Allocator = Global> {
     pub again: u32,
 }
 
-/// Whether these are numbers of calls, of which there are so many.
-fn are_known(order: &[u32], calls: usize) -> bool
-    ensures { IsTrue result ↔ All (λ number. number < calls) order.now }
-{
-    for number in order {
-        if *number as usize >= calls {
-            return false;
-        }
-    }
-    true
-}
-
-/// Judges a block, and where workers over copies of the cells pay, runs those of its calls meanwhile that wait for none of the others.
+/// Judges a block whose order was judged, and where workers over copies of the cells pay, runs those of its calls meanwhile that wait for none of the others.
 fn judge_and_prepare<'a, R: Threads + Wait + Sync, A: Allocator + Copy + Send + Sync, P: Pace>(
     rt: &R,
     job: &Job<'_, 'a, A, P>,
@@ -84,13 +73,15 @@ fn judge_and_prepare<'a, R: Threads + Wait + Sync, A: Allocator + Copy + Send + 
     runners: Runners,
     workers: u32,
 ) -> Result<Beside<'a, A>, NoMemory>
-    requires trial { IsTrial trial.now }
+    requires trial { MayRun trial.now }
+    requires within { IsWithinFuel job.now.calls.now job.now.order.now job.now.fuel }
     requires order { job.now.order.now ≡ order_of trial.now.block.now }
+    requires fuel { job.now.fuel ≡ trial.now.fuel }
     requires workers { 1 ≤ workers }
     ensures judged { IfOk result (λ beside. IsJudged trial.now beside.judged) }
     ensures led { IfOk result (λ beside. IfSome beside.led (IsLed (setting_view job.now.version job.now.contracts.now) job.now.calls.now job.now.order.now (world_view trial.now.world.now).cells)) }
 {
-    if runners != Runners::Copying || !are_known(job.order, job.calls.len()) {
+    if runners != Runners::Copying {
         return Ok(Beside {
             judged: trial.judge(job.alloc),
             led: None,
@@ -105,6 +96,7 @@ fn judge_and_prepare<'a, R: Threads + Wait + Sync, A: Allocator + Copy + Send + 
                 version: job.version,
             },
             order: job.order,
+            fuel: job.fuel,
             cells: trial.world.cells(),
         },
         positions: job.positions,
@@ -141,9 +133,10 @@ fn run<'a, R: Threads + Wait + Sync, A: Allocator + Copy + Send + Sync, P: Pace>
     requires setting { setting_view job.now.version job.now.contracts.now ≡ setting_of trial.now.block.now.version (world_view trial.now.world.now) }
     requires calls { job.now.calls.now ≡ trial.now.calls.now }
     requires order { job.now.order.now ≡ order_of trial.now.block.now }
+    requires fuel { job.now.fuel ≡ trial.now.fuel }
     requires positions { job.now.positions.now ≡ trial.now.block.now.positions }
     requires few { length trial.now.block.now.positions ≤ 65535 }
-    requires known { All (λ number. number < length job.now.calls.now) job.now.order.now }
+    requires within { IsWithinFuel job.now.calls.now job.now.order.now job.now.fuel }
     requires turns { HaveTurns (profiles_of trial.now.block.now) }
     requires led { IfSome led (IsLed (setting_view job.now.version job.now.contracts.now) job.now.calls.now job.now.order.now (world_view trial.now.world.now).cells) }
     requires workers { 1 ≤ workers }
@@ -160,6 +153,7 @@ fn run<'a, R: Threads + Wait + Sync, A: Allocator + Copy + Send + Sync, P: Pace>
             version: job.version,
         },
         order: job.order,
+        fuel: job.fuel,
         cells,
     };
     let Led { folding, supply } = led_so_far(&ordered, led)?;
@@ -178,7 +172,59 @@ fn run<'a, R: Threads + Wait + Sync, A: Allocator + Copy + Send + Sync, P: Pace>
     Ok(Validated { verdict, again })
 }
 
-/// The verdict on a block that was read.
+/// The verdict on a block whose order was judged.
+fn verdict_within<R: Threads + Wait + Sync, A: Allocator + Copy + Send + Sync, P: Pace>(
+    rt: &R,
+    alloc: A,
+    trial: &Trial<'_, A>,
+    workers: u32,
+    pace: &P,
+) -> Result<Validated<A>, NoMemory>
+    requires trial { MayRun trial.now }
+    requires workers { 1 ≤ workers }
+    ensures { IfOk result (λ v. IsFirstFrom (HoldsOf (world_view trial.now.world.now) trial.now.calls.now trial.now.fuel trial.now.block.now) 1 (told_by v.verdict)) }
+{
+    let job = Job {
+        alloc,
+        contracts: trial.world.contracts(),
+        calls: trial.calls,
+        version: trial.block.version(),
+        order: trial.order,
+        fuel: trial.fuel,
+        positions: trial.block.positions(),
+        pace,
+    };
+    let runners = runners_of(&job, trial.world.cells(), trial.block.fuel(), workers);
+    let Beside { judged, led } = judge_and_prepare(rt, &job, trial, runners, workers)?;
+    match judged {
+        Ok(()) => run(rt, &job, trial, led, runners, workers),
+        Err(Unfit::Rejected(reason)) => Ok(Validated {
+            verdict: Verdict::Reject(reason),
+            again: 0,
+        }),
+        Err(Unfit::NoMemory) => Err(NoMemory),
+    }
+}
+
+/// The first reason that holds of a block whose order is rejected for this one: those of its digests come before.
+fn first_reason<A: Allocator + Copy>(
+    alloc: A,
+    trial: &Trial<'_, A>,
+    reason: Reason,
+) -> Result<Reason, NoMemory>
+    requires trial { IsTrial trial.now }
+    requires reason { IsReasonOf trial.now.calls.now trial.now.order.now trial.now.fuel (told reason) }
+    ensures { IfOk result (λ first. IsFirstFrom (HoldsOf (world_view trial.now.world.now) trial.now.calls.now trial.now.fuel trial.now.block.now) 1 (told first)) }
+{
+    match judge_digests(alloc, trial.world, trial.calls, trial.block) {
+        Ok(()) => Ok(reason),
+        Err(Unfit::Rejected(first)) => Ok(first),
+        Err(Unfit::NoMemory) => Err(NoMemory),
+    }
+}
+
+/// The verdict on a block that was read. Its order is judged before anything else: a block that it speaks against makes nobody run a call, and the calls of
+/// another stay within the fuel that it may have.
 fn verdict_of<R: Threads + Wait + Sync, A: Allocator + Copy + Send + Sync, P: Pace>(
     rt: &R,
     alloc: A,
@@ -190,21 +236,10 @@ fn verdict_of<R: Threads + Wait + Sync, A: Allocator + Copy + Send + Sync, P: Pa
     requires workers { 1 ≤ workers }
     ensures { IfOk result (λ v. IsFirstFrom (HoldsOf (world_view trial.now.world.now) trial.now.calls.now trial.now.fuel trial.now.block.now) 1 (told_by v.verdict)) }
 {
-    let job = Job {
-        alloc,
-        contracts: trial.world.contracts(),
-        calls: trial.calls,
-        version: trial.block.version(),
-        order: trial.order,
-        positions: trial.block.positions(),
-        pace,
-    };
-    let runners = runners_of(&job, trial.world.cells(), trial.block.fuel(), workers);
-    let Beside { judged, led } = judge_and_prepare(rt, &job, trial, runners, workers)?;
-    match judged {
-        Ok(()) => run(rt, &job, trial, led, runners, workers),
+    match judge_order(alloc, trial.calls, trial.fuel, trial.order) {
+        Ok(()) => verdict_within(rt, alloc, trial, workers, pace),
         Err(Unfit::Rejected(reason)) => Ok(Validated {
-            verdict: Verdict::Reject(reason),
+            verdict: Verdict::Reject(first_reason(alloc, trial, reason)?),
             again: 0,
         }),
         Err(Unfit::NoMemory) => Err(NoMemory),
@@ -269,8 +304,10 @@ pub fn find_verdict<R: Threads + Wait + Sync, A: Allocator + Copy + Send + Sync,
 }
 
 /// The verdict on the bytes of a block of these calls over a world, with this fuel for the block: the first of the nine reasons that holds, or else
-/// the world after the block. This many workers, of which the calling thread is one, run calls at once: each as soon as those that it waits for have
-/// ended; or, in a block of 512 calls or more, over copies of the cells, those that wait for none, while one of the workers judges the block. The pace is told each
+/// the world after the block. Its order and limits are judged first: a block that they speak against makes nobody run a call, and the calls of another stay within
+/// the fuel that it may have, each run once ahead and once in its turn at most. This many workers, of which the calling thread is one, run calls at once: each as
+/// soon as those that it waits for have ended; or, in a block of 512 calls or more, over copies of the cells, those that wait for none, while one of the workers
+/// judges what else needs no run, and until it finds that the block is rejected. The pace is told each
 /// attempt of theirs, and each operation but those over copies, and may stop a worker there. What no worker ran the caller runs. Where workers do not pay
 /// (`gain`), by the fuel and the turns that a block of 512 calls or more names, none is started, and the pace is told nothing.
 ///

@@ -10,5 +10,7 @@ pub(crate) struct Ordered<'s, 'a, A: Allocator> {
     pub(crate) alloc: A,
     pub(crate) task: Task<'a, A>,
     pub(crate) order: &'s [u32],
+    /// The fuel that their block may have.
+    pub(crate) fuel: u64,
     pub(crate) cells: &'s Cells<A>,
 }

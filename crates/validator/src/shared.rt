@@ -16,17 +16,18 @@ pub(crate) struct Shared<A: Allocator> {
     pub(crate) ahead: Mutex<Ahead<A>>,
     /// How many positions have not ended.
     pub(crate) rest: AtomicU64,
-    /// Whether a worker met want of memory.
-    pub(crate) lacked: AtomicBool,
+    /// Whether a worker gave up: it met want of memory, or the board refused to end a position.
+    pub(crate) given_up: AtomicBool,
 }
 
 impl<A: Allocator + Copy> Shared<A> {
-    /// Whether there is nothing left to do: every position has ended, or some worker met want of memory.
+    /// Whether there is nothing left to do: every position has ended, or some worker gave up.
     pub(crate) fn is_over(&self) -> bool {
-        self.rest.load(Ordering::SeqCst) == 0 || self.lacked.load(Ordering::SeqCst)
+        self.rest.load(Ordering::SeqCst) == 0 || self.given_up.load(Ordering::SeqCst)
     }
 
-    /// Ends a position on the board, and gives those that may start now.
+    /// Ends a position on the board, and gives those that may start now. Where the board refuses, the workers leave the further positions to the caller: what the
+    /// position kept waiting would not come.
     fn end(&self, rt: &impl Wait, alloc: A, position: u32) -> Result<Vec<u32, A>, NoMemory> {
         let mut board = acquire(rt, &self.board);
         match board.end(position) {
@@ -35,7 +36,10 @@ impl<A: Allocator + Copy> Shared<A> {
                 Ok(freed)
             }
             Err(EndRefusal::NoMemory) => Err(NoMemory),
-            Err(_) => Ok(Vec::new(alloc)),
+            Err(_) => {
+                self.given_up.store(true, Ordering::SeqCst);
+                Ok(Vec::new(alloc))
+            }
         }
     }
 

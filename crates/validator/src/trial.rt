@@ -1,9 +1,9 @@
 //! A block that was read, and what it is judged by.
 
-ghost use Rattle.validator.specs.Tried.{IsJudged, IsTrial};
+ghost use Rattle.validator.specs.Tried.{IsJudged, MayRun};
 
 use block::Block;
-use block_judge::{Unfit, judge_block};
+use block_judge::{Unfit, judge_digests, judge_turns};
 use call::Call;
 use std::alloc::Allocator;
 use world::World;
@@ -20,13 +20,12 @@ pub(crate) struct Trial<'s, A: Allocator> {
 }
 
 impl<A: Allocator + Copy> Trial<'_, A> {
-    /// The first of the reasons 2 to 7 that holds of the block, without running a call.
+    /// The first of the reasons 2 to 7 that holds of the block, whose order was judged, without running a call.
     pub(crate) fn judge(&self, alloc: A) -> Result<(), Unfit>
-        requires { IsTrial self.now }
+        requires { MayRun self.now }
         ensures { IsJudged self.now result }
     {
-        judge_block(
-            alloc, self.world, self.calls, self.fuel, self.block, self.order,
-        )
+        judge_digests(alloc, self.world, self.calls, self.block)?;
+        judge_turns(alloc, self.block)
     }
 }

@@ -1,9 +1,10 @@
 //! The calls of a block, each run once its predecessors have ended.
 
-ghost use Rattle.std.specs.Prelude.{◌≡◌, ◌≤◌, ◌<◌, All, IfOk, OnOk, length};
+ghost use Rattle.std.specs.Prelude.{◌≡◌, ◌≤◌, IfOk, OnOk, length};
 ghost use Rattle.spec_block.specs.Schedule.{HaveTurns};
 ghost use Rattle.interp.specs.Lent.{setting_view};
 ghost use Rattle.block_judge.specs.Turned.{lists_of};
+ghost use Rattle.validator.specs.Fuel.{IsWithinFuel};
 ghost use Rattle.validator.specs.Handed.{AreFound, AreMade, ArePartsMade, IsMade};
 
 use crate::attempt::attempt;
@@ -48,7 +49,7 @@ fn work_on<'a, R: Wait, A: Allocator + Copy, P: Pace>(
     made: &mut Vec<Made<'a, A>, A>,
     position: u32,
 ) -> Result<bool, NoMemory>
-    requires known { All (λ number. number < length job.now.calls.now) job.now.order.now }
+    requires within { IsWithinFuel job.now.calls.now job.now.order.now job.now.fuel }
     requires made { AreMade (setting_view job.now.version job.now.contracts.now) job.now.calls.now made.old.items }
     ensures { OnOk result (AreMade (setting_view job.now.version job.now.contracts.now) job.now.calls.now made.new.items) }
 {
@@ -60,7 +61,7 @@ fn work_on<'a, R: Wait, A: Allocator + Copy, P: Pace>(
     Ok(stops)
 }
 
-/// Runs the calls of positions that may start, until every position has ended, some worker met want of memory, or the pace stops this one. With nothing
+/// Runs the calls of positions that may start, until every position has ended, some worker gave up, or the pace stops this one. With nothing
 /// to do it looks again. What a stopped worker leaves in its lane is stolen by the others; where all are stopped it has no run.
 fn work_through<'a, R: Wait, A: Allocator + Copy, P: Pace>(
     rt: &R,
@@ -69,7 +70,7 @@ fn work_through<'a, R: Wait, A: Allocator + Copy, P: Pace>(
     mut lane: Lane<A>,
     mut thief: Thief<A>,
 ) -> Result<Part<'a, A>, NoMemory>
-    requires { All (λ number. number < length job.now.calls.now) job.now.order.now }
+    requires { IsWithinFuel job.now.calls.now job.now.order.now job.now.fuel }
     ensures { IfOk result (λ part. AreMade (setting_view job.now.version job.now.contracts.now) job.now.calls.now part.made.items) }
 {
     let mut made = Vec::new(job.alloc);
@@ -92,7 +93,7 @@ fn work_through<'a, R: Wait, A: Allocator + Copy, P: Pace>(
     })
 }
 
-/// The same. Want of memory is told to the others.
+/// The same. A worker that wants memory tells the others.
 fn work<'a, R: Wait, A: Allocator + Copy, P: Pace>(
     rt: &R,
     job: &Job<'_, 'a, A, P>,
@@ -100,12 +101,12 @@ fn work<'a, R: Wait, A: Allocator + Copy, P: Pace>(
     lane: Lane<A>,
     thief: Thief<A>,
 ) -> Result<Part<'a, A>, NoMemory>
-    requires { All (λ number. number < length job.now.calls.now) job.now.order.now }
+    requires { IsWithinFuel job.now.calls.now job.now.order.now job.now.fuel }
     ensures { IfOk result (λ part. AreMade (setting_view job.now.version job.now.contracts.now) job.now.calls.now part.made.items) }
 {
     let worked = work_through(rt, job, shared, lane, thief);
     if worked.is_err() {
-        shared.lacked.store(true, Ordering::SeqCst);
+        shared.given_up.store(true, Ordering::SeqCst);
     }
     worked
 }
@@ -199,14 +200,14 @@ fn run_workers<'a, R: Threads + Wait + Sync, A: Allocator + Copy + Send + Sync, 
     shared: &Shared<A>,
     pairs: Vec<(Lane<A>, Thief<A>), A>,
 ) -> Result<Parts<'a, A>, NoMemory>
-    requires { All (λ number. number < length job.now.calls.now) job.now.order.now }
+    requires { IsWithinFuel job.now.calls.now job.now.order.now job.now.fuel }
     ensures { IfOk result (λ parts. ArePartsMade (setting_view job.now.version job.now.contracts.now) job.now.calls.now parts.items) }
 {
     let parts = thread::map_vec(
         rt,
         pairs,
         &|pair: (Lane<A>, Thief<A>)| -> Result<Part<A>, NoMemory>
-            requires { All (λ number. number < length job.now.calls.now) job.now.order.now }
+            requires { IsWithinFuel job.now.calls.now job.now.order.now job.now.fuel }
             ensures { IfOk result (λ part. AreMade (setting_view job.entry.now.version job.entry.now.contracts.now) job.entry.now.calls.now part.made.items) }
         {
             let (lane, thief) = pair;
@@ -232,7 +233,7 @@ fn run_ready<'a, R: Threads + Wait + Sync, A: Allocator + Copy + Send + Sync, P:
     workers: u32,
 ) -> Result<Vec<Option<Made<'a, A>>, A>, NoMemory>
     requires few { length job.now.positions.now ≤ 65535 }
-    requires known { All (λ number. number < length job.now.calls.now) job.now.order.now }
+    requires within { IsWithinFuel job.now.calls.now job.now.order.now job.now.fuel }
     requires turns { HaveTurns (lists_of job.now.positions.now) }
     requires workers { 1 ≤ workers }
     ensures { IfOk result (λ runs. AreFound (setting_view job.now.version job.now.contracts.now) job.now.calls.now runs.items) }
@@ -248,7 +249,7 @@ fn run_ready<'a, R: Threads + Wait + Sync, A: Allocator + Copy + Send + Sync, P:
         board: Mutex::new(board),
         ahead: Mutex::new(Ahead::open(job.alloc, cells, job.positions.len())?),
         rest: AtomicU64::new(job.positions.len() as u64),
-        lacked: AtomicBool::new(false),
+        given_up: AtomicBool::new(false),
     };
     let mut pairs = lanes(job.alloc, workers)?;
     deal(rt, job.alloc, &shared, &mut pairs, &ready)?;
@@ -332,7 +333,7 @@ pub(crate) fn run_ahead<'a, R: Threads + Wait + Sync, A: Allocator + Copy + Send
     workers: u32,
 ) -> Result<Vec<Option<Made<'a, A>>, A>, NoMemory>
     requires few { length job.now.positions.now ≤ 65535 }
-    requires known { All (λ number. number < length job.now.calls.now) job.now.order.now }
+    requires within { IsWithinFuel job.now.calls.now job.now.order.now job.now.fuel }
     requires turns { HaveTurns (lists_of job.now.positions.now) }
     requires workers { 1 ≤ workers }
     ensures { IfOk result (λ runs. AreFound (setting_view job.now.version job.now.contracts.now) job.now.calls.now runs.items) }

@@ -1,24 +1,5 @@
-use Rattle.std.proofs.Common.{ℕ, ◌<◌, All, OnOk, length, subst}
-use Rattle.spec_block.specs.Worlds.{order_of}
-use Rattle.spec_block.specs.Verdicts.{HoldsOf}
-use Rattle.block_judge.specs.Judging.{IsFirstFrom, NoneFrom}
-use Rattle.world.specs.Views.{world_view}
-use Rattle.validator.specs.Judged.{told_by}
-use Rattle.validator.proofs.Fits.{first_of_all, if_ok, known_numbers}
+use Rattle.validator.proofs.Fits.{may_run}
 use Rattle.validator.proofs.verdict_of.Goals as goal
 
-pub run-requires-clause-known : goal.run-requires-clause-known
-run-requires-clause-known g c κs within =
-    let calls = c.args.trial.now.calls.now in
-    let block = c.args.trial.now.block.now in
-    known_numbers calls block c.args.trial.now.order.now c.requires.trial.order (subst (λ r. OnOk r (All (λ number. number < length calls) (order_of block))) c.in-Ok.is c.in_ok-judged.ensures.judged.known)
-
-pub returns-in-Ok : goal.returns-in-Ok
-returns-in-Ok g c =
-    let world = world_view c.args.trial.now.world.now in
-    let calls = c.args.trial.now.calls.now in
-    let block = c.args.trial.now.block.now in
-    let fuel = c.args.trial.now.fuel in
-    let none = subst (λ r. OnOk r (NoneFrom (HoldsOf world calls fuel block) 1 8)) c.in-Ok.is c.in_ok-judged.ensures.judged.passed in
-    if_ok c.run.result (λ v. (f : ℕ) → IsFirstFrom (HoldsOf world calls f block) 8 (told_by v.verdict)) (λ v. IsFirstFrom (HoldsOf world calls fuel block) 1 (told_by v.verdict))
-    (λ v first. first_of_all world calls fuel block (told_by v.verdict) none (first fuel)) c.run.ensures.verdict
+pub verdict_within-requires-clause-trial : goal.verdict_within-requires-clause-trial
+verdict_within-requires-clause-trial g c κs within = may_run c.args.trial.now c.requires.trial c.in-Ok.ensures.passed

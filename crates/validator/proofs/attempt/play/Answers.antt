@@ -21,3 +21,10 @@ returns-in-Err g c =
     let calls = c.args.job.now.calls.now in
     let at = slice_get_read calls (length calls) c.args.number c.index-job-number.result refl c.requires c.index-job-number.is in
     record { lent = r.lent; call_is = at ∙ ap (λ x. Some x) (c.index-job-number.is ∙ sym r.call_is) }
+
+pub returns-in-Some : goal.returns-in-Some
+returns-in-Some g c =
+    let r = c.in-Some.ensures.some in
+    let calls = c.args.job.now.calls.now in
+    let at = slice_get_read calls (length calls) c.args.number c.index-job-number.result refl c.requires c.index-job-number.is in
+    record { lent = r.lent; call_is = at ∙ ap (λ x. Some x) (c.index-job-number.is ∙ sym r.call_is) }
