@@ -18,4 +18,4 @@ returns-in-Err-Rejected g c =
     let t = c.args.trial.now in
     let Holds = HoldsOf (world_view t.world.now) t.calls.now t.fuel t.block.now in
     let first : IsFirstFrom Holds 1 (told c.in-Err-Rejected.first) = subst (λ (u : Unfit). IfRejected u (IsFirstFrom Holds 1)) c.in-Err-Rejected.field-0-is (c.in-Err-Rejected.ensures.rejected t.fuel) in
-    subst (λ (r : Reason). IsFirstFrom Holds 1 (told r)) c.in-Err-Rejected.first-is first
+    subst (λ (r : Reason). IsFirstFrom Holds 1 (told r)) (sym c.in-Err-Rejected.first-is) first
