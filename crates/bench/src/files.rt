@@ -1,8 +1,7 @@
 //! The files that are named.
-use crate::refusals::refused;
 use std::alloc::Global;
-use std::io;
-use wblock_io::{Disk, Files};
+use std::fs::File;
+use std::io::{self, Read};
 
 /// The bytes of the file of this name.
 ///
@@ -10,6 +9,8 @@ use wblock_io::{Disk, Files};
 ///
 /// The file can't be read, or memory was refused.
 pub fn read_file<R: std::rt::Files>(rt: &R, alloc: Global, name: &str) -> io::Result<Vec<u8>> {
-    let mut files = Disk::new(rt);
-    files.read_all(alloc, name).map_err(|_| refused())
+    let mut file = File::open(rt, name)?;
+    let mut bytes = Vec::new(alloc);
+    file.read_to_end(&mut bytes)?;
+    Ok(bytes)
 }

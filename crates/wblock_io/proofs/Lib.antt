@@ -1,2 +1,2 @@
-pub mod LogLemmas
-pub mod HoldingLemmas
+mod HoldingLemmas
+mod LogLemmas

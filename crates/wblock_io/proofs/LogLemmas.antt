@@ -1,45 +1,35 @@
--- One more event at the end of a log.
-use Rattle.std.proofs.Common.{◌≡◌, ◌≢◌, ℕ, List, [], ◌∷◌, ◌++◌, Option, Some, None, refl, true, false, ◌∙◌, sym, ap, Bool, take, length, ◌<◌, ◌+◌, get_or, if◌then◌else◌, Result, Ok, Err, OnOk}
+-- One more file at the end of a log.
+use Rattle.std.proofs.Common.{◌≡◌, ◌≢◌, ℕ, List, [], ◌∷◌, ◌++◌, Option, Some, None, refl, true, false, ◌∙◌, sym, ap, Bool, take, length, ◌<◌, ◌+◌, get_or, if◌then◌else◌, string_bytes}
 use Rattle.std.proofs.lemmas.Slice.Eq.{bytes_eq-Decides}
 use Rattle.std.proofs.lemmas.List.{take_more}
 use Rattle.std.specs.Str.{bytes_eq}
-use Rattle.wblock_io.specs.Log.{held, after_event}
+use Rattle.wblock_io.specs.Log.{held, after}
 use Rattle.wblock_io.specs.Holding.{Changes}
-use Rattle.wblock_io.specs.declared.memory.Event.{Event}
+use Rattle.wblock_io.specs.declared.memory.Held.{Held}
 
-pub held-push : (es : List Event) (e : Event) (name : List ℕ) (before : Option (List ℕ)) → held (es ++ e ∷ []) name before ≡ after_event e name (held es name before)
-held-push [] e name before = refl
-held-push (x ∷ es) e name before = held-push es e name (after_event x name before)
-
-same_name : (xs ys : List ℕ) → xs ≡ ys → bytes_eq xs ys ≡ true
-same_name xs ys h = (bytes_eq-Decides xs ys).1 h
+held-push : (hs : List Held) (h : Held) (name : List ℕ) (before : Option (List ℕ)) → held (hs ++ h ∷ []) name before ≡ after h name (held hs name before)
+held-push [] h name before = refl
+held-push (x ∷ hs) h name before = held-push hs h name (after x name before)
 
 not_true : (b : Bool) → (b ≡ true → ⊥) → b ≡ false
 not_true true h = absurd (h refl)
 not_true false h = refl
 
-other_name : (xs ys : List ℕ) → xs ≢ ys → bytes_eq xs ys ≡ false
-other_name xs ys h = not_true (bytes_eq xs ys) (λ e. h ((bytes_eq-Decides xs ys).0 e))
+pub here_after : (h : Held) (name : List ℕ) (before : Option (List ℕ)) → string_bytes h.name ≡ name → after h name before ≡ Some h.bytes.items
+here_after h name before is = ap (λ t. if t then Some h.bytes.items else before) ((bytes_eq-Decides (string_bytes h.name) name).1 is)
 
-pub here_if : (own text : List ℕ) (b d : Option (List ℕ)) → own ≡ text → (if bytes_eq own text then b else d) ≡ b
-here_if own text b d h = ap (λ t. if t then b else d) (same_name own text h)
+pub other_after : (h : Held) (name : List ℕ) (before : Option (List ℕ)) → string_bytes h.name ≢ name → after h name before ≡ before
+other_after h name before ne = ap (λ t. if t then Some h.bytes.items else before) (not_true (bytes_eq (string_bytes h.name) name) (λ e. ne ((bytes_eq-Decides (string_bytes h.name) name).0 e)))
 
-pub other_if : (own text other : List ℕ) (b d : Option (List ℕ)) → own ≡ text → other ≢ text → (if bytes_eq own other then b else d) ≡ d
-other_if own text other b d h ne = ap (λ t. if t then b else d) (other_name own other (λ e. ne (sym e ∙ h)))
-
--- one more event, which changes the file of one name
-pub changed : (es new : List Event) (e : Event) (text bytes : List ℕ) → new ≡ es ++ e ∷ [] → after_event e text (held es text None) ≡ Some bytes → ((other : List ℕ) → other ≢ text → after_event e other (held es other None) ≡ held es other None) → Changes (λ name. held es name None) (λ name. held new name None) text bytes
-changed es new e text bytes is here others = record {
-  here = ap (λ l. held l text None) is ∙ (held-push es e text None ∙ here);
-  others = λ other ne. ap (λ l. held l other None) is ∙ (held-push es e other None ∙ others other ne);
+-- one more file held, which changes that file alone
+pub changed : (hs new : List Held) (h : Held) → new ≡ hs ++ h ∷ [] → Changes (λ name. held hs name None) (λ name. held new name None) (string_bytes h.name) h.bytes.items
+changed hs new h is = record {
+  here = ap (λ l. held l (string_bytes h.name) None) is ∙ (held-push hs h (string_bytes h.name) None ∙ here_after h (string_bytes h.name) (held hs (string_bytes h.name) None) refl);
+  others = λ other ne. ap (λ l. held l other None) is ∙ (held-push hs h other None ∙ other_after h other (held hs other None) (λ e. ne (sym e)));
 }
 
--- one more event read
-pub read_more : (es : List Event) (i : ℕ) (e : Event) (name : List ℕ) (now new : Option (List ℕ)) → i < length es → get_or es i e ≡ e → now ≡ held (take i es) name None → new ≡ after_event e name now → new ≡ held (take (i + 1) es) name None
-read_more es i e name now new lt item before step =
-    let more : take (i + 1) es ≡ take i es ++ e ∷ [] = take_more es i e lt ∙ ap (λ x. take i es ++ x ∷ []) item in
-    step ∙ (ap (λ b. after_event e name b) before ∙ (sym (held-push (take i es) e name None) ∙ ap (λ l. held l name None) (sym more)))
-
-pub on_more : {T E : Type 0} (r : Result T E) (P Q : Type 0) → (P → Q) → OnOk r P → OnOk r Q
-on_more (Ok x) P Q f h = f h
-on_more (Err e) P Q f h = h
+-- one more read
+pub read_more : (hs : List Held) (i : ℕ) (h : Held) (name : List ℕ) (now new : Option (List ℕ)) → i < length hs → get_or hs i h ≡ h → now ≡ held (take i hs) name None → new ≡ after h name now → new ≡ held (take (i + 1) hs) name None
+read_more hs i h name now new lt item before step =
+    let more : take (i + 1) hs ≡ take i hs ++ h ∷ [] = take_more hs i h lt ∙ ap (λ x. take i hs ++ x ∷ []) item in
+    step ∙ (ap (λ b. after h name b) before ∙ (sym (held-push (take i hs) h name None) ∙ ap (λ l. held l name None) (sym more)))

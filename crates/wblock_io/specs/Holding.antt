@@ -1,5 +1,5 @@
 -- What files hold, by name. A name is a text, and what is said is of files that tell their bytes.
-use Rattle.std.specs.Prelude.{◌≡◌, ◌≢◌, ℕ, ◌≤◌, ◌<◌, ◌⊎◌, List, [], ◌++◌, take, length, IsTrue, Bool, Option, Some, unwrap_or}
+use Rattle.std.specs.Prelude.{◌≡◌, ◌≢◌, ℕ, ◌+◌, ◌≤◌, ◌<◌, List, ◌++◌, take, length, IsTrue, Bool, true, false, Option, Some}
 
 -- by name, the bytes of each file that is there
 abbrev pub Holding : Type 0
@@ -10,19 +10,35 @@ pub record Changes (old new : Holding) (name bytes : List ℕ) : Type 0 where
   pub here : new name ≡ Some bytes
   pub others : (other : List ℕ) → other ≢ name → new other ≡ old other
 
--- the first `n` bytes were put at the end of a file, which is made where it is not there
-pub record PutsSomeIn (tells : Bool) (name bytes : List ℕ) (n : ℕ) (old new : Holding) : Type 0 where
+-- ---- drafts
+
+-- the file that is being written, and its bytes so far, which no file holds yet
+abbrev pub Draft : Type 0
+Draft = List ℕ × List ℕ
+
+-- the first `n` bytes were put at the end of the draft of a file, at least one of a list that is not empty
+pub record PutsSomeIn (tells : Bool) (name bytes : List ℕ) (n : ℕ) (old new : Option Draft) : Type 0 where
   pub within : n ≤ length bytes
   pub some : 0 < length bytes → 0 < n
-  pub told : IsTrue tells → Changes old new name (unwrap_or (old name) [] ++ take n bytes)
+  pub told : IsTrue tells → (front : List ℕ) → old ≡ Some (name, front) → new ≡ Some (name, front ++ take n bytes)
 
--- the file holds a beginning of the bytes, and not all of them
-pub record HoldsBeginning (new : Holding) (name bytes : List ℕ) : Type 0 where
+-- the file of this name holds all of its draft, and every other file is as it was
+abbrev pub IsKept : Option Draft → Holding → Holding → List ℕ → Type 0
+IsKept draft old new name = (bytes : List ℕ) → draft ≡ Some (name, bytes) → Changes old new name bytes
+
+-- ---- failures
+
+-- how many calls have failed, and the name of the file of the last of them
+pub record Failing : Type 0 where
   pub count : ℕ
-  pub within : count < length bytes
-  pub told : new name ≡ Some (take count bytes)
+  pub last : List ℕ
 
--- the file is as it was, or holds a beginning of the bytes; every other file is as it was
-pub record IsCutShortIn (old new : Holding) (name bytes : List ℕ) : Type 0 where
-  pub here : (new name ≡ old name) ⊎ HoldsBeginning new name bytes
-  pub others : (other : List ℕ) → other ≢ name → new other ≡ old other
+-- one call more has failed: one on the file of this name
+pub record IsFailed (name : List ℕ) (old new : Failing) : Type 0 where
+  pub counted : new.count ≡ old.count + 1
+  pub named : new.last ≡ name
+
+-- a failure on the file of this name is noted where there was one
+abbrev pub FailsIf : Bool → List ℕ → Failing → Failing → Type 0
+FailsIf true name old new = IsFailed name old new
+FailsIf false name old new = new ≡ old

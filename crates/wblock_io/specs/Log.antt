@@ -1,20 +1,23 @@
--- What a log leaves in a file.
-use Rattle.std.specs.Prelude.{ℕ, List, [], ◌∷◌, ◌++◌, if◌then◌else◌, string_bytes, Option, Some, None, unwrap_or}
+-- What files in memory hold.
+use Rattle.std.specs.Prelude.{ℕ, List, [], ◌∷◌, if◌then◌else◌, string_bytes, Option, Some, None, option_map}
 use Rattle.std.specs.Str.{bytes_eq}
-use Rattle.wblock_io.specs.declared.memory.Event.{Event}
-use Rattle.wblock_io.specs.declared.memory.Event.TheVariants.{Hold, Put}
+use Rattle.wblock_io.specs.Holding.{Draft}
+use Rattle.wblock_io.specs.declared.memory.Held.{Held}
 use Rattle.wblock_io.specs.declared.memory.MemoryFiles.{MemoryFiles}
 
--- what the file of a name holds after an event, where it held this before
-abbrev pub after_event : Event → List ℕ → Option (List ℕ) → Option (List ℕ)
-after_event (Hold other bytes) name before = if bytes_eq (string_bytes other) name then Some bytes.items else before
-after_event (Put other more) name before = if bytes_eq (string_bytes other) name then Some (unwrap_or before [] ++ more.items) else before
+-- what the file of a name holds after one more was held, where it held this before
+abbrev pub after : Held → List ℕ → Option (List ℕ) → Option (List ℕ)
+after h name before = if bytes_eq (string_bytes h.name) name then Some h.bytes.items else before
 
--- what the file of a name holds after these events
-abbrev pub held : List Event → List ℕ → Option (List ℕ) → Option (List ℕ)
+-- what the file of a name holds after these were held one after another
+abbrev pub held : List Held → List ℕ → Option (List ℕ) → Option (List ℕ)
 held [] name before = before
-held (e ∷ es) name before = held es name (after_event e name before)
+held (h ∷ hs) name before = held hs name (after h name before)
 
 -- what the files hold
 abbrev pub held_by : MemoryFiles → List ℕ → Option (List ℕ)
-held_by m name = held m.events.items name None
+held_by m name = held m.log.items name None
+
+-- what is written, and not held yet
+abbrev pub drafted_by : MemoryFiles → Option Draft
+drafted_by m = option_map (λ d. (string_bytes d.name, d.bytes.items)) m.draft

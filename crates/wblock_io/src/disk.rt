@@ -1,18 +1,43 @@
 //! The files of the machine, of which nothing is told.
 
 ghost use Rattle.std.specs.Prelude.{false, None};
+ghost use Rattle.wblock_io.specs.Holding.{IsFailed};
 
-use crate::files::{Files, ReadFault, StartFault};
-use codec::{Failures, SinkFault};
-use std::alloc::Global;
-use std::fs::{File, OpenOptions};
-use std::io::{ErrorKind, Read, Write};
+use crate::cause::Cause;
+use crate::failing::FileFailures;
+use crate::files::{Files, ReadFault, WriteFault};
+use crate::temporary::{Claim, make_temporary};
+use codec::Failures;
+use std::alloc::{AllocGlobal, Global};
+use std::fs::{self, File, OpenFile, OpenOptions};
+use std::io::{self, ErrorKind, Read, Write};
+use std::path::Path;
 
-/// The files that a runtime reaches.
+/// The files that a runtime reaches. What is put into a draft goes to a temporary file beside the file that it is for, and when the draft is kept the
+/// temporary file is written down to the disk and renamed, so that a crash leaves the old file or the new one. What is there and is no regular file,
+/// as a pipe or a device, is written as it is.
 #[derive(Drop)]
-pub struct Disk<'a, R> {
+pub struct Disk<'a, R: std::rt::Files> {
     rt: &'a R,
-    failures: Failures,
+    draft: Option<Draft<R::File>>,
+    failures: FileFailures,
+}
+
+/// The open file that is being written.
+#[derive(Drop)]
+struct Draft<F> {
+    /// The name that the file was asked for by.
+    name: String,
+    file: F,
+    /// How it takes its place when it is kept, or None where it stands there already.
+    renaming: Option<Renaming>,
+}
+
+/// A temporary file, and the file whose place it takes.
+#[derive(Drop)]
+struct Renaming {
+    from: String,
+    to: String,
 }
 
 impl<'a, R: std::rt::Files> Disk<'a, R> {
@@ -20,56 +45,195 @@ impl<'a, R: std::rt::Files> Disk<'a, R> {
     pub fn new(rt: &'a R) -> Disk<'a, R> {
         Disk {
             rt,
-            failures: Failures::none(),
+            draft: None,
+            failures: FileFailures::new(Failures::none()),
         }
+    }
+
+    /// Notes a failure of the file of this name, and gives its cause.
+    fn fail(&mut self, name: &str, kind: ErrorKind) -> Cause
+        ensures { IsFailed name.now self.old.failures self.new.failures }
+    {
+        self.failures.count(name);
+        Cause::of(kind)
     }
 }
 
-impl<'a, R: std::rt::Files> Files for Disk<'a, R> {
+/// Whether a name is of a stream that this process has open, and so is written as it is, whatever it leads to: a file that took the place of a
+/// stream's would be another than the stream's.
+fn is_stream(name: &str) -> bool {
+    name.starts_with("/dev/std") || name.starts_with("/dev/fd/") || name.starts_with("/proc/")
+}
+
+/// The path whose file is replaced where that of this name is to be: the file that a link leads to, and not the link.
+fn target_of<R: std::rt::Files>(rt: &R, alloc: Global, name: &str) -> io::Result<String> {
+    match rt.symlink_metadata(name) {
+        Ok(there) if there.is_symlink() => Ok(rt.canonicalize(alloc, name)?.into_string()),
+        _ => Ok(name.to_string(alloc)?),
+    }
+}
+
+/// Begins the draft of the file of this name.
+fn begin<R: std::rt::Files>(rt: &R, alloc: Global, name: &str) -> io::Result<Draft<R::File>>
+where
+    R::File: Claim,
+{
+    let before = match fs::metadata(rt, name) {
+        Ok(before) => Some(before),
+        Err(error) if error.kind() == ErrorKind::NotFound => None,
+        Err(error) => return Err(error),
+    };
+    let name = name.to_string(alloc)?;
+    if let Some(before) = &before {
+        if before.is_dir() {
+            return Err(io::Error::from(ErrorKind::IsADirectory));
+        }
+        if !before.is_file() || is_stream(name.as_str()) {
+            let file = File::create(rt, name.as_str())?;
+            return Ok(Draft {
+                name,
+                file,
+                renaming: None,
+            });
+        }
+        // renaming asks the folder alone, but a file that may not be written is not to be replaced either
+        OpenOptions::new().write(true).open(rt, name.as_str())?;
+    }
+    let to = target_of(rt, alloc, name.as_str())?;
+    let (file, from) = make_temporary(rt, alloc, to.as_str())?;
+    if let Some(before) = before {
+        // who may read and write it is kept where that can be
+        let _ = OpenFile::set_permissions(&file, before.permissions());
+    }
+    Ok(Draft {
+        name,
+        file,
+        renaming: Some(Renaming { from, to }),
+    })
+}
+
+/// The folder of a path, open, or None where it may not be opened, as one that may be written and not read.
+fn folder_of<R: std::rt::Files>(rt: &R, path: &str) -> io::Result<Option<R::File>> {
+    let folder = match Path::new(path).parent() {
+        Some(folder) if !folder.as_str().is_empty() => folder.as_str(),
+        _ => ".",
+    };
+    match File::open(rt, folder) {
+        Ok(folder) => Ok(Some(folder)),
+        Err(error) if error.kind() == ErrorKind::PermissionDenied => Ok(None),
+        Err(error) => Err(error),
+    }
+}
+
+/// Writes a file down to the disk and gives it its place, and gives the folder of it.
+fn put_in_place<R: std::rt::Files>(
+    rt: &R,
+    file: &R::File,
+    renaming: &Renaming,
+) -> io::Result<Option<R::File>> {
+    let folder = folder_of(rt, renaming.to.as_str())?;
+    file.sync_all()?;
+    rt.rename(renaming.from.as_str(), renaming.to.as_str())?;
+    Ok(folder)
+}
+
+/// Keeps a draft. Where that fails, the temporary file is removed, and the file is as it was, but where the disk fails as the folder is written down
+/// to it: then the file is the new one, and it is not known whether it stays so after a crash. It fails there, too, since who is told that a file is
+/// written may remove what it was made of.
+fn settle<R: std::rt::Files>(rt: &R, draft: &Draft<R::File>) -> io::Result<()> {
+    let Some(renaming) = &draft.renaming else {
+        return Ok(());
+    };
+    let folder = match put_in_place(rt, &draft.file, renaming) {
+        Ok(folder) => folder,
+        Err(error) => {
+            let _ = rt.remove_file(renaming.from.as_str());
+            return Err(error);
+        }
+    };
+    let Some(folder) = folder else {
+        return Ok(());
+    };
+    match folder.sync_all() {
+        // this file system writes no folder down by itself
+        Err(error)
+            if matches!(
+                error.kind(),
+                ErrorKind::Unsupported | ErrorKind::InvalidInput
+            ) => { Ok(()) }
+        synced => synced,
+    }
+}
+
+impl<'a, R: std::rt::Files + AllocGlobal> Files for Disk<'a, R>
+where
+    R::File: Claim,
+{
     ghost tells = { false };
 
     ghost holds = { λ _ _. None };
 
+    ghost draft = { λ _. None };
+
     ghost failures = { λ d. d.failures };
 
+    fn is_there(&self, name: &str) -> bool {
+        fs::exists(self.rt, name).unwrap_or(false)
+    }
+
     fn read_all(&mut self, alloc: Global, name: &str) -> Result<Vec<u8>, ReadFault> {
-        let Ok(mut file) = File::open(self.rt, name) else {
-            self.failures.count();
-            return Err(ReadFault::Failed);
+        let mut file = match File::open(self.rt, name) {
+            Ok(file) => file,
+            Err(error) => return Err(ReadFault::Failed(self.fail(name, error.kind()))),
         };
         let mut bytes = Vec::new(alloc);
         match file.read_to_end(&mut bytes) {
             Ok(_) => Ok(bytes),
             Err(error) if error.kind() == ErrorKind::OutOfMemory => Err(ReadFault::NoMemory),
-            Err(_) => {
-                self.failures.count();
-                Err(ReadFault::Failed)
+            Err(error) => Err(ReadFault::Failed(self.fail(name, error.kind()))),
+        }
+    }
+
+    fn start(&mut self, name: &str) -> Result<(), WriteFault> {
+        self.abandon();
+        match begin(self.rt, self.rt.alloc(), name) {
+            Ok(draft) => {
+                self.draft = Some(draft);
+                Ok(())
             }
+            Err(error) => Err(WriteFault(self.fail(name, error.kind()))),
         }
     }
 
-    fn start(&mut self, name: &str) -> Result<(), StartFault> {
-        if File::create(self.rt, name).is_err() {
-            self.failures.count();
-            return Err(StartFault);
-        }
-        Ok(())
-    }
-
-    fn put_some(&mut self, name: &str, bytes: &[u8]) -> Result<usize, SinkFault> {
-        let Ok(mut file) = OpenOptions::new()
-            .append(true)
-            .create(true)
-            .open(self.rt, name)
-        else {
-            self.failures.count();
-            return Err(SinkFault);
+    fn put_some(&mut self, name: &str, bytes: &[u8]) -> Result<usize, WriteFault> {
+        let put = match &mut self.draft {
+            Some(draft) if draft.name.as_str() == name => draft.file.write(bytes),
+            _ => Err(io::Error::from(ErrorKind::NotFound)),
         };
-        match file.write(bytes) {
+        match put {
             Ok(n) if n > 0 || bytes.is_empty() => Ok(n),
-            _ => {
-                self.failures.count();
-                Err(SinkFault)
+            Ok(_) => Err(WriteFault(self.fail(name, ErrorKind::StorageFull))),
+            Err(error) => Err(WriteFault(self.fail(name, error.kind()))),
+        }
+    }
+
+    fn keep(&mut self, name: &str) -> Result<(), WriteFault> {
+        let kept = match &self.draft {
+            Some(draft) if draft.name.as_str() == name => settle(self.rt, draft),
+            _ => return Err(WriteFault(self.fail(name, ErrorKind::NotFound))),
+        };
+        // the temporary file is gone in any case, and its path may be another run's by now
+        self.draft = None;
+        match kept {
+            Ok(()) => Ok(()),
+            Err(error) => Err(WriteFault(self.fail(name, error.kind()))),
+        }
+    }
+
+    fn abandon(&mut self) {
+        if let Some(draft) = self.draft.take() {
+            if let Some(renaming) = &draft.renaming {
+                let _ = self.rt.remove_file(renaming.from.as_str());
             }
         }
     }

@@ -1,12 +1,18 @@
 //! Files by name and streams: in memory, and those of the machine.
 #![tactic(auto)]
 
+mod cause;
 mod disk;
+mod failing;
 mod files;
 mod memory;
 mod stream;
+mod temporary;
 
+pub use cause::Cause;
 pub use disk::Disk;
-pub use files::{Files, ReadFault, StartFault, write_file};
-pub use memory::{Event, MemoryFiles};
+pub use failing::FileFailures;
+pub use files::{Files, ReadFault, WriteFault, write_file};
+pub use memory::MemoryFiles;
 pub use stream::Stream;
+pub use temporary::{Claim, Owner};

@@ -1,30 +1,31 @@
-//! Files in memory, as a log of what was done to them.
+//! Files in memory, as a log of what they were made to hold.
 
-ghost use Rattle.std.specs.Prelude.{◌≡◌, true, [], ◌∷◌, ◌++◌, None, IfOk, OnOk, OnErr, option_map};
-ghost use Rattle.wblock_io.specs.Holding.{Changes};
-ghost use Rattle.wblock_io.specs.Log.{held_by, after_event};
+ghost use Rattle.std.specs.Prelude.{◌≡◌, ℕ, List, true, ◌++◌, Some, None, IsTrue, IfOk, OnOk, OnErr, option_map, string_bytes};
+ghost use Rattle.wblock_io.specs.Holding.{Changes, IsKept};
+ghost use Rattle.wblock_io.specs.Log.{held_by, drafted_by, after};
 
-use crate::files::{Files, ReadFault, StartFault};
-use codec::{Failures, SinkFault};
+use crate::cause::Cause;
+use crate::failing::FileFailures;
+use crate::files::{Files, ReadFault, WriteFault};
+use codec::Failures;
 use std::alloc::{AllocError, Global};
 
-/// What was done to a file.
+/// A file's name, and the bytes that it holds or is to hold.
 #[derive(Debug, Drop)]
-pub enum Event {
-    /// It was made to hold these bytes.
-    Hold(String, Vec<u8>),
-    /// These bytes were put at its end.
-    Put(String, Vec<u8>),
+struct Held {
+    name: String,
+    bytes: Vec<u8>,
 }
 
 /// Files that keep their bytes, and take at most so many at a time. A call of a chosen number fails, and so do the
-/// read of a file that is not there and a call that is refused memory.
+/// read of a file that is not there, a call on a draft that was not begun, and a call that is refused memory.
 #[derive(Debug, Drop)]
 pub struct MemoryFiles {
     alloc: Global,
-    events: Vec<Event>,
+    log: Vec<Held>,
+    draft: Option<Held>,
     piece: usize,
-    failures: Failures,
+    failures: FileFailures,
 }
 
 impl MemoryFiles {
@@ -34,9 +35,10 @@ impl MemoryFiles {
     {
         MemoryFiles {
             alloc,
-            events: Vec::new(alloc),
+            log: Vec::new(alloc),
+            draft: None,
             piece,
-            failures,
+            failures: FileFailures::new(failures),
         }
     }
 
@@ -47,58 +49,87 @@ impl MemoryFiles {
     {
         let name = name.to_string(self.alloc)?;
         let bytes = bytes.to_vec(self.alloc)?;
-        self.log(Event::Hold(name, bytes))
+        self.add(Held { name, bytes })
     }
 
     /// The bytes of a file, or None where there is none.
     pub fn bytes_of(&self, alloc: Global, name: &str) -> Result<Option<Vec<u8>>, AllocError>
         ensures { IfOk result (λ found. option_map (λ v. v.items) found ≡ held_by self.now name.now) }
     {
-        let mut bytes = None;
-        for event in &self.events {
-            bytes = after(alloc, bytes, event, name)?;
+        match self.last_of(name) {
+            Some(held) => {
+                let bytes = held.bytes.as_slice().to_vec(alloc)?;
+                Ok(Some(bytes))
+            }
+            None => Ok(None),
         }
-        Ok(bytes)
     }
 
-    fn log(&mut self, event: Event) -> Result<(), AllocError>
-        ensures ok { OnOk result (self.new.events.items ≡ self.old.events.items ++ event ∷ []) }
-        ensures err { OnErr result (self.new.events.items ≡ self.old.events.items) }
-        ensures same { self.new.failures ≡ self.old.failures }
+    /// What a file was made to hold last.
+    fn last_of(&self, name: &str) -> Option<&Held>
+        ensures { option_map (λ h. h.now.bytes.items) result ≡ held_by self.now name.now }
     {
-        match self.events.push(event) {
+        let mut last = None;
+        for held in &self.log {
+            last = later(last, held, name);
+        }
+        last
+    }
+
+    /// Puts bytes at the end of the draft of a file, where it was begun and memory is given, and says whether it did.
+    fn extend(&mut self, name: &str, bytes: &[u8]) -> bool
+        ensures put { IsTrue result → (front : List ℕ) → drafted_by self.old ≡ Some (name.now, front) → drafted_by self.new ≡ Some (name.now, front ++ bytes.now) }
+        ensures kept { held_by self.new ≡ held_by self.old }
+        ensures calm { self.new.failures ≡ self.old.failures }
+    {
+        match &mut self.draft {
+            Some(draft) if draft.name.as_str() == name => {
+                draft.bytes.extend_from_slice(bytes).is_ok()
+            }
+            _ => false,
+        }
+    }
+
+    /// Makes a file hold its bytes.
+    fn add(&mut self, held: Held) -> Result<(), AllocError>
+        ensures held { OnOk result (Changes (held_by self.old) (held_by self.new) (string_bytes held.name) held.bytes.items) }
+        ensures kept { OnErr result (held_by self.new ≡ held_by self.old) }
+        ensures calm { self.new.failures ≡ self.old.failures }
+    {
+        if self.log.push(held).is_err() {
+            return Err(AllocError);
+        }
+        Ok(())
+    }
+
+    /// Makes a file hold its draft. It fails where none was begun and where memory is refused.
+    fn hold_draft(&mut self, name: &str) -> Result<(), WriteFault>
+        ensures kept { OnOk result (IsKept (drafted_by self.old) (held_by self.old) (held_by self.new) name.now) }
+        ensures same { OnErr result (held_by self.new ≡ held_by self.old) }
+        ensures calm { self.new.failures ≡ self.old.failures }
+    {
+        let Some(draft) = self.draft.take() else {
+            return Err(WriteFault(Cause::Other));
+        };
+        if draft.name.as_str() != name {
+            self.draft = Some(draft);
+            return Err(WriteFault(Cause::Other));
+        }
+        match self.add(draft) {
             Ok(()) => Ok(()),
-            Err(_) => Err(AllocError),
+            Err(AllocError) => Err(WriteFault(Cause::Other)),
         }
     }
 }
 
-/// What a file of this name holds after an event.
-fn after(
-    alloc: Global,
-    before: Option<Vec<u8>>,
-    event: &Event,
-    name: &str,
-) -> Result<Option<Vec<u8>>, AllocError>
-    ensures { IfOk result (λ found. option_map (λ v. v.items) found ≡ after_event event.now name.now (option_map (λ v. v.items) before)) }
+/// What a file of this name was made to hold last, of what came before and one more.
+fn later<'a>(last: Option<&'a Held>, held: &'a Held, name: &str) -> Option<&'a Held>
+    ensures { option_map (λ h. h.now.bytes.items) result ≡ after held.now name.now (option_map (λ h. h.now.bytes.items) last.entry) }
 {
-    match event {
-        Event::Hold(other, bytes) => {
-            if other.as_str() != name {
-                return Ok(before);
-            }
-            let bytes = bytes.as_slice().to_vec(alloc)?;
-            Ok(Some(bytes))
-        }
-        Event::Put(other, more) => {
-            if other.as_str() != name {
-                return Ok(before);
-            }
-            let mut bytes = before.unwrap_or(Vec::new(alloc));
-            bytes.extend_from_slice(more.as_slice())?;
-            Ok(Some(bytes))
-        }
+    if held.name.as_str() == name {
+        return Some(held);
     }
+    last
 }
 
 impl Files for MemoryFiles {
@@ -106,58 +137,73 @@ impl Files for MemoryFiles {
 
     ghost holds = { held_by };
 
+    ghost draft = { drafted_by };
+
     ghost failures = { λ m. m.failures };
 
+    fn is_there(&self, name: &str) -> bool {
+        self.last_of(name).is_some()
+    }
+
     fn read_all(&mut self, alloc: Global, name: &str) -> Result<Vec<u8>, ReadFault> {
-        if self.failures.fails() {
-            return Err(ReadFault::Failed);
+        if self.failures.fails(name) {
+            return Err(ReadFault::Failed(Cause::Other));
         }
         match self.bytes_of(alloc, name) {
             Ok(Some(bytes)) => Ok(bytes),
             Ok(None) => {
-                self.failures.count();
-                Err(ReadFault::Failed)
+                self.failures.count(name);
+                Err(ReadFault::Failed(Cause::NotFound))
             }
             Err(AllocError) => Err(ReadFault::NoMemory),
         }
     }
 
-    fn start(&mut self, name: &str) -> Result<(), StartFault> {
-        if self.failures.fails() {
-            return Err(StartFault);
+    fn start(&mut self, name: &str) -> Result<(), WriteFault> {
+        if self.failures.fails(name) {
+            return Err(WriteFault(Cause::Other));
         }
-        let Ok(name) = name.to_string(self.alloc) else {
-            self.failures.count();
-            return Err(StartFault);
-        };
-        match self.log(Event::Hold(name, Vec::new(self.alloc))) {
-            Ok(()) => Ok(()),
-            Err(AllocError) => {
-                self.failures.count();
-                Err(StartFault)
+        match name.to_string(self.alloc) {
+            Ok(name) => {
+                self.draft = Some(Held {
+                    name,
+                    bytes: Vec::new(self.alloc),
+                });
+                Ok(())
+            }
+            Err(_) => {
+                self.failures.count(name);
+                Err(WriteFault(Cause::Other))
             }
         }
     }
 
-    fn put_some(&mut self, name: &str, bytes: &[u8]) -> Result<usize, SinkFault> {
-        if self.failures.fails() {
-            return Err(SinkFault);
+    fn put_some(&mut self, name: &str, bytes: &[u8]) -> Result<usize, WriteFault> {
+        if self.failures.fails(name) {
+            return Err(WriteFault(Cause::Other));
         }
         let n = bytes.len().min(self.piece.max(1));
-        let Ok(name) = name.to_string(self.alloc) else {
-            self.failures.count();
-            return Err(SinkFault);
-        };
-        let Ok(part) = bytes[..n].to_vec(self.alloc) else {
-            self.failures.count();
-            return Err(SinkFault);
-        };
-        match self.log(Event::Put(name, part)) {
-            Ok(()) => Ok(n),
-            Err(AllocError) => {
-                self.failures.count();
-                Err(SinkFault)
+        if !self.extend(name, &bytes[..n]) {
+            self.failures.count(name);
+            return Err(WriteFault(Cause::Other));
+        }
+        Ok(n)
+    }
+
+    fn keep(&mut self, name: &str) -> Result<(), WriteFault> {
+        if self.failures.fails(name) {
+            return Err(WriteFault(Cause::Other));
+        }
+        match self.hold_draft(name) {
+            Ok(()) => Ok(()),
+            Err(fault) => {
+                self.failures.count(name);
+                Err(fault)
             }
         }
+    }
+
+    fn abandon(&mut self) {
+        self.draft = None;
     }
 }

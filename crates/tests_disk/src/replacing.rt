@@ -1,0 +1,145 @@
+//! A file is replaced by a temporary one, at each failure in turn.
+
+use crate::made::Step::{Make, Put, Rename, Sync, SyncFolder};
+use crate::made::{Contents, Made, Step, taken};
+use std::alloc::Global;
+use std::cell::RefCell;
+use std::rc::Rc;
+use std::test::Fail;
+use wblock_io::{Disk, Files, write_file};
+
+/// What replaces a file by one of three bytes: it is written down to the disk before it is renamed, and the folder after that.
+const REPLACING: [Step; 6] = [Make, Put, Put, Sync, Rename, SyncFolder];
+
+const OLD: &[u8] = b"old";
+
+const NEW: &[u8] = b"new";
+
+/// Whether no temporary file of `w` is there.
+fn is_clean(contents: &Contents) -> bool {
+    contents.holds("w.part-0", None)
+        && contents.holds("w.part-1", None)
+        && contents.holds("w.part-2", None)
+}
+
+/// Whether the write of `w` is done.
+fn is_written(alloc: Global, contents: &Rc<RefCell<Contents>>) -> bool {
+    let Ok(contents) = contents.clone() else {
+        return false;
+    };
+    let rt = (Made(contents), alloc);
+    write_file(&mut Disk::new(&rt), "w", NEW).is_ok()
+}
+
+#[test]
+fn writes_a_file_down_before_it_is_renamed(rt: HostRuntime) -> Result<(), Fail> {
+    let alloc = rt.alloc();
+    for is_there in [false, true] {
+        let mut contents = Contents::new(alloc, None);
+        if is_there {
+            contents.hold("w", OLD, false)?;
+        }
+        let contents = Rc::new(alloc, RefCell::new(contents))?;
+        let written = is_written(alloc, &contents);
+        let contents = taken(contents)?;
+        assert!(rt; written && contents.holds("w", Some(NEW)) && is_clean(&contents));
+        assert_eq!(rt; contents.steps(), REPLACING.as_slice());
+    }
+    Ok(())
+}
+
+/// Whether the call after so many others fails, and then the file is the old one or the new one, as the write says, with nothing beside it; and is the
+/// new one after the next write. None: there are no more calls.
+fn survives(alloc: Global, calls: u64) -> Result<Option<bool>, Fail> {
+    let mut contents = Contents::new(alloc, Some(calls));
+    contents.hold("w", OLD, false)?;
+    let contents = Rc::new(alloc, RefCell::new(contents))?;
+    let written = is_written(alloc, &contents);
+    let mut contents = taken(contents)?;
+    if contents.is_to_fail() {
+        return Ok(None);
+    }
+    // only where the folder is not written down the write fails and the file is the new one
+    let is_renamed = contents.steps().contains(&Rename);
+    let wanted = if is_renamed { NEW } else { OLD };
+    let first = (written || !contents.steps().contains(&SyncFolder))
+        && (is_renamed || !written)
+        && contents.holds("w", Some(wanted))
+        && is_clean(&contents);
+    contents.end_all();
+    let contents = Rc::new(alloc, RefCell::new(contents))?;
+    let second = is_written(alloc, &contents);
+    let contents = taken(contents)?;
+    Ok(Some(first && second && contents.holds("w", Some(NEW)) && is_clean(&contents)))
+}
+
+#[test]
+fn keeps_the_old_file_or_the_new_one_at_each_failure(rt: HostRuntime) -> Result<(), Fail> {
+    let alloc = rt.alloc();
+    let mut failures = 0u64;
+    for calls in 0..40 {
+        let Some(survived) = survives(alloc, calls)? else {
+            break;
+        };
+        assert!(rt; survived, "after {calls} calls");
+        failures = calls + 1;
+    }
+    // four looks, three openings, two puts, two syncs and the renaming
+    assert_eq!(rt; failures, 12);
+    Ok(())
+}
+
+#[test]
+fn takes_away_what_a_killed_run_left(rt: HostRuntime) -> Result<(), Fail> {
+    let alloc = rt.alloc();
+    let mut contents = Contents::new(alloc, None);
+    for name in ["w", "w.part-0", "w.part-1"] {
+        contents.hold(name, OLD, false)?;
+    }
+    let contents = Rc::new(alloc, RefCell::new(contents))?;
+    let written = is_written(alloc, &contents);
+    let contents = taken(contents)?;
+    assert!(rt; written && contents.holds("w", Some(NEW)) && is_clean(&contents));
+    Ok(())
+}
+
+#[test]
+fn leaves_alone_what_a_living_run_writes(rt: HostRuntime) -> Result<(), Fail> {
+    let alloc = rt.alloc();
+    let mut contents = Contents::new(alloc, None);
+    contents.hold("w", OLD, false)?;
+    contents.hold("w.part-0", OLD, true)?;
+    let contents = Rc::new(alloc, RefCell::new(contents))?;
+    let written = is_written(alloc, &contents);
+    let contents = taken(contents)?;
+    assert!(rt; written && contents.holds("w", Some(NEW)));
+    assert!(rt; contents.holds("w.part-0", Some(OLD)) && contents.holds("w.part-1", None));
+    Ok(())
+}
+
+/// Whether a draft is begun, put to and abandoned, and nothing is put or kept but what was begun.
+fn is_abandoned(alloc: Global, contents: &Rc<RefCell<Contents>>) -> bool {
+    let Ok(contents) = contents.clone() else {
+        return false;
+    };
+    let rt = (Made(contents), alloc);
+    let mut files = Disk::new(&rt);
+    let began = files.start("w").is_ok() && files.start("w").is_ok();
+    let put = files.put_some("w", NEW) == Ok(2);
+    let other = files.put_some("v", NEW).is_err() && files.keep("v").is_err();
+    files.abandon();
+    let none = files.put_some("w", NEW).is_err() && files.keep("w").is_err();
+    began && put && other && none && files.is_there("w") && !files.is_there("v")
+}
+
+#[test]
+fn keeps_nothing_of_a_draft_that_is_abandoned(rt: HostRuntime) -> Result<(), Fail> {
+    let alloc = rt.alloc();
+    let mut contents = Contents::new(alloc, None);
+    contents.hold("w", OLD, false)?;
+    let contents = Rc::new(alloc, RefCell::new(contents))?;
+    let abandoned = is_abandoned(alloc, &contents);
+    let contents = taken(contents)?;
+    assert!(rt; abandoned && contents.holds("w", Some(OLD)) && is_clean(&contents));
+    Ok(())
+}
