@@ -1,2 +1,4 @@
+mod Fuels
+mod Prefixes
 mod Sums
 mod Told

@@ -113,7 +113,7 @@ abbrev pub Exactly : Type 0
 Exactly = (world : World) (calls : List Call) (fuel : ℕ) (bytes : List ℕ) → AcceptsExactly world calls fuel bytes
 
 pub told : OneBlock → OneRun → Exactly → TellsOfTheRun
-told one once exactly world calls fuel bytes next number version cells accepted meets =
+told one once exactly world calls fuel given bytes next number version cells accepted meets =
     let found = (exactly world calls fuel bytes next).0 accepted in
     let block : Block = found.0 in
     let head = found.2 in

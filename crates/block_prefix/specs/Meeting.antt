@@ -1,5 +1,5 @@
 -- The cells that a call of a block meets.
-use Rattle.std.specs.Prelude.{◌≡◌, ℕ, ◌-◌, ◌^◌, List, Some, min, take, slice_get, Contains}
+use Rattle.std.specs.Prelude.{◌≡◌, ℕ, ◌-◌, ◌^◌, List, Option, Some, None, min, take, slice_get, Contains}
 use Rattle.std.specs.FinMap.{entries}
 use Rattle.spec_ledger.specs.declared.Version.{Version}
 use Rattle.spec_ledger.specs.Cells.{Cells}
@@ -23,14 +23,24 @@ pub record IsVerdictAtLeast (world : World) (calls : List Call) (bytes : List �
   pub least : (b : Block) → SpellsBlock bytes b → fuel ≡ least_fuel calls b
   pub is : IsVerdictOf world calls fuel bytes verdict
 
--- the bytes spell the block, and with its least fuel none of the first seven reasons holds of it
-abbrev pub IsJudged : World → List Call → List ℕ → Block → Type 0
-IsJudged world calls bytes b = Passes world calls (least_fuel calls b) bytes b
+-- the verdict with the fuel that is given, else with the least
+abbrev pub IsVerdictWith : World → List Call → Option ℕ → List ℕ → Verdict → Type 0
+IsVerdictWith world calls (Some fuel) bytes verdict = IsVerdictOf world calls fuel bytes verdict
+IsVerdictWith world calls None bytes verdict = IsVerdictAtLeast world calls bytes verdict
+
+-- the fuel that is given, else the least
+abbrev pub fuel_for : Option ℕ → List Call → Block → ℕ
+fuel_for (Some fuel) calls b = fuel
+fuel_for None calls b = least_fuel calls b
+
+-- the bytes spell the block, and with that fuel none of the first seven reasons holds of it
+abbrev pub IsJudged : World → List Call → Option ℕ → List ℕ → Block → Type 0
+IsJudged world calls given bytes b = Passes world calls (fuel_for given calls b) bytes b
 
 -- at its position in the block the call of this number meets these cells: those that the calls before it leave, one after another in the block's version
-pub record Meets (world : World) (calls : List Call) (bytes : List ℕ) (number : ℕ) (version : Version) (cells : Cells) : Type 0 where
+pub record Meets (world : World) (calls : List Call) (given : Option ℕ) (bytes : List ℕ) (number : ℕ) (version : Version) (cells : Cells) : Type 0 where
   pub block : Block
-  pub judged : IsJudged world calls bytes block
+  pub judged : IsJudged world calls given bytes block
   pub version_is : version ≡ block.version
   pub position : ℕ
   pub stands : slice_get (order_of block) position ≡ Some number
@@ -38,9 +48,9 @@ pub record Meets (world : World) (calls : List Call) (bytes : List ℕ) (number 
   pub serial : Serial block.version world calls (take position (order_of block)) world.cells ran cells
 
 -- the call of this number does not stand in the block
-pub record IsAbsent (world : World) (calls : List Call) (bytes : List ℕ) (number : ℕ) : Type 0 where
+pub record IsAbsent (world : World) (calls : List Call) (given : Option ℕ) (bytes : List ℕ) (number : ℕ) : Type 0 where
   pub block : Block
-  pub judged : IsJudged world calls bytes block
+  pub judged : IsJudged world calls given bytes block
   pub absent : ¬ (Contains (order_of block) number)
 
 -- what the block says of the call of this number is what its execution over these cells comes to
@@ -61,5 +71,10 @@ pub record IsToldOf (world : World) (calls : List Call) (bytes : List ℕ) (numb
 -- where a block is accepted, the run over the cells that a call of it meets is the one of which its receipt and its profile tell
 abbrev pub TellsOfTheRun : Type 0
 TellsOfTheRun =
-    (world : World) (calls : List Call) (fuel : ℕ) (bytes : List ℕ) (next : World) (number : ℕ) (version : Version) (cells : Cells) →
-    IsVerdictOf world calls fuel bytes (Accept next) → Meets world calls bytes number version cells → IsToldOf world calls bytes number version cells
+    (world : World) (calls : List Call) (fuel : ℕ) (given : Option ℕ) (bytes : List ℕ) (next : World) (number : ℕ) (version : Version) (cells : Cells) →
+    IsVerdictOf world calls fuel bytes (Accept next) → Meets world calls given bytes number version cells → IsToldOf world calls bytes number version cells
+
+-- with this fuel the block that the bytes spell is judged
+abbrev pub IsFuelFor : List Call → Option ℕ → List ℕ → ℕ → Type 0
+IsFuelFor calls (Some given) bytes fuel = fuel ≡ given
+IsFuelFor calls None bytes fuel = (b : Block) → SpellsBlock bytes b → fuel ≡ least_fuel calls b

@@ -9,13 +9,14 @@ mod place;
 ghost use Rattle.std.specs.Prelude.{◌≤◌, IfErr, IfOk, MatchOption, length};
 ghost use Rattle.world.specs.Views.{world_view};
 ghost use Rattle.block_judge.specs.Judging.{IfRejected};
-ghost use Rattle.block_prefix.specs.Meeting.{IsVerdictAtLeast, Meets, IsAbsent};
+ghost use Rattle.block_prefix.specs.Meeting.{IsVerdictWith, Meets, IsAbsent};
 
-use crate::fuel::least_fuel_in;
+use crate::fuel::{fuel_for, limits_in};
 pub use crate::laws::tells_of_the_run;
 use crate::place::place_of;
 use block_judge::{Unfit, judge};
 use call::Call;
+use pace::Pace;
 use serial::serial_core;
 use spec_ledger::Version;
 use std::alloc::{Allocator, Global};
@@ -31,31 +32,35 @@ pub struct Met<A: Allocator = Global> {
     pub cells: Cells<A>,
 }
 
-/// What the call of this number meets in the block that the bytes spell: the block is judged as far as it is without running a call, with the
-/// least fuel that its calls need; then the calls before it run, one after another in the published order. None where the block has no such
-/// call. What the block says of these calls is not compared with what they come to.
+/// What the call of this number meets in the block that the bytes spell: the block is judged as far as it is without running a call, with this
+/// fuel, or where none is given with the least that its calls need; then the calls before it run, one after another in the published order. None
+/// where the block has no such call. What the block says of these calls is not compared with what they come to. Before they run, the pace is told
+/// the sum of their limits, as far as 64 bits tell it.
 ///
 /// # Errors
 ///
 /// The first of the reasons 1 to 7 that holds of the block; or memory was refused.
-pub fn met_by<A: Allocator + Copy>(
+pub fn met_by<A: Allocator + Copy, P: Pace>(
     alloc: A,
     world: &World<A>,
     calls: &[Call],
+    given: Option<u64>,
     bytes: &[u8],
     number: u32,
+    pace: &P,
 ) -> Result<Option<Met<A>>, Unfit>
     requires { length calls.now ≤ 65535 }
-    ensures rejected { IfErr result (λ unfit. IfRejected unfit (IsVerdictAtLeast (world_view world.now) calls.now bytes.now)) }
-    ensures met { IfOk result (λ found. MatchOption found (IsAbsent (world_view world.now) calls.now bytes.now number) (λ met. Meets (world_view world.now) calls.now bytes.now number met.version met.cells.cells)) }
+    ensures rejected { IfErr result (λ unfit. IfRejected unfit (IsVerdictWith (world_view world.now) calls.now given bytes.now)) }
+    ensures met { IfOk result (λ found. MatchOption found (IsAbsent (world_view world.now) calls.now given bytes.now number) (λ met. Meets (world_view world.now) calls.now given bytes.now number met.version met.cells.cells)) }
 {
     spec_block::one_block_a_spelling();
-    let fuel = least_fuel_in(alloc, calls, bytes)?;
+    let fuel = fuel_for(alloc, calls, given, bytes)?;
     let fit = judge(alloc, world, calls, fuel, bytes)?;
     let Some(place) = place_of(&fit.order, number) else {
         return Ok(None);
     };
     let version = fit.block.version();
+    pace.runs_alone(limits_in(calls, &fit.block.positions()[..place]));
     let core = serial_core(
         alloc,
         world.contracts(),

@@ -35,7 +35,15 @@ pub enum Step {
     },
 }
 
-/// Is told each step by the thread that makes it, outside every lock. The thread goes on when `at` returns, unless it is to stop.
+/// Is told steps by the thread that makes them, outside every lock. The thread goes on when `at` returns, unless it is to stop.
+///
+/// Which steps of a call are told depends on who runs it:
+///
+/// - The miner's workers over one book tell every step.
+/// - The validator's workers that wait for a position's turn tell its attempt, as try 0, and each operation.
+/// - Workers over copies of the cells, of the miner and of the validator, tell the attempt alone, as try 0.
+/// - A thread that runs calls one after another, since no workers pay, or before or behind them, tells nothing.
+/// - A debugger tells by `runs_alone` that calls of a block are about to run, and then nothing of them.
 pub trait Pace: Sync {
     /// The calling thread is at this step.
     fn at(&self, step: Step);
@@ -44,6 +52,10 @@ pub trait Pace: Sync {
     fn stops(&self, _step: Step) -> bool {
         false
     }
+
+    /// Calls of a block are about to be run by the calling thread alone, one after another, for at most so many units of fuel together: a debugger wants
+    /// the cells that they leave. They run when this returns.
+    fn runs_alone(&self, _fuel: u64) {}
 }
 
 /// Holds no thread.

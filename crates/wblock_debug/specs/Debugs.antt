@@ -7,7 +7,7 @@ use Rattle.spec_ledger.specs.Cells.{Cells}
 use Rattle.spec_block.specs.Worlds.{World, Call}
 use Rattle.spec_block.specs.Serial.{setting_of}
 use Rattle.spec_block.specs.Verdicts.{Verdict}
-use Rattle.block_prefix.specs.Meeting.{IsVerdictAtLeast, IsAbsent, Meets}
+use Rattle.block_prefix.specs.Meeting.{IsVerdictWith, IsAbsent, Meets}
 use Rattle.wblock_debug.specs.Lines.{left_line}
 use Rattle.wblock_debug.specs.Prints.{IsDebugged}
 use Rattle.wblock_io.specs.Holding.{Holding}
@@ -37,27 +37,27 @@ abbrev pub TellsAbsent : ℕ → Answer → Type 0
 TellsAbsent number (Done writes text) = ⊥
 TellsAbsent number (Refused line why) = string_bytes line ≡ left_line number
 
--- the answer tells the verdict on the bytes of the block, with the least fuel that its calls need
-pub record IsRejected (world : World) (calls : List Call) (bytes : List ℕ) (a : Answer) : Type 0 where
+-- the answer tells the verdict on the bytes of the block, with the fuel that is given, else with the least that its calls need
+pub record IsRejected (world : World) (calls : List Call) (task : Debugging) (bytes : List ℕ) (a : Answer) : Type 0 where
   pub verdict : Verdict
-  pub is : IsVerdictAtLeast world calls bytes verdict
+  pub is : IsVerdictWith world calls task.fuel bytes verdict
   pub tells : Rejects verdict a
 
 -- the call does not stand in the block
 pub record IsLeftOut (world : World) (calls : List Call) (task : Debugging) (bytes : List ℕ) (a : Answer) : Type 0 where
-  pub absent : IsAbsent world calls bytes task.call
+  pub absent : IsAbsent world calls task.fuel bytes task.call
   pub tells : TellsAbsent task.call a
 
 -- the call runs over the cells that it meets in the block, by the rules of the block's version
 pub record IsMet (world : World) (calls : List Call) (call : Call) (task : Debugging) (bytes : List ℕ) (a : Answer) : Type 0 where
   pub version : Version
   pub cells : Cells
-  pub meets : Meets world calls bytes task.call version cells
+  pub meets : Meets world calls task.fuel bytes task.call version cells
   pub tells : TellsCall version world cells call task a
 
 -- what is told of the call in the block of these bytes
 abbrev pub TellsOfBlock : World → List Call → Call → Debugging → List ℕ → Answer → Type 0
-TellsOfBlock world calls call task bytes a = IsRejected world calls bytes a ⊎ (IsLeftOut world calls task bytes a ⊎ IsMet world calls call task bytes a)
+TellsOfBlock world calls call task bytes a = IsRejected world calls task bytes a ⊎ (IsLeftOut world calls task bytes a ⊎ IsMet world calls call task bytes a)
 
 -- the file of the block holds these bytes
 pub record IsOfBlock (holds : Holding) (world : World) (calls : List Call) (call : Call) (task : Debugging) (name : List ℕ) (a : Answer) : Type 0 where

@@ -51,8 +51,11 @@ Spell words commands = AllZip Spells words commands
 abbrev pub texts : List (Bor (List ℕ)) → List (List ℕ)
 texts words = map (λ w. w.now) words
 
+abbrev pub choice : Bor (List ℕ) × Bor (List ℕ) → Choice
+choice o = (o.0.now, o.1.now)
+
 abbrev pub choices : List (Bor (List ℕ) × Bor (List ℕ)) → List Choice
-choices options = map (λ o. (o.0.now, o.1.now)) options
+choices options = map choice options
 
 -- ---- words that spell no command of a kind
 

@@ -1,4 +1,4 @@
-//! The command `debug WORLD CALLS CALL CMD... [--block BLOCK]`: a call that runs alone over a world, or over the cells that it meets in a block, turn by
+//! The command `debug WORLD CALLS CALL CMD... [--block BLOCK [--fuel N]]`: a call that runs alone over a world, or over the cells that it meets in a block, turn by
 //! turn, and what is read of its states.
 
 ghost use Rattle.std.specs.Prelude.{◌≡◌, ◌≤◌, ◌<◌, ◌^◌, IsTrue, IfOk, IfErr, OnOk, MatchOption, Some, length, slice_get, string_bytes};
@@ -12,6 +12,7 @@ use crate::{Debugging, Printed, debug_call};
 use block_judge::{Reason, Unfit};
 use block_prefix::met_by;
 use call::Call;
+use pace::Pace;
 use spec_ledger::Version;
 use std::alloc::{AllocError, Global};
 use storage::Cells;
@@ -75,19 +76,28 @@ fn rejected<'a>(alloc: Global, bytes: &[u8], reason: Reason) -> Result<Answer<'a
 }
 
 /// What the commands print of the call of the task's number over the cells that it meets in the block of these bytes.
-fn debug_in_block<'a>(
+fn debug_in_block<'a, P: Pace>(
     alloc: Global,
     world: &World,
     calls: &[Call],
     call: &Call,
     task: &Debugging,
     bytes: &[u8],
+    pace: &P,
 ) -> Result<Answer<'a>, NoMemory>
     requires few { length calls.now ≤ 65535 }
     requires number { task.now.call < 2 ^ 32 }
     ensures { IfOk result (TellsOfBlock (world_view world.now) calls.now call.now task.now bytes.now) }
 {
-    match met_by(alloc, world, calls, bytes, task.call as u32) {
+    match met_by(
+        alloc,
+        world,
+        calls,
+        task.fuel,
+        bytes,
+        task.call as u32,
+        pace,
+    ) {
         Ok(Some(met)) => Ok(debug_over(alloc, world, &met.cells, call, task, met.version)?),
         Ok(None) => Ok(absent(alloc, task.call)?),
         Err(Unfit::Rejected(reason)) => Ok(rejected(alloc, bytes, reason)?),
@@ -97,13 +107,14 @@ fn debug_in_block<'a>(
 
 /// What the commands print of this call of the list: alone over the world, by the rules of version 2, by which calls are mined; or in the block that the
 /// task names.
-fn debug_listed<'a, F: Files>(
+fn debug_listed<'a, F: Files, P: Pace>(
     alloc: Global,
     files: &mut F,
     world: &World,
     calls: &[Call],
     call: &Call,
     task: &Debugging<'a>,
+    pace: &P,
 ) -> Result<Answer<'a>, Fault<'a>>
     requires few { length calls.now ≤ 65535 }
     requires listed { slice_get calls.now task.now.call ≡ Some call.now }
@@ -123,7 +134,7 @@ fn debug_listed<'a, F: Files>(
         Ok(bytes) => bytes,
         Err(fault) => return Err(fault),
     };
-    match debug_in_block(alloc, world, calls, call, task, &bytes) {
+    match debug_in_block(alloc, world, calls, call, task, &bytes, pace) {
         Ok(answer) => Ok(answer),
         Err(NoMemory) => Err(Fault::NoMemory),
     }
@@ -131,11 +142,13 @@ fn debug_listed<'a, F: Files>(
 
 /// What `debug` comes to: a line for each command, read off the states of the call alone over the world, or, where a block is named, over the cells that the
 /// calls before it leave in the block's order, by the rules of the block's version; or the line that says why the world, the calls or the block are
-/// refused, that the block has no such call, or why the call does not start. None where there is no call of this number. No file is written.
-pub fn debug_world<'a, F: Files>(
+/// refused, that the block has no such call, or why the call does not start. None where there is no call of this number. No file is written. Before the
+/// calls of a block run, the pace is told for how much fuel at most.
+pub fn debug_world<'a, F: Files, P: Pace>(
     alloc: Global,
     files: &mut F,
     task: &Debugging<'a>,
+    pace: &P,
 ) -> Result<Option<Answer<'a>>, Fault<'a>>
     ensures answers { IfOk result (λ found. IsTrue F.tells → MatchOption found (IsNotListed (F.holds files.old) task.now) (Debugs (F.holds files.old) task.now)) }
     ensures kept { IsTrue F.tells → F.holds files.new ≡ F.holds files.old }
@@ -151,7 +164,7 @@ pub fn debug_world<'a, F: Files>(
     let Some(call) = list.get(task.call as usize) else {
         return Ok(None);
     };
-    match debug_listed(alloc, files, &world, list, call, task) {
+    match debug_listed(alloc, files, &world, list, call, task, pace) {
         Ok(answer) => Ok(Some(answer)),
         Err(fault) => Err(fault),
     }

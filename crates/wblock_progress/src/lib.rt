@@ -1,4 +1,5 @@
-//! What is said on a terminal while calls run: how many have begun, at most four times a second.
+//! What is said on a terminal while calls run: how many have begun, at most four times a second; or how much fuel they may use ahead of one that is
+//! debugged.
 #![tactic(auto)]
 
 mod line;

@@ -1,14 +1,15 @@
 //! The pace that counts the calls that begin, and says so.
 
-use crate::line::{WIPE, begun_text, due_after, millis_of};
+use crate::line::{WIPE, begun_text, due_after, earlier_text, is_much, millis_of};
 use pace::{Pace, Step};
-use std::alloc::Global;
+use std::alloc::{AllocError, Global};
 use std::io::Print;
 use std::sync::atomic::{AtomicBool, AtomicU64, Ordering};
 use std::time::Clock;
 
 /// Counts the calls that begin, and says on a stream how many, where it speaks: at most one line in 250 milliseconds of the clock, and none in the
-/// first. Nothing is said where the clock or memory fails.
+/// first. Where calls run alone ahead of one that is debugged and may use more than 1,000,000,000 units of fuel, that is said at once. Nothing is said
+/// where the clock or memory fails.
 #[derive(Drop)]
 pub struct Progress<'a, C, E> {
     alloc: Global,
@@ -41,9 +42,9 @@ impl<'a, C: Clock, E: Print> Progress<'a, C, E> {
         }
     }
 
-    /// Says how many calls have begun.
-    fn say(&self, begun: u64) {
-        if let Ok(text) = begun_text(self.alloc, begun) {
+    /// Says a line, where there was memory for it.
+    fn say(&self, line: Result<String, AllocError>) {
+        if let Ok(text) = line {
             self.stands.store(true, Ordering::SeqCst);
             let _ = self.stream.write_all(text.as_bytes());
         }
@@ -65,7 +66,7 @@ impl<'a, C: Clock, E: Print> Progress<'a, C, E> {
             .due
             .compare_exchange(due, next, Ordering::SeqCst, Ordering::SeqCst);
         if turn.is_ok() {
-            self.say(before.saturating_add(1));
+            self.say(begun_text(self.alloc, before.saturating_add(1)));
         }
     }
 
@@ -81,6 +82,12 @@ impl<C: Clock + Sync, E: Print + Sync> Pace for Progress<'_, C, E> {
     fn at(&self, step: Step) {
         if matches!(step, Step::Attempt { nth: 0, .. }) && self.speaks {
             self.count();
+        }
+    }
+
+    fn runs_alone(&self, fuel: u64) {
+        if is_much(fuel) && self.speaks {
+            self.say(earlier_text(self.alloc, fuel));
         }
     }
 }

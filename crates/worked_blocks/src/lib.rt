@@ -2,20 +2,20 @@
 //! meets, added to a definition, would make a row fail.
 #![tactic(auto)]
 
-ghost use Rattle.std.specs.Prelude.{◌≡◌, [], ◌∷◌};
+ghost use Rattle.std.specs.Prelude.{◌≡◌, ℕ, [], ◌∷◌, Option, Some, None};
 ghost use Rattle.std.specs.FinMap.{empty};
 ghost use Rattle.wtypes.specs.declared.TrapCode.TheVariants.{Unreachable};
 ghost use Rattle.spec_ledger.specs.declared.Version.TheVariants.{One, Two};
 ghost use Rattle.spec_ledger.specs.Cells.{Cells};
 ghost use Rattle.spec_block.specs.Schedule.{IsEdge, IsWave};
-ghost use Rattle.spec_block.specs.Verdicts.{Malformed};
+ghost use Rattle.spec_block.specs.Verdicts.{Malformed, OverBudget};
 ghost use Rattle.block_figures.specs.declared.figures.Chains.{Chains};
 ghost use Rattle.block_figures.specs.declared.outcomes.OutcomeKind.TheVariants.{Returned, Trapped};
 ghost use Rattle.block_figures.specs.Chains.{AreForward, IsChain};
 ghost use Rattle.block_figures.specs.Figures.{AreChains, IsCount};
 ghost use Rattle.block_figures.specs.Hottest.{AreHottest};
 ghost use Rattle.block_figures.specs.Outcomes.{all_kinds, counts_among};
-ghost use Rattle.block_prefix.specs.Meeting.{IsAbsent, IsVerdictAtLeast, Meets};
+ghost use Rattle.block_prefix.specs.Meeting.{IsAbsent, IsVerdictWith, Meets};
 ghost use Rattle.worked_blocks.specs.Worked.{adds_then_reads, both_bytes, counter, left_by_the_first, one_counter, one_of, one_trapped, reads_then_adds, shared_by, two_and_one, two_calls};
 
 /// A position that reads what the one before it adds waits in the next wave, and the heaviest chain is both. The other way round an edge goes back.
@@ -51,17 +51,22 @@ pub fn outcomes_counted()
 {}
 
 /// In a block of two calls that add to one counter the first meets the opening cells, the second what the first left and nothing else, and a third
-/// does not stand in it. No bytes are no block.
+/// does not stand in it. No bytes are no block. The limits of the two calls add up to ten: with a fuel of ten the second meets the same, and with nine
+/// it meets nothing, since the block is over its budget.
 pub fn calls_of_a_block()
-    ensures first { Meets one_counter two_calls both_bytes 0 Two empty }
-    ensures second { Meets one_counter two_calls both_bytes 1 Two left_by_the_first }
-    ensures third { IsAbsent one_counter two_calls both_bytes 2 }
-    ensures malformed { IsVerdictAtLeast one_counter two_calls [] Malformed }
-    ensures no_other_cells { (cells : Cells) → Meets one_counter two_calls both_bytes 1 Two cells → cells ≡ left_by_the_first }
-    ensures no_other_version { (cells : Cells) → ¬ (Meets one_counter two_calls both_bytes 1 One cells) }
-    ensures no_third { (cells : Cells) → ¬ (Meets one_counter two_calls both_bytes 2 Two cells) }
-    ensures not_absent { ¬ (IsAbsent one_counter two_calls both_bytes 1) }
-    ensures not_malformed { ¬ (IsVerdictAtLeast one_counter two_calls both_bytes Malformed) }
+    ensures first { Meets one_counter two_calls None both_bytes 0 Two empty }
+    ensures second { Meets one_counter two_calls None both_bytes 1 Two left_by_the_first }
+    ensures third { IsAbsent one_counter two_calls None both_bytes 2 }
+    ensures malformed { IsVerdictWith one_counter two_calls None [] Malformed }
+    ensures enough { Meets one_counter two_calls (Some 10) both_bytes 1 Two left_by_the_first }
+    ensures over_budget { IsVerdictWith one_counter two_calls (Some 9) both_bytes OverBudget }
+    ensures no_other_cells { (given : Option ℕ) (cells : Cells) → Meets one_counter two_calls given both_bytes 1 Two cells → cells ≡ left_by_the_first }
+    ensures no_other_version { (given : Option ℕ) (cells : Cells) → ¬ (Meets one_counter two_calls given both_bytes 1 One cells) }
+    ensures no_third { (given : Option ℕ) (cells : Cells) → ¬ (Meets one_counter two_calls given both_bytes 2 Two cells) }
+    ensures not_absent { (given : Option ℕ) → ¬ (IsAbsent one_counter two_calls given both_bytes 1) }
+    ensures not_malformed { (given : Option ℕ) → ¬ (IsVerdictWith one_counter two_calls given both_bytes Malformed) }
+    ensures not_over_budget { ¬ (IsVerdictWith one_counter two_calls None both_bytes OverBudget) }
+    ensures nothing_met { (cells : Cells) → ¬ (Meets one_counter two_calls (Some 9) both_bytes 1 Two cells) }
 {
     spec_block::one_block_a_spelling();
     spec_block::one_serial_run();

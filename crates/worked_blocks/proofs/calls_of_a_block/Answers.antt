@@ -1,4 +1,4 @@
-use Rattle.worked_blocks.proofs.Judged.{first, malformed, no_other_cells, no_other_version, no_third, not_absent, not_malformed, second, third}
+use Rattle.worked_blocks.proofs.Judged.{enough, first, malformed, no_other_cells, no_other_version, no_third, not_absent, not_malformed, not_over_budget, nothing_met, over_budget, second, third}
 use Rattle.worked_blocks.proofs.calls_of_a_block.Goals as goal
 
 pub returns : goal.returns
@@ -11,9 +11,13 @@ returns c =
       second = second run;
       third = third;
       malformed = malformed;
+      enough = enough run;
+      over_budget = over_budget one;
       no_other_cells = no_other_cells one once run;
       no_other_version = no_other_version one;
       no_third = no_third one;
       not_absent = not_absent one;
       not_malformed = not_malformed;
+      not_over_budget = not_over_budget one;
+      nothing_met = nothing_met one;
     }

@@ -3,7 +3,7 @@ use Rattle.wblock_debug.proofs.Colons.{at_some}
 use Rattle.wblock_debug.proofs.debug.debug_in_block.Goals as goal
 
 pub returns-in_ok-debug_over-in-Ok-Some : goal.returns-in_ok-debug_over-in-Ok-Some
-returns-in_ok-debug_over-in-Ok-Some c = inr (inr (record {
+returns-in_ok-debug_over-in-Ok-Some g c = inr (inr (record {
   version = c.in-Ok-Some.met.version;
   cells = c.in-Ok-Some.met.cells.cells;
   meets = at_some _ _ _ _ c.in-Ok-Some.field-0-is c.in-Ok-Some.ensures.met;

@@ -31,7 +31,7 @@ pub debug_listed-requires-clause-listed : goal.debug_listed-requires-clause-list
 debug_listed-requires-clause-listed g c =
     let lent = c.as_slice-list.result.now in
     let item = c.in-Some.ensures.lookup in
-    slice_get_read lent (length lent) c.args.task.now.call c.in-Some.call.now refl item.3.0 item.1
+    λ lifetimes lives. slice_get_read lent (length lent) c.args.task.now.call c.in-Some.call.now refl item.3.0 item.1
 
 pub returns-in-Ok-clause-answers : goal.returns-in-Ok-clause-answers
 returns-in-Ok-clause-answers g c = λ t.
