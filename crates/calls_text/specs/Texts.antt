@@ -1,6 +1,6 @@
 -- The text of calls: a line `CONTRACT FUEL ENTRY ARG...` for each call, single spaces, each line ended by a newline. Numbers are decimal with no needless zero.
 use Rattle.std.specs.Prelude.{◌≡◌, ◌≢◌, ℕ, ◌+◌, ◌^◌, ◌<◌, ◌≤◌, List, [], ◌∷◌, ◌++◌, codes, decimal, length, FitsSigned, IsUtf8, map, ◌⊎◌, ◌==◌}
-use Rattle.std.specs.List.{slice_split, AllByRecursion, AllZip}
+use Rattle.std.specs.List.{slice_split, All, AllByRecursion, AllZip}
 use Rattle.std.specs.Int.{w32, w64}
 use Rattle.std.specs.Fmt.{signed_decimal}
 use Rattle.wtypes.specs.declared.Value.{Value}
@@ -22,6 +22,10 @@ pub record AreValues (words : List (List ℕ)) (values : List Value) : Type 0 wh
   pub texts : words ≡ map value_text values
   pub in_range : AllByRecursion IsInRange values
 
+-- the byte is no control character: none of those below the space, and not DEL
+abbrev pub IsPlain : ℕ → Type 0
+IsPlain b = (32 ≤ b) × (b ≢ 127)
+
 -- these words are `CONTRACT`, `FUEL`, `ENTRY` and each `ARG` of the call
 pub record AreCall (words : List (List ℕ)) (c : ContractCall) : Type 0 where
   pub args : List (List ℕ)
@@ -30,6 +34,7 @@ pub record AreCall (words : List (List ℕ)) (c : ContractCall) : Type 0 where
   pub contract : c.contract < 2 ^ 32
   pub fuel : c.fuel < 2 ^ 64
   pub named : c.entry ≢ []
+  pub plain : All IsPlain c.entry
   pub short : length c.entry ≤ 65535
   pub few : length c.args ≤ 1024
 

@@ -4,7 +4,7 @@ ghost use Rattle.std.specs.Prelude.{IfOk, string_bytes};
 ghost use Rattle.calls_text.specs.Refusals.{TellsLine};
 
 use crate::reader::{CallsRefusal, MOST_CALLS};
-use crate::words::{number_of, values_of};
+use crate::words::{is_plain, number_of, values_of};
 use call::Call;
 use std::alloc::{AllocError, Global};
 use std::str::from_utf8;
@@ -17,6 +17,8 @@ enum WordFault {
     Return,
     /// It has a tab.
     Tab,
+    /// It has another control character.
+    Control,
     /// It has no characters.
     Empty,
     /// It is the number of no contract.
@@ -41,6 +43,8 @@ impl WordFault {
                 "a carriage return stands here; end each line with a newline alone (LF, not CRLF)"
             }
             WordFault::Tab => "a tab stands here; write one space between words",
+            WordFault::Control =>
+                "a control character stands here, a byte below 32 or 127; take it out",
             WordFault::Empty => {
                 "a space too many stands here; write one space between words, and none at the ends of a line"
             }
@@ -87,6 +91,7 @@ fn fault_of(alloc: Global, number: usize, word: &str) -> Result<Option<WordFault
             None => Ok(Some(WordFault::Fuel)),
         },
         2 if word.is_empty() => Ok(Some(WordFault::Empty)),
+        2 if !is_plain(word) => Ok(Some(WordFault::Control)),
         2 if word.len() > Call::MOST_ENTRY_BYTES => Ok(Some(WordFault::Name)),
         2 => Ok(None),
         _ if number > Call::MOST_ARGS + 2 => Ok(Some(WordFault::Surplus)),
@@ -95,6 +100,16 @@ fn fault_of(alloc: Global, number: usize, word: &str) -> Result<Option<WordFault
             None if is_number(word) => Ok(Some(WordFault::Untyped)),
             None => Ok(Some(WordFault::Value)),
         },
+    }
+}
+
+/// The fault that a byte is in a word, where it is a control character.
+fn control_fault(byte: u8) -> Option<WordFault> {
+    match byte {
+        b'\t' => Some(WordFault::Tab),
+        b'\r' => Some(WordFault::Return),
+        0..=31 | 127 => Some(WordFault::Control),
+        _ => None,
     }
 }
 
@@ -107,19 +122,14 @@ fn named(from: usize, word: &str, fault: WordFault) -> BadWord<'_> {
             fault: WordFault::Empty,
         };
     }
-    if let Some(at) = word.find('\t') {
-        return BadWord {
-            from: from.saturating_add(at),
-            word,
-            fault: WordFault::Tab,
-        };
-    }
-    if let Some(at) = word.find('\r') {
-        return BadWord {
-            from: from.saturating_add(at),
-            word,
-            fault: WordFault::Return,
-        };
+    for (at, byte) in word.bytes().enumerate() {
+        if let Some(fault) = control_fault(byte) {
+            return BadWord {
+                from: from.saturating_add(at),
+                word,
+                fault,
+            };
+        }
     }
     BadWord { from, word, fault }
 }
@@ -157,7 +167,7 @@ fn line_fault(alloc: Global, line: &[u8]) -> Result<String, AllocError> {
         let cause = bad.fault.text();
         if matches!(
             bad.fault,
-            WordFault::Empty | WordFault::Tab | WordFault::Return
+            WordFault::Empty | WordFault::Tab | WordFault::Return | WordFault::Control
         ) {
             return format!(in alloc; ", column {column}: {cause}");
         }

@@ -4,7 +4,7 @@ ghost use Rattle.std.specs.Prelude.{◌≡◌, IfOk, MatchOption, map};
 ghost use Rattle.spec_execution.specs.Run.{ContractCall};
 ghost use Rattle.calls_text.specs.Texts.{AreCall, IsLineOf, words_of};
 
-use crate::words::{number_of, values_of};
+use crate::words::{is_plain, number_of, values_of};
 use call::Call;
 use std::alloc::{AllocError, Global};
 use std::str::from_utf8;
@@ -13,7 +13,7 @@ use std::str::from_utf8;
 fn call_of_words(alloc: Global, words: &[&str]) -> Result<Option<Call>, AllocError>
     ensures { IfOk result (λ found. MatchOption found ((c : ContractCall) → ¬ AreCall (map (λ w. w.now) words.now) c) (AreCall (map (λ w. w.now) words.now))) }
 {
-    if words.len() < 3 || words[2].is_empty() {
+    if words.len() < 3 || words[2].is_empty() || !is_plain(words[2]) {
         return Ok(None);
     }
     let Some(contract) = number_of(alloc, words[0])? else {

@@ -55,8 +55,8 @@ fn split_lines<'a>(alloc: Global, text: &'a [u8]) -> Result<Vec<&'a [u8]>, Alloc
 
 /// The calls of a text that has a line `CONTRACT FUEL ENTRY ARG...` for each call: single spaces, each line ended by a
 /// newline, numbers in decimal with no needless zero, an ARG as `i32:N` or `i64:N` within its signed range, and an
-/// ENTRY that is not empty. An empty text has no calls. A refusal for too many calls comes only where no line is at
-/// fault.
+/// ENTRY that is not empty and has no control character. An empty text has no calls. A refusal for too many calls
+/// comes only where no line is at fault.
 pub fn read_calls(alloc: Global, text: &[u8]) -> Result<Vec<Call>, CallsRefusal>
     ensures spelled { IfOk result (λ calls. SpellsCalls text.now calls.items) }
     ensures few { IfOk result (λ calls. vec_len calls ≤ 65535) }

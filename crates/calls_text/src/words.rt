@@ -1,13 +1,21 @@
 //! Words as numbers and values.
 
-ghost use Rattle.std.specs.Prelude.{◌≡◌, ◌≢◌, ◌<◌, ◌^◌, ℕ, ℤ, List, IfOk, MatchOption, FitsSigned, decimal, map};
+ghost use Rattle.std.specs.Prelude.{◌≡◌, ◌≢◌, ◌<◌, ◌^◌, ℕ, ℤ, List, IfOk, MatchBool, MatchOption, FitsSigned, decimal, map};
+ghost use Rattle.std.specs.List.{All};
 ghost use Rattle.std.specs.Int.{w32, w64};
 ghost use Rattle.std.specs.Fmt.{signed_decimal};
 ghost use Rattle.wtypes.specs.declared.Value.{Value as AValue};
-ghost use Rattle.calls_text.specs.Texts.{value_text, IsInRange, AreValues};
+ghost use Rattle.calls_text.specs.Texts.{value_text, IsInRange, IsPlain, AreValues};
 
 use std::alloc::{AllocError, Global};
 use wtypes::Value;
+
+/// Whether a word has no control character.
+pub(crate) fn is_plain(word: &str) -> bool
+    ensures { MatchBool result (All IsPlain word.now) (¬ All IsPlain word.now) }
+{
+    word.bytes().all(|b| b >= b' ' && b != 127)
+}
 
 /// The number of 64 bits that a word spells, in decimal with no needless zero.
 pub fn number_of(alloc: Global, word: &str) -> Result<Option<u64>, AllocError>

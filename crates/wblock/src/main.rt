@@ -3,8 +3,9 @@
 
 use codec::put_all;
 use std::alloc::{AllocError, Global};
-use std::io::{self, IsTerminal};
+use std::io::{ErrorKind, IsTerminal, Write};
 use std::process::ExitCode;
+use std::rt::Env;
 use std::sync::Wait;
 use std::thread::Threads;
 use wblock_commands::run_line;
@@ -12,18 +13,65 @@ use wblock_io::{Disk, Stream};
 use wblock_line::Status;
 use wblock_progress::{Progress, Wiped, without_quiet};
 
+/// So many bytes no word has that the system hands over.
+const LONGEST_WORD: usize = 131_072;
+
+/// Why the words could not be had.
+enum WordsFault {
+    /// Memory was refused.
+    NoMemory,
+    /// One is not UTF-8: that of this number, where it is known. The program's name has the number 0.
+    NotUtf8(Option<usize>),
+}
+
+impl From<AllocError> for WordsFault {
+    fn from(_: AllocError) -> WordsFault {
+        WordsFault::NoMemory
+    }
+}
+
+/// The number of the first word that is not UTF-8.
+fn first_not_utf8<R: Env>(rt: &R, alloc: Global) -> Result<Option<usize>, AllocError> {
+    let mut word = vec![in alloc; 0; LONGEST_WORD]?;
+    for number in 0..usize::MAX {
+        let Ok(n) = rt.arg(number, word.as_mut_slice()) else {
+            return Ok(None);
+        };
+        if std::str::from_utf8(&word[..n]).is_err() {
+            return Ok(Some(number));
+        }
+    }
+    Ok(None)
+}
+
 /// The words of the command line, without the program's name.
-fn words_of(rt: &HostRuntime) -> io::Result<Vec<String>> {
-    let words = std::env::args(rt)?.skip(1).collect(rt.alloc())?;
-    Ok(words)
+fn words_of(rt: &HostRuntime) -> Result<Vec<String>, WordsFault> {
+    match std::env::args(rt) {
+        Ok(words) => Ok(words.skip(1).collect(rt.alloc())?),
+        Err(error) if error.kind() == ErrorKind::OutOfMemory => Err(WordsFault::NoMemory),
+        Err(_) => Err(WordsFault::NotUtf8(first_not_utf8(rt, rt.alloc())?)),
+    }
+}
+
+/// Says that a word is not UTF-8, and gives the status.
+fn tell_not_utf8(rt: &HostRuntime, number: Option<usize>) -> u8 {
+    let mut err = rt.stderr();
+    // a fault of standard error changes no status
+    let _ = match number {
+        Some(number) => writeln!(err, "usage: word {number} is not UTF-8"),
+        None => writeln!(err, "usage: a word is not UTF-8"),
+    };
+    Status::Usage as u8
 }
 
 /// Runs the words over the machine's files and streams, and gives the status. Where standard error is a terminal and the words do not ask for quiet,
 /// the progress stands there meanwhile. The second handle starts threads.
 fn run<R: Threads + Wait + Sync>(rt: &HostRuntime, threads: &R) -> Result<u8, AllocError> {
     let alloc = rt.alloc();
-    let Ok(words) = words_of(rt) else {
-        return Err(AllocError);
+    let words = match words_of(rt) {
+        Ok(words) => words,
+        Err(WordsFault::NoMemory) => return Err(AllocError),
+        Err(WordsFault::NotUtf8(number)) => return Ok(tell_not_utf8(rt, number)),
     };
     let words: Vec<&str> = words.iter().map(|w| w.as_str()).collect(alloc)?;
     let line = without_quiet(alloc, words.as_slice())?;

@@ -1,4 +1,5 @@
 pub mod Answers
+pub mod Deploying
 pub mod Does
 pub mod Lines
 pub mod Options

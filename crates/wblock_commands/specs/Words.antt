@@ -1,9 +1,10 @@
 -- What the words of a line ask for.
-use Rattle.std.specs.Prelude.{◌≡◌, ◌≢◌, ℕ, ◌<◌, ◌≤◌, ◌⊎◌, List, [], ◌∷◌, Option, Some, None, IfSome, codes, decimal, length, map}
+use Rattle.std.specs.Prelude.{◌≡◌, ◌≢◌, ℕ, ◌<◌, ◌≤◌, ◌⊎◌, Bool, true, false, List, [], ◌∷◌, Option, Some, None, IfSome, codes, decimal, length, map}
 use Rattle.std.specs.Borrow.{Bor}
 use Rattle.wblock_line.specs.Words.{Line, Choice, split}
 use Rattle.wblock_commands.specs.declared.command.Command.{Command}
 use Rattle.wblock_commands.specs.declared.command.Command.TheVariants.{Stored, Help, Version, Asm, Text, Check, Deploy, Mine, Validate, Debug, Show}
+use Rattle.wblock_commands.specs.declared.command.Deploying.{Deploying}
 use Rattle.wblock_commands.specs.Options.{AsksFuel, AsksWorkers, AsksTries, AsksNext, AsksCalls, AsksForm, HasOnlyMining, HasOnlyValidation, HasOnlyShowing}
 use Rattle.wblock_debug.specs.Asks.{AsksDebug}
 use Rattle.wblock_debug.specs.declared.asked.Debugging.{Debugging}
@@ -57,13 +58,22 @@ pub record AsksCheck (line : Line) (target : List ℕ) (heap : Option ℕ) : Typ
   pub words : line.words ≡ codes "check" ∷ target ∷ []
   pub options : AsksHeap line.options heap
 
--- `deploy WORLD MODULE...`, WORLD of a name that no MODULE has
-pub record AsksDeploy (line : Line) (world : List ℕ) (modules : List (List ℕ)) : Type 0 where
-  pub words : line.words ≡ codes "deploy" ∷ world ∷ modules
-  pub options : line.options ≡ []
+-- `--force`, or nothing
+abbrev pub AsksForce : List Choice → Bool → Type 0
+AsksForce options true = options ≡ (codes "--force", []) ∷ []
+AsksForce options false = options ≡ []
+
+-- `deploy WORLD MODULE...`, WORLD of a name that no MODULE has, whatever the options
+pub record NamesModules (words : List (List ℕ)) (world : List ℕ) (modules : List (List ℕ)) : Type 0 where
+  pub words_are : words ≡ codes "deploy" ∷ world ∷ modules
   pub some : 0 < length modules
   pub few : length modules ≤ 1024
   pub apart : IsApart world modules
+
+-- `deploy WORLD MODULE... [--force]`
+pub record AsksDeploy (line : Line) (d : Deploying) : Type 0 where
+  pub names : NamesModules line.words d.world.now (texts d.modules.now)
+  pub force : AsksForce line.options d.forced
 
 -- what is written takes the place of no input and of no other output: BLOCK has a name of its own, and NEXT another than CALLS; NEXT may be WORLD
 pub record KeepsInputs (m : Mining) : Type 0 where
@@ -136,7 +146,7 @@ IsLineOf line Version = ⊥
 IsLineOf line (Asm text target) = AsksAsm line text.now target.now
 IsLineOf line (Text source target) = AsksText line source.now target.now
 IsLineOf line (Check target heap) = AsksCheck line target.now heap
-IsLineOf line (Deploy world modules) = AsksDeploy line world.now (texts modules.now)
+IsLineOf line (Deploy task) = AsksDeploy line task
 IsLineOf line (Mine task) = AsksMine line task
 IsLineOf line (Validate task) = AsksValidate line task
 IsLineOf line (Debug task) = AsksDebug line task
@@ -152,9 +162,13 @@ IsTold words (Help asked) = AsksHelp words
 IsTold words Version = words ≡ codes "--version" ∷ []
 IsTold words c = ⊥
 
--- the words ask for this: to be told of the program; or so do the words of a line, its options taken out
+-- the words are those of a line that asks for this, its options taken out
+abbrev pub IsSplitInto : List (List ℕ) → Command → Type 0
+IsSplitInto words c = (line : Line) × (split words ≡ Some line) × IsLineOf line c
+
+-- the words ask for this: to be told of the program; or, where none of them asks for help, so does their line
 abbrev pub Says : List (List ℕ) → Command → Type 0
-Says words c = IsTold words c ⊎ ((line : Line) × (split words ≡ Some line) × IsLineOf line c)
+Says words c = IsTold words c ⊎ ((¬ AsksHelp words) × IsSplitInto words c)
 
 -- a world has at most 1,024 contracts, 1 to 64 workers run calls, and a worker tries a call at most 1 to 16 times
 abbrev pub HasFew : Command → Type 0
@@ -164,7 +178,7 @@ HasFew Version = Unit {0}
 HasFew (Asm text target) = Unit {0}
 HasFew (Text source target) = Unit {0}
 HasFew (Check target heap) = Unit {0}
-HasFew (Deploy world modules) = length modules.now ≤ 1024
+HasFew (Deploy task) = length task.modules.now ≤ 1024
 HasFew (Mine task) = ((1 ≤ task.workers) × (task.workers ≤ 64)) × ((1 ≤ task.tries) × (task.tries ≤ 16))
 HasFew (Validate task) = (1 ≤ task.workers) × (task.workers ≤ 64)
 HasFew (Debug task) = Unit {0}

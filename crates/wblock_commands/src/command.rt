@@ -1,9 +1,10 @@
 //! What a line of words asks for.
 
-ghost use Rattle.std.specs.Prelude.{◌≡◌, ◌≢◌, ◌≤◌, ◌↔◌, ℕ, List, [], ◌∷◌, Option, IfOk, IfSome, IsTrue, MatchOption, codes, decimal};
+ghost use Rattle.std.specs.Prelude.{◌≡◌, ◌≢◌, ◌≤◌, ◌↔◌, ℕ, Bool, List, [], ◌∷◌, Option, IfOk, IfSome, IsTrue, MatchOption, codes, decimal};
 ghost use Rattle.wblock_line.specs.Words.{line_of};
-ghost use Rattle.wblock_commands.specs.Words.{AsksStored, AsksAsm, AsksText, AsksShow, AsksHeap, IsSize, AsksCheck, AsksDeploy, AsksMine, AsksValidate, CountsValidate, SpellsValidate, AsksNoTask, IsLineOf, IsApart, KeepsInputs, NextIsApart, SpellsShow, PictureIsApart, AsksHelp, IsTold, HasFew, texts, choices};
+ghost use Rattle.wblock_commands.specs.Words.{AsksStored, AsksAsm, AsksText, AsksShow, AsksHeap, IsSize, AsksCheck, AsksForce, NamesModules, AsksDeploy, AsksMine, AsksValidate, CountsValidate, SpellsValidate, AsksNoTask, IsLineOf, IsApart, KeepsInputs, NextIsApart, SpellsShow, PictureIsApart, AsksHelp, IsTold, HasFew, texts, choices};
 ghost use Rattle.wblock_commands.specs.declared.command.Command.{Command as Asked};
+ghost use Rattle.wblock_commands.specs.declared.command.Deploying.{Deploying as TheDeploying};
 ghost use Rattle.wblock_blocks.specs.declared.mine.Mining.{Mining as TheMining};
 ghost use Rattle.wblock_blocks.specs.declared.validate.Validation.{Validation as TheValidation};
 ghost use Rattle.wblock_show.specs.declared.file.Showing.{Showing as TheShowing};
@@ -16,8 +17,19 @@ use crate::options::{
 use std::alloc::{AllocError, Global};
 use wblock_blocks::{Mining, Validation};
 use wblock_debug::{Debugging, debugging_of};
-use wblock_line::Line;
+use wblock_line::{FORCE_SWITCH, Line};
 use wblock_show::{Form, Showing};
+
+/// What is to be deployed.
+#[derive(Clone, Copy, Debug)]
+pub struct Deploying<'l, 'w> {
+    /// The name of the file that is to hold the world.
+    pub world: &'w str,
+    /// The names of the files of the modules, 1 to 1,024, in their order.
+    pub modules: &'l [&'w str],
+    /// Whether the world may be written in the place of a file that is there.
+    pub forced: bool,
+}
 
 /// A command with its words.
 #[derive(Debug, Drop)]
@@ -34,13 +46,13 @@ pub enum Command<'l, 'w> {
     Text(&'w str, &'w str),
     /// `check MODULE [--heap N]`: whether a module is valid, its tree in an arena or in a heap of N bytes, 1,024 to 16,777,216.
     Check(&'w str, Option<u32>),
-    /// `deploy WORLD MODULE...`: the world of these modules, 1 to 1,024.
-    Deploy(&'w str, &'l [&'w str]),
+    /// `deploy WORLD MODULE... [--force]`: the world of these modules, 1 to 1,024.
+    Deploy(Deploying<'l, 'w>),
     /// `mine WORLD CALLS BLOCK NEXT --fuel N [--workers 4] [--tries 3]`: a block of the calls over the world, and the world after it.
     Mine(Mining<'w>),
     /// `validate WORLD CALLS BLOCK --fuel N [--workers 4] [--next NEXT]`: the verdict on the block, and the world after it.
     Validate(Validation<'w>),
-    /// `debug WORLD CALLS CALL CMD... [--block BLOCK]`: a call that runs alone, or in a block, turn by turn.
+    /// `debug WORLD CALLS CALL CMD... [--block BLOCK [--fuel N]]`: a call that runs alone, or in a block, turn by turn.
     Debug(Debugging<'w>),
     /// `show FILE [--calls CALLS]`: what is in a module, a world or a block; or `show FILE --svg PICTURE`: a picture of a block.
     Show(Showing<'w>),
@@ -191,18 +203,24 @@ fn showing_of<'w>(
     Ok(Some(showing))
 }
 
-/// The world and the modules of `deploy`.
-fn deploy_of<'l, 'w>(
-    words: &'l [&'w str],
-    options: &[(&str, &str)],
-) -> Option<(&'w str, &'l [&'w str])>
-    ensures { MatchOption result ((world : List ℕ) (modules : List (List ℕ)) → ¬ AsksDeploy (record { words = texts words.entry.now; options = choices options.now }) world modules) (λ x. AsksDeploy (record { words = texts words.entry.now; options = choices options.now }) x.0.now (texts x.1.now)) }
+/// Whether options ask that a world be written in the place of a file that is there; or None where they are no options of `deploy`.
+fn force_of(options: &[(&str, &str)]) -> Option<bool>
+    ensures { MatchOption result ((forced : Bool) → ¬ AsksForce (choices options.now) forced) (AsksForce (choices options.now)) }
 {
-    if !options.is_empty()
-        || words.len() < 3
-        || words.len() > 1_026
-        || !is_word(words[0], "deploy")
-    {
+    if options.is_empty() {
+        return Some(false);
+    }
+    if options.len() > 1 || !is_word(options[0].0, FORCE_SWITCH) || !options[0].1.is_empty() {
+        return None;
+    }
+    Some(true)
+}
+
+/// The world and the modules of `deploy`, whatever the options.
+fn modules_of<'l, 'w>(words: &'l [&'w str]) -> Option<(&'w str, &'l [&'w str])>
+    ensures { MatchOption result ((world : List ℕ) (modules : List (List ℕ)) → ¬ NamesModules (texts words.entry.now) world modules) (λ x. NamesModules (texts words.entry.now) x.0.now (texts x.1.now)) }
+{
+    if words.len() < 3 || words.len() > 1_026 || !is_word(words[0], "deploy") {
         return None;
     }
     let modules = &words[2..];
@@ -210,6 +228,19 @@ fn deploy_of<'l, 'w>(
         return None;
     }
     Some((words[1], modules))
+}
+
+/// What `deploy` is asked for.
+fn deploying_of<'l, 'w>(words: &'l [&'w str], options: &[(&str, &str)]) -> Option<Deploying<'l, 'w>>
+    ensures { MatchOption result ((d : TheDeploying) → ¬ AsksDeploy (record { words = texts words.entry.now; options = choices options.now }) d) (AsksDeploy (record { words = texts words.entry.now; options = choices options.now })) }
+{
+    let (world, modules) = modules_of(words)?;
+    let forced = force_of(options)?;
+    Some(Deploying {
+        world,
+        modules,
+        forced,
+    })
 }
 
 /// Whether BLOCK and NEXT take the place of no file that is read, nor of one another; NEXT may be WORLD.
@@ -367,8 +398,8 @@ pub fn command_of<'l, 'w>(
     if let Some((target, heap)) = check_of(alloc, words, options)? {
         return Ok(Some(Command::Check(target, heap)));
     }
-    if let Some((world, modules)) = deploy_of(words, options) {
-        return Ok(Some(Command::Deploy(world, modules)));
+    if let Some(task) = deploying_of(words, options) {
+        return Ok(Some(Command::Deploy(task)));
     }
     if let Some(task) = showing_of(alloc, words, options)? {
         return Ok(Some(Command::Show(task)));

@@ -62,6 +62,12 @@ pub(crate) const JSON: Switch = Switch {
     help: "Shows the same as one JSON object on a line",
 };
 
+/// A world in the place of one that is there.
+pub(crate) const FORCE: Switch = Switch {
+    name: "force",
+    help: "Writes the new world in the place of a file that is there",
+};
+
 /// The bytes of the heap of `check`.
 pub(crate) const HEAP: NumberOption = NumberOption {
     word: "--heap",

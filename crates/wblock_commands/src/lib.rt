@@ -4,6 +4,7 @@
 mod answer;
 mod command;
 mod declared;
+mod deploy;
 mod line;
 mod misuse;
 mod options;
@@ -12,6 +13,6 @@ mod stored;
 mod usage;
 
 pub use answer::show_stored;
-pub use command::{Command, command_of};
+pub use command::{Command, Deploying, command_of};
 pub use line::run_line;
 pub use usage::usage_text;

@@ -1,13 +1,13 @@
 //! The run of a line of words.
 
 ghost use Rattle.std.specs.Prelude.{◌≡◌, ◌≢◌, ◌≤◌, ◌⊎◌, ℕ, List, IsTrue, IfOk, IfErr, OnOk, MatchOption, map};
-ghost use Rattle.codec.specs.Putting.{IsRaised};
-ghost use Rattle.wblock_line.specs.Answers.{CountsFault, IsOfFile, IsSaid, file_line, memory_line};
+ghost use Rattle.wblock_line.specs.Answers.{CountsFault, IsOfFile, IsSaid, SaysFile, memory_line};
 ghost use Rattle.wblock_commands.specs.Words.{Says, HasFew};
-ghost use Rattle.wblock_commands.specs.Does.{Answers, AsksCall, Misses, Does, Reads, Fails, IsKept, SaysText};
+ghost use Rattle.wblock_commands.specs.Does.{Answers, MayMiss, Misses, Does, Reads, Fails, IsKept, SaysText};
 ghost use Rattle.wblock_commands.specs.declared.command.Command.{Command as Asked};
 
 use crate::command::{Command, command_of, told_of};
+use crate::deploy::deploy_apart;
 use crate::usage::{tell_help, tell_version};
 use crate::{show_stored, usage_text};
 use codec::{Sink, put_all};
@@ -19,10 +19,11 @@ use wblock_blocks::{mine_block, validate_block};
 use wblock_debug::debug_world;
 use wblock_io::Files;
 use wblock_line::{Answer, Fault, Status, carry_out, split_words, tell_fault};
-use wblock_modules::{assemble_file, check_module, deploy_modules, write_text};
+use wblock_modules::{assemble_file, check_module, write_text};
 use wblock_show::show_named;
 
-/// What a command comes to, or None where a call is asked for that is not there. No file is written yet.
+/// What a command comes to, or None where a call is asked for that is not there, or a world is there that is not to be written over. No file is written
+/// yet.
 fn answer_of<'l, 'w, R: Threads + Wait + Sync, F: Files, P: Pace>(
     rt: &R,
     alloc: Global,
@@ -32,7 +33,7 @@ fn answer_of<'l, 'w, R: Threads + Wait + Sync, F: Files, P: Pace>(
 ) -> Result<Option<Answer<'w>>, Fault<'w>>
     requires { HasFew command }
     ensures answers { IfOk result (λ found. IsTrue F.tells → MatchOption found (Misses command.entry (F.holds files.old)) (Answers command.entry (F.holds files.old))) }
-    ensures asked { IfOk result (λ found. MatchOption found (AsksCall command.entry) (λ a. Unit {0})) }
+    ensures asked { IfOk result (λ found. MatchOption found (MayMiss command.entry) (λ a. Unit {0})) }
     ensures kept { IsTrue F.tells → F.holds files.new ≡ F.holds files.old }
     ensures calm { OnOk result (F.failures files.new ≡ F.failures files.old) }
     ensures counted { IfErr result (λ f. CountsFault f (F.failures files.old) (F.failures files.new)) }
@@ -45,11 +46,11 @@ fn answer_of<'l, 'w, R: Threads + Wait + Sync, F: Files, P: Pace>(
         Command::Asm(text, target) => assemble_file(alloc, files, text, target)?,
         Command::Text(source, target) => write_text(alloc, files, source, target)?,
         Command::Check(target, heap) => check_module(alloc, files, target, heap)?,
-        Command::Deploy(world, modules) => deploy_modules(alloc, files, world, modules)?,
         Command::Mine(task) => mine_block(rt, alloc, files, task, pace)?,
         Command::Validate(task) => validate_block(rt, alloc, files, task, pace)?,
         Command::Show(task) => return Ok(Some(show_named(alloc, files, task)?)),
-        Command::Debug(task) => return debug_world(alloc, files, &task),
+        Command::Deploy(task) => return deploy_apart(alloc, files, task),
+        Command::Debug(task) => return debug_world(alloc, files, &task, pace),
     };
     Ok(Some(answer))
 }
@@ -81,10 +82,9 @@ fn run_command<'a, R: Threads + Wait + Sync, F: Files, O: Sink, E: Sink, P: Pace
     pace: &P,
 ) -> Status
     requires { HasFew command }
-    ensures done { result ≡ Status.Done → IsTrue F.tells → IsTrue O.tells → Does command.entry Status.Done (F.holds files.old) (F.holds files.new) (O.told out.old) (O.told out.new) }
-    ensures refused { result ≡ Status.Refused → IsTrue F.tells → IsTrue O.tells → Does command.entry Status.Refused (F.holds files.old) (F.holds files.new) (O.told out.old) (O.told out.new) }
-    ensures cut { result ≡ Status.File → IsTrue F.tells → IsTrue O.tells → (name : List ℕ) × Fails command.entry name (F.holds files.old) (F.holds files.new) (O.told out.old) (O.told out.new) × (IsTrue E.tells → IsSaid (file_line name) (E.told err.old) (E.told err.new) (E.failures err.old) (E.failures err.new)) }
-    ensures counted { result ≡ Status.File → IsRaised (F.failures files.old) (F.failures files.new) ⊎ IsRaised (O.failures out.old) (O.failures out.new) }
+    ensures done { result ≡ Status.Done → IsTrue F.tells → Does command.entry Status.Done O.tells (F.holds files.old) (F.holds files.new) (O.told out.old) (O.told out.new) }
+    ensures refused { result ≡ Status.Refused → IsTrue F.tells → Does command.entry Status.Refused O.tells (F.holds files.old) (F.holds files.new) (O.told out.old) (O.told out.new) }
+    ensures failing { result ≡ Status.File → (name : List ℕ) × Fails command.entry name F.tells O.tells (F.holds files.old) (F.holds files.new) (F.failures files.old) (F.failures files.new) (O.told out.old) (O.told out.new) (O.failures out.old) (O.failures out.new) × (IsTrue E.tells → SaysFile name (E.told err.old) (E.told err.new) (E.failures err.old) (E.failures err.new)) }
     ensures silent { (result ≡ Status.Usage) ⊎ (result ≡ Status.Memory) → IsTrue F.tells → IsKept (F.holds files.old) (F.holds files.new) (O.told out.old) (O.told out.new) }
     ensures usage_said { result ≡ Status.Usage → IsTrue E.tells → SaysText (E.told err.old) (E.told err.new) (E.failures err.old) (E.failures err.new) }
     ensures memory_said { result ≡ Status.Memory → IsTrue E.tells → IsSaid memory_line (E.told err.old) (E.told err.new) (E.failures err.old) (E.failures err.new) }
@@ -92,7 +92,7 @@ fn run_command<'a, R: Threads + Wait + Sync, F: Files, O: Sink, E: Sink, P: Pace
     ensures explained { result ≡ Status.Refused → IsTrue E.tells → SaysText (E.told err.old) (E.told err.new) (E.failures err.old) (E.failures err.new) }
     ensures calm_files { (result ≡ Status.Done) ⊎ (result ≡ Status.Refused) → F.failures files.new ≡ F.failures files.old }
     ensures calm_output { (result ≡ Status.Done) ⊎ (result ≡ Status.Refused) → O.failures out.new ≡ O.failures out.old }
-    ensures asked { result ≡ Status.Usage → AsksCall command.entry }
+    ensures asked { result ≡ Status.Usage → MayMiss command.entry }
     ensures missed { result ≡ Status.Usage → IsTrue F.tells → Misses command.entry (F.holds files.old) }
 {
     match answer_of(rt, alloc, command, files, pace) {
@@ -102,11 +102,12 @@ fn run_command<'a, R: Threads + Wait + Sync, F: Files, O: Sink, E: Sink, P: Pace
     }
 }
 
-/// Runs one line of words and gives its status: 0 done, 1 refused, 2 where the words ask for nothing or for a call that is not there, 3 where a file or
-/// the output failed, 4 where memory was refused. Answers and refusals go to `out`, and what explains a refusal or is wrong else is said to
-/// `err`, whose own failures change no status: a text that ends with a newline with status 1, which is the sentence of the refusal, and with 2; `file NAME`
-/// with 3 (`file stdout` for the output), `memory` with 4.
-/// All that is written and printed is made before the first write. The pace is told each step of the workers of `mine` and `validate`.
+/// Runs one line of words and gives its status: 0 done, 1 refused, 2 where the words ask for nothing, for a call that is not there, or to deploy a world
+/// whose file is there, 3 where a file or the output failed, 4 where memory was refused. Answers and refusals go to `out`, and what explains a refusal or is wrong else is said to
+/// `err`, whose own failures change no status: a text that ends with a newline with status 1, which is the sentence of the refusal, and with 2; with 3
+/// `file NAME` of the file that failed, where nothing else did (`file stdout` for the output), and in a line behind it why, where that is known; `memory` with 4.
+/// All that is written and printed is made before the first write. The pace is told each step of the workers of `mine` and `validate`, and of
+/// `debug` for how much fuel at most calls of a block run before.
 pub fn run_line<'a, R: Threads + Wait + Sync, F: Files, O: Sink, E: Sink, P: Pace>(
     rt: &R,
     alloc: Global,
@@ -116,11 +117,10 @@ pub fn run_line<'a, R: Threads + Wait + Sync, F: Files, O: Sink, E: Sink, P: Pac
     err: &mut E,
     pace: &P,
 ) -> Status
-    ensures done { result ≡ Status.Done → (c : Asked) × Says (map (λ w. w.now) words.entry.now) c × (IsTrue F.tells → IsTrue O.tells → Does c Status.Done (F.holds files.old) (F.holds files.new) (O.told out.old) (O.told out.new)) }
-    ensures refused { result ≡ Status.Refused → (c : Asked) × Says (map (λ w. w.now) words.entry.now) c × (IsTrue F.tells → IsTrue O.tells → Does c Status.Refused (F.holds files.old) (F.holds files.new) (O.told out.old) (O.told out.new)) }
-    ensures usage { result ≡ Status.Usage → ((c : Asked) → ¬ Says (map (λ w. w.now) words.entry.now) c) ⊎ ((c : Asked) × Says (map (λ w. w.now) words.entry.now) c × AsksCall c × (IsTrue F.tells → Misses c (F.holds files.old))) }
-    ensures cut { result ≡ Status.File → (c : Asked) × Says (map (λ w. w.now) words.entry.now) c × (IsTrue F.tells → IsTrue O.tells → (name : List ℕ) × Fails c name (F.holds files.old) (F.holds files.new) (O.told out.old) (O.told out.new) × (IsTrue E.tells → IsSaid (file_line name) (E.told err.old) (E.told err.new) (E.failures err.old) (E.failures err.new))) }
-    ensures counted { result ≡ Status.File → IsRaised (F.failures files.old) (F.failures files.new) ⊎ IsRaised (O.failures out.old) (O.failures out.new) }
+    ensures done { result ≡ Status.Done → (c : Asked) × Says (map (λ w. w.now) words.entry.now) c × (IsTrue F.tells → Does c Status.Done O.tells (F.holds files.old) (F.holds files.new) (O.told out.old) (O.told out.new)) }
+    ensures refused { result ≡ Status.Refused → (c : Asked) × Says (map (λ w. w.now) words.entry.now) c × (IsTrue F.tells → Does c Status.Refused O.tells (F.holds files.old) (F.holds files.new) (O.told out.old) (O.told out.new)) }
+    ensures usage { result ≡ Status.Usage → ((c : Asked) → ¬ Says (map (λ w. w.now) words.entry.now) c) ⊎ ((c : Asked) × Says (map (λ w. w.now) words.entry.now) c × MayMiss c × (IsTrue F.tells → Misses c (F.holds files.old))) }
+    ensures failing { result ≡ Status.File → (c : Asked) × Says (map (λ w. w.now) words.entry.now) c × ((name : List ℕ) × Fails c name F.tells O.tells (F.holds files.old) (F.holds files.new) (F.failures files.old) (F.failures files.new) (O.told out.old) (O.told out.new) (O.failures out.old) (O.failures out.new) × (IsTrue E.tells → SaysFile name (E.told err.old) (E.told err.new) (E.failures err.old) (E.failures err.new))) }
     ensures silent { (result ≡ Status.Usage) ⊎ (result ≡ Status.Memory) → IsTrue F.tells → IsKept (F.holds files.old) (F.holds files.new) (O.told out.old) (O.told out.new) }
     ensures usage_said { result ≡ Status.Usage → IsTrue E.tells → SaysText (E.told err.old) (E.told err.new) (E.failures err.old) (E.failures err.new) }
     ensures memory_said { result ≡ Status.Memory → IsTrue E.tells → IsSaid memory_line (E.told err.old) (E.told err.new) (E.failures err.old) (E.failures err.new) }

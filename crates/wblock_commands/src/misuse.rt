@@ -1,16 +1,47 @@
 //! What is wrong with words that the command line's reader takes and that ask for nothing, for people.
 
-use crate::declared::{BLOCK, CALLS, NEXT, SVG};
+use crate::declared::{BLOCK, CALLS, FUEL, NEXT, SVG};
 use calls_text::number_of;
 use std::alloc::{AllocError, Global};
 use wblock_debug::command_of;
-use wblock_line::{JSON_SWITCH, split_words};
+use wblock_line::{FORCE_SWITCH, JSON_SWITCH, split_words};
 
 /// Two words of a line that name one file, the second of which would be written.
 fn clash(alloc: Global, first: &str, second: &str, name: &str) -> Result<String, AllocError> {
     format!(in alloc;
         "usage: {first} and {second} are both `{name}`: {second} would take its place; name another file"
     )
+}
+
+/// What is said of an option whose value is no number.
+fn no_number(alloc: Global, name: &str, value: &str) -> Result<String, AllocError> {
+    format!(in alloc;
+        "usage: `{value}` of `{name}` is no number: decimal without sign and needless zeros"
+    )
+}
+
+/// What is wrong with the words of `deploy`: with their number or a name, or else that the file of the world is there.
+fn deploying_misuse(
+    alloc: Global,
+    world: &str,
+    modules: &[&str],
+    options: &[(&str, &str)],
+) -> Result<Option<String>, AllocError> {
+    let count = modules.len();
+    if count > 1_024 {
+        return Ok(Some(format!(in alloc;
+            "usage: {count} modules: a world has 1 to 1024 contracts"
+        )?));
+    }
+    if modules.iter().any(|m| *m == world) {
+        return Ok(Some(clash(alloc, "MODULE", "WORLD", world)?));
+    }
+    if options.is_empty() {
+        return Ok(Some(format!(in alloc;
+            "usage: WORLD `{world}` is there already: {FORCE_SWITCH} writes the new world in its place"
+        )?));
+    }
+    Ok(None)
 }
 
 /// What is wrong with the words of `mine`.
@@ -81,8 +112,37 @@ fn showing_misuse(
     Ok(None)
 }
 
+/// What is wrong with the fuel that options of `debug` name, or None.
+fn debugging_fuel_misuse(
+    alloc: Global,
+    options: &[(&str, &str)],
+) -> Result<Option<String>, AllocError> {
+    let is_in_block = options.iter().any(|option| option.0 == BLOCK.word);
+    for (name, value) in options {
+        if *name == FUEL.word && !is_in_block {
+            let text =
+                "usage: `--fuel` bounds the calls of a block: name the block by `--block`, or leave `--fuel` out".to_string(
+                    alloc,
+                )?;
+            return Ok(Some(text));
+        }
+        if *name == FUEL.word && number_of(alloc, *value)?.is_none() {
+            return Ok(Some(no_number(alloc, *name, *value)?));
+        }
+    }
+    Ok(None)
+}
+
 /// What is wrong with the words of `debug` behind the files.
-fn debugging_misuse(alloc: Global, call: &str, commands: &[&str]) -> Result<String, AllocError> {
+fn debugging_misuse(
+    alloc: Global,
+    call: &str,
+    commands: &[&str],
+    options: &[(&str, &str)],
+) -> Result<String, AllocError> {
+    if let Some(text) = debugging_fuel_misuse(alloc, options)? {
+        return Ok(text);
+    }
     if number_of(alloc, call)?.is_none() {
         return format!(in alloc;
             "usage: `{call}` is no call's number: from 0 to 18446744073709551615, decimal without needless zeros"
@@ -111,25 +171,14 @@ fn names_misuse(
         ["text", source, target] if *source == *target => {
             Ok(Some(clash(alloc, "MODULE", "TEXT", *source)?))
         }
-        ["deploy", world, modules @ ..] => {
-            let count = modules.len();
-            if count > 1_024 {
-                return Ok(Some(format!(in alloc;
-                    "usage: {count} modules: a world has 1 to 1024 contracts"
-                )?));
-            }
-            if modules.iter().any(|m| *m == *world) {
-                return Ok(Some(clash(alloc, "MODULE", "WORLD", *world)?));
-            }
-            Ok(None)
-        }
+        ["deploy", world, modules @ ..] => deploying_misuse(alloc, *world, modules, options),
         ["mine", world, calls, block, next] => {
             mining_misuse(alloc, (*world, *calls, *block, *next))
         }
         ["validate", _, calls, block] => validation_misuse(alloc, *calls, *block, options),
         ["show", file] => showing_misuse(alloc, *file, options),
         ["debug", _, _, call, commands @ ..] => {
-            Ok(Some(debugging_misuse(alloc, *call, commands)?))
+            Ok(Some(debugging_misuse(alloc, *call, commands, options)?))
         }
         _ => Ok(None),
     }
@@ -149,16 +198,14 @@ pub(crate) fn misuse_text(alloc: Global, words: &[&str]) -> Result<String, Alloc
         return Ok(text);
     }
     for (name, value) in &line.options {
-        if *name == JSON_SWITCH {
+        if *name == JSON_SWITCH || *name == FORCE_SWITCH {
             if !value.is_empty() {
-                return "usage: `--json` takes no value".to_string(alloc);
+                return format!(in alloc; "usage: `{name}` takes no value");
             }
             continue;
         }
         if !names_file(*name) && number_of(alloc, *value)?.is_none() {
-            return format!(in alloc;
-                "usage: `{value}` of `{name}` is no number: decimal without sign and needless zeros"
-            );
+            return no_number(alloc, *name, *value);
         }
     }
     "usage: an option stands once, and where its command takes it; `wblock --help` says more".to_string(

@@ -5,8 +5,8 @@ ghost use Rattle.wblock_commands.specs.Lines.{EndsLine};
 ghost use Rattle.wblock_commands.specs.Does.{TellsText};
 
 use crate::declared::{
-    BLOCK, CALLS, FUEL, FileOption, HEAP, JSON, NEXT, NumberOption, QUIET, SVG, Switch, TRIES,
-    WORKERS,
+    BLOCK, CALLS, FORCE, FUEL, FileOption, HEAP, JSON, NEXT, NumberOption, QUIET, SVG, Switch,
+    TRIES, WORKERS,
 };
 use crate::misuse::misuse_text;
 use clap::builder::ValueParser;
@@ -95,13 +95,18 @@ fn check<'a>(alloc: Global) -> Result<Command<'a>, AllocError> {
 fn deploy<'a>(alloc: Global) -> Result<Command<'a>, AllocError> {
     Command::new(alloc, "deploy")
         .about("Makes a world of modules, and writes it")
-        .arg(required(alloc, "WORLD", "The file to be written; no MODULE's"))?
+        .arg(required(
+            alloc,
+            "WORLD",
+            "The file to be written; no MODULE's, and without --force none that is there",
+        ))?
         .arg(required(
             alloc,
             "MODULE",
             "The files of the modules, 1 to 1024; they are the contracts 0, 1, 2 ..",
         )
-        .num_args(1..))
+        .num_args(1..))?
+        .arg(switch(alloc, FORCE))
 }
 
 fn mine<'a>(alloc: Global) -> Result<Command<'a>, AllocError> {
@@ -153,7 +158,11 @@ fn debug<'a>(alloc: Global) -> Result<Command<'a>, AllocError> {
             "step:N, back:N, cont, place, break:F:O, clear:F:O, stack, locals, globals, bytes:FROM:N",
         )
         .num_args(1..))?
-        .arg(file(alloc, BLOCK))
+        .arg(file(alloc, BLOCK))?
+        .arg(number(alloc, FUEL).help(
+            "The fuel with which BLOCK is judged, 0 to 18446744073709551615: the calls before CALL run for at most this; if not given, it is the least that its calls need",
+        ))?
+        .arg(switch(alloc, QUIET))
 }
 
 fn show<'a>(alloc: Global) -> Result<Command<'a>, AllocError> {

@@ -1,5 +1,5 @@
 -- What the files of a world and of calls give, and why they give nothing.
-use Rattle.std.specs.Prelude.{◌≡◌, ℕ, ◌≤◌, ◌⊎◌, List, [], ◌∷◌, ◌++◌, Some, codes, decimal, vec_len, string_bytes}
+use Rattle.std.specs.Prelude.{◌≡◌, ℕ, ◌≤◌, ◌⊎◌, List, [], ◌∷◌, ◌++◌, Some, codes, decimal, length, vec_len, string_bytes}
 use Rattle.spec_block.specs.Worlds.{World, Call}
 use Rattle.spec_block.specs.Bytes.{SpellsWorld}
 use Rattle.world.specs.Views.{world_view}
@@ -21,9 +21,9 @@ pub record Holds (holds : Holding) (name : List ℕ) (Is : List ℕ → Type 0) 
 abbrev pub HoldsWorld : Holding → List ℕ → World → Type 0
 HoldsWorld holds name world = Holds holds name (λ bytes. SpellsWorld bytes world)
 
--- the file of a name holds the text of the calls
+-- the file of a name holds the text of the calls, which are at most 65,535
 abbrev pub HoldsCalls : Holding → List ℕ → List Call → Type 0
-HoldsCalls holds name calls = Holds holds name (λ text. SpellsCalls text calls)
+HoldsCalls holds name calls = Holds holds name (λ text. SpellsCalls text calls) × (length calls ≤ 65535)
 
 -- the line tells the first line of the text that spells no call, or that the calls are too many
 pub record TellsNoCalls (text line : List ℕ) : Type 0 where

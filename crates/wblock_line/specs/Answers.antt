@@ -1,7 +1,7 @@
 -- What a command comes to, and what it is to write and to print.
-use Rattle.std.specs.Prelude.{◌≡◌, ℕ, ◌⊎◌, List, [], ◌∷◌, ◌++◌, codes, map, string_bytes}
+use Rattle.std.specs.Prelude.{◌≡◌, ℕ, ◌⊎◌, List, [], ◌∷◌, ◌++◌, codes, map, string_bytes, Bool, IsTrue}
 use Rattle.codec.specs.Putting.{IsCutShort, IsRaised}
-use Rattle.wblock_io.specs.Holding.{Holding, Changes, IsCutShortIn}
+use Rattle.wblock_io.specs.Holding.{Holding, Changes, Failing, IsFailed}
 use Rattle.wblock_line.specs.declared.answer.Answer.{Answer}
 use Rattle.wblock_line.specs.declared.answer.Answer.TheVariants.{Done, Refused}
 use Rattle.wblock_line.specs.declared.answer.Write.{Write}
@@ -37,46 +37,48 @@ abbrev pub Wrote : List Written → Holding → Holding → Type 0
 Wrote [] old new = new ≡ old
 Wrote (w ∷ ws) old new = (mid : Holding) × Changes old mid w.0 w.1 × Wrote ws mid new
 
--- the file of this name is as it was or holds a beginning of its bytes, and those before it were written
+-- the files before the one of this name were written, and it and every other file are as they were
 abbrev pub WroteSome : List ℕ → List Written → Holding → Holding → Type 0
 WroteSome name [] old new = ⊥
-WroteSome name (w ∷ ws) old new = ((name ≡ w.0) × IsCutShortIn old new w.0 w.1) ⊎ ((mid : Holding) × Changes old mid w.0 w.1 × WroteSome name ws mid new)
+WroteSome name (w ∷ ws) old new = ((name ≡ w.0) × (new ≡ old)) ⊎ ((mid : Holding) × Changes old mid w.0 w.1 × WroteSome name ws mid new)
 
--- all was written and printed
-pub record IsPerformed (a : Answer) (old new : Holding) (before after : List ℕ) : Type 0 where
-  pub wrote : Wrote (writes_of a) old new
-  pub told : after ≡ before ++ text_of a
+-- ---- what fails
 
--- the file of this name was cut short and nothing was printed
-pub record IsCutInFiles (name : List ℕ) (a : Answer) (old new : Holding) (before after : List ℕ) : Type 0 where
-  pub wrote : WroteSome name (writes_of a) old new
-  pub told : after ≡ before
+-- the file of this name failed, and nothing else did: those before it were written, every other is as it was, and nothing was printed
+pub record FileFails (name : List ℕ) (a : Answer) (files output : Bool) (old new : Holding) (failed fails : Failing) (before after : List ℕ) (lost loses : ℕ) : Type 0 where
+  pub counted : IsFailed name failed fails
+  pub wrote : IsTrue files → WroteSome name (writes_of a) old new
+  pub calm : loses ≡ lost
+  pub told : IsTrue output → after ≡ before
 
--- all files were written, and the text was cut short: what failed is the output
-pub record IsCutInText (name : List ℕ) (a : Answer) (old new : Holding) (before after : List ℕ) : Type 0 where
-  pub output : name ≡ codes "stdout"
-  pub wrote : Wrote (writes_of a) old new
-  pub told : IsCutShort before after (text_of a)
+-- the output failed, and nothing else did: all files were written, and the text was cut short
+pub record OutputFails (name : List ℕ) (a : Answer) (files output : Bool) (old new : Holding) (failed fails : Failing) (before after : List ℕ) (lost loses : ℕ) : Type 0 where
+  pub output_is : name ≡ codes "stdout"
+  pub counted : IsRaised lost loses
+  pub wrote : IsTrue files → Wrote (writes_of a) old new
+  pub calm : fails ≡ failed
+  pub told : IsTrue output → IsCutShort before after (text_of a)
 
--- the file of this name, or the output, was cut short
-abbrev pub IsCut : List ℕ → Answer → Holding → Holding → List ℕ → List ℕ → Type 0
-IsCut name a old new before after = IsCutInFiles name a old new before after ⊎ IsCutInText name a old new before after
+-- the file of this name or the output, called stdout, failed where the answer was written or printed, and nothing else did
+abbrev pub IsFailing : List ℕ → Answer → Bool → Bool → Holding → Holding → Failing → Failing → List ℕ → List ℕ → ℕ → ℕ → Type 0
+IsFailing name a files output old new failed fails before after lost loses =
+    FileFails name a files output old new failed fails before after lost loses ⊎ OutputFails name a files output old new failed fails before after lost loses
 
 -- ---- faults
 
--- a file's fault is counted
-abbrev pub CountsFault : Fault → ℕ → ℕ → Type 0
-CountsFault (File name) old new = IsRaised old new
+-- a file's fault is counted, and the file that it names is the one that failed
+abbrev pub CountsFault : Fault → Failing → Failing → Type 0
+CountsFault (File name cause) old new = IsFailed name.now old new
 CountsFault NoMemory old new = Unit {0}
 
 -- the status of a fault
 abbrev pub status_of_fault : Fault → Status
-status_of_fault (File name) = status.File
+status_of_fault (File name cause) = status.File
 status_of_fault NoMemory = status.Memory
 
 -- it is a fault of a file of whose name this is true, or memory was refused
 abbrev pub IsOfFile : (List ℕ → Type 0) → Fault → Type 0
-IsOfFile Is (File name) = Is name.now
+IsOfFile Is (File name cause) = Is name.now
 IsOfFile Is NoMemory = Unit {0}
 
 -- ---- what is said on standard error
@@ -94,10 +96,21 @@ abbrev pub why_line : Answer → List ℕ
 why_line (Done writes text) = []
 why_line (Refused line why) = string_bytes why ++ 10 ∷ []
 
-abbrev pub fault_line : Fault → List ℕ
-fault_line (File name) = file_line name.now
-fault_line NoMemory = memory_line
+-- a sentence and a newline, or nothing where the sentence is empty
+abbrev pub sentence_line : List ℕ → List ℕ
+sentence_line [] = []
+sentence_line (c ∷ cs) = (c ∷ cs) ++ 10 ∷ []
 
 -- a text was said whole and nothing failed; or a beginning of it that is not all, and one failure was counted
 abbrev pub IsSaid : List ℕ → List ℕ → List ℕ → ℕ → ℕ → Type 0
 IsSaid text old new failed fails = ((new ≡ old ++ text) × (fails ≡ failed)) ⊎ (IsCutShort old new text × IsRaised failed fails)
+
+-- `file NAME` was said, and in a line behind it why, where that is known
+pub record SaysFile (name old new : List ℕ) (failed fails : ℕ) : Type 0 where
+  pub why : List ℕ
+  pub said : IsSaid (file_line name ++ sentence_line why) old new failed fails
+
+-- the file that failed was said, or that memory was refused
+abbrev pub SaysFault : Fault → List ℕ → List ℕ → ℕ → ℕ → Type 0
+SaysFault (File name cause) old new failed fails = SaysFile name.now old new failed fails
+SaysFault NoMemory old new failed fails = IsSaid memory_line old new failed fails

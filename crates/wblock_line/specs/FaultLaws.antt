@@ -6,5 +6,5 @@ use Rattle.wblock_line.specs.Answers.{IsOfFile}
 
 -- what is true of a file's name is still true where it says less
 pub of_file_weaker : (P Q : List ℕ → Type 0) (f : Fault) → ((name : List ℕ) → P name → Q name) → IsOfFile P f → IsOfFile Q f
-of_file_weaker P Q (File name) weaker is = weaker name.now is
+of_file_weaker P Q (File name cause) weaker is = weaker name.now is
 of_file_weaker P Q NoMemory weaker is = tt

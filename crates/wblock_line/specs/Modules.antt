@@ -4,8 +4,10 @@ use Rattle.wtypes.specs.declared.HostCall.{HostCall}
 use Rattle.spec_syntax.specs.Syntax.{Module}
 use Rattle.spec_binary.specs.Spells.{Spells}
 use Rattle.spec_typing.specs.Modules.{ModuleTyped}
-use Rattle.spec_typing.specs.Linking as linking
 use Rattle.spec_typing.specs.Linking.{IsLinked}
+use Rattle.link.specs.Refusals.{Says, PassedBefore}
+use Rattle.link.specs.declared.refusal.LinkRefusal.{LinkRefusal}
+use Rattle.link.specs.declared.refusal.LinkRefusal.TheVariants as fault
 use Rattle.loader.specs.Refusals.{NoModule}
 use Rattle.wblock_line.specs.declared.refusals.ModuleRefusal.{ModuleRefusal}
 use Rattle.wblock_line.specs.declared.refusals.ModuleRefusal.TheVariants.{Malformed, Unsupported, TooLarge, Untyped, UnknownImport, ImportType, SegmentRange, TooManyPages, TableTooLarge}
@@ -34,17 +36,21 @@ pub record IsUnlinked (bytes : List ℕ) (Fault : Module → Type 0) : Type 0 wh
   pub valid : IsValidOf bytes tree
   pub fault : Fault tree
 
+-- the refusal is true of the module, and all that is judged before it passes
+abbrev pub IsFirst : LinkRefusal → Module → Type 0
+IsFirst refusal m = Says refusal m × PassedBefore refusal m
+
 -- what a refusal says of the bytes
 abbrev pub IsWhy : List ℕ → ModuleRefusal → Type 0
 IsWhy bytes (Malformed at) = NoModule bytes
 IsWhy bytes (Unsupported at) = NoModule bytes
 IsWhy bytes (TooLarge limit) = NoModule bytes
 IsWhy bytes (Untyped rule func ordinal) = IsUntyped bytes
-IsWhy bytes (UnknownImport n) = IsUnlinked bytes (λ m. linking.UnknownImport m n)
-IsWhy bytes (ImportType n) = IsUnlinked bytes (λ m. linking.ImportType m n)
-IsWhy bytes (SegmentRange n) = IsUnlinked bytes (λ m. linking.SegmentRange m n)
-IsWhy bytes TooManyPages = IsUnlinked bytes linking.TooManyPages
-IsWhy bytes TableTooLarge = IsUnlinked bytes linking.TableTooLarge
+IsWhy bytes (UnknownImport n) = IsUnlinked bytes (IsFirst (fault.UnknownImport n))
+IsWhy bytes (ImportType n) = IsUnlinked bytes (IsFirst (fault.ImportType n))
+IsWhy bytes (SegmentRange n) = IsUnlinked bytes (IsFirst (fault.SegmentRange n))
+IsWhy bytes TooManyPages = IsUnlinked bytes (IsFirst fault.TooManyPages)
+IsWhy bytes TableTooLarge = IsUnlinked bytes (IsFirst fault.TableTooLarge)
 
 abbrev pub StopsAt : List ℕ → Stop → Type 0
 StopsAt bytes (stop.Refused refusal) = IsWhy bytes refusal

@@ -1,5 +1,5 @@
 -- What a sentence says of the place where a module breaks a rule.
-use Rattle.std.specs.Prelude.{◌≡◌, ◌⊎◌, ℕ, List, ◌++◌, codes, Some, None}
+use Rattle.std.specs.Prelude.{◌≡◌, ◌⊎◌, ℕ, List, ◌++◌, Some, None}
 use Rattle.spec_syntax.specs.Syntax as syntax
 use Rattle.spec_binary.specs.Spells.{Spells}
 use Rattle.rule_sites.specs.Sites.{TellsSite}

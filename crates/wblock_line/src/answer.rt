@@ -4,7 +4,7 @@ ghost use Rattle.std.specs.Prelude.{◌≡◌, IsTrue, IfOk, IfErr, OnOk, Some};
 ghost use Rattle.wblock_line.specs.Answers.{CountsFault, IsOfFile};
 
 use std::alloc::Global;
-use wblock_io::{Files, ReadFault};
+use wblock_io::{Cause, Files, ReadFault};
 
 /// What a file is to hold.
 #[derive(Debug, Drop)]
@@ -28,8 +28,8 @@ pub enum Answer<'a> {
 /// Why a command comes to nothing.
 #[derive(Clone, Copy, Debug)]
 pub enum Fault<'a> {
-    /// The file of this name was not read or not written.
-    File(&'a str),
+    /// The file of this name was not read or not written, for this cause.
+    File(&'a str, Cause),
     /// Memory was refused.
     NoMemory,
 }
@@ -48,7 +48,7 @@ pub fn read_file<'a, F: Files>(
 {
     match files.read_all(alloc, name) {
         Ok(bytes) => Ok(bytes),
-        Err(ReadFault::Failed) => Err(Fault::File(name)),
+        Err(ReadFault::Failed(cause)) => Err(Fault::File(name, cause)),
         Err(ReadFault::NoMemory) => Err(Fault::NoMemory),
     }
 }

@@ -10,8 +10,7 @@ ghost use Rattle.module_tree.specs.Modules.{module_view};
 ghost use Rattle.typing.specs.Parts as typed;
 ghost use Rattle.typing.specs.Judged.{Denies};
 ghost use Rattle.link.specs.Parts.{tree_of, hosts_of};
-ghost use Rattle.link.specs.Refusals.{Says};
-ghost use Rattle.wblock_line.specs.Modules.{IsValidOf, IsContractOf, StopsAt};
+ghost use Rattle.wblock_line.specs.Modules.{IsValidOf, IsContractOf, IsFirst, StopsAt};
 
 use crate::refusals::ModuleRefusal;
 use body_typing::scope::TypeRefusal;
@@ -61,7 +60,7 @@ fn untyped(refusal: TypeRefusal) -> Stop
 }
 
 fn unlinked(refusal: LinkRefusal) -> Stop
-    ensures { (bytes : List ℕ) (m : syntax.Module) → IsValidOf bytes m → Says refusal m → StopsAt bytes result }
+    ensures { (bytes : List ℕ) (m : syntax.Module) → IsValidOf bytes m → IsFirst refusal m → StopsAt bytes result }
 {
     match refusal {
         LinkRefusal::UnknownImport(import) => Stop::Refused(ModuleRefusal::UnknownImport(import)),

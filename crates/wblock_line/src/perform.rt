@@ -1,12 +1,16 @@
 //! What a command comes to is written and printed.
 
-ghost use Rattle.std.specs.Prelude.{◌≡◌, ◌≢◌, ◌⊎◌, ℕ, List, [], ◌∷◌, ◌++◌, codes, IsTrue, IfOk, IfErr, OnOk, OnErr, map};
+ghost use Rattle.std.specs.Prelude.{◌≡◌, ◌≢◌, ◌⊎◌, ℕ, List, [], ◌∷◌, ◌++◌, codes, IsTrue, IfErr, OnOk, OnErr, map};
 ghost use Rattle.codec.specs.Putting.{IsRaised, IsCutShort};
-ghost use Rattle.wblock_line.specs.Answers.{Wrote, WroteSome, IsPerformed, IsCut, IsSaid, write_of, writes_of, text_of, status_of, status_of_fault, file_line, fault_line, why_line};
+ghost use Rattle.wblock_io.specs.Holding.{IsFailed};
+ghost use Rattle.wblock_line.specs.Answers.{Wrote, WroteSome, IsFailing, IsSaid, SaysFile, SaysFault, write_of, writes_of, text_of, status_of, status_of_fault, sentence_line, why_line};
 
 use crate::answer::{Answer, Fault, Write};
 use codec::{Sink, SinkFault, put_all};
-use wblock_io::{Files, write_file};
+use wblock_io::{Cause, Files, WriteFault, write_file};
+
+/// What is said of the output where it failed behind the files of an answer.
+const WRITTEN: &str = "the files of this command were written; only the output failed";
 
 /// How a line ended.
 #[derive(Clone, Copy, Debug, PartialEq, Eq)]
@@ -36,37 +40,37 @@ fn put_line<E: Sink>(err: &mut E, word: &str, name: &str) -> Result<(), SinkFaul
     Ok(())
 }
 
-/// Writes files, one after another, up to the first that fails.
-fn write_files<'a, F: Files>(files: &mut F, writes: &[Write<'a>]) -> Result<(), &'a str>
+/// Writes files, one after another, up to the first that fails, and answers its name and the cause.
+fn write_files<'a, F: Files>(files: &mut F, writes: &[Write<'a>]) -> Result<(), (&'a str, Cause)>
     ensures wrote { OnOk result (IsTrue F.tells → Wrote (map write_of writes.now) (F.holds files.old) (F.holds files.new)) }
     ensures calm { OnOk result (F.failures files.new ≡ F.failures files.old) }
-    ensures counted { OnErr result (IsRaised (F.failures files.old) (F.failures files.new)) }
-    ensures some { IfErr result (λ name. IsTrue F.tells → WroteSome name.now (map write_of writes.now) (F.holds files.old) (F.holds files.new)) }
+    ensures counted { IfErr result (λ fault. IsFailed fault.0.now (F.failures files.old) (F.failures files.new)) }
+    ensures some { IfErr result (λ fault. IsTrue F.tells → WroteSome fault.0.now (map write_of writes.now) (F.holds files.old) (F.holds files.new)) }
 {
     match writes {
         [] => Ok(()),
         [first, others @ ..] => {
-            if write_file(files, first.name, first.bytes.as_slice()).is_err() {
-                return Err(first.name);
+            match write_file(files, first.name, first.bytes.as_slice()) {
+                Ok(()) => write_files(files, others),
+                Err(WriteFault(cause)) => Err((first.name, cause)),
             }
-            write_files(files, others)
         }
     }
 }
 
-/// Prints a text; or says that the output fails, which is the status of a file.
-fn print_text<O: Sink, E: Sink>(text: &str, out: &mut O, err: &mut E) -> Status
+/// Prints a text; or says that the output fails, which is the status of a file, and behind it this sentence, where it is not empty.
+fn print_text<O: Sink, E: Sink>(text: &str, behind: &str, out: &mut O, err: &mut E) -> Status
     ensures status { (result ≡ Status.Done) ⊎ (result ≡ Status.File) }
     ensures printed { result ≢ Status.File → IsTrue O.tells → O.told out.new ≡ O.told out.old ++ text.now }
     ensures cut { result ≡ Status.File → IsTrue O.tells → IsCutShort (O.told out.old) (O.told out.new) text.now }
     ensures calm { result ≢ Status.File → O.failures out.new ≡ O.failures out.old }
     ensures counted { result ≡ Status.File → IsRaised (O.failures out.old) (O.failures out.new) }
     ensures quiet { result ≡ Status.Done → err.new ≡ err.old }
-    ensures said { result ≡ Status.File → IsTrue E.tells → IsSaid (file_line (codes "stdout")) (E.told err.old) (E.told err.new) (E.failures err.old) (E.failures err.new) }
+    ensures said { result ≡ Status.File → IsTrue E.tells → SaysFile (codes "stdout") (E.told err.old) (E.told err.new) (E.failures err.old) (E.failures err.new) }
 {
     match put_all(out, text.as_bytes()) {
         Ok(()) => Status::Done,
-        Err(_) => { tell_file("stdout", err) }
+        Err(_) => tell_file("stdout", behind, err),
     }
 }
 
@@ -78,42 +82,71 @@ fn print_refusal<O: Sink, E: Sink>(line: &str, why: &str, out: &mut O, err: &mut
     ensures calm { result ≢ Status.File → O.failures out.new ≡ O.failures out.old }
     ensures counted { result ≡ Status.File → IsRaised (O.failures out.old) (O.failures out.new) }
     ensures explained { result ≡ Status.Refused → IsTrue E.tells → IsSaid (why.now ++ 10 ∷ []) (E.told err.old) (E.told err.new) (E.failures err.old) (E.failures err.new) }
-    ensures said { result ≡ Status.File → IsTrue E.tells → IsSaid (file_line (codes "stdout")) (E.told err.old) (E.told err.new) (E.failures err.old) (E.failures err.new) }
+    ensures said { result ≡ Status.File → IsTrue E.tells → SaysFile (codes "stdout") (E.told err.old) (E.told err.new) (E.failures err.old) (E.failures err.new) }
 {
     match put_all(out, line.as_bytes()) {
         Ok(()) => {
-            let _ = put_line(err, why, "");
+            tell_line(why, err);
             Status::Refused
         }
-        Err(_) => { tell_file("stdout", err) }
+        Err(_) => tell_file("stdout", "", err),
     }
 }
 
-/// Says `file NAME`.
-fn tell_file<E: Sink>(name: &str, err: &mut E) -> Status
-    ensures status { result ≡ Status.File }
-    ensures said { IsTrue E.tells → IsSaid (file_line name.now) (E.told err.old) (E.told err.new) (E.failures err.old) (E.failures err.new) }
+/// Says a line.
+fn tell_line<E: Sink>(text: &str, err: &mut E)
+    ensures { IsTrue E.tells → IsSaid (text.now ++ 10 ∷ []) (E.told err.old) (E.told err.new) (E.failures err.old) (E.failures err.new) }
 {
-    let _ = put_line(err, "file ", name);
+    let _ = put_line(err, text, "");
+}
+
+/// Says a sentence as a line, or nothing where it is empty.
+fn tell_why<E: Sink>(why: &str, err: &mut E)
+    ensures { IsTrue E.tells → IsSaid (sentence_line why.now) (E.told err.old) (E.told err.new) (E.failures err.old) (E.failures err.new) }
+{
+    if why.is_empty() {
+        return;
+    }
+    tell_line(why, err);
+}
+
+/// Says `file NAME`, and behind it why, where that is not empty. Where the first cannot be said, nothing more is said.
+fn tell_file<E: Sink>(name: &str, why: &str, err: &mut E) -> Status
+    ensures status { result ≡ Status.File }
+    ensures said { IsTrue E.tells → SaysFile name.now (E.told err.old) (E.told err.new) (E.failures err.old) (E.failures err.new) }
+{
+    if let Err(SinkFault) = put_line(err, "file ", name) {
+        return Status::File;
+    }
+    tell_why(why, err);
     Status::File
 }
 
-/// Says on standard error which file failed, `file NAME`, or that memory was refused, `memory`, and gives the status.
+/// Says on standard error which file failed, `file NAME`, and in a line behind it why, where that is known; or that memory was refused, `memory`. Gives the status.
 pub fn tell_fault<E: Sink>(fault: Fault, err: &mut E) -> Status
     ensures status { result ≡ status_of_fault fault.entry }
-    ensures said { IsTrue E.tells → IsSaid (fault_line fault.entry) (E.told err.old) (E.told err.new) (E.failures err.old) (E.failures err.new) }
+    ensures said { IsTrue E.tells → SaysFault fault.entry (E.told err.old) (E.told err.new) (E.failures err.old) (E.failures err.new) }
 {
     match fault {
-        Fault::File(name) => tell_file(name, err),
+        Fault::File(name, cause) => tell_file(name, cause.words(), err),
         Fault::NoMemory => {
-            let _ = put_line(err, "memory", "");
+            tell_line("memory", err);
             Status::Memory
         }
     }
 }
 
+/// What is said of the output where it fails behind these files.
+fn said_behind(writes: &[Write]) -> &'static str {
+    if writes.is_empty() {
+        return "";
+    }
+    WRITTEN
+}
+
 /// Writes the files of an answer and then prints its text, and behind the line of a refusal says on standard error why, and gives the status; or
-/// says on standard error which file failed, or `file stdout` for the output. Failures of standard error change no status.
+/// says on standard error which file failed and why, or `file stdout` for the output, and then that the files were written, if there are any. A file
+/// is written whole or left as it was. Failures of standard error change no status.
 pub fn carry_out<F: Files, O: Sink, E: Sink>(
     answer: Answer,
     files: &mut F,
@@ -121,20 +154,21 @@ pub fn carry_out<F: Files, O: Sink, E: Sink>(
     err: &mut E,
 ) -> Status
     ensures status { result ≢ Status.File → result ≡ status_of answer.entry }
-    ensures performed { result ≢ Status.File → IsTrue F.tells → IsTrue O.tells → IsPerformed answer.entry (F.holds files.old) (F.holds files.new) (O.told out.old) (O.told out.new) }
-    ensures cut { result ≡ Status.File → IsTrue F.tells → IsTrue O.tells → (name : List ℕ) × IsCut name answer.entry (F.holds files.old) (F.holds files.new) (O.told out.old) (O.told out.new) × (IsTrue E.tells → IsSaid (file_line name) (E.told err.old) (E.told err.new) (E.failures err.old) (E.failures err.new)) }
+    ensures wrote { result ≢ Status.File → IsTrue F.tells → Wrote (writes_of answer.entry) (F.holds files.old) (F.holds files.new) }
+    ensures printed { result ≢ Status.File → IsTrue O.tells → O.told out.new ≡ O.told out.old ++ text_of answer.entry }
+    ensures failing { result ≡ Status.File → (name : List ℕ) × IsFailing name answer.entry F.tells O.tells (F.holds files.old) (F.holds files.new) (F.failures files.old) (F.failures files.new) (O.told out.old) (O.told out.new) (O.failures out.old) (O.failures out.new) × (IsTrue E.tells → SaysFile name (E.told err.old) (E.told err.new) (E.failures err.old) (E.failures err.new)) }
     ensures calm_files { result ≢ Status.File → F.failures files.new ≡ F.failures files.old }
     ensures calm_output { result ≢ Status.File → O.failures out.new ≡ O.failures out.old }
     ensures quiet { result ≡ Status.Done → err.new ≡ err.old }
     ensures explained { result ≡ Status.Refused → IsTrue E.tells → IsSaid (why_line answer.entry) (E.told err.old) (E.told err.new) (E.failures err.old) (E.failures err.new) }
-    ensures counted { result ≡ Status.File → IsRaised (F.failures files.old) (F.failures files.new) ⊎ IsRaised (O.failures out.old) (O.failures out.new) }
 {
     match answer {
         Answer::Done(writes, text) => {
-            if let Err(name) = write_files(files, writes.as_slice()) {
-                return tell_file(name, err);
+            if let Err((name, cause)) = write_files(files, writes.as_slice()) {
+                return tell_file(name, cause.words(), err);
             }
-            print_text(text.as_str(), out, err)
+            let behind = said_behind(writes.as_slice());
+            print_text(text.as_str(), behind, out, err)
         }
         Answer::Refused(line, why) => print_refusal(line.as_str(), why.as_str(), out, err),
     }

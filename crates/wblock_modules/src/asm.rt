@@ -1,4 +1,4 @@
-//! The command `asm TEXT MODULE`: the module that a text names, in its shortest spelling.
+//! The command `asm TEXT MODULE`: the module that a text names, in its shortest spelling. Its tree stands in an arena.
 
 ghost use Rattle.std.specs.Prelude.{◌≡◌, IsTrue, IfOk, IfErr, OnOk, string_bytes};
 ghost use Rattle.text_resolve.specs.Refused.{Unless};
@@ -8,6 +8,7 @@ ghost use Rattle.wblock_modules.specs.Assembles.{told, refusal_line, IsSpelled, 
 
 use crate::places::{front_of, place_of_fault};
 use assembler::{AsmRefusal, assemble};
+use bumpalo::Bump;
 use encoder::encode;
 use lexer::LexRefusal;
 use std::alloc::{AllocError, Global};
@@ -16,13 +17,14 @@ use wblock_io::Files;
 use wblock_line::{Answer, Fault, Write, read_file};
 use wblock_words::text_words;
 
-/// The shortest spelling of the module that a text names.
+/// The shortest spelling of the module that a text names. Its tree stands in an arena.
 fn spell(alloc: Global, text: &str) -> Result<Vec<u8>, AsmRefusal>
     ensures spelled { IfOk result (λ v. IsSpelled text.now v.items) }
     ensures refused { IfErr result (Unless (NamesNothing text.now)) }
     ensures why { IfErr result (IsWhy text.now) }
 {
-    let tree = assemble(alloc, text)?;
+    let arena = Bump::new(alloc);
+    let tree = assemble(&arena, text)?;
     let mut bytes = Vec::new(alloc);
     match encode(&tree, &mut bytes) {
         Ok(()) => Ok(bytes),

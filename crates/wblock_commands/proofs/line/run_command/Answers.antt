@@ -1,7 +1,7 @@
-use Rattle.std.proofs.Common.{sym, subst, inr, ◌∙◌, MatchOption}
+use Rattle.std.proofs.Common.{sym, subst, ◌∙◌, MatchOption}
 use Rattle.wblock_commands.specs.Does.{Answers, Misses}
-use Rattle.wblock_line.specs.Answers.{IsPerformed, IsCut}
-use Rattle.wblock_commands.proofs.Saying.{says_why}
+use Rattle.wblock_line.specs.Answers.{Wrote, writes_of}
+use Rattle.wblock_commands.proofs.Saying.{says_why, stops, cuts}
 use Rattle.wblock_commands.proofs.line.run_command.Goals as goal
 
 pub returns-in-Ok-Some-clause-explained : goal.returns-in-Ok-Some-clause-explained
@@ -9,29 +9,33 @@ returns-in-Ok-Some-clause-explained g c = λ r t.
     says_why c.in-Ok-Some.answer (g.E.Sink.told c.args.err.now) (g.E.Sink.told c.carry_out.new.err) (g.E.Sink.failures c.args.err.now) (g.E.Sink.failures c.carry_out.new.err) (sym (c.carry_out.ensures.status (λ e. absurd (cc))) ∙ r) (c.carry_out.ensures.explained r t)
 
 pub returns-in-Ok-Some-clause-done : goal.returns-in-Ok-Some-clause-done
-returns-in-Ok-Some-clause-done g c = λ d f t. record {
+returns-in-Ok-Some-clause-done g c = λ d f. record {
   answer = c.in-Ok-Some.answer;
   answers = subst (λ o. MatchOption o (Misses c.args.command (g.F.Files.holds c.args.files.now)) (Answers c.args.command (g.F.Files.holds c.args.files.now))) c.in-Ok-Some.field-0-is (c.in-Ok-Some.ensures.answers f);
   status_is = sym (c.carry_out.ensures.status (λ e. absurd (cc))) ∙ d;
-  performed = subst (λ h. IsPerformed c.in-Ok-Some.answer h (g.F.Files.holds c.carry_out.new.files) (g.O.Sink.told c.args.out.now) (g.O.Sink.told c.carry_out.new.out)) (c.in-Ok-Some.ensures.kept f) (c.carry_out.ensures.performed (λ e. absurd (cc)) f t);
+  wrote = subst (λ h. Wrote (writes_of c.in-Ok-Some.answer) h (g.F.Files.holds c.carry_out.new.files)) (c.in-Ok-Some.ensures.kept f) (c.carry_out.ensures.wrote (λ e. absurd (cc)) f);
+  told = c.carry_out.ensures.printed (λ e. absurd (cc));
 }
 
 pub returns-in-Ok-Some-clause-refused : goal.returns-in-Ok-Some-clause-refused
-returns-in-Ok-Some-clause-refused g c = λ d f t. record {
+returns-in-Ok-Some-clause-refused g c = λ d f. record {
   answer = c.in-Ok-Some.answer;
   answers = subst (λ o. MatchOption o (Misses c.args.command (g.F.Files.holds c.args.files.now)) (Answers c.args.command (g.F.Files.holds c.args.files.now))) c.in-Ok-Some.field-0-is (c.in-Ok-Some.ensures.answers f);
   status_is = sym (c.carry_out.ensures.status (λ e. absurd (cc))) ∙ d;
-  performed = subst (λ h. IsPerformed c.in-Ok-Some.answer h (g.F.Files.holds c.carry_out.new.files) (g.O.Sink.told c.args.out.now) (g.O.Sink.told c.carry_out.new.out)) (c.in-Ok-Some.ensures.kept f) (c.carry_out.ensures.performed (λ e. absurd (cc)) f t);
+  wrote = subst (λ h. Wrote (writes_of c.in-Ok-Some.answer) h (g.F.Files.holds c.carry_out.new.files)) (c.in-Ok-Some.ensures.kept f) (c.carry_out.ensures.wrote (λ e. absurd (cc)) f);
+  told = c.carry_out.ensures.printed (λ e. absurd (cc));
 }
 
-pub returns-in-Ok-Some-clause-cut : goal.returns-in-Ok-Some-clause-cut
-returns-in-Ok-Some-clause-cut g c = λ d f t.
-    let it = c.carry_out.ensures.cut d f t in (
+pub returns-in-Ok-Some-clause-failing : goal.returns-in-Ok-Some-clause-failing
+returns-in-Ok-Some-clause-failing g c = λ d.
+    let it = c.carry_out.ensures.failing d in (
       it.0,
-      inr (record {
-        answer = c.in-Ok-Some.answer;
-        answers = subst (λ o. MatchOption o (Misses c.args.command (g.F.Files.holds c.args.files.now)) (Answers c.args.command (g.F.Files.holds c.args.files.now))) c.in-Ok-Some.field-0-is (c.in-Ok-Some.ensures.answers f);
-        cut = subst (λ h. IsCut it.0 c.in-Ok-Some.answer h (g.F.Files.holds c.carry_out.new.files) (g.O.Sink.told c.args.out.now) (g.O.Sink.told c.carry_out.new.out)) (c.in-Ok-Some.ensures.kept f) it.1;
-      }),
+      cuts c.args.command it.0 c.in-Ok-Some.answer _ _ _ _ _ _ _ _ _ _ _ _
+          (λ f. subst (λ o. MatchOption o (Misses c.args.command (g.F.Files.holds c.args.files.now)) (Answers c.args.command (g.F.Files.holds c.args.files.now))) c.in-Ok-Some.field-0-is (c.in-Ok-Some.ensures.answers f))
+          c.in-Ok-Some.ensures.kept c.in-Ok-Some.ensures.calm it.1,
       it.2,
     )
+
+pub returns-in-Err-clause-failing : goal.returns-in-Err-clause-failing
+returns-in-Err-clause-failing g c = λ d.
+    stops c.args.command c.in-Err.fault _ _ _ _ _ _ _ _ _ _ _ _ _ (sym c.tell_fault.ensures.status ∙ d) c.in-Err.ensures.counted c.in-Err.ensures.reads c.in-Err.ensures.kept c.tell_fault.ensures.said

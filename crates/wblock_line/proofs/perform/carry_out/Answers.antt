@@ -8,24 +8,28 @@ returns-in-Refused-clause-explained g c = λ r t.
     rw c.in-Refused.is
     (subst (λ (why : List ℕ). IsSaid (why ++ 10 ∷ []) (g.E.Sink.told c.args.err.now) (g.E.Sink.told c.print_refusal.new.err) (g.E.Sink.failures c.args.err.now) (g.E.Sink.failures c.print_refusal.new.err)) c.as_str-in-Refused-2.ensures.value (c.print_refusal.ensures.explained r t))
 
-pub returns-in_default-clause-cut : goal.returns-in_default-clause-cut
-returns-in_default-clause-cut g c = λ d f t. (
+pub returns-in_default-clause-failing : goal.returns-in_default-clause-failing
+returns-in_default-clause-failing g c = λ d. (
   codes "stdout",
   rw c.in-Done.is (inr (record {
-    output = refl;
-    wrote = subst (λ writes. Wrote (map write_of writes) (g.F.Files.holds c.args.files.now) (g.F.Files.holds c.write_files.new.files)) c.as_slice.ensures.value (c.in_default.ensures.wrote f);
-    told = subst (IsCutShort (g.O.Sink.told c.args.out.now) (g.O.Sink.told c.print_text.new.out)) c.as_str.ensures.value (c.print_text.ensures.cut d t);
+    output_is = refl;
+    counted = c.print_text.ensures.counted d;
+    wrote = λ f. subst (λ writes. Wrote (map write_of writes) (g.F.Files.holds c.args.files.now) (g.F.Files.holds c.write_files.new.files)) c.as_slice.ensures.value (c.in_default.ensures.wrote f);
+    calm = c.in_default.ensures.calm;
+    told = λ t. subst (IsCutShort (g.O.Sink.told c.args.out.now) (g.O.Sink.told c.print_text.new.out)) c.as_str.ensures.value (c.print_text.ensures.cut d t);
   })),
   c.print_text.ensures.said d,
 )
 
-pub returns-in-Refused-clause-cut : goal.returns-in-Refused-clause-cut
-returns-in-Refused-clause-cut g c = λ d f t. (
+pub returns-in-Refused-clause-failing : goal.returns-in-Refused-clause-failing
+returns-in-Refused-clause-failing g c = λ d. (
   codes "stdout",
   rw c.in-Refused.is (inr (record {
-    output = refl;
-    wrote = refl;
-    told = subst (IsCutShort (g.O.Sink.told c.args.out.now) (g.O.Sink.told c.print_refusal.new.out)) c.as_str-in-Refused.ensures.value (c.print_refusal.ensures.cut d t);
+    output_is = refl;
+    counted = c.print_refusal.ensures.counted d;
+    wrote = λ f. refl;
+    calm = refl;
+    told = λ t. subst (IsCutShort (g.O.Sink.told c.args.out.now) (g.O.Sink.told c.print_refusal.new.out)) c.as_str-in-Refused.ensures.value (c.print_refusal.ensures.cut d t);
   })),
   c.print_refusal.ensures.said d,
 )

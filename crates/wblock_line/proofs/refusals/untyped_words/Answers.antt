@@ -1,4 +1,4 @@
-use Rattle.std.proofs.Common.{inl, inr}
+use Rattle.std.proofs.Common.{inl}
 use Rattle.std.proofs.lemmas.Result.{IfOk-weaker}
 use Rattle.module_tree.specs.Modules.{module_view}
 use Rattle.wblock_line.proofs.refusals.untyped_words.Goals as goal
