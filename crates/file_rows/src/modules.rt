@@ -73,6 +73,9 @@ const FAR_DATA: &[u8] = b"\x05\x03\x01\x00\x01\x0b\x0a\x01\x00\x41\xff\xff\x03\x
 /// The sections of a table of at least 65,537 elements.
 const LARGE_TABLE: &[u8] = b"\x04\x06\x01\x70\x00\x81\x80\x04";
 
+/// The section of a memory of at least 2,000 pages.
+const TWO_THOUSAND_PAGES: &[u8] = b"\x05\x04\x01\x00\xd0\x0f";
+
 /// The head of a world of one contract of 201 bytes.
 const ONE_OF_201: &[u8] = b"WBWD\x01\0\0\0\x01\0\0\0\xc9\0\0\0";
 
@@ -101,7 +104,7 @@ pub const WORLD_OF_NOPS: [Part; 8] = [
 ];
 
 /// Texts and modules by name, and a file `w`.
-pub const MODULES: [File; 19] = [
+pub const MODULES: [File; 20] = [
     ("w", &[(1, b"old")]),
     ("text", &[(1, b"(module)")]),
     ("broken", &[(1, b"(module")]),
@@ -135,6 +138,10 @@ pub const MODULES: [File; 19] = [
         ],
     ),
     ("env", &[(1, &HEADER), (1, OTHER_HOST)]),
+    (
+        "faults",
+        &[(1, &HEADER), (1, OTHER_HOST), (1, TWO_THOUSAND_PAGES)],
+    ),
     ("data", &[(1, &HEADER), (1, FAR_DATA)]),
     ("table", &[(1, &HEADER), (1, LARGE_TABLE)]),
 ];

@@ -22,8 +22,6 @@ pub enum Wanted<'a> {
     All(&'a [Part<'a>]),
     /// These bytes and others behind them.
     Front(&'a [u8]),
-    /// A beginning of the bytes of these parts that is not all.
-    Cut(&'a [Part<'a>]),
     /// What is wrong with the words.
     Usage,
     /// A text that ends with a newline and has this part.
@@ -86,10 +84,6 @@ pub fn fits(alloc: Global, bytes: &[u8], wanted: Wanted) -> Result<bool, AllocEr
         Wanted::Text(text) => Ok(text == bytes),
         Wanted::All(parts) => Ok(joined(alloc, parts)?.as_slice() == bytes),
         Wanted::Front(front) => Ok(bytes.starts_with(front)),
-        Wanted::Cut(parts) => {
-            let whole = joined(alloc, parts)?;
-            Ok(whole.starts_with(bytes) && bytes.len() < whole.len())
-        }
         Wanted::Usage => match from_utf8(bytes) {
             Ok(text) => Ok(text.starts_with("error: ") || text.starts_with("usage: ")),
             Err(_) => Ok(false),

@@ -1,7 +1,7 @@
 //! Lines of words that mine and validate, at each fault in turn.
 
-use crate::rows::{Line, unlike};
-use file_rows::Wanted::{self, Absent, All, Cut, Front, Part as Holds, Text};
+use crate::rows::{Line, NOT_FOUND, WRITTEN, unlike};
+use file_rows::Wanted::{self, Absent, All, Front, Part as Holds, Text};
 use file_rows::{
     BUMP, BUMP_OF_2, FIRST_AND_LAST, FIRST_AND_LAST_OF_2, File, LEFT, LEFT_OF_2, NO_CALLS,
     NO_CALLS_OF_2, NOTHING, Part, TWO, TWO_OF_2, WITHOUT_LAST, WORLD, WORLD_OF_ASKING,
@@ -331,6 +331,25 @@ const REFUSALS: &[(&[Part], &[Part], &[u8], &str)] = &[
         &[(1, b"0 100 run i64:7")],
         b"calls 1 1",
         "calls, line 1, column 16: the last line is not ended",
+    ),
+    // a control character in an entry
+    (
+        &WORLD_OF_FIRST,
+        &[(1, b"0 100 run\r\n0 100 run\r\n")],
+        b"calls 1 1",
+        "calls, line 1, column 10: a carriage return stands here; end each line with a newline alone",
+    ),
+    (
+        &WORLD_OF_FIRST,
+        &[(1, b"0 100 run i64:7\n0 100 run\t\n")],
+        b"calls 1 2",
+        "calls, line 2, column 10: a tab stands here; write one space between words",
+    ),
+    (
+        &WORLD_OF_FIRST,
+        &[(1, b"0 100 run\0 i64:7\n")],
+        b"calls 1 1",
+        "calls, line 1, column 10: a control character stands here, ",
     ),
 ];
 
@@ -696,8 +715,8 @@ fn judges_blocks(rt: HostRuntime) -> Result<(), Fail> {
     Ok(())
 }
 
-/// Which call of the files or of the output fails, the file that is said to fail, and what some files hold after it.
-type Fault<'a> = (Option<u64>, Option<u64>, &'a [u8], After<'a>);
+/// Which call of the files or of the output fails, the file that is said to fail, what is said behind it, and what some files hold after it.
+type Fault<'a> = (Option<u64>, Option<u64>, &'a [u8], &'a [u8], After<'a>);
 
 /// A line ends with the status of a file and prints nothing, where its calls fail in turn.
 fn fails_as_told<R: Abort + Threads + Wait + Sync>(
@@ -707,8 +726,8 @@ fn fails_as_told<R: Abort + Threads + Wait + Sync>(
     files: &[File],
     rows: &[Fault],
 ) -> Result<(), Fail> {
-    for (file_fails, out_fails, name, after) in rows {
-        let said: [Part; 3] = [(1, b"file "), (1, *name), (1, b"\n")];
+    for (file_fails, out_fails, name, behind, after) in rows {
+        let said: [Part; 4] = [(1, b"file "), (1, *name), (1, b"\n"), (1, *behind)];
         let line = Line {
             words,
             files,
@@ -725,51 +744,147 @@ fn fails_as_told<R: Abort + Threads + Wait + Sync>(
     Ok(())
 }
 
-/// A beginning of the block.
-const PART_OF_BLOCK: (&str, Wanted) = ("b", Cut(&[(1, &BUMP_OF_2)]));
+/// A line is done where the call of the files fails behind so many: there is none.
+fn ends_behind<R: Abort + Threads + Wait + Sync>(
+    rt: &R,
+    alloc: Global,
+    row: Row,
+    calls: u64,
+) -> Result<(), Fail> {
+    let (words, files, out, after) = row;
+    let line = Line {
+        words,
+        files,
+        file_fails: Some(calls),
+        out_fails: None,
+        err_fails: None,
+        status: Done,
+        out,
+        err: NOTHING,
+        after,
+    };
+    assert_eq!(rt; unlike(rt, alloc, &line)?, None, "{words}");
+    Ok(())
+}
 
-/// A beginning of the world after it.
-const PART_OF_NEXT: (&str, Wanted) = ("n", Cut(&WORLD_WITH_5));
+/// The block is there, and the world after it is not.
+const BLOCK_ALONE: After = &[A_BLOCK, ("n", Absent)];
 
-// the block is put in two pieces, and the world in three
-const CUT_SHORT: &[Fault] = &[
-    (Some(0), None, b"w", NONE_WRITTEN),
-    (Some(1), None, b"c", NONE_WRITTEN),
-    (Some(2), None, b"b", NONE_WRITTEN),
-    (Some(3), None, b"b", &[PART_OF_BLOCK, ("n", Absent)]),
-    (Some(4), None, b"b", &[PART_OF_BLOCK, ("n", Absent)]),
-    (Some(5), None, b"n", &[A_BLOCK, ("n", Absent)]),
-    (Some(6), None, b"n", &[A_BLOCK, PART_OF_NEXT]),
-    (Some(7), None, b"n", &[A_BLOCK, PART_OF_NEXT]),
-    (Some(8), None, b"n", &[A_BLOCK, PART_OF_NEXT]),
-    (None, Some(0), b"stdout", &[A_BLOCK, NEXT]),
+// the block is begun, put in two pieces and kept, and then the world is begun, put in three pieces and kept
+const MINING: &[Fault] = &[
+    (Some(0), None, b"w", b"", NONE_WRITTEN),
+    (Some(1), None, b"c", b"", NONE_WRITTEN),
+    (Some(2), None, b"b", b"", NONE_WRITTEN),
+    (Some(3), None, b"b", b"", NONE_WRITTEN),
+    (Some(4), None, b"b", b"", NONE_WRITTEN),
+    (Some(5), None, b"b", b"", NONE_WRITTEN),
+    (Some(6), None, b"n", b"", BLOCK_ALONE),
+    (Some(7), None, b"n", b"", BLOCK_ALONE),
+    (Some(8), None, b"n", b"", BLOCK_ALONE),
+    (Some(9), None, b"n", b"", BLOCK_ALONE),
+    (Some(10), None, b"n", b"", BLOCK_ALONE),
+    (None, Some(0), b"stdout", WRITTEN, &[A_BLOCK, NEXT]),
 ];
 
-// the three files are read before
-const NEXT_CUT_SHORT: &[Fault] = &[
-    (Some(3), None, b"n", &[("n", Absent)]),
-    (Some(4), None, b"n", &[PART_OF_NEXT]),
-    (Some(5), None, b"n", &[PART_OF_NEXT]),
-    (Some(6), None, b"n", &[PART_OF_NEXT]),
-    (None, Some(0), b"stdout", &[NEXT]),
+/// A block and a world that are there already.
+const OVER: &[File] = &[("w", &WORLD), ("c", ONE_BUMP), ("b", KEPT)];
+
+/// Both are as they were.
+const BOTH_KEPT: After = &[("b", All(KEPT)), ("w", All(&WORLD))];
+
+/// The block is the new one, and the world is as it was.
+const WORLD_KEPT: After = &[A_BLOCK, ("w", All(&WORLD))];
+
+/// Both are the new ones.
+const BOTH_NEW: After = &[A_BLOCK, ("w", All(&WORLD_WITH_5))];
+
+// the same in the place of files that are there
+const MINING_OVER: &[Fault] = &[
+    (Some(0), None, b"w", b"", BOTH_KEPT),
+    (Some(1), None, b"c", b"", BOTH_KEPT),
+    (Some(2), None, b"b", b"", BOTH_KEPT),
+    (Some(3), None, b"b", b"", BOTH_KEPT),
+    (Some(4), None, b"b", b"", BOTH_KEPT),
+    (Some(5), None, b"b", b"", BOTH_KEPT),
+    (Some(6), None, b"w", b"", WORLD_KEPT),
+    (Some(7), None, b"w", b"", WORLD_KEPT),
+    (Some(8), None, b"w", b"", WORLD_KEPT),
+    (Some(9), None, b"w", b"", WORLD_KEPT),
+    (Some(10), None, b"w", b"", WORLD_KEPT),
+    (None, Some(0), b"stdout", WRITTEN, BOTH_NEW),
 ];
 
 #[test]
 fn the_next_world_is_written_last(rt: HostRuntime) -> Result<(), Fail> {
     let alloc = rt.alloc();
     let words = "mine w c b n --fuel=100";
-    fails_as_told(&rt, alloc, words, OF_BUMP, CUT_SHORT)?;
+    fails_as_told(&rt, alloc, words, OF_BUMP, MINING)?;
+    ends_behind(&rt, alloc, (words, OF_BUMP, BUMPED, &[A_BLOCK, NEXT]), 11)?;
+    let words = "mine w c b w --fuel=100";
+    fails_as_told(&rt, alloc, words, OVER, MINING_OVER)?;
+    ends_behind(&rt, alloc, (words, OVER, BUMPED, BOTH_NEW), 11)
+}
+
+/// There is no world after the block.
+const NO_NEXT: After = &[("n", Absent)];
+
+// three files are read, and then the world is begun, put in three pieces and kept
+const VALIDATING: &[Fault] = &[
+    (Some(0), None, b"w", b"", NO_NEXT),
+    (Some(1), None, b"c", b"", NO_NEXT),
+    (Some(2), None, b"b", b"", NO_NEXT),
+    (Some(3), None, b"n", b"", NO_NEXT),
+    (Some(4), None, b"n", b"", NO_NEXT),
+    (Some(5), None, b"n", b"", NO_NEXT),
+    (Some(6), None, b"n", b"", NO_NEXT),
+    (Some(7), None, b"n", b"", NO_NEXT),
+    (None, Some(0), b"stdout", WRITTEN, &[NEXT]),
+];
+
+// the same in the place of the world before
+const VALIDATING_OVER: &[Fault] = &[
+    (Some(3), None, b"w", b"", WORLD_KEPT),
+    (Some(4), None, b"w", b"", WORLD_KEPT),
+    (Some(5), None, b"w", b"", WORLD_KEPT),
+    (Some(6), None, b"w", b"", WORLD_KEPT),
+    (Some(7), None, b"w", b"", WORLD_KEPT),
+    (None, Some(0), b"stdout", WRITTEN, BOTH_NEW),
+];
+
+/// The output fails where no file was to be written.
+const UNTOLD: &[Fault] = &[(None, Some(0), b"stdout", b"", NO_NEXT)];
+
+#[test]
+fn the_next_world_is_written_whole_or_not(rt: HostRuntime) -> Result<(), Fail> {
+    let alloc = rt.alloc();
     let words = "validate w c b --fuel=100 --next n";
-    fails_as_told(&rt, alloc, words, OF_BLOCK, NEXT_CUT_SHORT)
+    fails_as_told(&rt, alloc, words, OF_BLOCK, VALIDATING)?;
+    ends_behind(&rt, alloc, (words, OF_BLOCK, ACCEPTED, &[NEXT]), 8)?;
+    let words = "validate w c b --fuel=100 --next=w";
+    fails_as_told(&rt, alloc, words, OF_BLOCK, VALIDATING_OVER)?;
+    ends_behind(&rt, alloc, (words, OF_BLOCK, ACCEPTED, BOTH_NEW), 8)?;
+    // nothing is written without NEXT, nor of a block that is rejected
+    fails_as_told(&rt, alloc, "validate w c b --fuel=100", OF_BLOCK, UNTOLD)?;
+    let words = "validate w c b --fuel=99 --next=n";
+    fails_as_told(&rt, alloc, words, OF_BLOCK, UNTOLD)
 }
 
 /// The example contract's world with no cells, no calls and their block.
 const OF_NO_CALLS: &[File] = &[("w", &WORLD), ("c", &[]), ("b", &[(1, &NO_CALLS)])];
 
 const NOT_READ: &[Fault] = &[
-    (Some(0), None, b"w", &[("n", Absent)]),
-    (Some(1), None, b"c", &[("n", Absent)]),
-    (Some(2), None, b"b", &[("n", Absent)]),
+    (Some(0), None, b"w", b"", NO_NEXT),
+    (Some(1), None, b"c", b"", NO_NEXT),
+    (Some(2), None, b"b", b"", NO_NEXT),
+];
+
+/// Lines that name files that are not there, and the file that is told: the first of them.
+const MISSING: &[(&str, &[u8])] = &[
+    ("mine x y b n --fuel=100", b"x"),
+    ("mine w y b n --fuel=100", b"y"),
+    ("validate x y z --fuel=100 --next=n", b"x"),
+    ("validate w y z --fuel=100 --next=n", b"y"),
+    ("validate w c z --fuel=100 --next=n", b"z"),
 ];
 
 #[test]
@@ -778,5 +893,10 @@ fn tells_the_file_that_is_not_read(rt: HostRuntime) -> Result<(), Fail> {
     fails_as_told(&rt, alloc, "validate w c b --fuel=100", OF_BLOCK, NOT_READ)?;
     fails_as_told(&rt, alloc, "validate w c b --fuel=0", OF_NO_CALLS, NOT_READ)?;
     let words = "mine w c o n --fuel=5 --workers=2";
-    fails_as_told(&rt, alloc, words, OF_NO_CALLS, &NOT_READ[..2])
+    fails_as_told(&rt, alloc, words, OF_NO_CALLS, &NOT_READ[..2])?;
+    for (words, name) in MISSING {
+        let row: Fault = (None, None, *name, NOT_FOUND, NO_NEXT);
+        fails_as_told(&rt, alloc, *words, OF_BLOCK, &[row])?;
+    }
+    Ok(())
 }

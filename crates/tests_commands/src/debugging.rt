@@ -1,9 +1,9 @@
 //! Lines of words that debug a call, over modules whose bytes another program made.
 
-use crate::rows::{Line, unlike};
-use file_rows::Wanted::{self, Part as Holds, Text};
+use crate::rows::{Line, NOT_FOUND, unlike};
+use file_rows::Wanted::{self, All, Part as Holds, Text};
 use file_rows::{
-    BUMP_OF_2, FIRST_AND_LAST_OF_2, File, NOTHING, OPENED, OPENED_OF_2, Part, TWO_OF_2,
+    BUMP_OF_2, FIRST_AND_LAST_OF_2, File, LEFT_OF_2, NOTHING, OPENED, OPENED_OF_2, Part, TWO_OF_2,
     WITHOUT_LAST, WORLD, WORLD_OF_ASKING, WORLD_OF_DOOR, WORLD_OF_LOOP, WORLD_OF_WRITER,
 };
 use std::alloc::Global;
@@ -217,11 +217,20 @@ fn takes_the_call_of_a_number(rt: HostRuntime) -> Result<(), Fail> {
     Ok(())
 }
 
-/// Lines, after how many calls of the files one fails, and the file that is said to fail.
-const FAULTS: &[(&str, Option<u64>, &[u8])] = &[
-    ("debug w x 0 place", None, b"file x\n"),
-    (PLACE, Some(0), b"file w\n"),
-    (PLACE, Some(1), b"file c\n"),
+/// Lines, after how many calls of the files one fails, and what is said of the file that does.
+const FAULTS: &[(&str, Option<u64>, &[Part])] = &[
+    (
+        "debug w x 0 place",
+        None,
+        &[(1, b"file x\n"), (1, NOT_FOUND)],
+    ),
+    (
+        "debug y x 0 place",
+        None,
+        &[(1, b"file y\n"), (1, NOT_FOUND)],
+    ),
+    (PLACE, Some(0), &[(1, b"file w\n")]),
+    (PLACE, Some(1), &[(1, b"file c\n")]),
 ];
 
 #[test]
@@ -229,7 +238,23 @@ fn tells_the_file_that_is_not_read(rt: HostRuntime) -> Result<(), Fail> {
     for row in FAULTS {
         let (words, fails, said) = *row;
         let row: Session = (words, &WORLD_OF_LOOP, &[], b"");
-        comes_to(&rt, rt.alloc(), row, fails, NotReached, Text(said))?;
+        comes_to(&rt, rt.alloc(), row, fails, NotReached, All(said))?;
+    }
+    Ok(())
+}
+
+/// More calls than a block has.
+const TOO_MANY: &[Part] = &[(65_536, b"0 1 f\n")];
+
+/// Lines that name one of them, or one behind them.
+const OF_TOO_MANY: &[&str] = &["debug w c 0 cont", "debug w c 65536 cont --block x"];
+
+#[test]
+fn a_list_of_too_many_calls_is_refused(rt: HostRuntime) -> Result<(), Fail> {
+    for words in OF_TOO_MANY {
+        let row: Session = (*words, &WORLD, TOO_MANY, b"refused calls 2\n");
+        let said = Holds("calls, line 65536: the calls from here on are too many");
+        comes_to(&rt, rt.alloc(), row, None, Refused, said)?;
     }
     Ok(())
 }
@@ -245,6 +270,9 @@ const IN_2: &[Part] = &[(1, &OPENED_OF_2)];
 
 /// `bump(7,5)` of the example contract.
 const ONE_BUMP: [Part; 1] = [(1, b"0 100 bump i64:7 i64:5\n")];
+
+/// `bump(7,6)`, which its block leaves.
+const LEFT_BUMP: [Part; 1] = [(1, b"0 100 bump i64:7 i64:6\n")];
 
 /// Three calls `bump(7,1)`, of which the second is left.
 const THREE_BUMPS: [Part; 3] = [
@@ -450,7 +478,163 @@ const IN_BLOCKS: &[InBlock] = &[
         IN_2,
         NotReached,
         b"",
-        Text(b"file x\n"),
+        All(&[(1, b"file x\n"), (1, NOT_FOUND)]),
+    ),
+];
+
+/// The same with the fuel of the block: its calls need 300, and the call that is left needs 7.
+const WITH_FUEL: &[InBlock] = &[
+    (
+        "debug w c 1 cont --block b --fuel 300",
+        OF_DOOR,
+        IN_2,
+        Done,
+        b"6 done returned i64:5 fuel 6\n",
+        Text(b""),
+    ),
+    (
+        "debug --fuel=306 w c 1 cont --block=b",
+        OF_DOOR,
+        IN_2,
+        Done,
+        b"6 done returned i64:5 fuel 6\n",
+        Text(b""),
+    ),
+    (
+        "debug w c 2 cont --fuel 300 --block b",
+        OF_DOOR,
+        &IN_1,
+        Done,
+        b"2 done returned i32:-1 fuel 2\n",
+        Text(b""),
+    ),
+    // too little
+    (
+        "debug w c 1 cont --block b --fuel 299",
+        OF_DOOR,
+        IN_2,
+        Refused,
+        b"reject 5\n",
+        Holds("block: the limits of the ordered calls exceed the block's fuel; "),
+    ),
+    (
+        "debug w c 0 cont --block b --fuel 0",
+        OF_DOOR,
+        IN_2,
+        Refused,
+        b"reject 5\n",
+        Holds("block: the limits of the ordered calls exceed the block's fuel; "),
+    ),
+    (
+        "debug w c 3 cont --block b --fuel 299",
+        OF_DOOR,
+        IN_2,
+        Refused,
+        b"reject 5\n",
+        Holds("block: the limits of the ordered calls exceed the block's fuel; "),
+    ),
+    // so much that a call was left which there was room for
+    (
+        "debug w c 1 cont --block b --fuel 307",
+        OF_DOOR,
+        IN_2,
+        Refused,
+        b"reject 6 3\n",
+        Holds("block: call 3 is left out though there was room for it; "),
+    ),
+    (
+        "debug w c 3 cont --block b --fuel 18446744073709551615",
+        OF_DOOR,
+        IN_2,
+        Refused,
+        b"reject 6 3\n",
+        Holds("block: call 3 is left out though there was room for it; "),
+    ),
+    (
+        "debug w c 3 cont --block b --fuel 306",
+        OF_DOOR,
+        IN_2,
+        Refused,
+        b"refused left 3\n",
+        Holds("block: call 3 does not stand in it; "),
+    ),
+    // more than is needed where no call is left
+    (
+        "debug e c 0 cont --block b --fuel 18446744073709551615",
+        &ONE_BUMP,
+        &[(1, &BUMP_OF_2)],
+        Done,
+        b"3 done returned fuel 3\n",
+        Text(b""),
+    ),
+    (
+        "debug e c 0 cont --block b --fuel 99",
+        &ONE_BUMP,
+        &[(1, &BUMP_OF_2)],
+        Refused,
+        b"reject 5\n",
+        Holds("block: the limits of the ordered calls exceed the block's fuel; "),
+    ),
+    // the least is 0 where none stands in the block
+    (
+        "debug e c 0 cont --block b",
+        &LEFT_BUMP,
+        &[(1, &LEFT_OF_2)],
+        Refused,
+        b"refused left 0\n",
+        Holds("block: call 0 does not stand in it; "),
+    ),
+    (
+        "debug e c 0 cont --block b --fuel 99",
+        &LEFT_BUMP,
+        &[(1, &LEFT_OF_2)],
+        Refused,
+        b"refused left 0\n",
+        Holds("block: call 0 does not stand in it; "),
+    ),
+    (
+        "debug e c 0 cont --block b --fuel 100",
+        &LEFT_BUMP,
+        &[(1, &LEFT_OF_2)],
+        Refused,
+        b"reject 6 0\n",
+        Holds("block: call 0 is left out though there was room for it; "),
+    ),
+    // a lower reason comes first
+    (
+        "debug n c 1 cont --block b --fuel 299",
+        OF_DOOR,
+        IN_2,
+        Refused,
+        b"reject 2\n",
+        Holds("block: the digest before is not the world's; "),
+    ),
+    // words that ask for nothing, and a call that is not there
+    (
+        "debug w c 1 cont --fuel 300",
+        OF_DOOR,
+        IN_2,
+        Usage,
+        b"",
+        Text(
+            b"usage: `--fuel` bounds the calls of a block: name the block by `--block`, or leave `--fuel` out\n",
+        ),
+    ),
+    (
+        "debug w c 4 cont --block b --fuel 299",
+        OF_DOOR,
+        IN_2,
+        Usage,
+        b"",
+        Holds("usage: there is no call 4 "),
+    ),
+    (
+        "debug w c 1 cont --block x --fuel 299",
+        OF_DOOR,
+        IN_2,
+        NotReached,
+        b"",
+        All(&[(1, b"file x\n"), (1, NOT_FOUND)]),
     ),
 ];
 
@@ -490,6 +674,10 @@ fn comes_to_in_block<R: Abort + Threads + Wait + Sync>(
 #[test]
 fn debugs_calls_in_blocks(rt: HostRuntime) -> Result<(), Fail> {
     for row in IN_BLOCKS {
+        let row = *row;
+        comes_to_in_block(&rt, rt.alloc(), &row, None)?;
+    }
+    for row in WITH_FUEL {
         let row = *row;
         comes_to_in_block(&rt, rt.alloc(), &row, None)?;
     }

@@ -1,7 +1,7 @@
 //! Lines of words that assemble, check and deploy modules, at each fault in turn.
 
-use crate::rows::{Line, unlike};
-use file_rows::Wanted::{self, Absent, All, Cut, Front, Line as Is, Part as Holds, Text, Usage};
+use crate::rows::{Line, NOT_FOUND, WRITTEN, unlike};
+use file_rows::Wanted::{self, Absent, All, Front, Line as Is, Part as Holds, Text, Usage};
 use file_rows::{File, HEADER, MODULES, NOTHING, Part, WORLD, WORLD_OF_NOPS, WORLD_OF_TWO};
 use std::alloc::Global;
 use std::process::Abort;
@@ -79,7 +79,7 @@ fn are_refused<R: Abort + Threads + Wait + Sync>(
     Ok(())
 }
 
-/// Lines that would write over what they read, or over what they wrote, and what is said of each.
+/// Lines that would write over what they read or wrote, or over a world unasked, and what is said of each.
 const SLIPS: &[(&str, &str)] = &[
     ("asm text text", "usage: TEXT and MODULE are both `text`"),
     ("text m m", "usage: MODULE and TEXT are both `m`"),
@@ -87,6 +87,18 @@ const SLIPS: &[(&str, &str)] = &[
     (
         "deploy w contract w",
         "usage: MODULE and WORLD are both `w`",
+    ),
+    (
+        "deploy --force w contract w",
+        "usage: MODULE and WORLD are both `w`",
+    ),
+    (
+        "deploy w contract",
+        "usage: WORLD `w` is there already: --force writes the new world in its place",
+    ),
+    (
+        "deploy text absent contract",
+        "usage: WORLD `text` is there already: --force writes the new world in its place",
     ),
     (
         "mine w c w n --fuel=5",
@@ -130,7 +142,14 @@ const TOLD: &[(&str, &str)] = &[
     ("--help", "Usage: wblock <COMMAND>"),
     ("-h", "Usage: wblock <COMMAND>"),
     ("asm -h", "Usage: wblock asm <TEXT> <MODULE>"),
-    ("deploy --help", "Usage: wblock deploy <WORLD> <MODULE>..."),
+    (
+        "deploy --help",
+        "Usage: wblock deploy [OPTIONS] <WORLD> <MODULE>...",
+    ),
+    (
+        "deploy -h",
+        "--force  Writes the new world in the place of a file that is there",
+    ),
     (
         "mine --help",
         "--tries <N>    How often a call is tried that meets a conflict, 1 to 16 [default: 3]",
@@ -139,6 +158,7 @@ const TOLD: &[(&str, &str)] = &[
     ("validate -h", "--next <NEXT>"),
     ("mine -h", "--quiet"),
     ("debug --help", "bytes:FROM:N"),
+    ("debug -h", "The fuel with which BLOCK is judged, "),
     ("text -h", "Usage: wblock text <MODULE> <TEXT>"),
     ("show --help", "--calls <CALLS>"),
     ("show -h", "--svg <PICTURE>"),
@@ -179,7 +199,7 @@ fn takes_the_ranges_that_help_tells(rt: HostRuntime) -> Result<(), Fail> {
         let (words, status) = *row;
         let (out, err) = match status {
             Done => (Front(b"valid "), NOTHING),
-            NotReached => (NOTHING, Text(b"file a\n")),
+            NotReached => (NOTHING, All(&[(1, b"file a\n"), (1, NOT_FOUND)])),
             _ => (NOTHING, Holds("error: invalid value")),
         };
         comes_to(&rt, rt.alloc(), (words, out, err, OLD), CALM, status)?;
@@ -219,6 +239,7 @@ const VALID: &[(&str, &str)] = &[
     ("check nops --heap 1048576", "valid 1 functions"),
     ("check --heap=16777216 nops", "valid 1 functions"),
     ("check pages", "valid 0 functions"),
+    ("check faults", "valid 0 functions"),
 ];
 
 const NOT_VALID: &[Refusal] = &[
@@ -284,85 +305,222 @@ fn checks_modules(rt: HostRuntime) -> Result<(), Fail> {
     are_refused(&rt, rt.alloc(), NOT_VALID)
 }
 
-const DEPLOYED: &[Row] = &[
+/// A line that deploys, the file of the world, how the line ends, what it prints and says, and what the file holds then.
+type Deployment<'a> = (&'a str, &'a str, Status, Wanted<'a>, Wanted<'a>, Wanted<'a>);
+
+/// What is printed of one contract.
+const ONE: Wanted = Text(b"deployed 1 contracts\n");
+
+/// What is printed of two.
+const BOTH: Wanted = Text(b"deployed 2 contracts\n");
+
+/// What is said where the file of the world is there.
+const IS_THERE: Wanted = Is(
+    "usage: WORLD `w` is there already: --force writes the new world in its place",
+);
+
+const DEPLOYMENTS: &[Deployment] = &[
+    // where no file is there
+    ("deploy n contract", "n", Done, ONE, NOTHING, All(&WORLD)),
     (
-        "deploy w contract",
-        Text(b"deployed 1 contracts\n"),
+        "deploy n contract contract",
+        "n",
+        Done,
+        BOTH,
+        NOTHING,
+        All(&WORLD_OF_TWO),
+    ),
+    (
+        "deploy n contract --force",
+        "n",
+        Done,
+        ONE,
+        NOTHING,
+        All(&WORLD),
+    ),
+    // where one is, unasked: no module is read
+    ("deploy w contract", "w", Misused, NOTHING, IS_THERE, OLD),
+    (
+        "deploy w contract nops",
+        "w",
+        Misused,
+        NOTHING,
+        IS_THERE,
+        OLD,
+    ),
+    ("deploy w absent", "w", Misused, NOTHING, IS_THERE, OLD),
+    ("deploy w front", "w", Misused, NOTHING, IS_THERE, OLD),
+    (
+        "deploy text contract",
+        "text",
+        Misused,
+        NOTHING,
+        Is("usage: WORLD `text` is there already: --force writes the new world in its place"),
+        Text(b"(module)"),
+    ),
+    // and asked, wherever the word stands
+    (
+        "deploy w contract --force",
+        "w",
+        Done,
+        ONE,
         NOTHING,
         All(&WORLD),
     ),
     (
-        "deploy w contract contract",
-        Text(b"deployed 2 contracts\n"),
+        "deploy --force w contract contract",
+        "w",
+        Done,
+        BOTH,
         NOTHING,
         All(&WORLD_OF_TWO),
     ),
+    (
+        "--force deploy w contract",
+        "w",
+        Done,
+        ONE,
+        NOTHING,
+        All(&WORLD),
+    ),
+    // where a module is refused or is not there, the file is as it was
+    (
+        "deploy w env --force",
+        "w",
+        Refused,
+        Is("refused deploy 1 0 module 0"),
+        Holds("it is no host call; "),
+        OLD,
+    ),
+    (
+        "deploy n env",
+        "n",
+        Refused,
+        Is("refused deploy 1 0 module 0"),
+        Holds("it is no host call; "),
+        Absent,
+    ),
+    (
+        "deploy n contract absent",
+        "n",
+        NotReached,
+        NOTHING,
+        All(&[(1, b"file absent\n"), (1, NOT_FOUND)]),
+        Absent,
+    ),
+    // the word has no value: what stands behind it is a module
+    (
+        "deploy w contract --force yes",
+        "w",
+        NotReached,
+        NOTHING,
+        All(&[(1, b"file yes\n"), (1, NOT_FOUND)]),
+        OLD,
+    ),
 ];
+
+/// A line comes to what its row says.
+fn deploys<R: Abort + Threads + Wait + Sync>(
+    rt: &R,
+    alloc: Global,
+    row: &Deployment,
+) -> Result<(), Fail> {
+    let (words, name, status, out, err, world) = *row;
+    let after: [(&str, Wanted); 1] = [(name, world)];
+    let line = Line {
+        words,
+        files: &MODULES,
+        file_fails: None,
+        out_fails: None,
+        err_fails: None,
+        status,
+        out,
+        err,
+        after: &after,
+    };
+    assert_eq!(rt; unlike(rt, alloc, &line)?, None, "{words}");
+    Ok(())
+}
 
 #[test]
 fn deploys_modules(rt: HostRuntime) -> Result<(), Fail> {
-    for row in DEPLOYED {
-        let row = *row;
-        comes_to(&rt, rt.alloc(), row, CALM, Done)?;
+    for row in DEPLOYMENTS {
+        deploys(&rt, rt.alloc(), &*row)?;
     }
     Ok(())
 }
 
 const NOT_DEPLOYED: &[Refusal] = &[
     (
-        "deploy w contract other front",
+        "deploy --force w contract other front",
         "refused deploy 2 0 module 1",
         "module 1: import 0, `boost` `get`: it has another type than this host call",
     ),
     (
-        "deploy w deep",
+        "deploy --force w deep",
         "refused load 3 4 module 0",
         "module 0: a limit of this profile is passed: 128 nested blocks",
     ),
     (
-        "deploy w exports",
+        "deploy --force w exports",
         "refused check 6 - 1 module 0",
         "module 0: item 1 of its list: export name repeated",
     ),
     (
-        "deploy w env",
+        "deploy --force w env",
         "refused deploy 1 0 module 0",
         "module 0: import 0, `env` `get`: it is no host call",
     ),
     (
-        "deploy w other",
+        "deploy --force w other",
         "refused deploy 2 0 module 0",
         "; this import is (func (param i64) (param i64))",
     ),
     (
-        "deploy w env",
+        "deploy --force w env",
         "refused deploy 1 0 module 0",
         "; this import is (func (param i64) (result i64))",
     ),
     (
-        "deploy w data",
+        "deploy --force w data",
         "refused deploy 3 0 module 0",
         "module 0: segment 0: it ends past",
     ),
     (
-        "deploy w table",
+        "deploy --force w table",
         "refused deploy 5 - module 0",
         "module 0: the table begins with more than 65,536 elements",
     ),
     (
-        "deploy w pages other",
+        "deploy --force w pages other",
         "refused deploy 4 - module 0",
         "module 0: the memory begins with more than 1,024 pages",
     ),
     (
-        "deploy w contract contract untyped",
+        "deploy --force w contract contract untyped",
         "refused check 18 0 1 module 2",
         "module 2: function 0, instruction 1: ",
     ),
     (
-        "deploy w front absent",
+        "deploy --force w front absent",
         "refused load 1 4 module 0",
         "module 0: byte 4: the bytes are no module",
+    ),
+    // of two faults of a module the first is told, and of two modules
+    (
+        "deploy --force w faults",
+        "refused deploy 1 0 module 0",
+        "module 0: import 0, `env` `get`: it is no host call",
+    ),
+    (
+        "deploy --force w contract faults pages",
+        "refused deploy 1 0 module 1",
+        "module 1: import 0, `env` `get`: it is no host call",
+    ),
+    (
+        "deploy --force w pages faults",
+        "refused deploy 4 - module 0",
+        "module 0: the memory begins with more than 1,024 pages",
     ),
 ];
 
@@ -383,12 +541,30 @@ const UNHEARD: &[(Option<u64>, Wanted)] = &[
     (Some(2), Text(b"module")),
 ];
 
+/// The same of a file that is not there: behind a name that is not said whole nothing more is said.
+const UNHEARD_FAULT: &[(Option<u64>, Wanted)] = &[
+    (None, All(&[(1, b"file absent\n"), (1, NOT_FOUND)])),
+    (Some(0), Text(b"")),
+    (Some(1), Text(b"fil")),
+    (Some(2), Text(b"file ")),
+    (Some(3), Text(b"file abs")),
+    (Some(4), Text(b"file absent")),
+    (Some(5), Text(b"file absent\n")),
+    (Some(6), Text(b"file absent\nthe")),
+];
+
 #[test]
 fn a_failing_standard_error_changes_no_status(rt: HostRuntime) -> Result<(), Fail> {
     for row in UNHEARD {
         let (err_fails, err) = *row;
-        let row = ("deploy w env", Is("refused deploy 1 0 module 0"), err, OLD);
+        let words = "deploy --force w env";
+        let row = (words, Is("refused deploy 1 0 module 0"), err, OLD);
         comes_unheard_to(&rt, rt.alloc(), row, CALM, err_fails, Refused)?;
+    }
+    for row in UNHEARD_FAULT {
+        let (err_fails, err) = *row;
+        let row = ("check absent", NOTHING, err, OLD);
+        comes_unheard_to(&rt, rt.alloc(), row, CALM, err_fails, NotReached)?;
     }
     Ok(())
 }
@@ -399,54 +575,150 @@ fn a_heap_may_be_too_small(rt: HostRuntime) -> Result<(), Fail> {
     comes_to(&rt, rt.alloc(), row, CALM, Memory)
 }
 
-/// A line, which calls fail, the file that is said to fail, what is printed, and what the file `w` holds then.
-type Fault<'a> = (&'a str, Fails, &'a [u8], &'a [u8], Wanted<'a>);
+/// A line, which calls fail, the file that is said to fail, what is said behind it, what is printed, and what the file `w` holds then.
+type Fault<'a> = (&'a str, Fails, &'a [u8], &'a [u8], &'a [u8], Wanted<'a>);
 
-const TWO: &str = "deploy w contract nops";
+const TWO: &str = "deploy w contract nops --force";
 
 /// What the file `w` holds where the text of a memory of 1,025 pages is written to it.
 const PAGES: Wanted = Text(b"(module\n  (memory 1025)\n)\n");
 
 const FAULTS: &[Fault] = &[
-    ("asm absent w", CALM, b"absent", b"", OLD),
-    ("deploy w contract absent", CALM, b"absent", b"", OLD),
-    (TWO, (Some(0), None), b"contract", b"", OLD),
-    (TWO, (Some(1), None), b"nops", b"", OLD),
-    (TWO, (Some(2), None), b"w", b"", OLD),
-    (TWO, (Some(3), None), b"w", b"", Cut(&WORLD_OF_NOPS)),
-    (TWO, (Some(10), None), b"w", b"", Cut(&WORLD_OF_NOPS)),
+    // files that are not there, of which the first is told
+    ("asm absent w", CALM, b"absent", NOT_FOUND, b"", OLD),
+    ("text absent w", CALM, b"absent", NOT_FOUND, b"", OLD),
+    ("check absent", CALM, b"absent", NOT_FOUND, b"", OLD),
+    (
+        "deploy --force w contract absent gone",
+        CALM,
+        b"absent",
+        NOT_FOUND,
+        b"",
+        OLD,
+    ),
+    (
+        "deploy --force w gone contract absent",
+        CALM,
+        b"gone",
+        NOT_FOUND,
+        b"",
+        OLD,
+    ),
+    // the output fails behind the files, and where no file is written
     (
         TWO,
         (None, Some(2)),
         b"stdout",
+        WRITTEN,
         b"deploy",
         All(&WORLD_OF_NOPS),
     ),
-    ("text absent w", CALM, b"absent", b"", OLD),
-    ("text contract w", (Some(0), None), b"contract", b"", OLD),
-    ("text contract w", (Some(1), None), b"w", b"", OLD),
-    ("text contract w", (Some(2), None), b"w", b"", Text(b"")),
     (
-        "text contract w",
-        (Some(3), None),
-        b"w",
-        b"",
-        Front(b"(module\n"),
+        "text pages w",
+        (None, Some(2)),
+        b"stdout",
+        WRITTEN,
+        b"text 2",
+        PAGES,
     ),
-    ("text pages w", (None, Some(2)), b"stdout", b"text 2", PAGES),
+    (
+        "asm text w",
+        (None, Some(0)),
+        b"stdout",
+        WRITTEN,
+        b"",
+        Text(&HEADER),
+    ),
+    ("check contract", (None, Some(0)), b"stdout", b"", b"", OLD),
+    ("check short", (None, Some(1)), b"stdout", b"", b"ref", OLD),
+    (
+        "deploy w env --force",
+        (None, Some(1)),
+        b"stdout",
+        b"",
+        b"ref",
+        OLD,
+    ),
+    ("", (None, Some(1)), b"stdout", b"", b"0 c", OLD),
+    ("--version", (None, Some(0)), b"stdout", b"", b"", OLD),
 ];
 
 #[test]
 fn tells_faults_of_files(rt: HostRuntime) -> Result<(), Fail> {
     for row in FAULTS {
-        let (words, fails, name, printed, world) = *row;
-        let err: [Part; 3] = [(1, b"file "), (1, name), (1, b"\n")];
+        let (words, fails, name, behind, printed, world) = *row;
+        let err: [Part; 4] = [(1, b"file "), (1, name), (1, b"\n"), (1, behind)];
         let row = (words, Text(printed), All(&err), world);
         comes_to(&rt, rt.alloc(), row, fails, NotReached)?;
     }
-    let out = Text(b"deployed 2 contracts\n");
-    let whole = (TWO, out, NOTHING, All(&WORLD_OF_NOPS));
-    comes_to(&rt, rt.alloc(), whole, CALM, Done)
+    Ok(())
+}
+
+/// A line, the files that its calls name, with how many calls name each one after another, and what it prints and leaves in `w` where none fails.
+type Turns<'a> = (&'a str, &'a [(&'a [u8], u64)], Wanted<'a>, Wanted<'a>);
+
+// a file is read by one call; it is written by one that begins its draft, one for each hundred bytes, and one that keeps it
+const TURNS: &[Turns] = &[
+    (
+        "check contract",
+        &[(b"contract", 1)],
+        Is("valid 6 functions"),
+        OLD,
+    ),
+    (
+        "asm text w",
+        &[(b"text", 1), (b"w", 3)],
+        ASSEMBLED,
+        Text(&HEADER),
+    ),
+    (
+        "text pages w",
+        &[(b"pages", 1), (b"w", 3)],
+        Text(b"text 26 bytes\n"),
+        PAGES,
+    ),
+    (
+        TWO,
+        &[(b"contract", 1), (b"nops", 1), (b"w", 15)],
+        BOTH,
+        All(&WORLD_OF_NOPS),
+    ),
+    (
+        "deploy --force w contract contract",
+        &[(b"contract", 2), (b"w", 7)],
+        BOTH,
+        All(&WORLD_OF_TWO),
+    ),
+];
+
+/// Each call of a line fails in turn: the file is told, and `w` is as it was.
+fn fails_in_turn<R: Abort + Threads + Wait + Sync>(
+    rt: &R,
+    alloc: Global,
+    words: &str,
+    turns: &[(&[u8], u64)],
+) -> Result<u64, Fail> {
+    let mut at: u64 = 0;
+    for (name, calls) in turns {
+        let err: [Part; 3] = [(1, b"file "), (1, *name), (1, b"\n")];
+        for _ in 0..*calls {
+            let row = (words, NOTHING, All(&err), OLD);
+            comes_to(rt, alloc, row, (Some(at), None), NotReached)?;
+            at = at.saturating_add(1);
+        }
+    }
+    Ok(at)
+}
+
+#[test]
+fn a_file_is_written_whole_or_stays(rt: HostRuntime) -> Result<(), Fail> {
+    for row in TURNS {
+        let (words, turns, out, world) = *row;
+        let calls = fails_in_turn(&rt, rt.alloc(), words, turns)?;
+        let whole = (words, out, NOTHING, world);
+        comes_to(&rt, rt.alloc(), whole, (Some(calls), None), Done)?;
+    }
+    Ok(())
 }
 
 /// Lines that the command line does not take.
@@ -458,6 +730,26 @@ const NOT_TAKEN: &[&str] = &[
     "deploy",
     "deploy w",
     "deploy w contract --heap=2000",
+    "deploy w contract --fuel=2000",
+    "deploy w contract --json",
+    "deploy --force",
+    "deploy w --force",
+    "deploy w contract --force --force",
+    "deploy w contract --force=yes",
+    "deploy w contract --force --heap=2000",
+    "deploy w contract --force --json",
+    "--force",
+    "asm text w --force",
+    "text contract w --force",
+    "check contract --force",
+    "show w --force",
+    "mine w c b n --fuel=5 --force",
+    "validate w c b --fuel=5 --next=n --force",
+    "debug w c 0 place --force",
+    "debug w c 0 place --block=b --fuel",
+    "debug w c 0 place --block=b --fuel=5 --fuel=5",
+    "debug w c 0 place --block=b --block=b --fuel=5",
+    "debug w c 0 place --block=b --tries=5",
     "text contract",
     "text contract w n",
     "text contract w --heap=2000",
@@ -490,6 +782,10 @@ const NOTHING_ASKED: &[&str] = &[
     "mine w c b n --fuel=5 --tries=0",
     "mine w c b n --fuel=5 --tries=17",
     "validate w c b --fuel=5 --workers=65",
+    "debug w c 0 place --fuel=5",
+    "debug w c 0 place --block=b --fuel=05",
+    "debug w c 0 place --block=b --fuel=+5",
+    "debug w c 0 place --block=b --fuel=18446744073709551616",
 ];
 
 /// Lines that ask for nothing leave `w` as it was, print nothing, and say this.

@@ -1,4 +1,5 @@
-//! That the numbers of workers and of tries that a line asks for reach the threads that run its calls.
+//! That the numbers of workers and of tries that a line asks for reach the threads that run its calls, and that it is told how much runs ahead of a call that
+//! is debugged.
 
 use codec::{Failures, MemorySink};
 use file_rows::{File, WORLD, holding, words_of};
@@ -179,6 +180,108 @@ fn a_call_is_tried_as_often_as_is_asked_for(rt: HostRuntime) -> Result<(), Fail>
             (Status::Done, tries),
             "{line}"
         );
+    }
+    Ok(())
+}
+
+/// Notes how often it is told that calls run ahead of one that is debugged, and the fuel that they may use.
+#[derive(Drop)]
+struct Ahead {
+    times: AtomicU64,
+    fuel: AtomicU64,
+}
+
+impl Pace for Ahead {
+    fn at(&self, _step: Step) {}
+
+    fn runs_alone(&self, fuel: u64) {
+        self.times.fetch_add(1, Ordering::SeqCst);
+        self.fuel.store(fuel, Ordering::SeqCst);
+    }
+}
+
+/// The world of the example contract, and four calls that commute, of which the last is left where the block's fuel is 2,000,000,006.
+const LIMITED: &[File] = &[
+    ("w", &WORLD),
+    (
+        "c",
+        &[
+            (1, b"0 1000000000 bump i64:7 i64:1\n"),
+            (1, b"0 1000000001 bump i64:7 i64:1\n"),
+            (1, b"0 5 bump i64:7 i64:1\n"),
+            (1, b"0 100 bump i64:7 i64:1\n"),
+        ],
+    ),
+];
+
+/// Lines that run one after another over the same files, how each ends, how often it is told that calls run ahead, and with how much fuel.
+const TOLD: &[(&str, Status, u64, u64)] = &[
+    (
+        "mine w c b n --fuel=2000000006 --workers=1",
+        Status::Done,
+        0,
+        0,
+    ),
+    (
+        "validate w c b --fuel=2000000006 --workers=1",
+        Status::Done,
+        0,
+        0,
+    ),
+    // alone over the world
+    ("debug w c 2 cont", Status::Done, 0, 0),
+    // in the block: the limits of those before it, whatever the block's fuel is
+    ("debug w c 0 cont --block b", Status::Done, 1, 0),
+    ("debug w c 1 cont --block b", Status::Done, 1, 1_000_000_000),
+    ("debug w c 2 cont --block b", Status::Done, 1, 2_000_000_001),
+    (
+        "debug w c 2 cont --block b --fuel 2000000006",
+        Status::Done,
+        1,
+        2_000_000_001,
+    ),
+    (
+        "debug w c 2 cont --block b --fuel 2000000105",
+        Status::Done,
+        1,
+        2_000_000_001,
+    ),
+    // none runs where the block is rejected, where the call does not stand in it, and where there is no such call
+    (
+        "debug w c 2 cont --block b --fuel 2000000005",
+        Status::Refused,
+        0,
+        0,
+    ),
+    (
+        "debug w c 2 cont --block b --fuel 2000000106",
+        Status::Refused,
+        0,
+        0,
+    ),
+    ("debug n c 2 cont --block b", Status::Refused, 0, 0),
+    ("debug w c 3 cont --block b", Status::Refused, 0, 0),
+    ("debug w c 4 cont --block b", Status::Usage, 0, 0),
+    ("debug w c 2 cont --fuel 2000000006", Status::Usage, 0, 0),
+    ("debug w c 2 cont --block x", Status::File, 0, 0),
+];
+
+#[test]
+fn it_is_told_how_much_runs_ahead(rt: HostRuntime) -> Result<(), Fail> {
+    let alloc = rt.alloc();
+    let mut files = holding(alloc, 1_000, LIMITED, None)?;
+    for row in TOLD {
+        let (line, wanted, times, fuel) = *row;
+        let pace = Ahead {
+            times: AtomicU64::new(0),
+            fuel: AtomicU64::new(0),
+        };
+        let status = status_of(&rt, alloc, line, &mut files, &pace)?;
+        let told = (
+            pace.times.load(Ordering::SeqCst),
+            pace.fuel.load(Ordering::SeqCst),
+        );
+        assert_eq!(rt; (status, told), (wanted, (times, fuel)), "{line}");
     }
     Ok(())
 }

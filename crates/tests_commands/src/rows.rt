@@ -9,6 +9,12 @@ use wblock_commands::run_line;
 use wblock_io::MemoryFiles;
 use wblock_line::Status;
 
+/// What is said behind the name of a file that is not there.
+pub const NOT_FOUND: &[u8] = b"there is no such file or folder\n";
+
+/// What is said of an output that fails behind the files of a command.
+pub const WRITTEN: &[u8] = b"the files of this command were written; only the output failed\n";
+
 /// A line of words, and what it comes to.
 #[derive(Clone, Copy)]
 pub struct Line<'a> {

@@ -1,7 +1,7 @@
 //! Lines of words that show what is in a module, a world or a block, by its name.
 
-use crate::rows::{Line, unlike};
-use file_rows::Wanted::{self, Line as Is, Part as Holds, Text};
+use crate::rows::{Line, NOT_FOUND, WRITTEN, unlike};
+use file_rows::Wanted::{self, All, Line as Is, Part as Holds, Text};
 use file_rows::{BUMP, File, HEADER, NOTHING, WORLD_OF_NONE};
 use std::alloc::Global;
 use std::process::Abort;
@@ -75,6 +75,9 @@ const CALM: Fails = (None, None);
 /// A line, which calls fail, how the line ends, what it prints and what is said.
 type Row<'a> = (&'a str, Fails, Status, Wanted<'a>, Wanted<'a>);
 
+/// What is said of a file that is not there.
+const NO_X: Wanted = All(&[(1, b"file x\n"), (1, NOT_FOUND)]);
+
 const ROWS: &[Row] = &[
     ("show m", CALM, Done, Text(MODULE), NOTHING),
     ("show w", CALM, Done, Text(WORLD), NOTHING),
@@ -102,7 +105,7 @@ const ROWS: &[Row] = &[
         Is("refused show 1"),
         Holds("show: the file is a module in text; write the module by `asm`"),
     ),
-    ("show x", CALM, NotReached, NOTHING, Is("file x")),
+    ("show x", CALM, NotReached, NOTHING, NO_X),
     ("show b", (Some(0), None), NotReached, NOTHING, Is("file b")),
     (
         "show b",
@@ -111,7 +114,7 @@ const ROWS: &[Row] = &[
         NOTHING,
         Is("file stdout"),
     ),
-    ("show b --calls x", CALM, NotReached, NOTHING, Is("file x")),
+    ("show b --calls x", CALM, NotReached, NOTHING, NO_X),
     ("show", CALM, Misused, NOTHING, Wanted::Usage),
     ("show b c", CALM, Misused, NOTHING, Wanted::Usage),
     (
@@ -144,7 +147,7 @@ const ROWS: &[Row] = &[
         Is("refused show 1"),
         Holds("show: the file is a module in text; write the module by `asm`"),
     ),
-    ("show x --svg p", CALM, NotReached, NOTHING, Is("file x")),
+    ("show x --svg p", CALM, NotReached, NOTHING, NO_X),
     (
         "show b --svg b",
         CALM,
@@ -194,7 +197,7 @@ const ROWS: &[Row] = &[
         Is("refused show 1"),
         Holds("show: the file is a module in text; write the module by `asm`"),
     ),
-    ("show x --json", CALM, NotReached, NOTHING, Is("file x")),
+    ("show x --json", CALM, NotReached, NOTHING, NO_X),
     (
         "show b --json",
         (None, Some(0)),
@@ -219,6 +222,14 @@ const ROWS: &[Row] = &[
         Wanted::Usage,
     ),
     ("show --json", CALM, Misused, NOTHING, Wanted::Usage),
+    ("show b --force", CALM, Misused, NOTHING, Wanted::Usage),
+    (
+        "show b --svg p --force",
+        CALM,
+        Misused,
+        NOTHING,
+        Wanted::Usage,
+    ),
     ("check m --json", CALM, Misused, NOTHING, Wanted::Usage),
     (
         "mine --json w c b n --fuel 1",
@@ -298,22 +309,63 @@ const DRAWINGS: &[Drawing] = &[
         Is("file b"),
         Wanted::Absent,
     ),
-    // the picture is not written, or not whole
+    // the draft of the picture is not begun, not put or not kept
+    (
+        "show b --svg p",
+        (Some(1), None),
+        NotReached,
+        NOTHING,
+        Is("file p"),
+        Wanted::Absent,
+    ),
     (
         "show b --svg p",
         (Some(2), None),
         NotReached,
         NOTHING,
         Is("file p"),
-        Text(b""),
+        Wanted::Absent,
     ),
     (
         "show b --svg p",
-        (Some(4), None),
+        (Some(20), None),
         NotReached,
         NOTHING,
         Is("file p"),
+        Wanted::Absent,
+    ),
+    (
+        "show b --svg p",
+        (Some(21), None),
+        NotReached,
+        NOTHING,
+        Is("file p"),
+        Wanted::Absent,
+    ),
+    (
+        "show b --svg p",
+        (Some(22), None),
+        Done,
+        Is("picture 1837 bytes"),
+        NOTHING,
         Wanted::Front(PICTURE),
+    ),
+    // a file whose place it would take is as it was
+    (
+        "show b --svg m",
+        (Some(20), None),
+        NotReached,
+        NOTHING,
+        Is("file m"),
+        Wanted::Absent,
+    ),
+    (
+        "show b --svg m",
+        (Some(21), None),
+        NotReached,
+        NOTHING,
+        Is("file m"),
+        Wanted::Absent,
     ),
     // it is written, and not told
     (
@@ -321,12 +373,21 @@ const DRAWINGS: &[Drawing] = &[
         (None, Some(0)),
         NotReached,
         NOTHING,
-        Is("file stdout"),
+        All(&[(1, b"file stdout\n"), (1, WRITTEN)]),
         Wanted::Front(PICTURE),
+    ),
+    // nothing is written, and that is not told
+    (
+        "show w --svg p",
+        (None, Some(0)),
+        NotReached,
+        NOTHING,
+        Is("file stdout"),
+        Wanted::Absent,
     ),
 ];
 
-/// A line comes to what its row says, and leaves the block as it was.
+/// A line comes to what its row says, and leaves the block and the module as they were.
 fn draws<R: Abort + Threads + Wait + Sync>(
     rt: &R,
     alloc: Global,
@@ -334,7 +395,7 @@ fn draws<R: Abort + Threads + Wait + Sync>(
 ) -> Result<(), Fail> {
     let (words, fails, status, out, err, picture) = *row;
     let (file_fails, out_fails) = fails;
-    let after: [(&str, Wanted); 2] = [("b", Text(&BUMP)), ("p", picture)];
+    let after: [(&str, Wanted); 3] = [("b", Text(&BUMP)), ("m", Text(&HEADER)), ("p", picture)];
     let line = Line {
         words,
         files: FILES,

@@ -147,6 +147,7 @@ const WRITTEN: &[(&str, &str)] = &[
     ),
     ("text data w", "\n    \"ab\""),
     ("text pages w", "\n  (memory 1025)\n"),
+    ("text faults w", "\n  (memory 2000)\n"),
     ("text table w", "\n  (table 65537 funcref)\n"),
 ];
 

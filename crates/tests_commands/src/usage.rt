@@ -10,6 +10,9 @@ const TAKEN: &[&str] = &[
     "asm t m",
     "check --heap=2000 m",
     "deploy w m n",
+    "deploy w m --force",
+    "debug w c 9 place --fuel=5",
+    "debug w c 9 place --block b --fuel=5",
     "mine w c --fuel=5 b n",
     "debug w c 9 step:1 place",
 ];

@@ -7,7 +7,7 @@ use codec::{Failures, MemorySink};
 use lock_profile::Profile;
 use spec_ledger::{Entry, Kind, Lock, Mode, Outcome, Receipt, Version};
 use std::alloc::Global;
-use wblock_io::MemoryFiles;
+use wblock_io::{Cause, MemoryFiles};
 use wblock_line::{Answer, Fault};
 use wblock_show::{Form, Showing, show_block, show_file_block};
 
@@ -362,7 +362,7 @@ fn is_done<'a>(
         form: Form::Text,
     };
     match show_file_block(alloc, &mut files, task) {
-        Err(Fault::File(_)) => wanted.is_none(),
+        Err(Fault::File(_, cause)) => wanted.is_none() && cause == Cause::NotFound,
         Err(Fault::NoMemory) => false,
         Ok(answer) => {
             let (done, line, _) = told(alloc, answer);

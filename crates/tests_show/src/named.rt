@@ -7,7 +7,7 @@ use codec::Failures;
 use samples::FIRST_MODULE;
 use std::alloc::Global;
 use std::test::Fail;
-use wblock_io::MemoryFiles;
+use wblock_io::{Cause, MemoryFiles};
 use wblock_line::{Answer, Fault};
 use wblock_show::{Form, Showing, show_named};
 
@@ -130,8 +130,8 @@ pub(crate) fn files_of(alloc: Global) -> Result<MemoryFiles, Fail> {
 /// Whether what a command came to is what is wanted.
 pub(crate) fn is_wanted(alloc: Global, came: Result<Answer, Fault>, wanted: Shown) -> bool {
     match came {
-        Err(Fault::File(name)) => match wanted {
-            Shown::Missing(missing) => missing == name,
+        Err(Fault::File(name, cause)) => match wanted {
+            Shown::Missing(missing) => missing == name && cause == Cause::NotFound,
             _ => false,
         },
         Err(Fault::NoMemory) => false,
@@ -253,7 +253,9 @@ fn is_drawn(alloc: Global, files: &mut MemoryFiles, file: &str, wanted: Drawn) -
         form: Form::Picture("picture"),
     };
     match show_named(alloc, files, task) {
-        Err(Fault::File(name)) => matches!(wanted, Drawn::Missing) && name == file,
+        Err(Fault::File(name, cause)) => {
+            matches!(wanted, Drawn::Missing) && name == file && cause == Cause::NotFound
+        }
         Err(Fault::NoMemory) => false,
         Ok(answer) => match wanted {
             Drawn::Picture(end) => writes_picture(alloc, answer, "picture", end) == Some(true),

@@ -12,14 +12,14 @@ type CallRow<'a> = (u32, u64, &'a str, &'a [Value]);
 
 /// Three calls.
 pub(crate) const TEXT: &str =
-    "0 100 run i64:7\n4294967295 18446744073709551615 caf\u{e9}:\t- i32:-2147483648 i64:9223372036854775807 i32:0\n7 0 f\n";
+    "0 100 run i64:7\n4294967295 18446744073709551615 caf\u{e9}:- i32:-2147483648 i64:9223372036854775807 i32:0\n7 0 f\n";
 
 const CALLS: [CallRow; 3] = [
     (0, 100, "run", &[Value::I64(7)]),
     (
         4_294_967_295,
         18_446_744_073_709_551_615,
-        "caf\u{e9}:\t-",
+        "caf\u{e9}:-",
         &[
             Value::I32(-2_147_483_648),
             Value::I64(9_223_372_036_854_775_807),
@@ -53,7 +53,7 @@ fn count_of(alloc: Global, text: &[Part]) -> Result<Result<usize, CallsRefusal>,
 }
 
 /// Texts whose first bad line is the first.
-const BAD_AT_ONCE: [&[u8]; 24] = [
+const BAD_AT_ONCE: &[&[u8]] = &[
     b"0 100 run i64:7",
     b"\n",
     b"0 100 run  i64:7\n",
@@ -78,25 +78,64 @@ const BAD_AT_ONCE: [&[u8]; 24] = [
     b"0 100 run I64:7\n",
     b"0 100 run i64:7\r\n",
     b"0 100 \xff\n",
+    // control characters in an entry
+    b"0 100 run\r\n",
+    b"0 100 run\t\n",
+    b"0 100 run\0\n",
+    b"0 100 \t\n",
+    b"0 100 \x1b[31mrun i64:7\n",
+    b"0 100 run\x7f i64:7\n",
+    b"0 100 run\r\n0 100 run\r\n",
 ];
 
 #[test]
 fn names_the_first_bad_line(rt: HostRuntime) -> Result<(), Fail> {
     for text in BAD_AT_ONCE {
-        let answer = count_of(rt.alloc(), &[(1, text)])?;
+        let answer = count_of(rt.alloc(), &[(1, *text)])?;
         assert_eq!(rt; answer, Err(CallsRefusal::Line(1)), "{text:?}");
     }
     Ok(())
 }
 
+/// What a line is whose entry has this character between two letters.
+fn wanted_of(code: u8) -> Result<usize, CallsRefusal> {
+    match code {
+        // the first line ends here
+        10 => Err(CallsRefusal::Line(2)),
+        // the entry ends here, and an argument follows that is none
+        32 => Err(CallsRefusal::Line(1)),
+        0..=31 | 127 => Err(CallsRefusal::Line(1)),
+        _ => Ok(1),
+    }
+}
+
+#[test]
+fn an_entry_has_no_control_character(rt: HostRuntime) -> Result<(), Fail> {
+    for code in 0..128u8 {
+        let letter = [code];
+        let text: [Part; 3] = [(1, b"0 100 r"), (1, &letter), (1, b"n\n")];
+        assert_eq!(rt; count_of(rt.alloc(), &text)?, wanted_of(code), "{code}");
+    }
+    // characters of several bytes are none of them
+    for letter in ["\u{80}", "\u{85}", "\u{a0}", "\u{2028}", "\u{10ffff}"] {
+        let text: [Part; 3] = [(1, b"0 100 r"), (1, letter.as_bytes()), (1, b"n\n")];
+        assert_eq!(rt; count_of(rt.alloc(), &text)?, Ok(1), "{letter:?}");
+    }
+    Ok(())
+}
+
 /// Texts of no calls and of the most, and others whose bad line is not the first or that pass a limit.
-const LIMITS: [TextRow; 9] = [
+const LIMITS: &[TextRow] = &[
     (&[], Ok(0)),
     (
         &[(1, b"0 100 run i64:7\n0 100 run")],
         Err(CallsRefusal::Line(2)),
     ),
     (&[(1, b"0 100 run\n\n")], Err(CallsRefusal::Line(2))),
+    (
+        &[(1, b"0 100 run\n0 100 run\r\n")],
+        Err(CallsRefusal::Line(2)),
+    ),
     (
         &[(1, b"0 100 run\n0  100 run\n0 100 run\n")],
         Err(CallsRefusal::Line(2)),
@@ -120,7 +159,7 @@ const LIMITS: [TextRow; 9] = [
 #[test]
 fn keeps_the_limits(rt: HostRuntime) -> Result<(), Fail> {
     for (text, wanted) in LIMITS {
-        assert_eq!(rt; count_of(rt.alloc(), text)?, wanted, "{wanted:?}");
+        assert_eq!(rt; count_of(rt.alloc(), *text)?, *wanted, "{wanted:?}");
     }
     Ok(())
 }

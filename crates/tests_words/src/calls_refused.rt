@@ -6,7 +6,7 @@ use std::test::Fail;
 /// A text, the line that refuses it, and its sentence.
 type Row<'a> = (&'a [u8], &'a str, &'a str);
 
-const ROWS: [Row; 18] = [
+const ROWS: &[Row] = &[
     (
         b"0 100 run\n07 100 run\n",
         "refused calls 1 2\n",
@@ -51,6 +51,53 @@ const ROWS: [Row; 18] = [
         b"0\t100\trun\n",
         "refused calls 1 1\n",
         "calls, line 1, column 2: a tab stands here; write one space between words",
+    ),
+    // the same in an entry, with or without arguments behind it
+    (
+        b"0 100 run\r\n0 100 run\r\n",
+        "refused calls 1 1\n",
+        "calls, line 1, column 10: a carriage return stands here; end each line with a newline alone (LF, not CRLF)",
+    ),
+    (
+        b"0 100 run\n0 100 run\r i64:1\n",
+        "refused calls 1 2\n",
+        "calls, line 2, column 10: a carriage return stands here; end each line with a newline alone (LF, not CRLF)",
+    ),
+    (
+        b"0 100 run\ti64:1\n",
+        "refused calls 1 1\n",
+        "calls, line 1, column 10: a tab stands here; write one space between words",
+    ),
+    (
+        b"0 100 \t\n",
+        "refused calls 1 1\n",
+        "calls, line 1, column 7: a tab stands here; write one space between words",
+    ),
+    (
+        b"0 100 run\0\n",
+        "refused calls 1 1\n",
+        "calls, line 1, column 10: a control character stands here, a byte below 32 or 127; take it out",
+    ),
+    (
+        b"0 100 run\x7f i64:1\n",
+        "refused calls 1 1\n",
+        "calls, line 1, column 10: a control character stands here, a byte below 32 or 127; take it out",
+    ),
+    // the first of several, and others in other words
+    (
+        b"0 100 r\x01u\tn\r\n",
+        "refused calls 1 1\n",
+        "calls, line 1, column 8: a control character stands here, a byte below 32 or 127; take it out",
+    ),
+    (
+        b"0 100 run i64:\x1b1\n",
+        "refused calls 1 1\n",
+        "calls, line 1, column 15: a control character stands here, a byte below 32 or 127; take it out",
+    ),
+    (
+        b"0\0 100 run\n",
+        "refused calls 1 1\n",
+        "calls, line 1, column 2: a control character stands here, a byte below 32 or 127; take it out",
     ),
     (
         b"0 100 run  i64:1\n",
@@ -102,11 +149,14 @@ const ROWS: [Row; 18] = [
 #[test]
 fn names_the_word_at_fault(rt: HostRuntime) -> Result<(), Fail> {
     for (text, line, sentence) in ROWS {
-        let Err(refusal) = read_calls(rt.alloc(), text) else {
+        let Err(refusal) = read_calls(rt.alloc(), *text) else {
             return Err(Fail::from("these are calls"));
         };
-        assert_eq!(rt; refusal_line(rt.alloc(), refusal)?.as_str(), line);
-        assert_eq!(rt; calls_words(rt.alloc(), text, refusal)?.as_str(), sentence);
+        assert_eq!(rt; refusal_line(rt.alloc(), refusal)?.as_str(), *line);
+        assert_eq!(rt;
+            calls_words(rt.alloc(), *text, refusal)?.as_str(),
+            *sentence
+        );
     }
     Ok(())
 }

@@ -7,10 +7,10 @@ use wblock_inputs::{Inputs, read_inputs};
 use wblock_line::Fault;
 
 /// A world, calls, after how many calls of the files one fails, and what is told: the contract and the entry of each call where both
-/// are read, or the line that refuses one of them, or the file that is not read.
+/// are read, or the line that refuses one of them, or the file that is not read and why.
 type Row<'a> = (&'a [Part<'a>], &'a [Part<'a>], Option<u64>, &'a str);
 
-const ROWS: [Row; 9] = [
+const ROWS: &[Row] = &[
     (
         &WORLD_OF_NONE,
         &[(1, b"0 100 run i64:7\n3 5 f\n")],
@@ -43,8 +43,8 @@ const ROWS: [Row; 9] = [
         None,
         "refused calls 2\n",
     ),
-    (&WORLD_OF_NONE, &[], Some(0), "file w"),
-    (&WORLD_OF_NONE, &[], Some(1), "file c"),
+    (&WORLD_OF_NONE, &[], Some(0), "file w, Other"),
+    (&WORLD_OF_NONE, &[], Some(1), "file c, Other"),
 ];
 
 /// What is told of a row's files.
@@ -63,7 +63,7 @@ fn told(alloc: Global, row: Row) -> Result<String, Fail> {
             Ok(text)
         }
         Ok(Inputs::Refused(line, _)) => Ok(line),
-        Err(Fault::File(name)) => Ok(format!(in alloc; "file {name}")?),
+        Err(Fault::File(name, cause)) => Ok(format!(in alloc; "file {name}, {cause:?}")?),
         Err(Fault::NoMemory) => Err(Fail::from("no memory")),
     }
 }
@@ -71,7 +71,7 @@ fn told(alloc: Global, row: Row) -> Result<String, Fail> {
 #[test]
 fn tells_the_first_refused_file(rt: HostRuntime) -> Result<(), Fail> {
     for row in ROWS {
-        assert_eq!(rt; told(rt.alloc(), row)?.as_str(), row.3);
+        assert_eq!(rt; told(rt.alloc(), *row)?.as_str(), row.3);
     }
     Ok(())
 }

@@ -87,25 +87,73 @@ fn reads_lists_of_words(rt: HostRuntime) -> Result<(), Fail> {
     Ok(())
 }
 
-/// The world, the calls, the call, the commands and the block that a line asks for.
-type Asked<'a> = (&'a str, &'a str, u64, &'a [Command], Option<&'a str>);
+/// The world, the calls, the call, the commands, the block and its fuel that a line asks for.
+type Asked<'a> = (
+    &'a str,
+    &'a str,
+    u64,
+    &'a [Command],
+    Option<&'a str>,
+    Option<u64>,
+);
 
 /// Lines of words with single spaces between them, and what they ask to debug.
-const LINES: [(&str, Option<Asked>); 18] = [
+const LINES: &[(&str, Option<Asked>)] = &[
     (
         "debug w c 12 step:3 stack",
-        Some(("w", "c", 12, &[Command::Step(3), Command::Stack], None)),
+        Some((
+            "w",
+            "c",
+            12,
+            &[Command::Step(3), Command::Stack],
+            None,
+            None,
+        )),
     ),
     (
         "debug w c 12 stack --block b",
-        Some(("w", "c", 12, &[Command::Stack], Some("b"))),
+        Some(("w", "c", 12, &[Command::Stack], Some("b"), None)),
     ),
     (
         "debug --block=w w c 12 stack",
-        Some(("w", "c", 12, &[Command::Stack], Some("w"))),
+        Some(("w", "c", 12, &[Command::Stack], Some("w"), None)),
     ),
     ("debug w c 0 stack --block b --block b", None),
-    ("debug w c 0 stack --block b --fuel 3", None),
+    // the fuel of a block stands beside the block, in either order
+    (
+        "debug w c 12 stack --block b --fuel 300",
+        Some(("w", "c", 12, &[Command::Stack], Some("b"), Some(300))),
+    ),
+    (
+        "debug --fuel=18446744073709551615 w c 12 stack --block=b",
+        Some((
+            "w",
+            "c",
+            12,
+            &[Command::Stack],
+            Some("b"),
+            Some(18_446_744_073_709_551_615),
+        )),
+    ),
+    (
+        "debug w --fuel 0 c --block b 12 stack",
+        Some(("w", "c", 12, &[Command::Stack], Some("b"), Some(0))),
+    ),
+    (
+        "debug w c 0 stack --block b --fuel 18446744073709551616",
+        None,
+    ),
+    ("debug w c 0 stack --block b --fuel 03", None),
+    ("debug w c 0 stack --block b --fuel=+3", None),
+    ("debug w c 0 stack --block b --fuel=-3", None),
+    ("debug w c 0 stack --block b --fuel=", None),
+    ("debug w c 0 stack --block b --fuel 3 --fuel 3", None),
+    ("debug w c 0 stack --block b --block b --fuel 3", None),
+    ("debug w c 0 stack --fuel 3 --fuel 3", None),
+    ("debug w c 0 stack --block b --fuels 3", None),
+    ("debug w c 0 stack --block b --workers 3", None),
+    ("debug w c 0 stack --block b --fuel 3 --json", None),
+    ("debug w c 0 stack --block b --force", None),
     ("debug w c 0 stack --blocks b", None),
     (
         "debug w c 18446744073709551615 stack place",
@@ -114,6 +162,7 @@ const LINES: [(&str, Option<Asked>); 18] = [
             "c",
             18_446_744_073_709_551_615,
             &[Command::Stack, Command::Place],
+            None,
             None,
         )),
     ),
@@ -143,6 +192,7 @@ fn asks(alloc: Global, line: &str, asked: Option<Asked>) -> Result<bool, Fail> {
                     task.call,
                     task.commands.as_slice(),
                     task.block,
+                    task.fuel,
                 )),
         ),
         None => Ok(asked.is_none()),
@@ -152,7 +202,7 @@ fn asks(alloc: Global, line: &str, asked: Option<Asked>) -> Result<bool, Fail> {
 #[test]
 fn reads_a_line(rt: HostRuntime) -> Result<(), Fail> {
     for (line, asked) in LINES {
-        assert!(rt; asks(rt.alloc(), line, asked)?, "{line}");
+        assert!(rt; asks(rt.alloc(), *line, *asked)?, "{line}");
     }
     Ok(())
 }
