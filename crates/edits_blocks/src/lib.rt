@@ -2,6 +2,7 @@
 #![tactic(auto)]
 
 pub mod judgement;
+pub mod looking;
 pub mod prefixes;
 pub mod publication;
 pub mod sealing;

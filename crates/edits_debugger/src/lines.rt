@@ -8,6 +8,7 @@ ghost use Rattle.wblock_debug.specs.Debugs.{IsNotListed, Debugs, IsNextRead};
 
 use call::Call;
 use debugger::Contract;
+use pace::Pace;
 use spec_ledger::Version;
 use std::alloc::{Allocator, Global};
 use storage::Cells;
@@ -31,10 +32,11 @@ pub fn debug_call<A: Allocator + Copy>(
 }
 
 /// As [`wblock_debug::debug_world`].
-pub fn debug_world<'a, F: Files>(
+pub fn debug_world<'a, F: Files, P: Pace>(
     alloc: Global,
     files: &mut F,
     task: &Debugging<'a>,
+    pace: &P,
 ) -> Result<Option<Answer<'a>>, Fault<'a>>
     ensures answers { IfOk result (λ found. IsTrue F.tells → MatchOption found (IsNotListed (F.holds files.old) task.now) (Debugs (F.holds files.old) task.now)) }
     ensures kept { IsTrue F.tells → F.holds files.new ≡ F.holds files.old }
@@ -42,5 +44,5 @@ pub fn debug_world<'a, F: Files>(
     ensures counted { IfErr result (λ f. CountsFault f (F.failures files.old) (F.failures files.new)) }
     ensures next { IfErr result (IsOfFile (λ name. IsTrue F.tells → IsNextRead (F.holds files.old) task.now name)) }
 {
-    wblock_debug::debug_world(alloc, files, task)
+    wblock_debug::debug_world(alloc, files, task, pace)
 }

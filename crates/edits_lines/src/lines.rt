@@ -1,10 +1,9 @@
 //! A line of words.
 ghost use Rattle.std.specs.Prelude.{◌≡◌, ◌⊎◌, ℕ, List, IsTrue, IfOk, MatchOption, map};
-ghost use Rattle.codec.specs.Putting.{IsRaised};
 ghost use Rattle.wblock_line.specs.Words.{line_of};
-ghost use Rattle.wblock_line.specs.Answers.{IsSaid, file_line, memory_line};
+ghost use Rattle.wblock_line.specs.Answers.{IsSaid, SaysFile, memory_line};
 ghost use Rattle.wblock_commands.specs.Words.{IsLineOf, Says};
-ghost use Rattle.wblock_commands.specs.Does.{AsksCall, Misses, Does, Fails, IsKept, SaysText};
+ghost use Rattle.wblock_commands.specs.Does.{MayMiss, Misses, Does, Fails, IsKept, SaysText};
 ghost use Rattle.wblock_commands.specs.declared.command.Command.{Command as Asked};
 
 use codec::Sink;
@@ -36,11 +35,10 @@ pub fn run_line<'a, R: Threads + Wait + Sync, F: Files, O: Sink, E: Sink, P: Pac
     err: &mut E,
     pace: &P,
 ) -> Status
-    ensures done { result ≡ Status.Done → (c : Asked) × Says (map (λ w. w.now) words.entry.now) c × (IsTrue F.tells → IsTrue O.tells → Does c Status.Done (F.holds files.old) (F.holds files.new) (O.told out.old) (O.told out.new)) }
-    ensures refused { result ≡ Status.Refused → (c : Asked) × Says (map (λ w. w.now) words.entry.now) c × (IsTrue F.tells → IsTrue O.tells → Does c Status.Refused (F.holds files.old) (F.holds files.new) (O.told out.old) (O.told out.new)) }
-    ensures usage { result ≡ Status.Usage → ((c : Asked) → ¬ Says (map (λ w. w.now) words.entry.now) c) ⊎ ((c : Asked) × Says (map (λ w. w.now) words.entry.now) c × AsksCall c × (IsTrue F.tells → Misses c (F.holds files.old))) }
-    ensures cut { result ≡ Status.File → (c : Asked) × Says (map (λ w. w.now) words.entry.now) c × (IsTrue F.tells → IsTrue O.tells → (name : List ℕ) × Fails c name (F.holds files.old) (F.holds files.new) (O.told out.old) (O.told out.new) × (IsTrue E.tells → IsSaid (file_line name) (E.told err.old) (E.told err.new) (E.failures err.old) (E.failures err.new))) }
-    ensures counted { result ≡ Status.File → IsRaised (F.failures files.old) (F.failures files.new) ⊎ IsRaised (O.failures out.old) (O.failures out.new) }
+    ensures done { result ≡ Status.Done → (c : Asked) × Says (map (λ w. w.now) words.entry.now) c × (IsTrue F.tells → Does c Status.Done O.tells (F.holds files.old) (F.holds files.new) (O.told out.old) (O.told out.new)) }
+    ensures refused { result ≡ Status.Refused → (c : Asked) × Says (map (λ w. w.now) words.entry.now) c × (IsTrue F.tells → Does c Status.Refused O.tells (F.holds files.old) (F.holds files.new) (O.told out.old) (O.told out.new)) }
+    ensures usage { result ≡ Status.Usage → ((c : Asked) → ¬ Says (map (λ w. w.now) words.entry.now) c) ⊎ ((c : Asked) × Says (map (λ w. w.now) words.entry.now) c × MayMiss c × (IsTrue F.tells → Misses c (F.holds files.old))) }
+    ensures failing { result ≡ Status.File → (c : Asked) × Says (map (λ w. w.now) words.entry.now) c × ((name : List ℕ) × Fails c name F.tells O.tells (F.holds files.old) (F.holds files.new) (F.failures files.old) (F.failures files.new) (O.told out.old) (O.told out.new) (O.failures out.old) (O.failures out.new) × (IsTrue E.tells → SaysFile name (E.told err.old) (E.told err.new) (E.failures err.old) (E.failures err.new))) }
     ensures silent { (result ≡ Status.Usage) ⊎ (result ≡ Status.Memory) → IsTrue F.tells → IsKept (F.holds files.old) (F.holds files.new) (O.told out.old) (O.told out.new) }
     ensures usage_said { result ≡ Status.Usage → IsTrue E.tells → SaysText (E.told err.old) (E.told err.new) (E.failures err.old) (E.failures err.new) }
     ensures memory_said { result ≡ Status.Memory → IsTrue E.tells → IsSaid memory_line (E.told err.old) (E.told err.new) (E.failures err.old) (E.failures err.new) }

@@ -1,14 +1,26 @@
-//! The commands on modules.
+//! The commands on modules, and a contract that is read.
 ghost use Rattle.std.specs.Prelude.{◌≡◌, ◌≤◌, IsTrue, IfOk, IfErr, OnOk, length, map};
+ghost use Rattle.module_tree.specs.Modules.{module_view};
+ghost use Rattle.link.specs.Parts.{tree_of, hosts_of};
 ghost use Rattle.wblock_line.specs.Answers.{CountsFault, IsOfFile};
+ghost use Rattle.wblock_line.specs.Modules.{IsContractOf, StopsAt};
 ghost use Rattle.wblock_modules.specs.Assembles.{Assembles};
 ghost use Rattle.wblock_modules.specs.Checks.{Checks};
 ghost use Rattle.wblock_modules.specs.Deploys.{Deploys, IsNextModule};
 ghost use Rattle.wblock_modules.specs.Texts.{WritesText};
 
+use link::deployed::Deployed;
 use std::alloc::Global;
 use wblock_io::Files;
-use wblock_line::{Answer, Fault};
+use wblock_line::{Answer, Fault, Stop};
+
+/// As [`wblock_line::read_contract`].
+pub fn read_contract(alloc: Global, bytes: &[u8]) -> Result<Deployed<Global>, Stop>
+    ensures contract { IfOk result (λ d. IsContractOf bytes.now (module_view (tree_of d)) (hosts_of d)) }
+    ensures refused { IfErr result (StopsAt bytes.now) }
+{
+    wblock_line::read_contract(alloc, bytes)
+}
 
 /// As [`wblock_modules::assemble_file`].
 pub fn assemble_file<'a, F: Files>(
