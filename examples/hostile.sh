@@ -1,37 +1,14 @@
 #!/usr/bin/env bash
 # Gives the program what a stranger may send to stop it: calls that never end, with limits of fuel above the block's, among so many others that the miner
-# tries some of them first; and blocks that name such calls and were never mined, which the validator's workers might run ahead of its judgement. It answers
-# each rightly in two seconds, of which it needs some hundredths; one that hangs is a row that failed.
+# tries some of them first; and blocks that name such calls and were never mined, which the validator's workers might run ahead of its judgement, and the
+# debugger before the call that it is asked for. It answers each rightly in two seconds, of which it needs some hundredths; one that hangs is a row that failed.
 #
 #   examples/hostile.sh [PROGRAM]     PROGRAM: crates/wblock/out/wblock of this repository if it is not given
 #
 # It needs the shell, coreutils and python3, which makes the blocks by the formats of docs/REFERENCE.md, section 6. The status is 0 where all passed, 1
 # where one failed, 2 where there is no program.
-set -u
-here=$(cd "$(dirname "${BASH_SOURCE[0]}")" && pwd)
-program=${1:-$here/../crates/wblock/out/wblock}
-if [ ! -f "$program" ] || [ ! -x "$program" ]; then
-    echo "hostile: there is no program $program" >&2
-    exit 2
-fi
-program=$(cd "$(dirname "$program")" && pwd)/$(basename "$program")
-work=$(mktemp -d)
-trap 'rm -rf "$work"' EXIT
-cd "$work" || exit 1
-passed=0
-failed=0
-
-# Counts what was tried: $1 its name, then a command whose status says whether it is so.
-is() {
-    local name=$1
-    shift
-    if "$@"; then
-        passed=$((passed + 1))
-    else
-        failed=$((failed + 1))
-        echo "hostile: $name: not so: $*"
-    fi
-}
+# shellcheck source=SCRIPTDIR/checks.sh
+. "$(dirname "${BASH_SOURCE[0]}")/checks.sh" "$@"
 
 # Whether the miner leaves out these calls alone, in so many seconds: $1 the seconds, $2 the calls that are left out, $3 how many are in the block, and the words.
 mines() {
@@ -46,6 +23,31 @@ ends() { { timeout -s KILL "$1" "$program" "${@:2}" >out 2>err; } 2>/dev/null; }
 is_rejected() {
     { timeout -s KILL 2 "$program" validate world "$3" "$2" "${@:4}" >out 2>err; } 2>/dev/null
     [ $? = 1 ] && [ "$(cat out)" = "$1" ]
+}
+
+# Whether the debugger, asked for a call of a block, prints one line: $1 the status, $2 the line, $3 the call, and the words behind its command.
+shows() {
+    { timeout -s KILL 2 "$program" debug world calls "$3" place --block block "${@:4}" >out 2>err; } 2>/dev/null
+    [ $? = "$1" ] && [ "$(cat out)" = "$2" ]
+}
+
+# Whether a command that never ends says this on a terminal at once: $1 what, and the words.
+says_on_a_terminal() {
+    python3 - "$1" "$program" "${@:2}" <<'END'
+import os, pty, select, subprocess, sys, time
+wanted, said, (ours, theirs) = sys.argv[1].encode(), b"", pty.openpty()
+child = subprocess.Popen(sys.argv[2:], stdin=subprocess.DEVNULL, stdout=subprocess.DEVNULL, stderr=theirs)
+os.close(theirs)
+end = time.monotonic() + 2
+while wanted not in said and select.select([ours], [], [], max(0, end - time.monotonic()))[0]:
+    try:
+        said += os.read(ours, 4096)
+    except OSError:
+        break
+child.kill()
+child.wait()
+sys.exit(wanted not in said)
+END
 }
 
 # The 16 calls of a list that the miner looks at before it starts workers, rising: $1 how many calls the list has.
@@ -94,8 +96,7 @@ END
 cp "$here/numbers/cell.wat" other
 if ! "$program" asm text module >out 2>err || ! "$program" deploy world module >out 2>err || ! "$program" asm other module >out 2>err ||
     ! "$program" deploy other.world module >out 2>err; then
-    echo "hostile: no worlds are made: $(cat out err)"
-    exit 1
+    give_up "no worlds are made"
 fi
 
 # the miner: a call that never ends, with the highest limit; then many of them, spread over the list; then all
@@ -146,5 +147,23 @@ for count in 2048 65535; do
     done
 done
 
-echo "hostile: $passed passed, $failed failed"
-[ "$failed" = 0 ]
+# the debugger: a call that never ends stands before the one that is asked for. The fuel that is given bounds what runs; if none is given, the least that the
+# block needs does, which may be any number of 64 bits
+list_calls 512 $endless 0 >calls
+forge world calls 512 each >block
+is "calls of which 64 bits do not tell the fuel" shows 1 "reject 5" 511
+is "a call before it never ends" shows 1 "reject 5" 511 --fuel 1000
+is "it never ends itself" shows 1 "reject 5" 0 --fuel 1000
+list_calls 512 9223372036854775808 0 >calls
+forge world calls 512 each >block
+is "a call before it may use 2^63 of fuel" shows 1 "reject 5" 511 --fuel 1000
+is "one unit of fuel too few" shows 1 "reject 5" 511 --fuel 9223372036854776318
+is "no call before it" shows 0 "0 at 1 0" 0 --fuel 9223372036854776319
+is "what is about to run is said on a terminal" says_on_a_terminal "earlier calls run with up to 9223372036854776318 of fuel; --fuel N bounds it" \
+    debug world calls 511 place --block block
+list_calls 512 100000 0 >calls
+forge world calls 512 each >block
+is "a call before it uses 100,000 of fuel" shows 0 "0 at 2 0" 511 --fuel 100511
+is "so it does where no fuel is given" shows 0 "0 at 2 0" 511
+
+told

@@ -1,6 +1,6 @@
 #!/usr/bin/env bash
 # Runs the session of each example with the built program, and compares what is printed and each status; then reads by other programs what is shown of each module,
-# world and block that the sessions left (shown.py); then the program over files that fail (files.sh).
+# world and block that the sessions left (shown.py); then runs the program over files that fail, and over files that are there before they are written (files.sh).
 #
 #   examples/run.sh [PROGRAM]     PROGRAM: crates/wblock/out/wblock of this repository if it is not given
 #
