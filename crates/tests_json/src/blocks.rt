@@ -98,7 +98,7 @@ const FOUR_FIRST: &str = "\
 
 /// Calls whose names have quotes, a backslash, control characters and characters of two to four bytes.
 const ODD_CALLS: &str =
-    "0 1 a\"b\\c i64:1\n1 2 \u{1}\u{8}\u{c}\u{1f}\u{7f}\n2 3 \u{e9}\u{20ac}\u{1f600}/ i32:3\n3 4 x\n";
+    "0 1 a\"b\\c i64:1\n1 2 \u{80}\u{2028}'<>&\n2 3 \u{e9}\u{20ac}\u{1f600}/ i32:3\n3 4 x\n";
 
 /// The text of `FOUR` with these.
 const FOUR_ODD: &str = "\
@@ -110,7 +110,7 @@ const FOUR_ODD: &str = "\
     \"shared\":[{\"contract\":0,\"key\":\"7\",\"kind\":\"counter\",\"positions\":3},{\"contract\":0,\"key\":\"7\",\"kind\":\"map\",\"positions\":2}],\
     \"speed_up\":\"1.02\",\"total_fuel\":\"413\",\"waves\":2},\"fuel\":\"413\",\"kind\":\"block\",\
     \"positions\":[\
-    {\"asks\":0,\"call\":1,\"called\":{\"args\":[],\"contract\":1,\"entry\":\"\\u0001\\b\\f\\u001f\u{7f}\"},\"code\":null,\"fuel\":\"3\",\"locks\":[{\"contract\":0,\"key\":\"7\",\"kind\":\"counter\",\"mode\":\"read\",\"turn\":0}],\"outcome\":\"returned\",\"position\":0,\"value\":{\"type\":\"i64\",\"value\":\"-1\"},\"wave\":0},\
+    {\"asks\":0,\"call\":1,\"called\":{\"args\":[],\"contract\":1,\"entry\":\"\u{80}\u{2028}'<>&\"},\"code\":null,\"fuel\":\"3\",\"locks\":[{\"contract\":0,\"key\":\"7\",\"kind\":\"counter\",\"mode\":\"read\",\"turn\":0}],\"outcome\":\"returned\",\"position\":0,\"value\":{\"type\":\"i64\",\"value\":\"-1\"},\"wave\":0},\
     {\"asks\":2,\"call\":3,\"called\":{\"args\":[],\"contract\":3,\"entry\":\"x\"},\"code\":1,\"fuel\":\"400\",\"locks\":[{\"contract\":0,\"key\":\"7\",\"kind\":\"map\",\"mode\":\"read\",\"turn\":0},{\"contract\":0,\"key\":\"7\",\"kind\":\"counter\",\"mode\":\"add\",\"turn\":1}],\"outcome\":\"trapped\",\"position\":1,\"value\":null,\"wave\":1},\
     {\"asks\":0,\"call\":0,\"called\":{\"args\":[{\"type\":\"i64\",\"value\":\"1\"}],\"contract\":0,\"entry\":\"a\\\"b\\\\c\"},\"code\":null,\"fuel\":\"10\",\"locks\":[{\"contract\":0,\"key\":\"7\",\"kind\":\"map\",\"mode\":\"read\",\"turn\":0},{\"contract\":0,\"key\":\"7\",\"kind\":\"counter\",\"mode\":\"add\",\"turn\":1}],\"outcome\":\"returned\",\"position\":2,\"value\":null,\"wave\":1},\
     {\"asks\":0,\"call\":2,\"called\":{\"args\":[{\"type\":\"i32\",\"value\":\"3\"}],\"contract\":2,\"entry\":\"\u{e9}\u{20ac}\u{1f600}/\"},\"code\":6,\"fuel\":\"0\",\"locks\":[],\"outcome\":\"rejected\",\"position\":3,\"value\":null,\"wave\":0}],\"version\":2}";

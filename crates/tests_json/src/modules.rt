@@ -41,6 +41,16 @@ const ROOMS_JSON: &str = "\
     {\"bytes\":20,\"data\":0,\"elements\":0,\"exports\":[],\"functions\":[],\"globals\":[],\"imports\":[],\
     \"kind\":\"module\",\"memories\":[{\"max\":2,\"min\":1}],\"start\":null,\"tables\":[{\"max\":null,\"min\":1}]}";
 
+/// The same with an export whose name has five control characters.
+const CONTROLS: &[u8] =
+    b"\x00asm\x01\x00\x00\x00\x04\x04\x01p\x00\x01\x05\x04\x01\x01\x01\x02\x07\x09\x01\x05\x01\x08\x0c\x1f\x7f\x01\x00";
+
+/// Its text.
+const CONTROLS_JSON: &str = "\
+    {\"bytes\":31,\"data\":0,\"elements\":0,\"exports\":[{\"index\":0,\"kind\":\"table\",\"name\":\"\\u0001\\b\\f\\u001f\u{7f}\",\
+    \"type\":{\"max\":null,\"min\":1}}],\"functions\":[],\"globals\":[],\"imports\":[],\
+    \"kind\":\"module\",\"memories\":[{\"max\":2,\"min\":1}],\"start\":null,\"tables\":[{\"max\":null,\"min\":1}]}";
+
 /// The text of the first module of the samples.
 const FIRST_JSON: &str = "\
     {\"bytes\":82,\"data\":0,\"elements\":0,\"exports\":[{\"index\":2,\"kind\":\"func\",\"name\":\"run\",\"type\":{\"params\":[\"i64\"],\
@@ -56,6 +66,7 @@ type Row<'a> = (&'a str, &'a [u8], &'a str);
 const ROWS: &[Row] = &[
     ("of each", OF_EACH, OF_EACH_JSON),
     ("rooms", ROOMS, ROOMS_JSON),
+    ("controls in a name", CONTROLS, CONTROLS_JSON),
     ("the first", &FIRST_MODULE, FIRST_JSON),
 ];
 
