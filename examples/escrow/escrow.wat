@@ -36,17 +36,21 @@
   (i64.and (call $get (local.get $deal)) (i64.const 0xffff_ffff)))
 
  ;; Opens a deal, and gives what the buyer has left. Where the buyer has not enough,
- ;; the purse traps; this call goes on, strikes the deal, counts it, and gives -1. The
- ;; deal stands before the purse is asked, so that it is there whoever comes back.
+ ;; the purse traps; this call goes on, strikes the deal, counts it, and gives -1. Where
+ ;; nobody was asked (status 10 or 11: contract 0 is no purse, say), nothing was decided,
+ ;; and the call traps. The deal stands before the purse is asked, so that it is there
+ ;; whoever comes back.
  (func (export "open")
   (param $deal i64) (param $buyer i64) (param $seller i64) (param $amount i64)
-  (result i64)
+  (result i64) (local $status i32)
   (call $require (i32.eqz (call $has (local.get $deal))))
   (call $put (local.get $deal)
    (i64.or (i64.shl (local.get $buyer) (i64.const 48))
     (i64.or (i64.shl (local.get $seller) (i64.const 32)) (local.get $amount))))
-  (if (result i64)
-   (call $pay (local.get $buyer) (i64.const 65535) (local.get $amount))
+  (local.set $status
+   (call $pay (local.get $buyer) (i64.const 65535) (local.get $amount)))
+  (call $require (i32.lt_u (local.get $status) (i32.const 10)))
+  (if (result i64) (local.get $status)
    (then
     (drop (call $del (local.get $deal)))
     (call $add (i64.const 0) (i64.const 1))
