@@ -1,0 +1,123 @@
+#!/usr/bin/env bash
+# Tests of the kit for contract authors.
+#
+#   kit/test.sh [PROGRAM]     PROGRAM: crates/wblock/out/wblock of this repository if it is not given
+#
+# Without a compiler it takes the texts in prebuilt/, which `wblock text` wrote of what the compilers made: `abi` finds no fault, the calls of each example come
+# to the same as over the example's own text, and the steps of token.steps pass. Where clang and wasm-ld are there it compiles the contracts in C anew and
+# does the same, runs the native test, and what has to be refused is refused. Where rustc has wasm32-unknown-unknown or wasm32v1-none it does so with those in
+# Rust. What is not there is said, and is no failure. The status is 0 where all passed, 1 where one failed, 2 where there is no program.
+# shellcheck source=SCRIPTDIR/../examples/checks.sh
+. "$(dirname "${BASH_SOURCE[0]}")/../examples/checks.sh" "$@"
+script=kit
+examples=$here
+kit=$(cd "$here/../kit" && pwd)
+tools=$kit/tools
+contracts=(token registry ballot auction crowdfunding purse escrow)
+
+# Whether a command is done; what it says is shown where it is not.
+done_well() { "$@" >out 2>&1 || { sed 's/^/    /' out | head -20; return 1; }; }
+
+# Whether a command ends with status 1 and says this: $1 the words, and the command.
+says() {
+    "${@:2}" >out 2>&1
+    [ $? = 1 ] && grep -qF -- "$1" out
+}
+
+# The examples over the modules of a folder: $1 what made them, $2 the folder.
+examples_over() {
+    local name
+    for name in "${contracts[@]}"; do is "$1: $name has no fault" done_well "$tools/abi" "$2/$name.wasm"; done
+    for name in token registry ballot auction crowdfunding; do
+        is "$1: $name does what its text does" done_well "$tools/compare" "$program" "$examples/$name" "$2/$name.wasm"
+    done
+    is "$1: escrow does what its text does" done_well "$tools/compare" "$program" "$examples/escrow" "$2/purse.wasm" "$2/escrow.wasm"
+    cp "$kit/c/contracts/token.steps" "$2"
+    is "$1: the steps of token" done_well "$tools/steps" "$program" "$2/token.steps"
+}
+
+# Whether the program and `abi` refuse what a source compiles to: $1 the source, $2 how the program's line begins, and flags.
+refuses() {
+    clang --target=wasm32 -O2 -ffreestanding -nostdlib -I "$kit/c" -Wl,--no-entry "${@:3}" -o refused.wasm "$kit/c/refused/$1" || return 1
+    rm -f refused.world
+    "$program" deploy refused.world refused.wasm >line 2>err
+    [ $? = 1 ] && grep -q "^$2" line && says "fault: " "$tools/abi" refused.wasm
+}
+
+for language in c rust; do
+    mkdir "prebuilt-$language"
+    for name in "${contracts[@]}"; do
+        is "prebuilt in $language: $name" done_well "$program" asm "$kit/prebuilt/$language/$name.wat" "prebuilt-$language/$name.wasm"
+    done
+    examples_over "prebuilt in $language" "prebuilt-$language"
+done
+
+# the tools on what they cannot use
+printf 'no module' >text
+printf '\0asm\1\0\0\0\1\20' >short
+printf '\0asm\1\0\0\0\0\377\377\377\377\17' >huge
+is "abi of no file" says "No such file" "$tools/abi" absent
+is "abi of a text" says "this is no module" "$tools/abi" text
+is "abi of a module that is cut off" says "ends too early" "$tools/abi" short
+is "abi of a section that is too long" says "ends too early" "$tools/abi" huge
+is "where in a text" says "this is no module" "$tools/where" text 0:0
+is "steps of no file" says "No such file" "$tools/steps" "$program" absent
+printf 'jump 3\n' >jump.steps
+is "a step that is none" says "no such step" "$tools/steps" "$program" jump.steps
+done_well "$program" deploy token.world prebuilt-c/token.wasm
+is "a dry run" [ "$("$tools/call" "$program" token.world 0 open 100)" = $'returned fuel 12\nmap 0:0 excl - -> 100' ]
+is "a dry run of an entry that is not there" [ "$("$tools/call" "$program" token.world 0 shut 2>err)" = 'rejected 1 fuel 0' ]
+is "a dry run with a word for a number" says "is no number" "$tools/call" "$program" token.world 0 open many
+is "places for ask in C" [ "$("$tools/abi" --places C prebuilt-c/purse.wasm | head -1)" = 'enum { PURSE_MOVE = 0 };' ]
+is "places for ask in Rust" [ "$("$tools/abi" --places rust prebuilt-c/purse.wasm | head -1)" = 'pub const PURSE_MOVE: u32 = 0;' ]
+
+if command -v clang >/dev/null && command -v wasm-ld >/dev/null; then
+    mkdir compiled-c
+    for name in "${contracts[@]}" maths; do is "clang: $name" done_well "$kit/c/compile" "$kit/c/contracts/$name.c" "compiled-c/$name.wasm"; done
+    examples_over clang compiled-c
+    is "the native test of token" done_well clang -std=gnu11 -I "$kit/c" -o native "$kit/c/contracts/token_test.c"
+    is "the native test of token passes" done_well ./native
+    is "memory.copy" refuses bulk_memory.c "refused load 1" -mbulk-memory
+    is "reference types" refuses reference_types.c "refused load 1" -mreference-types
+    is "a tail call" refuses tail_call.c "refused load 1" -mtail-call
+    is "floating point" refuses floating_point.c "refused load 2"
+    is "too large a memory" refuses large_memory.c "refused deploy 4"
+    is "a key of 32 bits" refuses narrow_key.c "refused deploy 2 0"
+    is "a function that is not there" refuses c_library.c "refused deploy 1 0" -Wl,--allow-undefined
+    is "an imported memory" refuses imported_memory.c "refused deploy 1 0" -Wl,--import-memory
+    is "a switch of 130 cases" refuses large_switch.c "refused load 3 4"
+    printf '#include "foshqarel.h"\nEXPORT(u64, small, unsigned char i) { return i; }\n' >small.c
+    is "a parameter under 32 bits" says "takes and gives u32, i32, u64 and i64 alone" "$kit/c/compile" small.c small.wasm
+    if command -v llvm-symbolizer >/dev/null; then
+        is "the line of a source" [ "$("$tools/where" compiled-c/token.debug.wasm token.c:23 | cut -d: -f1 | sort -u)" = break ]
+        is "no code at a line" says "no code at token.c:1" "$tools/where" compiled-c/token.debug.wasm token.c:1
+        printf '0 1000 open i64:100\n' >open.calls
+        is "a break at a line" [ "$("$tools/debug" "$program" compiled-c/token.debug.wasm token.world open.calls 0 at:token.c:27 cont | grep -c "    open token.c:27$")" = 1 ]
+    fi
+else
+    echo "kit: there is no clang with wasm-ld, so contracts in C were not compiled"
+fi
+
+# The first rustc that has a target for contracts: its name and the target.
+rust_for_contracts() {
+    local one target folder
+    for one in "${RUSTC:-}" rustc /usr/bin/rustc; do
+        [ -n "$one" ] || continue
+        for target in wasm32v1-none wasm32-unknown-unknown; do
+            folder=$("$one" --print target-libdir --target $target 2>/dev/null) && ls "$folder"/libcore* >/dev/null 2>&1 && echo "$one $target" && return
+        done
+    done
+    return 1
+}
+
+if command -v wasm-ld >/dev/null && found=$(rust_for_contracts); then
+    read -r RUSTC TARGET <<<"$found"
+    export RUSTC TARGET
+    mkdir compiled-rust
+    for name in "${contracts[@]}" maths; do is "rustc: $name" done_well "$kit/rust/compile" "$kit/rust/contracts/$name.rs" "compiled-rust/$name.wasm"; done
+    examples_over rustc compiled-rust
+    is "a parameter of type bool" says 'the trait bound `bool: Word` is not satisfied' "$kit/rust/compile" "$kit/rust/refused/bool.rs" bool.wasm
+else
+    echo "kit: there is no rustc with wasm32, so contracts in Rust were not compiled"
+fi
+told
