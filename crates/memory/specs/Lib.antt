@@ -1,2 +1,2 @@
 pub mod Linear
-pub mod Pages
+pub mod Pieces

@@ -1,13 +1,14 @@
-//! Linear memory (Core Specification, 4.2.8 Memory Instances; 4.4.4 Memory Instructions): a list of pages that contracts see as one list of
-//! bytes. A page gets bytes of its own at the first store that meets it, and reads as zeros before.
+//! Linear memory (Core Specification, 4.2.8 Memory Instances; 4.4.4 Memory Instructions): a list of pieces of 4,096 bytes that contracts see as
+//! one list of bytes. The list is made as far as a store reaches. A piece gets bytes of its own at the first store that meets it, and reads as
+//! zeros before.
 #![tactic(auto)]
 
-ghost use Rattle.std.specs.Prelude.{◌≡◌, ℕ, ◌+◌, ◌*◌, ◌/◌, ◌%◌, ◌^◌, ◌<◌, ◌≤◌, ◌⊎◌, length, replicate, All, IfOk, IsErrOf, vec_len, ◌≢◌, slice_index, take, drop};
+ghost use Rattle.std.specs.Prelude.{◌≡◌, ℕ, ◌+◌, ◌*◌, ◌/◌, ◌%◌, ◌^◌, ◌<◌, ◌≤◌, ◌⊎◌, ◌++◌, length, replicate, All, IfOk, IsErrOf, vec_len, ◌≢◌, slice_index, take, drop};
 ghost use Rattle.spec_syntax.specs.Profile.{page_size, page_limit};
 ghost use Rattle.spec_numeric.specs.Storage.{bytes_of_number};
 ghost use Rattle.spec_numeric.specs.Memory.{load, written};
 ghost use Rattle.memory.specs.Linear.{Memory, pages, Stored, Grown};
-ghost use Rattle.memory.specs.Pages.{byte_in, bytes_in, contents, IsPage, IsEmptyPage, IsMade, IsSound, HasPut, number_in};
+ghost use Rattle.memory.specs.Pieces.{piece_size, byte_in, bytes_in, contents, IsPiece, IsMade, IsSound, IsPut, HasPut, number_in};
 
 use std::alloc::{AllocError, Allocator};
 use std::marker::Model;
@@ -18,6 +19,9 @@ use wtypes::TrapCode;
 /// The bytes of a page.
 pub const PAGE_SIZE: usize = 65_536;
 
+/// The bytes of a piece, 16 of which are a page.
+pub const PIECE_SIZE: usize = 4_096;
+
 /// No memory has more pages.
 pub const PAGE_LIMIT: u32 = 1024;
 
@@ -27,7 +31,7 @@ pub enum StoreRefusal {
     /// The bytes do not all lie in memory: `MemoryOutOfBounds`.
     #[error("trap: {0:?}")]
     Trap(TrapCode),
-    /// There was no memory for a page.
+    /// There was no memory for a piece.
     #[error("memory was refused")]
     NoMemory,
 }
@@ -35,332 +39,379 @@ pub enum StoreRefusal {
 /// A linear memory. Contracts see its bytes and the greatest number of its pages.
 #[derive(Drop)]
 pub struct Linear<A: Allocator + Clone> {
-    pages: Vec<Vec<u8, A>, A>,
+    pieces: Vec<Vec<u8, A>, A>,
+    /// In pages.
+    size: u32,
     max: u32,
 }
 
 impl<A: Allocator + Clone> Model for Linear<A> {
     ghost Value = { Memory };
 
-    ghost view = { λ m. record { bytes = bytes_in m.pages.items; max = m.max } };
+    ghost view = { λ m. record { bytes = bytes_in m.pieces.items 0 (page_size * m.size); max = m.max } };
 
-    ghost invariant = { λ m. IsSound m.pages.items m.max };
+    ghost invariant = { λ m. IsSound m.pieces.items m.size m.max };
 }
 
-fn byte<A: Allocator>(pages: &Vec<Vec<u8, A>, A>, at: usize) -> u8
-    requires { at < page_size * vec_len pages.now }
-    ensures { result ≡ byte_in pages.now.items at }
+fn byte<A: Allocator>(pieces: &Vec<Vec<u8, A>, A>, at: usize) -> u8
+    ensures { result ≡ byte_in pieces.now.items at }
 {
-    match pages[at / PAGE_SIZE].get(at % PAGE_SIZE) {
-        Some(byte) => *byte,
+    match pieces.get(at / PIECE_SIZE) {
+        Some(piece) => match piece.get(at % PIECE_SIZE) {
+            Some(byte) => *byte,
+            None => 0,
+        },
         None => 0,
     }
 }
 
-/// A byte of a page as a number.
+/// A byte of a piece as a number.
 #[inline(always)]
-fn one(page: &[u8], at: usize) -> u64
-    requires { at + 1 ≤ length page.now }
-    ensures value { result ≡ number_in (slice_index page.now) at 1 }
+fn one(piece: &[u8], at: usize) -> u64
+    requires { at + 1 ≤ length piece.now }
+    ensures value { result ≡ number_in (slice_index piece.now) at 1 }
     ensures below { result < 256 ^ 1 }
 {
-    u64::from(page[at])
+    u64::from(piece[at])
 }
 
-/// The number that two bytes of a page spell, the lowest first.
+/// The number that two bytes of a piece spell, the lowest first.
 #[inline(always)]
-fn two(page: &[u8], at: usize) -> u64
-    requires { at + 2 ≤ length page.now }
-    ensures value { result ≡ number_in (slice_index page.now) at 2 }
+fn two(piece: &[u8], at: usize) -> u64
+    requires { at + 2 ≤ length piece.now }
+    ensures value { result ≡ number_in (slice_index piece.now) at 2 }
     ensures below { result < 256 ^ 2 }
 {
-    u64::from(page[at]) + 256 * u64::from(page[at + 1])
+    u64::from(piece[at]) + 256 * u64::from(piece[at + 1])
 }
 
-/// The number that four bytes of a page spell.
+/// The number that four bytes of a piece spell.
 #[inline(always)]
-fn four(page: &[u8], at: usize) -> u64
-    requires { at + 4 ≤ length page.now }
-    ensures value { result ≡ number_in (slice_index page.now) at 4 }
+fn four(piece: &[u8], at: usize) -> u64
+    requires { at + 4 ≤ length piece.now }
+    ensures value { result ≡ number_in (slice_index piece.now) at 4 }
     ensures below { result < 256 ^ 4 }
 {
-    two(page, at) + 65536 * two(page, at + 2)
+    two(piece, at) + 65536 * two(piece, at + 2)
 }
 
-/// The number that eight bytes of a page spell.
+/// The number that eight bytes of a piece spell.
 #[inline(always)]
-fn eight(page: &[u8], at: usize) -> u64
-    requires { at + 8 ≤ length page.now }
-    ensures value { result ≡ number_in (slice_index page.now) at 8 }
+fn eight(piece: &[u8], at: usize) -> u64
+    requires { at + 8 ≤ length piece.now }
+    ensures value { result ≡ number_in (slice_index piece.now) at 8 }
     ensures below { result < 256 ^ 8 }
 {
-    four(page, at) + 4294967296 * four(page, at + 4)
+    four(piece, at) + 4294967296 * four(piece, at + 4)
 }
 
-/// The same as `number`, by one read where the bytes lie in one page that has bytes of its own and are one, two, four or eight.
+/// The same as `number`, by one read where the bytes lie in one piece that has bytes of its own and are one, two, four or eight.
 #[inline(always)]
-fn number_at<A: Allocator>(pages: &Vec<Vec<u8, A>, A>, at: usize, width: u32) -> u64
-    requires whole { All IsPage pages.now.items }
-    requires in_range { at + width ≤ page_size * vec_len pages.now }
+fn number_at<A: Allocator>(pieces: &Vec<Vec<u8, A>, A>, at: usize, width: u32) -> u64
+    requires whole { All IsPiece pieces.now.items }
+    requires in_range { at + width ≤ page_size * page_limit }
     requires narrow { width ≤ 8 }
-    requires limit { vec_len pages.now ≤ page_limit }
-    ensures value { result ≡ number_in (byte_in pages.now.items) at width }
+    ensures value { result ≡ number_in (byte_in pieces.now.items) at width }
     ensures below { result < 256 ^ width }
 {
-    if let Some(page) = pages.get(at / PAGE_SIZE) {
-        let offset = at % PAGE_SIZE;
-        if offset + width as usize <= page.len() {
+    if let Some(piece) = pieces.get(at / PIECE_SIZE) {
+        let offset = at % PIECE_SIZE;
+        if offset + width as usize <= piece.len() {
             match width {
-                8 => return eight(page.as_slice(), offset),
-                4 => return four(page.as_slice(), offset),
-                2 => return two(page.as_slice(), offset),
-                1 => return one(page.as_slice(), offset),
+                8 => return eight(piece.as_slice(), offset),
+                4 => return four(piece.as_slice(), offset),
+                2 => return two(piece.as_slice(), offset),
+                1 => return one(piece.as_slice(), offset),
                 _ => {}
             }
         }
     }
-    number(pages, at, width)
+    number(pieces, at, width)
 }
 
 /// The little-endian number that the `width` bytes from `at` on spell.
-fn number<A: Allocator>(pages: &Vec<Vec<u8, A>, A>, at: usize, width: u32) -> u64
-    requires in_range { at + width ≤ page_size * vec_len pages.now }
+fn number<A: Allocator>(pieces: &Vec<Vec<u8, A>, A>, at: usize, width: u32) -> u64
+    requires in_range { at + width ≤ page_size * page_limit }
     requires narrow { width ≤ 8 }
-    requires limit { vec_len pages.now ≤ page_limit }
-    ensures value { result ≡ number_in (byte_in pages.now.items) at width }
+    ensures value { result ≡ number_in (byte_in pieces.now.items) at width }
     ensures below { result < 256 ^ width }
 {
     if width == 0 {
         return 0;
     }
-    let low = byte(pages, at);
-    let high = number(pages, at + 1, width - 1);
+    let low = byte(pieces, at);
+    let high = number(pieces, at + 1, width - 1);
     u64::from(low) + 256 * high
 }
 
-// `PAGE_SIZE` is passed as a number, so that no fact of a caller holds a list of 65,536 zeros, which tactics would compute.
+// `PIECE_SIZE` is passed as a number, so that no fact of a caller holds a list of 4,096 zeros, which tactics would compute.
 fn zeros<A: Allocator>(alloc: A, size: usize) -> Result<Vec<u8, A>, AllocError>
-    ensures len { IfOk result (λ page. vec_len page ≡ size) }
-    ensures zero { IfOk result (λ page. (j : ℕ) → slice_index page.items j ≡ 0) }
+    ensures len { IfOk result (λ piece. vec_len piece ≡ size) }
+    ensures zero { IfOk result (λ piece. (j : ℕ) → slice_index piece.items j ≡ 0) }
 {
     vec![in alloc; 0; size]
 }
 
-/// Gives the page bytes of its own. Nothing that is read changes.
+/// Gives the piece bytes of its own. Nothing that is read changes.
 fn make<A: Allocator + Clone + Drop>(
-    pages: &mut Vec<Vec<u8, A>, A>,
+    pieces: &mut Vec<Vec<u8, A>, A>,
     index: usize,
 ) -> Result<(), AllocError>
-    requires in_range { index < vec_len pages.old }
-    requires whole { All IsPage pages.old.items }
-    ensures whole { All IsPage pages.new.items }
-    ensures len { vec_len pages.new ≡ vec_len pages.old }
-    ensures same { (at : ℕ) → byte_in pages.new.items at ≡ byte_in pages.old.items at }
-    ensures kept { (k : ℕ) → IsMade pages.old.items k → IsMade pages.new.items k }
-    ensures made { IfOk result (λ _. IsMade pages.new.items index) }
+    requires in_range { index < vec_len pieces.old }
+    requires whole { All IsPiece pieces.old.items }
+    ensures whole { All IsPiece pieces.new.items }
+    ensures len { vec_len pieces.new ≡ vec_len pieces.old }
+    ensures same { (at : ℕ) → byte_in pieces.new.items at ≡ byte_in pieces.old.items at }
+    ensures kept { (k : ℕ) → IsMade pieces.old.items k → IsMade pieces.new.items k }
+    ensures made { IfOk result (λ _. IsMade pieces.new.items index) }
 {
-    if pages[index].is_empty() {
-        let alloc = pages.allocator().clone()?;
-        let page = zeros(alloc, PAGE_SIZE)?;
-        pages[index] = page;
+    if pieces[index].is_empty() {
+        let alloc = pieces.allocator().clone()?;
+        let piece = zeros(alloc, PIECE_SIZE)?;
+        pieces[index] = piece;
     }
     Ok(())
 }
 
-fn put<A: Allocator>(pages: &mut Vec<Vec<u8, A>, A>, at: usize, byte: u8)
-    requires in_range { at < page_size * vec_len pages.old }
-    requires whole { All IsPage pages.old.items }
-    requires made { IsMade pages.old.items (at / page_size) }
-    ensures whole { All IsPage pages.new.items }
-    ensures len { vec_len pages.new ≡ vec_len pages.old }
-    ensures there { byte_in pages.new.items at ≡ byte }
-    ensures elsewhere { (k : ℕ) → k ≢ at → byte_in pages.new.items k ≡ byte_in pages.old.items k }
-    ensures kept { (k : ℕ) → IsMade pages.old.items k → IsMade pages.new.items k }
+/// Makes the list of pieces at least so long. Nothing that is read changes.
+fn lengthen<A: Allocator + Clone + Drop>(
+    pieces: &mut Vec<Vec<u8, A>, A>,
+    count: usize,
+) -> Result<(), AllocError>
+    requires whole { All IsPiece pieces.old.items }
+    ensures whole { All IsPiece pieces.new.items }
+    ensures reach { (vec_len pieces.new ≤ vec_len pieces.old) ⊎ (vec_len pieces.new ≤ count) }
+    ensures same { (at : ℕ) → byte_in pieces.new.items at ≡ byte_in pieces.old.items at }
+    ensures long { IfOk result (λ _. count ≤ vec_len pieces.new) }
 {
-    pages[at / PAGE_SIZE][at % PAGE_SIZE] = byte;
+    let held = pieces.len();
+    if count <= held {
+        return Ok(());
+    }
+    let alloc = pieces.allocator().clone()?;
+    pieces.reserve(count - held)?;
+    for _ in held..count {
+        pieces.push_reserved(Vec::new(alloc.clone()?));
+    }
+    Ok(())
 }
 
-/// Gives each page from `first` on and below `end` bytes of its own. Nothing that is read changes.
+/// Gives each piece from `first` on and below `end` bytes of its own. Nothing that is read changes.
 fn make_all<A: Allocator + Clone + Drop>(
-    pages: &mut Vec<Vec<u8, A>, A>,
+    pieces: &mut Vec<Vec<u8, A>, A>,
     first: usize,
     end: usize,
 ) -> Result<(), AllocError>
-    requires in_range { end ≤ vec_len pages.old }
-    requires whole { All IsPage pages.old.items }
-    ensures whole { All IsPage pages.new.items }
-    ensures len { vec_len pages.new ≡ vec_len pages.old }
-    ensures same { (at : ℕ) → byte_in pages.new.items at ≡ byte_in pages.old.items at }
-    ensures made { IfOk result (λ _. (k : ℕ) → first ≤ k → k < end → IsMade pages.new.items k) }
+    requires whole { All IsPiece pieces.old.items }
+    ensures whole { All IsPiece pieces.new.items }
+    ensures reach { (vec_len pieces.new ≤ vec_len pieces.old) ⊎ (vec_len pieces.new ≤ end) }
+    ensures same { (at : ℕ) → byte_in pieces.new.items at ≡ byte_in pieces.old.items at }
+    ensures long { IfOk result (λ _. end ≤ vec_len pieces.new) }
+    ensures made { IfOk result (λ _. (k : ℕ) → first ≤ k → k < end → IsMade pieces.new.items k) }
 {
+    lengthen(pieces, end)?;
     for index in first..end {
-        make(pages, index)?;
+        make(pieces, index)?;
     }
     Ok(())
 }
 
-/// Writes the bytes from `at` on, into pages that are made.
-fn put_all<A: Allocator>(pages: &mut Vec<Vec<u8, A>, A>, at: usize, bytes: &[u8])
-    requires in_range { at + length bytes.now ≤ page_size * vec_len pages.old }
-    requires limit { vec_len pages.old ≤ page_limit }
-    requires whole { All IsPage pages.old.items }
-    requires made { (k : ℕ) → at ≤ k → k < at + length bytes.now → IsMade pages.old.items (k / page_size) }
-    ensures whole { All IsPage pages.new.items }
-    ensures len { vec_len pages.new ≡ vec_len pages.old }
-    ensures there { (k : ℕ) → k < length bytes.now → byte_in pages.new.items (at + k) ≡ slice_index bytes.now k }
-    ensures elsewhere { (k : ℕ) → (k < at) ⊎ (at + length bytes.now ≤ k) → byte_in pages.new.items k ≡ byte_in pages.old.items k }
+/// How many of so many bytes from an address on lie in its piece.
+fn in_piece(at: usize, count: usize) -> usize
+    requires { 0 < count }
+    ensures some { 0 < result }
+    ensures most { result ≤ count }
+    ensures within { at % piece_size + result ≤ piece_size }
 {
-    for (index, byte) in bytes.iter().enumerate() {
-        put(pages, at + index, *byte);
+    let left = PIECE_SIZE - at % PIECE_SIZE;
+    if count < left { count } else { left }
+}
+
+/// Writes the bytes into a piece from a place on.
+#[inline(always)]
+fn write_in(piece: &mut [u8], at: usize, bytes: &[u8])
+    requires { at + length bytes.now ≤ length piece.old }
+    ensures { piece.new ≡ written at bytes.now piece.old }
+{
+    piece[at..at + bytes.len()].copy_from_slice(bytes);
+}
+
+/// Writes the bytes, which lie in one piece, into that piece, which is made.
+#[inline(always)]
+fn put<A: Allocator>(pieces: &mut Vec<Vec<u8, A>, A>, at: usize, bytes: &[u8])
+    requires whole { All IsPiece pieces.old.items }
+    requires within { at % piece_size + length bytes.now ≤ piece_size }
+    requires in_range { at / piece_size < vec_len pieces.old }
+    requires made { IsMade pieces.old.items (at / piece_size) }
+    ensures whole { All IsPiece pieces.new.items }
+    ensures len { vec_len pieces.new ≡ vec_len pieces.old }
+    ensures put { IsPut pieces.old.items at bytes.now pieces.new.items }
+    ensures kept { (k : ℕ) → IsMade pieces.old.items k → IsMade pieces.new.items k }
+{
+    write_in(&mut pieces[at / PIECE_SIZE], at % PIECE_SIZE, bytes);
+}
+
+/// Writes the bytes from `at` on, into pieces that are made, piece by piece.
+fn put_all<A: Allocator>(pieces: &mut Vec<Vec<u8, A>, A>, at: usize, bytes: &[u8])
+    requires limit { at + length bytes.now ≤ page_size * page_limit }
+    requires in_range { at + length bytes.now ≤ piece_size * vec_len pieces.old }
+    requires whole { All IsPiece pieces.old.items }
+    requires made { (k : ℕ) → at ≤ k → k < at + length bytes.now → IsMade pieces.old.items (k / piece_size) }
+    ensures whole { All IsPiece pieces.new.items }
+    ensures len { vec_len pieces.new ≡ vec_len pieces.old }
+    ensures put { IsPut pieces.old.items at bytes.now pieces.new.items }
+{
+    let mut done = 0;
+    while done < bytes.len() {
+        let count = in_piece(at + done, bytes.len() - done);
+        put(pieces, at + done, &bytes[done..done + count]);
+        done += count;
     }
 }
 
-/// Writes the bytes into a page from a place on.
+/// Writes the bytes where they lie in one piece that has bytes of its own, and tells whether they do. Else nothing changes.
 #[inline(always)]
-fn write_in(page: &mut [u8], at: usize, bytes: &[u8])
-    requires { at + length bytes.now ≤ length page.old }
-    ensures { page.new ≡ written at bytes.now page.old }
-{
-    page[at..at + bytes.len()].copy_from_slice(bytes);
-}
-
-/// Writes the bytes where they lie in one page that has bytes of its own, and tells whether they do. Else nothing changes.
-#[inline(always)]
-fn put_in_page<A: Allocator>(pages: &mut Vec<Vec<u8, A>, A>, at: usize, bytes: &[u8]) -> bool
-    requires whole { All IsPage pages.old.items }
+fn put_in_piece<A: Allocator>(pieces: &mut Vec<Vec<u8, A>, A>, at: usize, bytes: &[u8]) -> bool
+    requires whole { All IsPiece pieces.old.items }
     requires some { 0 < length bytes.now }
-    requires short { length bytes.now ≤ 8 }
-    ensures whole { All IsPage pages.new.items }
-    ensures put { HasPut result pages.old.items at bytes.now pages.new.items }
+    ensures whole { All IsPiece pieces.new.items }
+    ensures put { HasPut result pieces.old.items at bytes.now pieces.new.items }
 {
-    let index = at / PAGE_SIZE;
-    let offset = at % PAGE_SIZE;
-    if index >= pages.len() || offset + bytes.len() > pages[index].len() {
+    let index = at / PIECE_SIZE;
+    let offset = at % PIECE_SIZE;
+    if index >= pieces.len() || offset + bytes.len() > pieces[index].len() {
         return false;
     }
-    write_in(&mut pages[index], offset, bytes);
+    put(pieces, at, bytes);
     true
 }
 
 /// The same for the first bytes of these eight, by one write where they are one, two, four or eight.
 #[inline(always)]
 fn put_first<A: Allocator>(
-    pages: &mut Vec<Vec<u8, A>, A>,
+    pieces: &mut Vec<Vec<u8, A>, A>,
     at: usize,
     bytes: &[u8],
     width: u32,
 ) -> bool
-    requires whole { All IsPage pages.old.items }
+    requires whole { All IsPiece pieces.old.items }
     requires eight { length bytes.now ≡ 8 }
     requires narrow { width ≤ 8 }
-    ensures whole { All IsPage pages.new.items }
-    ensures put { HasPut result pages.old.items at (take width bytes.now) pages.new.items }
+    ensures whole { All IsPiece pieces.new.items }
+    ensures put { HasPut result pieces.old.items at (take width bytes.now) pieces.new.items }
 {
     match width {
-        8 => put_in_page(pages, at, &bytes[..8]),
-        4 => put_in_page(pages, at, &bytes[..4]),
-        2 => put_in_page(pages, at, &bytes[..2]),
-        1 => put_in_page(pages, at, &bytes[..1]),
+        8 => put_in_piece(pieces, at, &bytes[..8]),
+        4 => put_in_piece(pieces, at, &bytes[..4]),
+        2 => put_in_piece(pieces, at, &bytes[..2]),
+        1 => put_in_piece(pieces, at, &bytes[..1]),
         _ => false,
     }
 }
 
-/// A list of pages with no bytes of their own.
-fn empty_pages<A: Allocator + Clone + Drop>(
-    alloc: &A,
-    count: u32,
-) -> Result<Vec<Vec<u8, A>, A>, AllocError>
-    ensures len { IfOk result (λ list. vec_len list ≡ count) }
-    ensures empty { IfOk result (λ list. All IsEmptyPage list.items) }
+/// Appends so many bytes from an address on, which lie in one piece.
+fn read_in_piece<A: Allocator, B: Allocator>(
+    pieces: &Vec<Vec<u8, A>, A>,
+    at: usize,
+    count: usize,
+    bytes: &mut Vec<u8, B>,
+) -> Result<(), AllocError>
+    requires whole { All IsPiece pieces.now.items }
+    requires within { at % piece_size + count ≤ piece_size }
+    ensures { IfOk result (λ _. bytes.new.items ≡ bytes.old.items ++ bytes_in pieces.now.items at count) }
 {
-    let mut list: Vec<Vec<u8, A>, A> = Vec::with_capacity(alloc.clone()?, count as usize)?;
-    for _ in 0..count {
-        list.push(Vec::new(alloc.clone()?))?;
+    if let Some(piece) = pieces.get(at / PIECE_SIZE) {
+        let offset = at % PIECE_SIZE;
+        if offset + count <= piece.len() {
+            bytes.extend_from_slice(&piece[offset..offset + count])?;
+            return Ok(());
+        }
     }
-    Ok(list)
+    bytes.resize(bytes.len() + count, 0)?;
+    Ok(())
 }
 
 /// So many bytes from an address on.
 fn read_bytes<A: Allocator, B: Allocator>(
-    pages: &Vec<Vec<u8, A>, A>,
+    pieces: &Vec<Vec<u8, A>, A>,
     alloc: B,
     from: usize,
     count: usize,
 ) -> Result<Vec<u8, B>, AllocError>
-    requires in_range { from + count ≤ page_size * vec_len pages.now }
-    requires limit { vec_len pages.now ≤ page_limit }
-    ensures { IfOk result (λ bytes. bytes.items ≡ take count (drop from (bytes_in pages.now.items))) }
+    requires whole { All IsPiece pieces.now.items }
+    requires limit { from + count ≤ page_size * page_limit }
+    ensures { IfOk result (λ bytes. bytes.items ≡ bytes_in pieces.now.items from count) }
 {
     let mut bytes = Vec::with_capacity(alloc, count)?;
-    for index in 0..count {
-        bytes.push(byte(pages, from + index))?;
+    let mut done = 0;
+    while done < count {
+        let part = in_piece(from + done, count - done);
+        read_in_piece(pieces, from + done, part, &mut bytes)?;
+        done += part;
     }
     Ok(bytes)
 }
 
-/// Pages with the same bytes.
-fn copy_pages<A: Allocator + Clone + Drop>(
-    pages: &Vec<Vec<u8, A>, A>,
+/// Pieces with the same bytes.
+fn copy_pieces<A: Allocator + Clone + Drop>(
+    pieces: &Vec<Vec<u8, A>, A>,
 ) -> Result<Vec<Vec<u8, A>, A>, AllocError>
-    ensures { IfOk result (λ copies. contents copies.items ≡ contents pages.now.items) }
+    ensures { IfOk result (λ copies. contents copies.items ≡ contents pieces.now.items) }
 {
-    let mut copies = Vec::with_capacity(pages.allocator().clone()?, pages.len())?;
-    for page in pages {
-        copies.push(page.to_vec(pages.allocator().clone()?)?)?;
+    let mut copies = Vec::with_capacity(pieces.allocator().clone()?, pieces.len())?;
+    for piece in pieces {
+        copies.push(piece.to_vec(pieces.allocator().clone()?)?)?;
     }
     Ok(copies)
 }
 
 impl<A: Allocator + Clone + Drop> Linear<A> {
-    /// A memory of so many pages of zeros, which may grow to `max` pages. It makes the list of pages alone.
+    /// A memory of so many pages of zeros, which may grow to `max` pages. It takes no memory.
     ///
     /// # Errors
     ///
-    /// `NoMemory` where the list was refused.
+    /// None comes today. `NoMemory` is kept for a form that takes memory here.
     pub fn new(alloc: A, pages: u32, max: u32) -> Result<Linear<A>, NoMemory>
         requires fits { pages ≤ max }
         requires limit { max ≤ page_limit }
         ensures { IfOk result (λ m. m ≡ record { bytes = replicate (page_size * pages) 0; max = max }) }
     {
-        match empty_pages(&alloc, pages) {
-            Ok(list) => Ok(Linear { pages: list, max }),
-            Err(_) => Err(NoMemory),
-        }
+        Ok(Linear {
+            pieces: Vec::new(alloc),
+            size: pages,
+            max,
+        })
     }
 
     /// Adds so many pages of zeros, and answers the old size in pages. Where the new size would pass the greatest one, it answers -1 and
-    /// changes nothing.
+    /// changes nothing. It takes no memory.
     ///
     /// # Errors
     ///
-    /// `NoMemory` where the longer list was refused. Nothing changes.
+    /// As at [`Linear::new`].
     pub fn grow(&mut self, delta: u32) -> Result<i32, NoMemory>
         ensures { Grown result self.old delta self.new }
     {
-        let count = self.pages.len();
-        if count + delta as usize > self.max as usize {
+        let size = self.size;
+        if delta > self.max - size {
             return Ok(-1);
         }
-        match empty_pages(self.pages.allocator(), delta) {
-            Err(_) => Err(NoMemory),
-            Ok(mut added) => match self.pages.append(&mut added) {
-                Err(_) => Err(NoMemory),
-                Ok(()) => Ok(count as i32),
-            },
-        }
+        self.size = size + delta;
+        Ok(size as i32)
     }
 
-    /// The same memory, with pages of its own.
+    /// The same memory, with pieces of its own.
     ///
     /// # Errors
     ///
-    /// `NoMemory` where a page or the list was refused.
+    /// `NoMemory` where a piece or the list was refused.
     pub fn copy(&self) -> Result<Linear<A>, NoMemory>
         ensures { IfOk result (λ copy. copy ≡ self.now) }
     {
-        match copy_pages(&self.pages) {
-            Ok(pages) => Ok(Linear {
-                pages,
+        match copy_pieces(&self.pieces) {
+            Ok(pieces) => Ok(Linear {
+                pieces,
+                size: self.size,
                 max: self.max,
             }),
             Err(_) => Err(NoMemory),
@@ -371,14 +422,14 @@ impl<A: Allocator + Clone + Drop> Linear<A> {
     pub fn size(&self) -> u32
         ensures { result ≡ pages self.now }
     {
-        self.pages.len() as u32
+        self.size
     }
 
     /// The size in bytes.
     pub fn len(&self) -> usize
         ensures { result ≡ length self.now.bytes }
     {
-        PAGE_SIZE * self.pages.len()
+        PAGE_SIZE * self.size as usize
     }
 
     /// So many bytes from an address on.
@@ -395,7 +446,7 @@ impl<A: Allocator + Clone + Drop> Linear<A> {
         requires { from + count ≤ length self.now.bytes }
         ensures { IfOk result (λ bytes. bytes.items ≡ take count (drop from self.now.bytes)) }
     {
-        read_bytes(&self.pages, alloc, from, count)
+        read_bytes(&self.pieces, alloc, from, count)
     }
 
     /// The little-endian number that `width` bytes spell, from the address `at` plus `offset` on, which never wraps. It takes no memory.
@@ -410,17 +461,17 @@ impl<A: Allocator + Clone + Drop> Linear<A> {
         ensures below { IfOk result (λ number. number < 256 ^ width) }
     {
         let start = at as usize + offset as usize;
-        if start + width as usize > PAGE_SIZE * self.pages.len() {
+        if start + width as usize > PAGE_SIZE * self.size as usize {
             return Err(TrapCode::MemoryOutOfBounds);
         }
-        Ok(number_at(&self.pages, start, width))
+        Ok(number_at(&self.pieces, start, width))
     }
 
     /// Writes the `width` lowest bytes of `value`, the lowest first, from the address `at` plus `offset` on, which never wraps.
     ///
     /// # Errors
     ///
-    /// `Trap` where the bytes do not all lie in memory, else `NoMemory` where a page was refused. Nothing changes.
+    /// `Trap` where the bytes do not all lie in memory, else `NoMemory` where a piece was refused. Nothing changes.
     #[inline(never)]
     pub fn store(
         &mut self,
@@ -434,7 +485,7 @@ impl<A: Allocator + Clone + Drop> Linear<A> {
     {
         let start = at as usize + offset as usize;
         let bytes = value.to_le_bytes();
-        if put_first(&mut self.pages, start, &bytes, width) {
+        if put_first(&mut self.pieces, start, &bytes, width) {
             return Ok(());
         }
         self.write(start, &bytes[..width as usize])
@@ -444,7 +495,7 @@ impl<A: Allocator + Clone + Drop> Linear<A> {
     ///
     /// # Errors
     ///
-    /// `Trap` where the bytes do not all lie in memory, else `NoMemory` where a page was refused. Nothing changes.
+    /// `Trap` where the bytes do not all lie in memory, else `NoMemory` where a piece was refused. Nothing changes.
     pub fn write_all(&mut self, at: u32, bytes: &[u8]) -> Result<(), StoreRefusal>
         ensures stored { Stored result self.old at bytes.now self.new }
         ensures some { IsErrOf result StoreRefusal.NoMemory → 0 < length bytes.now }
@@ -452,7 +503,7 @@ impl<A: Allocator + Clone + Drop> Linear<A> {
         self.write(at as usize, bytes)
     }
 
-    // Each page that the bytes meet is made before the first byte is written; no bytes meet none.
+    // Each piece that the bytes meet is made before the first byte is written; no bytes meet none.
     #[inline(never)]
     fn write(&mut self, start: usize, bytes: &[u8]) -> Result<(), StoreRefusal>
         requires { start < 2 ^ 33 }
@@ -460,16 +511,22 @@ impl<A: Allocator + Clone + Drop> Linear<A> {
         ensures some { IsErrOf result StoreRefusal.NoMemory → 0 < length bytes.now }
     {
         let end = start + bytes.len();
-        if end > PAGE_SIZE * self.pages.len() {
+        if end > PAGE_SIZE * self.size as usize {
             return Err(StoreRefusal::Trap(TrapCode::MemoryOutOfBounds));
         }
         if bytes.is_empty() {
             return Ok(());
         }
-        if make_all(&mut self.pages, start / PAGE_SIZE, end.div_ceil(PAGE_SIZE)).is_err() {
+        if make_all(
+            &mut self.pieces,
+            start / PIECE_SIZE,
+            end.div_ceil(PIECE_SIZE),
+        )
+        .is_err()
+        {
             return Err(StoreRefusal::NoMemory);
         }
-        put_all(&mut self.pages, start, bytes);
+        put_all(&mut self.pieces, start, bytes);
         Ok(())
     }
 }

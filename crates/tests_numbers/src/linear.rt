@@ -1,4 +1,4 @@
-//! Linear memory: stores over a page border, widths at the last byte, growth, copies and segments.
+//! Linear memory: stores over borders of pages and of pieces, widths at the last byte, growth, copies and segments.
 
 use crate::assertions::{equal, given};
 use memory::{Linear, PAGE_LIMIT, StoreRefusal};
@@ -23,6 +23,82 @@ fn stores_across_the_border(rt: HostRuntime) {
         &Ok(72_623_859_790_382_856),
     );
     equal(&rt, &"size", &memory.size(), &2);
+}
+
+// The same within a page.
+#[test]
+fn stores_across_a_border_of_pieces(rt: HostRuntime) {
+    let mut memory = given(&rt, &"memory", Linear::new(rt.alloc(), 1, 1));
+    equal(&rt, &"fresh", &memory.load(4_092, 0, 8), &Ok(0));
+    equal(
+        &rt,
+        &"store",
+        &memory.store(4_000, 92, 8, 72_623_859_790_382_856),
+        &Ok(()),
+    );
+    equal(&rt, &"behind", &memory.load(4_096, 0, 4), &Ok(16_909_060));
+    equal(&rt, &"before", &memory.load(4_092, 0, 4), &Ok(84_281_096));
+    equal(
+        &rt,
+        &"over it",
+        &memory.load(4_092, 0, 8),
+        &Ok(72_623_859_790_382_856),
+    );
+}
+
+// The first border is stored over before the memory grows, the last one behind it, and no other.
+#[test]
+fn each_border_of_pieces_after_growth(rt: HostRuntime) {
+    let mut memory = given(&rt, &"memory", Linear::new(rt.alloc(), 1, 3));
+    let value = 72_623_859_790_382_856;
+    equal(
+        &rt,
+        &"store before",
+        &memory.store(4_092, 0, 8, value),
+        &Ok(()),
+    );
+    equal(&rt, &"by one page", &memory.grow(1), &Ok(1));
+    equal(
+        &rt,
+        &"store behind",
+        &memory.store(126_972, 0, 8, value),
+        &Ok(()),
+    );
+    equal(&rt, &"by one more", &memory.grow(1), &Ok(2));
+    for border in 0..47 {
+        let wanted = if border == 0 || border == 30 {
+            value
+        } else {
+            0
+        };
+        equal(
+            &rt,
+            &("border", border),
+            &memory.load(4_092 + 4_096 * border, 0, 8),
+            &Ok(wanted),
+        );
+    }
+}
+
+// What is written over four pieces is read back, with a byte of each side, and a piece that is not made as zeros.
+#[test]
+fn bytes_over_several_pieces(rt: HostRuntime) {
+    let mut memory = given(&rt, &"memory", Linear::new(rt.alloc(), 2, 2));
+    let mut segment = Vec::new(rt.alloc());
+    for index in 0..9_000u32 {
+        let byte = (index % 251) as u8 + 1;
+        given(&rt, &"segment", segment.push(byte));
+    }
+    equal(&rt, &"write", &memory.write_all(4_000, &segment), &Ok(()));
+    let mut wanted = given(&rt, &"a byte before", vec![in rt.alloc(); 0u8; 1]);
+    given(&rt, &"bytes", wanted.extend_from_slice(&segment));
+    given(&rt, &"zeros", wanted.resize(20_000, 0));
+    let length = memory.len();
+    equal(&rt, &"length", &length, &131_072);
+    if length == 131_072 {
+        let bytes = given(&rt, &"bytes", memory.bytes(rt.alloc(), 3_999, 20_000));
+        equal(&rt, &"bytes", &bytes.as_slice(), &wanted.as_slice());
+    }
 }
 
 #[test]

@@ -1,30 +1,29 @@
 use Rattle.std.proofs.Common.{◌≡◌, length, vec_len, arith, sym, ◌∙◌, ap, subst, ◌<◌}
 use Rattle.std.specs.Prelude.{Some, MatchOption}
 use Rattle.std.proofs.lemmas.Option.{slice_get-get_or}
-use Rattle.spec_syntax.specs.Profile.{page_size}
-use Rattle.memory.specs.Pages.{IsPage}
+use Rattle.memory.specs.Pieces.{piece_size, IsPiece}
 use Rattle.memory.proofs.Lists.{kept, made, same, is_zero, other}
 use Rattle.memory.proofs.make.Goals as goal
 
-pub returns-in_ok-page-clause-kept : goal.returns-in_ok-page-clause-kept
-returns-in_ok-page-clause-kept g c = kept c.args.pages.now.items c.args.index c.in_ok-page.page c.in_ok-page.ensures.len
+pub returns-in_ok-piece-clause-kept : goal.returns-in_ok-piece-clause-kept
+returns-in_ok-piece-clause-kept g c = kept c.args.pieces.now.items c.args.index c.in_ok-piece.piece c.in_ok-piece.ensures.len
 
-pub returns-in_ok-page-clause-made : goal.returns-in_ok-page-clause-made
-returns-in_ok-page-clause-made g c = made c.args.pages.now.items c.args.index c.in_ok-page.page c.in_ok-page.ensures.len (omega (arith, c.args.pages.now.ok.0))
+pub returns-in_ok-piece-clause-made : goal.returns-in_ok-piece-clause-made
+returns-in_ok-piece-clause-made g c = made c.args.pieces.now.items c.args.index c.in_ok-piece.piece c.in_ok-piece.ensures.len (omega (arith, c.args.pieces.now.ok.0))
 
-pub returns-in_ok-page-clause-same : goal.returns-in_ok-page-clause-same
-returns-in_ok-page-clause-same g c =
-    let ps = c.args.pages.now.items in let old = c.index.result.now in
-    let within : c.args.index < length ps = omega (arith, c.args.pages.now.ok.0) in
+pub returns-in_ok-piece-clause-same : goal.returns-in_ok-piece-clause-same
+returns-in_ok-piece-clause-same g c =
+    let ps = c.args.pieces.now.items in let old = c.index.result.now in
+    let within : c.args.index < length ps = omega (arith, c.args.pieces.now.ok.0) in
     let empty = is_zero (vec_len old) c.is_empty.result c.is_empty.ensures c.if-is_empty.true in
-    same ps c.args.index c.in_ok-page.page old (slice_get-get_or ps c.args.index old within ∙ ap Some (sym c.index.ensures))
-    (omega (arith, old.ok.0, empty)) c.in_ok-page.ensures.zero
+    same ps c.args.index c.in_ok-piece.piece old (slice_get-get_or ps c.args.index old within ∙ ap Some (sym c.index.ensures))
+    (omega (arith, old.ok.0, empty)) c.in_ok-piece.ensures.zero
 
 pub returns-else-is_empty-clause-made : goal.returns-else-is_empty-clause-made
 returns-else-is_empty-clause-made g c =
-    let ps = c.args.pages.now.items in let old = c.index.result.now in
-    let within : c.args.index < length ps = omega (arith, c.args.pages.now.ok.0) in
-    let page = subst IsPage (sym c.index.ensures) (c.requires.whole c.args.index old within) in
-    let full = other (vec_len old) page_size c.is_empty.result c.is_empty.ensures c.if-is_empty.false page in
+    let ps = c.args.pieces.now.items in let old = c.index.result.now in
+    let within : c.args.index < length ps = omega (arith, c.args.pieces.now.ok.0) in
+    let piece = subst IsPiece (sym c.index.ensures) (c.requires.whole c.args.index old within) in
+    let full = other (vec_len old) piece_size c.is_empty.result c.is_empty.ensures c.if-is_empty.false piece in
     let found = slice_get-get_or ps c.args.index old within ∙ ap Some (sym c.index.ensures) in
-    subst (λ o. MatchOption o ⊥ (λ p. vec_len p ≡ page_size)) (sym found) full
+    subst (λ o. MatchOption o ⊥ (λ p. vec_len p ≡ piece_size)) (sym found) full

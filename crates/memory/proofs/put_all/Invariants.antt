@@ -1,13 +1,15 @@
-use Rattle.std.proofs.Common.{◌≡◌, ◌≤◌, ◌<◌, ◌+◌, ℕ, All, vec_len}
-use Rattle.std.specs.Prelude.{slice_index, ◌⊎◌}
-use Rattle.memory.specs.Pages.{byte_in, IsPage, IsMade}
+use Rattle.std.proofs.Common.{◌≡◌, ◌≤◌, ◌-◌, ℕ, All, vec_len, length, take}
+use Rattle.memory.specs.Pieces.{IsPiece, IsMade, IsPut}
 use Rattle.memory.proofs.put_all.Given as goal
 
-abbrev pub invariant-loop-index : goal.invariant-loop-index
-invariant-loop-index g l = record {
-  whole : All IsPage l.pages.items;
-  len : vec_len l.pages ≡ vec_len l.initial.pages;
-  made : (k : ℕ) → IsMade l.initial.pages.items k → IsMade l.pages.items k;
-  there : (k : ℕ) → k < l.index → byte_in l.pages.items (l.at + k) ≡ slice_index l.bytes k;
-  elsewhere : (k : ℕ) → (k < l.at) ⊎ (l.at + l.index ≤ k) → byte_in l.pages.items k ≡ byte_in l.initial.pages.items k;
+abbrev pub invariant-loop-done : goal.invariant-loop-done
+invariant-loop-done g l = record {
+  whole : All IsPiece l.pieces.items;
+  len : vec_len l.pieces ≡ vec_len l.initial.pieces;
+  made : (k : ℕ) → IsMade l.initial.pieces.items k → IsMade l.pieces.items k;
+  within : l.done ≤ length l.bytes;
+  put : IsPut l.initial.pieces.items l.at (take l.done l.bytes) l.pieces.items;
 }
+
+abbrev pub decreases-loop-done : goal.decreases-loop-done
+decreases-loop-done g l = length l.bytes - l.done

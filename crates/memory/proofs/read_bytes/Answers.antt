@@ -1,8 +1,11 @@
-use Rattle.std.proofs.Common.{◌∙◌, ap, arith, ◌++◌, ◌∷◌, []}
+use Rattle.std.proofs.Common.{◌∙◌, ◌+◌, ◌++◌, ap, arith}
+use Rattle.memory.specs.Pieces.{bytes_in}
 use Rattle.memory.proofs.Copies.{read_more}
 use Rattle.memory.proofs.read_bytes.Goals as goal
 
-pub loop-index-preserved : goal.loop-index-preserved
-loop-index-preserved g c =
-    c.in_ok-push.ensures.items ∙ ap (λ b. c.loop-index.bytes.items ++ b ∷ []) c.byte.ensures
-    ∙ read_more c.args.pages.now.items c.args.from c.loop-index.index c.loop-index.bytes.items (let o = c.args.pages.now.ok.0 in omega (arith, o, c.requires.in_range, c.loop-index-test.true)) c.loop-index.invariant
+pub loop-done-preserved : goal.loop-done-preserved
+loop-done-preserved g c =
+    let ps = c.args.pieces.now.items in let i = c.loop-done.done in let kept = c.loop-done.invariant in (
+      omega (arith, kept.0, c.in_piece-part.ensures.most),
+      c.in_ok-read_in_piece.ensures ∙ (ap (λ l. l ++ bytes_in ps (c.args.from + i) c.in_piece-part.result) kept.1 ∙ read_more ps c.args.from i c.in_piece-part.result),
+    )

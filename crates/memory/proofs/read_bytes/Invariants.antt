@@ -1,6 +1,9 @@
-use Rattle.std.proofs.Common.{◌≡◌, take, drop}
-use Rattle.memory.specs.Pages.{bytes_in}
+use Rattle.std.proofs.Common.{◌≡◌, ◌≤◌, ◌-◌}
+use Rattle.memory.specs.Pieces.{bytes_in}
 use Rattle.memory.proofs.read_bytes.Given as goal
 
-abbrev pub invariant-loop-index : goal.invariant-loop-index
-invariant-loop-index g l = l.bytes.items ≡ take l.index (drop l.from (bytes_in l.pages.items))
+abbrev pub invariant-loop-done : goal.invariant-loop-done
+invariant-loop-done g l = (l.done ≤ l.count) × (l.bytes.items ≡ bytes_in l.pieces.items l.from l.done)
+
+abbrev pub decreases-loop-done : goal.decreases-loop-done
+decreases-loop-done g l = l.count - l.done

@@ -1,9 +1,18 @@
-use Rattle.std.proofs.Common.{◌+◌, ◌≤◌, arith, length, subst, sym}
+use Rattle.std.proofs.Common.{◌≡◌, ◌+◌, ◌*◌, ◌≤◌, ◌∙◌, arith, length, ap, subst, sym, take, drop, IfOk}
+use Rattle.spec_syntax.specs.Profile.{page_size}
 use Rattle.memory.proofs.Lists.{length_bytes}
+use Rattle.memory.proofs.Copies.{read}
 use Rattle.memory.proofs.Linear.bytes.Goals as goal
 
-pub read_bytes-requires-clause-in_range : goal.read_bytes-requires-clause-in_range
-read_bytes-requires-clause-in_range g c =
-    let o = c.self.inside.pages.ok.0 in
+pub read_bytes-requires-clause-limit : goal.read_bytes-requires-clause-limit
+read_bytes-requires-clause-limit g c =
     let h = subst (λ m. c.args.from + c.args.count ≤ length m.bytes) (sym c.self.view_is) c.requires in
-    omega (arith, o, h, length_bytes c.self.inside.pages.items)
+    omega (arith, h, length_bytes c.self.inside.pieces.items (page_size * c.self.inside.size), c.self.invariant.fits, c.self.invariant.limit)
+
+pub returns : goal.returns
+returns g c =
+    let h = subst (λ m. c.args.from + c.args.count ≤ length m.bytes) (sym c.self.view_is) c.requires in
+    let l = length_bytes c.self.inside.pieces.items (page_size * c.self.inside.size) in
+    subst (λ l. IfOk c.read_bytes.result (λ bytes. bytes.items ≡ l))
+    (read c.self.inside.pieces.items (page_size * c.self.inside.size) c.args.from c.args.count (omega (arith, h, l)) ∙ ap (λ m. take c.args.count (drop c.args.from m.bytes)) c.self.view_is)
+    c.read_bytes.ensures

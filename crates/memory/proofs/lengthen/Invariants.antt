@@ -1,0 +1,12 @@
+use Rattle.std.proofs.Common.{◌≡◌, ◌≤◌, ℕ, All, vec_len}
+use Rattle.std.specs.Prelude.{vec_capacity}
+use Rattle.memory.specs.Pieces.{byte_in, IsPiece}
+use Rattle.memory.proofs.lengthen.Given as goal
+
+abbrev pub invariant-loop : goal.invariant-loop
+invariant-loop g l = record {
+  whole : All IsPiece l.pieces.items;
+  len : vec_len l.pieces ≡ l.counter;
+  room : l.count ≤ vec_capacity l.pieces;
+  same : (at : ℕ) → byte_in l.pieces.items at ≡ byte_in l.initial.pieces.items at;
+}
