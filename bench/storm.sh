@@ -1,6 +1,6 @@
 #!/usr/bin/env bash
 # A test of load: for as many minutes as asked, random blocks of calls over few cells are mined by 64 or 4 workers in turn with 16 tries and validated by 64 workers and by
-# one. Some have 3,000 calls, which workers run over copies of the cells where the calls do not wait for one another.
+# one. Some have 3,000 calls, which workers run beside the cells where the calls do not wait for one another.
 # Each block has to be accepted, with the world that the miner wrote; and its calls, one after another in its order, have to come to the same receipts and to leave the
 # same world, both mined by one worker and by the serial executor. It prints a line a minute and how many blocks and calls there were, and fails at the first difference,
 # whose files it then keeps. Run it anywhere in the repository:

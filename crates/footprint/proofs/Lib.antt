@@ -1,3 +1,1 @@
-pub mod Behind
-pub mod Restoring
 pub mod Walking

@@ -1,16 +1,16 @@
-//! Whether several workers run the calls of a block faster than one thread does: by how many calls there are, how long they are, how many of them
-//! run one after another whoever runs them, and how many cells there are. The bounds were set by what `docs/BENCHMARKS.md` has, and by guess where it has
+//! Whether several workers run the calls of a block faster than one thread does: by how many calls there are, how long they are, and how many of them
+//! run one after another whoever runs them. The bounds were set by what `docs/BENCHMARKS.md` has, and by guess where it has
 //! nothing. No fact rests on them: they decide who runs the calls, never what the calls come to.
 #![tactic(auto)]
 
-ghost use Rattle.std.specs.Prelude.{◌≡◌, ◌≤◌, ◌<◌, ◌+◌, ◌*◌, ◌/◌, ◌↔◌, ℕ, [], All, Contains, IsTrue, min};
+ghost use Rattle.std.specs.Prelude.{◌≡◌, ◌≤◌, ◌<◌, ◌+◌, ◌*◌, ◌↔◌, ℕ, [], All, Contains, IsTrue};
 
 /// From how many calls on it is asked whether workers pay. Fewer are soon run by anyone.
 pub const MANY: usize = 512;
 
-/// The mean fuel of a call from which on this many workers, each over a copy of the cells, are taken to be faster than one thread, where no call waits for
+/// The mean fuel of a call from which on this many workers beside the cells, which they only read, are taken to be faster than one thread, where no call waits for
 /// another.
-pub fn least_mean_on_copies(workers: u32) -> u64
+pub fn least_mean_beside(workers: u32) -> u64
     ensures one { workers ≤ 1 → result ≡ 5000 }
     ensures several { 2 ≤ workers → result ≡ 4 }
     ensures most { result ≤ 5000 }
@@ -48,25 +48,6 @@ pub fn are_wide(calls: u32, waves: u64) -> bool
     ensures { IsTrue result ↔ (2 * waves ≤ calls) }
 {
     2 * waves <= u64::from(calls)
-}
-
-/// Whether there are so few cells, beside so many calls, that copies of them for each of so many workers cost little: one for each worker
-/// has at most 4 cells for each call together.
-pub fn are_few(cells: usize, calls: u32, workers: u32) -> bool
-    ensures { IsTrue result ↔ (cells * workers ≤ 4 * calls) }
-{
-    cells as u128 * u128::from(workers) <= 4 * u128::from(calls)
-}
-
-/// As how many calls one counts beside the cells that are copied, where so many use so much fuel together: one more for each 128
-/// that a call uses on average, and at most 16.
-pub fn weight(calls: u32, fuel: u64) -> u32
-    requires { 1 ≤ calls }
-    ensures value { result ≡ 1 + min (fuel / (128 * calls)) 15 }
-    ensures most { result ≤ 16 }
-{
-    let more = fuel / (128 * u64::from(calls));
-    if more < 15 { 1 + more as u32 } else { 16 }
 }
 
 /// Whether of so many calls so many wait for none of the others that it pays to run these ahead, however short they are: two thirds of them.

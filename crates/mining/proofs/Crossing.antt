@@ -1,4 +1,4 @@
--- What workers over copies share may cross threads, over an allocator that may, and whose blocks any thread may give back.
+-- What workers beside the cells share may cross threads, over an allocator that may, and whose blocks any thread may give back.
 use denote.RattleType.{RattleType}
 use denote.Ref.{NamedLft, ShrRef}
 use denote.Struct.Field.{row_field}

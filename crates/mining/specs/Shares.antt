@@ -1,4 +1,4 @@
--- By what workers over copies of the cells take part, and what the caller has published meanwhile.
+-- By what workers beside the cells take part, and what the caller has published meanwhile.
 use Rattle.std.specs.Prelude.{◌≡◌, ◌+◌, ◌≤◌, length}
 use Rattle.interp.specs.Lent.{setting_view}
 use Rattle.intake.specs.Intakes.{IsSeatOf}

@@ -1,8 +1,8 @@
-// Workers that run calls each over a copy of the cells, which nobody else changes and each call leaves as it was, and hand over the footprints.
+// Workers that run calls over the cells before the block, which all of them read and nobody changes, and hand over the footprints.
 ghost use Rattle.std.specs.Prelude.{◌≡◌, ◌<◌, All, IfOk, IfSome, OnOk, length};
 ghost use Rattle.intake.specs.Intakes.{IsSeatOf};
 ghost use Rattle.handover.specs.Passes.{IsPassOf};
-ghost use Rattle.speculation.specs.Shares.{IsCopyOf, IsShareOf};
+ghost use Rattle.speculation.specs.Shares.{IsShareOf};
 ghost use Rattle.mining.specs.Shares.{DrawsCalls, IsPostOf};
 
 use crate::post::Post;
@@ -42,7 +42,7 @@ impl<'a, A: Allocator> Fact<Task<'a, A>, Share<'a, A>> for Footprints {
 pub(crate) struct CopyJob<'s, 'a, A: Allocator, P: Pace> {
     pub(crate) alloc: A,
     pub(crate) task: Task<'a, A>,
-    /// The cells that each worker copies.
+    /// The cells before the block, which each call reads.
     pub(crate) cells: &'s Cells<A>,
     pub(crate) intake: &'s Intake<A>,
     pub(crate) pace: &'s P,
@@ -104,17 +104,15 @@ pub(crate) fn receive<'a, A: Allocator + Copy, P: Pace>(
     post.line.take(&mut post.pass)
 }
 
-/// Draws calls and runs them one after another over a worker's copy, until none is left or the pace stops the worker, and hands batches of them over.
+/// Draws calls and runs them one after another, until none is left or the pace stops the worker, and hands batches of them over.
 fn run_drawn<'a, A: Allocator + Copy, R: Wait, P: Pace>(
     rt: &R,
     job: &CopyJob<'_, '_, A, P>,
     mut post: Post<'_, 'a, A>,
-    copy: &mut Cells<A>,
     share: &mut Share<'a, A>,
 ) -> Result<(), NoMemory>
     requires calls { DrawsCalls job.now }
     requires post { IsPostOf job.now post }
-    requires copy { IsCopyOf job.now.cells.now copy.old }
     requires prepared { IsShareOf job.now.task share.old }
     ensures { OnOk result (IsShareOf job.now.task share.new) }
 {
@@ -126,14 +124,14 @@ fn run_drawn<'a, A: Allocator + Copy, R: Wait, P: Pace>(
             share.set_aside.push(call)?;
             return Ok(());
         }
-        prepare(job.alloc, &job.task, job.cells, copy, call, share)?;
+        prepare(job.alloc, &job.task, job.cells, call, share)?;
         hand_over(job.alloc, &mut post, share)?;
     }
     Ok(())
 }
 
-/// Runs the calls that a worker draws over a copy of the cells, and answers what it has not handed over.
-fn work_on_copy<'a, A: Allocator + Copy, R: Wait, P: Pace>(
+/// Runs the calls that a worker draws, and answers what it has not handed over.
+fn work<'a, A: Allocator + Copy, R: Wait, P: Pace>(
     rt: &R,
     job: &CopyJob<'_, '_, A, P>,
     post: Post<'_, 'a, A>,
@@ -143,9 +141,8 @@ fn work_on_copy<'a, A: Allocator + Copy, R: Wait, P: Pace>(
     ensures { IfOk result (IsShareOf job.now.task) }
 {
     make_room(job.alloc, job.task.calls.len())?;
-    let mut copy = job.cells.copy(job.alloc)?;
     let mut share = begin(job.alloc, post.line.key, BATCH)?;
-    run_drawn(rt, job, post, &mut copy, &mut share)?;
+    run_drawn(rt, job, post, &mut share)?;
     Ok(share)
 }
 
@@ -170,7 +167,7 @@ pub(crate) fn run_on_copies<
         &|post: Post<A>| -> Result<Share<A>, NoMemory>
             requires { DrawsCalls job.now × IsPostOf job.now post }
             ensures { IfOk result (IsShareOf job.entry.now.task) }
-        { work_on_copy(rt, job, post) },
+        { work(rt, job, post) },
     )?;
     Ok(shares)
 }

@@ -1,4 +1,4 @@
-// The caller publishes what workers over copies of the cells hand over, and runs of its own meanwhile.
+// The caller publishes what workers beside the cells hand over, and runs of its own meanwhile.
 ghost use Rattle.std.specs.Prelude.{◌≡◌, ◌+◌, ◌≤◌, All, IfOk, OnOk, length};
 ghost use Rattle.std.specs.FinMap as finite;
 ghost use Rattle.spec_ledger.specs.Order.{IsAdmissible};
@@ -238,7 +238,7 @@ fn take_rest<'p, 'a, A: Allocator + Copy, P: Pace>(
     Ok(led)
 }
 
-/// Lets the workers run over their copies while the caller leads, and publishes what is left when all have ended.
+/// Lets the workers run while the caller leads, and publishes what is left when all have ended.
 fn run_all<'p, 'a, R: Threads + Wait + Sync, A: Allocator + Copy + Send + Sync, P: Pace>(
     rt: &R,
     job: &CopyJob<'_, '_, A, P>,
@@ -270,8 +270,8 @@ fn run_all<'p, 'a, R: Threads + Wait + Sync, A: Allocator + Copy + Send + Sync, 
     Ok(led)
 }
 
-/// Mines by workers, of which the caller is one. The others run the calls that they draw each over a copy of the cells, and hand them over in batches. The
-/// caller publishes these by their footprints, each where the cells that are published so far hold what it found, and while none wait it runs and publishes
+/// Mines by workers, of which the caller is one. The others run the calls that they draw beside the cells, which they only read, and hand them over in
+/// batches. The caller publishes these by their footprints, each where the cells that are published so far hold what it found, and while none wait it runs and publishes
 /// calls of its own. When all have ended, the calls that did not fit, those at which somebody was stopped and those that nobody drew run alone in rising
 /// number, and then each other call that has room.
 pub(crate) fn mine_on_copies<

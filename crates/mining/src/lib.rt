@@ -52,8 +52,8 @@ pub struct Mined<A: Allocator = Global> {
 /// workers, and may stop a worker at any of them: its call, and the calls that nobody drew, then run alone as well. The world is as it was.
 ///
 /// Of 512 calls or more at most 16 run alone first, whose limits are together within a 64th of the block's fuel, and are forgotten (`sampling`). Where workers
-/// over copies of the cells pay by these (`gain`), all but the calling thread
-/// run calls over a copy, which the calling thread publishes beside calls of its own, the pace is told the beginning of each call, and a call that found other
+/// beside the cells pay by these (`gain`), all but the calling thread
+/// run calls over the cells of the world, which nobody changes, and the calling thread publishes them beside calls of its own, the pace is told the beginning of each call, and a call that found other
 /// cells than there are in the published order runs again alone. Else workers
 /// run the calls as fewer ones, also where fewer than four had room or memory was refused to them; but where the calls are short, or wait for one another so
 /// much that no workers pay, none is started, the pace is told nothing, and

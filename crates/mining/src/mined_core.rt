@@ -57,9 +57,9 @@ pub struct MinedCore<A: Allocator = Global> {
 /// nobody drew. Then these and the calls that were tried in vain or stopped run alone in rising number, and then each other call
 /// that still has room.
 ///
-/// Where copies of the cells pay (as far as some of 512 calls or more tell, which run first within a 64th of the block's fuel and are forgotten), each worker
-/// but the calling thread runs the calls that it draws over a
-/// copy, and hands them over in batches. The calling thread publishes each by its footprint where the cells that are published so far hold what it found, and
+/// Where workers beside the cells pay (as far as some of 512 calls or more tell, which run first within a 64th of the block's fuel and are forgotten), each worker
+/// but the calling thread runs the calls that it draws over
+/// the cells of the world, which nobody changes, and hands them over in batches. The calling thread publishes each by its footprint where the cells that are published so far hold what it found, and
 /// runs and publishes calls that it draws itself while nothing is handed over. The pace is told the beginning of each call. The calls that did not fit run
 /// alone in rising number at the end. Where workers do not pay, none is started, and all calls that have room run alone in rising number.
 ///
@@ -112,7 +112,7 @@ pub fn mine_core<'a, R: Threads + Wait + Sync, A: Allocator + Copy + Send + Sync
                 rest,
             )
         }
-        Way::OnCopies => mine_on_copies(
+        Way::Beside => mine_on_copies(
             rt, alloc, contracts, cells, calls, block_fuel, workers, pace,
         ),
         Way::OverOneBook => mine_over_book(

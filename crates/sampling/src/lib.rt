@@ -8,10 +8,7 @@ ghost use Rattle.publish.specs.Publication.{IsSameJob, limits};
 ghost use Rattle.sampling.specs.declared.Way.TheVariants.{OverOneBook};
 
 use call::Call;
-use gain::{
-    MANY, are_apart, are_few, are_long, are_wide, count_waves, least_mean, least_mean_on_copies,
-    weight,
-};
+use gain::{MANY, are_apart, are_long, are_wide, count_waves, least_mean, least_mean_beside};
 use link::deployed::Deployed as Contract;
 use lock_profile::turns;
 use publish::{Published, Publishing};
@@ -35,8 +32,8 @@ const PARTS: u64 = 64;
 pub enum Way {
     /// The caller, one after another.
     Alone,
-    /// Workers, each over a copy of the cells.
-    OnCopies,
+    /// Workers beside the cells, which they only read.
+    Beside,
     /// Workers over one book.
     OverOneBook,
 }
@@ -118,19 +115,11 @@ fn look<'a, A: Allocator + Copy>(
     if !are_wide(count, count_waves(&waves)) {
         return Ok(Way::Alone);
     }
-    let pays_over_one_book = are_long(least_mean(workers), count, published.fuel);
-    if are_long(least_mean_on_copies(workers), count, published.fuel)
-        && (pays_over_one_book || are_apart(count, count_first(&waves)))
-        && are_few(
-            cells.entries().count(),
-            calls.len() as u32 * weight(count, published.fuel),
-            workers,
-        )
+    let are_long_enough = are_long(least_mean(workers), count, published.fuel);
+    if are_long(least_mean_beside(workers), count, published.fuel)
+        && (are_long_enough || are_apart(count, count_first(&waves)))
     {
-        return Ok(Way::OnCopies);
-    }
-    if pays_over_one_book {
-        return Ok(Way::OverOneBook);
+        return Ok(Way::Beside);
     }
     Ok(Way::Alone)
 }

@@ -1,20 +1,13 @@
--- Calls that were run over a copy of the cells, with their footprints.
+-- Calls that were run ahead of their turn, with their footprints.
 use Rattle.std.specs.Prelude.{◌≡◌, ◌-◌, ◌≤◌, ℕ, List, All, length, map, take, drop}
-use Rattle.std.specs.FinMap.{empty}
 use Rattle.spec_execution.specs.Configuration.{Setting}
 use Rattle.spec_execution.specs.Run.{ContractCall}
 use Rattle.spec_footprint.specs.declared.Access.{Access}
 use Rattle.interp.specs.Lent.{setting_view}
-use Rattle.storage.specs.Counts.{Store}
 use Rattle.footprint.specs.Calls.{IsFootprintOf}
 use Rattle.speculation.specs.declared.Prepared.{Prepared}
 use Rattle.speculation.specs.declared.Share.{Share}
 use Rattle.speculation.specs.declared.Task.{Task}
-
--- the copy holds what the cells hold, and nothing in it is unsettled
-pub record IsCopyOf (cells : Store) (copy : Store) : Type 0 where
-  pub same : copy.cells ≡ cells.cells
-  pub settled : copy.unsettled ≡ empty
 
 -- a call's own part of the accesses
 abbrev pub footprint_of : {A : Type 0} → List Access → Prepared A → List Access

@@ -1,5 +1,4 @@
-//! Calls that are run ahead of their turn, each over a copy of the cells, which is left as it was, and kept with their footprints until it is their turn
-//! (Dickerson, Gazzillo, Herlihy, Koskinen, "Adding Concurrency to Smart Contracts", PODC 2017, section 4: calls are run speculatively).
+//! Calls that are run ahead of their turn, each over a view of the cells, and kept with their footprints until it is their turn (Dickerson, Gazzillo, Herlihy, Koskinen, "Adding Concurrency to Smart Contracts", PODC 2017, section 4: calls are run speculatively).
 #![tactic(auto)]
 
 ghost use Rattle.std.specs.Prelude.{◌≡◌, ◌<◌, ◌++◌, ◌∷◌, ◌↔◌, [], All, IfOk, IfNone, IfSome, IsSome, OnOk, Some, length, slice_get};
@@ -8,10 +7,11 @@ ghost use Rattle.spec_execution.specs.Exec.{Executes};
 ghost use Rattle.spec_execution.specs.Run.{ContractCall};
 ghost use Rattle.spec_footprint.specs.Footprints.{Agrees};
 ghost use Rattle.interp.specs.Lent.{setting_view};
-ghost use Rattle.speculation.specs.Shares.{IsCopyOf, IsPrepared, IsShareOf, footprint_of, numbers};
+ghost use Rattle.speculation.specs.Shares.{IsPrepared, IsShareOf, footprint_of, numbers};
 
+use beside::{Reads, run_beside};
 use call::Call;
-use footprint::{enact, take};
+use footprint::enact;
 use link::deployed::Deployed as Contract;
 use serial::Executed;
 use spec_footprint::Access;
@@ -80,35 +80,31 @@ pub fn begin<'a, A: Allocator + Copy>(
     })
 }
 
-/// Runs a call over a copy of the cells, puts it with its footprint behind those of the share, and leaves the copy as it was.
+/// Runs a call over a view of the cells, and puts it with its footprint behind those of the share.
 ///
 /// # Errors
 ///
-/// Memory was refused. The copy and the share may have changed.
-pub fn prepare<A: Allocator + Copy>(
+/// Memory was refused. The share may have changed.
+pub fn prepare<A: Allocator + Copy, V: Reads>(
     alloc: A,
     task: &Task<'_, A>,
-    cells: &Cells<A>,
-    copy: &mut Cells<A>,
+    view: &V,
     call: u32,
     share: &mut Share<'_, A>,
 ) -> Result<(), NoMemory>
     requires call { call < length task.now.calls.now }
-    requires copy { IsCopyOf cells.now copy.old }
     requires share { IsShareOf task.now share.old }
-    ensures copy { OnOk result (IsCopyOf cells.now copy.new) }
     ensures share { OnOk result (IsShareOf task.now share.new) }
     ensures prepared { OnOk result (numbers share.new.prepared.items ≡ numbers share.old.prepared.items ++ call ∷ []) }
     ensures set_aside { share.new.set_aside ≡ share.old.set_aside }
 {
     let calls = task.calls;
     let from = share.accesses.len();
-    let executed = take(
+    let executed = run_beside(
         alloc,
         task.contracts,
         &calls[call as usize],
-        cells,
-        copy,
+        view,
         &mut share.accesses,
         task.version,
     )?;

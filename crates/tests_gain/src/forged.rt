@@ -27,7 +27,7 @@ enum Order {
     Rising,
 }
 
-/// A forged block, and what is found of it. It says of each position that nothing was touched, and that all took fuel enough for workers over copies.
+/// A forged block, and what is found of it. It says of each position that nothing was touched, and that all took fuel enough for workers beside the cells.
 struct Forged {
     name: &'static str,
     /// How many calls the list has.
@@ -262,7 +262,7 @@ fn rejected<R: Abort + Threads + Wait + Sync>(
         equal(rt, &forged.name, &found, &Some(forged.reason));
         match forged.runs {
             Runs::No => equal(rt, &forged.name, &who, &Who::Caller),
-            Runs::Yes => equal(rt, &forged.name, &who, &Who::OnCopies),
+            Runs::Yes => equal(rt, &forged.name, &who, &Who::Beside),
             Runs::Maybe => (),
         }
     }
@@ -287,7 +287,7 @@ fn the_longest_block_makes_nobody_run_a_call(rt: HostRuntime) -> Result<(), Fail
     Ok(())
 }
 
-/// Calls of the same blocks run over copies where the order may be published.
+/// Calls of the same blocks run beside the cells where the order may be published.
 #[test]
 fn a_block_within_its_fuel_is_run(rt: HostRuntime) -> Result<(), Fail> {
     for forged in WITHIN {

@@ -60,8 +60,8 @@ pub(crate) const AMPLE: u64 = 100_000_000;
 pub(crate) enum Who {
     /// The caller, one after another.
     Caller,
-    /// Workers, each over a copy of the cells.
-    OnCopies,
+    /// Workers beside the cells, which they only read.
+    Beside,
     /// Workers over one book, or, where a block is validated, over cells that they share.
     OverOneBook,
 }
@@ -99,190 +99,190 @@ const ROWS: &[Row] = &[
         again: 0,
     },
     Row {
-        name: "512 calls of 15 have four on copies",
+        name: "512 calls of 15 have four beside the cells",
         calls: 512,
         cells: 512,
         others: 0,
         rounds: 1,
         workers: 4,
-        by: Who::OnCopies,
-        validated: Who::OnCopies,
+        by: Who::Beside,
+        validated: Who::Beside,
         again: 0,
     },
     Row {
-        name: "many calls of 15 have four on copies",
+        name: "many calls of 15 have four beside the cells",
         calls: 1_024,
         cells: 1_024,
         others: 0,
         rounds: 1,
         workers: 4,
-        by: Who::OnCopies,
-        validated: Who::OnCopies,
+        by: Who::Beside,
+        validated: Who::Beside,
         again: 0,
     },
     Row {
-        name: "copies of 1,024 cells for four that run calls of 123",
+        name: "1,024 cells more for four that run calls of 123",
         calls: 1_024,
         cells: 1_024,
         others: 1_024,
         rounds: 13,
         workers: 4,
-        by: Who::OnCopies,
-        validated: Who::OnCopies,
+        by: Who::Beside,
+        validated: Who::Beside,
         again: 0,
     },
     Row {
-        name: "too many cells to be copied for four that run calls of 123",
+        name: "many cells for four that run calls of 123",
         calls: 1_024,
         cells: 1_024,
         others: 1_025,
         rounds: 13,
         workers: 4,
-        by: Who::Caller,
-        validated: Who::Caller,
-        again: 1_024,
+        by: Who::Beside,
+        validated: Who::Beside,
+        again: 0,
     },
     Row {
-        name: "copies of 2,048 cells for four that run calls of 132",
+        name: "2,048 cells more for four that run calls of 132",
         calls: 1_024,
         cells: 1_024,
         others: 2_048,
         rounds: 14,
         workers: 4,
-        by: Who::OnCopies,
-        validated: Who::OnCopies,
+        by: Who::Beside,
+        validated: Who::Beside,
         again: 0,
     },
     Row {
-        name: "too many cells to be copied for four that run calls of 132",
+        name: "many cells for four that run calls of 132",
         calls: 1_024,
         cells: 1_024,
         others: 2_049,
         rounds: 14,
         workers: 4,
-        by: Who::Caller,
-        validated: Who::Caller,
-        again: 1_024,
+        by: Who::Beside,
+        validated: Who::Beside,
+        again: 0,
     },
     Row {
-        name: "many calls of 798 have four on copies",
+        name: "many calls of 798 have four beside the cells",
         calls: 1_024,
         cells: 1_024,
         others: 7_168,
         rounds: 88,
         workers: 4,
-        by: Who::OnCopies,
-        validated: Who::OnCopies,
+        by: Who::Beside,
+        validated: Who::Beside,
         again: 0,
     },
     Row {
-        name: "many calls of 798 and too many cells have none of four",
+        name: "many calls of 798 and many cells have four",
         calls: 1_024,
         cells: 1_024,
         others: 7_169,
         rounds: 88,
         workers: 4,
-        by: Who::Caller,
-        validated: Who::Caller,
-        again: 1_024,
+        by: Who::Beside,
+        validated: Who::Beside,
+        again: 0,
     },
     Row {
-        name: "many calls of 807 and too many cells have four over one book",
+        name: "many calls of 807 and many cells have four beside them",
         calls: 1_024,
         cells: 1_024,
         others: 7_169,
         rounds: 89,
         workers: 4,
-        by: Who::OverOneBook,
-        validated: Who::OverOneBook,
+        by: Who::Beside,
+        validated: Who::Beside,
         again: 0,
     },
     Row {
-        name: "many calls of 807 have four on copies",
+        name: "many calls of 807 have four beside the cells",
         calls: 1_024,
         cells: 1_024,
         others: 0,
         rounds: 89,
         workers: 4,
-        by: Who::OnCopies,
-        validated: Who::OnCopies,
+        by: Who::Beside,
+        validated: Who::Beside,
         again: 0,
     },
     Row {
-        name: "many calls of 15 have three on copies",
+        name: "many calls of 15 have three beside the cells",
         calls: 1_024,
         cells: 1_024,
         others: 0,
         rounds: 1,
         workers: 3,
-        by: Who::OnCopies,
-        validated: Who::OnCopies,
+        by: Who::Beside,
+        validated: Who::Beside,
         again: 0,
     },
     Row {
-        name: "many calls of 1,005 have three on copies",
+        name: "many calls of 1,005 have three beside the cells",
         calls: 1_024,
         cells: 1_024,
         others: 10_922,
         rounds: 111,
         workers: 3,
-        by: Who::OnCopies,
-        validated: Who::OnCopies,
+        by: Who::Beside,
+        validated: Who::Beside,
         again: 0,
     },
     Row {
-        name: "many calls of 1,005 and too many cells have three over one book",
+        name: "many calls of 1,005 and many cells have three beside them",
         calls: 1_024,
         cells: 1_024,
         others: 10_923,
         rounds: 111,
         workers: 3,
-        by: Who::OverOneBook,
-        validated: Who::OverOneBook,
+        by: Who::Beside,
+        validated: Who::Beside,
         again: 0,
     },
     Row {
-        name: "many calls of 15 have two on copies",
+        name: "many calls of 15 have two beside the cells",
         calls: 1_024,
         cells: 1_024,
         others: 0,
         rounds: 1,
         workers: 2,
-        by: Who::OnCopies,
-        validated: Who::OnCopies,
+        by: Who::Beside,
+        validated: Who::Beside,
         again: 0,
     },
     Row {
-        name: "many calls of 1,491 and too many cells have none of two",
+        name: "many calls of 1,491 and many cells have two",
         calls: 1_024,
         cells: 1_024,
         others: 24_577,
         rounds: 165,
         workers: 2,
-        by: Who::Caller,
-        validated: Who::Caller,
-        again: 1_024,
+        by: Who::Beside,
+        validated: Who::Beside,
+        again: 0,
     },
     Row {
-        name: "many calls of 1,500 and too many cells have two over one book",
+        name: "many calls of 1,500 and many cells have two beside them",
         calls: 1_024,
         cells: 1_024,
         others: 24_577,
         rounds: 166,
         workers: 2,
-        by: Who::OverOneBook,
-        validated: Who::OverOneBook,
+        by: Who::Beside,
+        validated: Who::Beside,
         again: 0,
     },
     Row {
-        name: "many calls of 1,500 have two on copies",
+        name: "many calls of 1,500 have two beside the cells",
         calls: 1_024,
         cells: 1_024,
         others: 24_576,
         rounds: 166,
         workers: 2,
-        by: Who::OnCopies,
-        validated: Who::OnCopies,
+        by: Who::Beside,
+        validated: Who::Beside,
         again: 0,
     },
     Row {
@@ -297,25 +297,25 @@ const ROWS: &[Row] = &[
         again: 1_024,
     },
     Row {
-        name: "many calls of 5,001 have one on a copy",
+        name: "many calls of 5,001 have one beside the cells",
         calls: 1_024,
         cells: 1_024,
         others: 65_536,
         rounds: 555,
         workers: 1,
-        by: Who::OnCopies,
-        validated: Who::OnCopies,
+        by: Who::Beside,
+        validated: Who::Beside,
         again: 0,
     },
     Row {
-        name: "many calls of 5,001 and too many cells have one over one book",
+        name: "many calls of 5,001 and many cells have one beside them",
         calls: 1_024,
         cells: 1_024,
         others: 65_537,
         rounds: 555,
         workers: 1,
-        by: Who::OverOneBook,
-        validated: Who::OverOneBook,
+        by: Who::Beside,
+        validated: Who::Beside,
         again: 0,
     },
     Row {
@@ -377,12 +377,12 @@ pub(crate) fn counting(is_stopping: bool) -> Counts {
     }
 }
 
-/// Who ran the calls whose steps a pace was told: over copies it is told of beginnings alone.
+/// Who ran the calls whose steps a pace was told: beside the cells it is told of beginnings alone.
 pub(crate) fn who_ran(pace: &Counts) -> Who {
     if pace.attempts.load(Ordering::SeqCst) == 0 {
         Who::Caller
     } else if pace.ops.load(Ordering::SeqCst) == 0 {
-        Who::OnCopies
+        Who::Beside
     } else {
         Who::OverOneBook
     }
@@ -574,7 +574,7 @@ const PAIRS: Row = Row {
     others: 0,
     rounds: 28,
     workers: 4,
-    by: Who::OnCopies,
+    by: Who::Beside,
     validated: Who::Caller,
     again: 1_024,
 };
@@ -587,8 +587,8 @@ const THIRDS: Row = Row {
     others: 0,
     rounds: 28,
     workers: 4,
-    by: Who::OnCopies,
-    validated: Who::OnCopies,
+    by: Who::Beside,
+    validated: Who::Beside,
     again: 341,
 };
 
@@ -600,7 +600,7 @@ const CROWDS: Row = Row {
     others: 0,
     rounds: 89,
     workers: 4,
-    by: Who::OnCopies,
+    by: Who::Beside,
     validated: Who::OverOneBook,
     again: 0,
 };
@@ -608,7 +608,7 @@ const CROWDS: Row = Row {
 /// The first call on each cell that is published was run over the cell as it was, so at least one on each cell is a worker's. When the block is validated, the
 /// workers run the calls that wait for none, or none at all.
 #[test]
-fn runs_over_copies_that_meet_on_a_cell(rt: HostRuntime) -> Result<(), Fail> {
+fn runs_beside_the_cells_that_meet_on_a_cell(rt: HostRuntime) -> Result<(), Fail> {
     for row in [&PAIRS, &THIRDS, &CROWDS] {
         let (by, by_workers, validated, again) = ran(&rt, rt.alloc(), row, "spin", (false, false))?;
         equal(&rt, &row.name, &by, &row.by);
@@ -631,14 +631,14 @@ const VOTES: Row = Row {
     others: 0,
     rounds: 28,
     workers: 4,
-    by: Who::OnCopies,
-    validated: Who::OnCopies,
+    by: Who::Beside,
+    validated: Who::Beside,
     again: 0,
 };
 
 /// What a call added to a counter that it did not read stands, whatever the counter has by then: no call is run again.
 #[test]
-fn additions_over_copies_stand(rt: HostRuntime) -> Result<(), Fail> {
+fn additions_beside_the_cells_stand(rt: HostRuntime) -> Result<(), Fail> {
     let came = ran(&rt, rt.alloc(), &VOTES, "vote", (false, false))?;
     equal(
         &rt,
@@ -651,13 +651,13 @@ fn additions_over_copies_stand(rt: HostRuntime) -> Result<(), Fail> {
 
 /// Workers that are stopped at their first calls leave all to the caller.
 #[test]
-fn workers_over_copies_are_stopped(rt: HostRuntime) -> Result<(), Fail> {
+fn workers_beside_the_cells_are_stopped(rt: HostRuntime) -> Result<(), Fail> {
     let came = ran(&rt, rt.alloc(), &VOTES, "vote", (true, true))?;
     equal(
         &rt,
         &"stopped",
         &came,
-        &(Who::OnCopies, 0, Who::OnCopies, Some(1_024)),
+        &(Who::Beside, 0, Who::Beside, Some(1_024)),
     );
     Ok(())
 }

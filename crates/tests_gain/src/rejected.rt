@@ -1,4 +1,4 @@
-//! Blocks that are rejected while workers over copies of the cells already run their calls.
+//! Blocks that are rejected while workers beside the cells already run their calls.
 
 ghost use Rattle.std.specs.Prelude.{◌≤◌, length};
 
@@ -20,12 +20,12 @@ const APART: &Row = &Row {
     others: 0,
     rounds: 1,
     workers: 4,
-    by: Who::OnCopies,
-    validated: Who::OnCopies,
+    by: Who::Beside,
+    validated: Who::Beside,
     again: 0,
 };
 
-/// A call on each of 512 cells, so long that one worker has a copy.
+/// A call on each of 512 cells, so long that one worker runs beside the cells.
 const ALONE: &Row = &Row {
     name: "a long call on each cell",
     calls: 512,
@@ -33,8 +33,8 @@ const ALONE: &Row = &Row {
     others: 0,
     rounds: 555,
     workers: 1,
-    by: Who::OnCopies,
-    validated: Who::OnCopies,
+    by: Who::Beside,
+    validated: Who::Beside,
     again: 0,
 };
 
@@ -88,7 +88,7 @@ fn changed(alloc: Global, bytes: &[u8], at: usize, byte: u8) -> Result<Vec<u8>, 
 /// nobody begins a call after that.
 const TRIES: u32 = 100;
 
-/// Whether four workers run calls of these bytes over copies in one of the tries. In each the bytes are rejected for this reason, and nobody runs calls over
+/// Whether four workers run calls of these bytes beside the cells in one of the tries. In each the bytes are rejected for this reason, and nobody runs calls over
 /// cells that all share.
 fn are_run<R: Abort + Threads + Wait + Sync>(
     rt: &R,
@@ -104,7 +104,7 @@ fn are_run<R: Abort + Threads + Wait + Sync>(
         equal(rt, &reason, &found, &Some(reason));
         match who {
             Who::Caller => (),
-            Who::OnCopies => return Ok(true),
+            Who::Beside => return Ok(true),
             Who::OverOneBook => return Err(Fail::from("run over one book")),
         }
     }

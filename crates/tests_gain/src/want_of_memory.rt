@@ -1,4 +1,4 @@
-//! Want of memory where workers run the calls of a long list over copies of the cells.
+//! Want of memory where workers run the calls of a long list beside the cells.
 
 ghost use Rattle.std.specs.Prelude.{◌≤◌, length};
 
@@ -26,8 +26,8 @@ const PAIRS: &Row = &Row {
     others: 0,
     rounds: 3,
     workers: 4,
-    by: Who::OnCopies,
-    validated: Who::OnCopies,
+    by: Who::Beside,
+    validated: Who::Beside,
     again: 341,
 };
 
@@ -146,14 +146,14 @@ fn wants_at_each_place<R: Threads + Wait + Sync + Abort>(
 }
 
 #[test]
-fn workers_over_copies_want_memory(rt: HostRuntime) -> Result<(), Fail> {
+fn workers_beside_the_cells_want_memory(rt: HostRuntime) -> Result<(), Fail> {
     let calls = calls_of(rt.alloc(), PAIRS, "spin")?;
     wants_at_each_place(&rt, rt.alloc(), &calls, &Work::Mine)
 }
 
 /// The same of a block that is validated.
 #[test]
-fn workers_over_copies_that_validate_want_memory(rt: HostRuntime) -> Result<(), Fail> {
+fn workers_beside_the_cells_that_validate_want_memory(rt: HostRuntime) -> Result<(), Fail> {
     let calls = calls_of(rt.alloc(), PAIRS, "spin")?;
     let bytes = block_of(&rt, rt.alloc(), PAIRS, &calls)?;
     wants_at_each_place(&rt, rt.alloc(), &calls, &Work::Validate(&bytes))

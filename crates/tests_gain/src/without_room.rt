@@ -104,7 +104,7 @@ fn a_call_without_room_does_not_run(rt: HostRuntime) -> Result<(), Fail> {
     for nth in 0..SAMPLES {
         let number = sampled(nth);
         let calls = calls_with(rt.alloc(), Loops::One(number), u64::MAX)?;
-        for (workers, who) in [(1, Who::Caller), (4, Who::OnCopies)] {
+        for (workers, who) in [(1, Who::Caller), (4, Who::Beside)] {
             let came = mined_with(&rt, rt.alloc(), &calls, 511 * LIMIT, workers)?;
             equal(&rt, &(nth, workers), &came, &(1, Some(number), who));
         }
@@ -130,10 +130,7 @@ fn calls_of_the_whole_fuel_are_not_looked_at(rt: HostRuntime) -> Result<(), Fail
 fn four_calls_within_a_64th_of_the_fuel_tell(rt: HostRuntime) -> Result<(), Fail> {
     let calls = calls_with(rt.alloc(), Loops::One(CALLS), LIMIT)?;
     let four = 64 * 4 * LIMIT;
-    for (fuel, left, who) in [
-        (four, 256, Who::OnCopies),
-        (four - 1, 257, Who::OverOneBook),
-    ] {
+    for (fuel, left, who) in [(four, 256, Who::Beside), (four - 1, 257, Who::OverOneBook)] {
         let (count, _, by) = mined_with(&rt, rt.alloc(), &calls, fuel, 4)?;
         equal(&rt, &fuel, &(count, by), &(left, who));
     }

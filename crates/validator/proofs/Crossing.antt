@@ -96,7 +96,7 @@ module _ (B : RattleType) (g : Ghosts B.Denot) (send : IsSend B) (sync : IsSync 
   batch_send : (a : NamedLft) → IsSend (batch_row.the_row a B g)
   batch_send a = declared_send (batch_row.the_type a B g) (search crosses depth 60 fits 100000, (share_send B g send sync frees a, tt))
 
-  -- what a worker over a copy hands back may go to the thread that joins it
+  -- what a worker beside the cells hands back may go to the thread that joins it
   pub batches_send : (a : NamedLft) → IsSend (batches_row.the_row a B g)
   batches_send a =
       let vec = vec_send B g send sync frees in

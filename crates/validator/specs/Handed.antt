@@ -44,7 +44,7 @@ IsSupplyOf task s = IsSupply (setting_view task.version task.contracts.now) task
 abbrev pub AreBatches : {A : Type 0} → Task A → List (Batch A) → Type 0
 AreBatches task bs = All (λ b. IsShareOf task b.share) bs
 
--- what the workers over copies hand back
+-- what the workers beside the cells hand back
 abbrev pub AreParts : {A E : Type 0} → Task A → List (Result (Batches A) E) → Type 0
 AreParts task parts = All (λ part. IfOk part (λ p. AreBatches task p.batches.items)) parts
 

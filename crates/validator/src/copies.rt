@@ -1,9 +1,9 @@
-//! The calls of a block that wait for none of the others, each run over a copy of the cells before the block, which nobody else changes and each call leaves
-//! as it was, while one of the workers judges the block.
+//! The calls of a block that wait for none of the others, run over the cells before the block, which all workers read and nobody changes, while one of the
+//! workers judges the block.
 
 ghost use Rattle.std.specs.Prelude.{◌≡◌, All, IfOk, IfSome, OnOk};
 ghost use Rattle.handover.specs.Passes.{IsPassOf};
-ghost use Rattle.speculation.specs.Shares.{IsCopyOf, IsShareOf};
+ghost use Rattle.speculation.specs.Shares.{IsShareOf};
 ghost use Rattle.validator.specs.Fuel.{IsWithinFuel};
 ghost use Rattle.validator.specs.Handed.{AreBatches, AreParts, IsPostOf};
 ghost use Rattle.validator.specs.Tried.{IsOwn, MayRun};
@@ -26,7 +26,6 @@ use std::sync::Wait;
 use std::sync::atomic::{AtomicU64, Ordering};
 use std::thread;
 use std::thread::Threads;
-use storage::Cells;
 
 /// Where the workers hand over the batches that they ran.
 pub(crate) type Line<'a, A> = Handover<Task<'a, A>, Batch<'a, A>, Footprints, A>;
@@ -88,18 +87,14 @@ pub(crate) fn draw<A: Allocator + Copy, P: Pace>(job: &CopyJob<'_, '_, A, P>) ->
     Some(nth)
 }
 
-/// Runs the calls of a batch that wait for none of the others over a worker's copy, as long as the block is not rejected. Answers whether the pace stops the
-/// worker.
+/// Runs the calls of a batch that wait for none of the others, as long as the block is not rejected. Answers whether the pace stops the worker.
 fn run_calls<A: Allocator + Copy, P: Pace>(
     job: &CopyJob<'_, '_, A, P>,
-    copy: &mut Cells<A>,
     nth: usize,
     share: &mut Share<'_, A>,
 ) -> Result<bool, NoMemory>
     requires within { IsWithinFuel job.now.ordered.task.calls.now job.now.ordered.order.now job.now.ordered.fuel }
-    requires copy { IsCopyOf job.now.ordered.cells.now copy.old }
     requires share { IsShareOf job.now.ordered.task share.old }
-    ensures copy { OnOk result (IsCopyOf job.now.ordered.cells.now copy.new) }
     ensures share { OnOk result (IsShareOf job.now.ordered.task share.new) }
 {
     let Ordered {
@@ -121,24 +116,21 @@ fn run_calls<A: Allocator + Copy, P: Pace>(
         if told(job.pace, Step::Attempt { call, nth: 0 }) {
             return Ok(true);
         }
-        prepare(*alloc, task, cells, copy, call, share)?;
+        prepare(*alloc, task, *cells, call, share)?;
     }
     Ok(false)
 }
 
-/// Runs a batch over a worker's copy.
+/// Runs a batch.
 pub(crate) fn run_batch<'a, A: Allocator + Copy, P: Pace>(
     job: &CopyJob<'_, 'a, A, P>,
-    copy: &mut Cells<A>,
     nth: usize,
 ) -> Result<Ran<'a, A>, NoMemory>
     requires within { IsWithinFuel job.now.ordered.task.calls.now job.now.ordered.order.now job.now.ordered.fuel }
-    requires copy { IsCopyOf job.now.ordered.cells.now copy.old }
-    ensures copy { OnOk result (IsCopyOf job.now.ordered.cells.now copy.new) }
     ensures batch { IfOk result (λ ran. IsShareOf job.now.ordered.task ran.batch.share) }
 {
     let mut share = begin(job.ordered.alloc, job.ordered.task, BATCH)?;
-    let stops = run_calls(job, copy, nth, &mut share)?;
+    let stops = run_calls(job, nth, &mut share)?;
     share.prepared.reverse();
     Ok(Ran {
         batch: Batch { nth, share },
@@ -210,12 +202,10 @@ pub(crate) fn receive<'a, A: Allocator + Copy, P: Pace>(
 fn run_batches<'a, A: Allocator + Copy, P: Pace>(
     job: &CopyJob<'_, 'a, A, P>,
     mut post: Post<'_, 'a, A>,
-    copy: &mut Cells<A>,
     kept: &mut Vec<Batch<'a, A>, A>,
 ) -> Result<(), NoMemory>
     requires within { IsWithinFuel job.now.ordered.task.calls.now job.now.ordered.order.now job.now.ordered.fuel }
     requires post { IsPostOf job.now post }
-    requires copy { IsCopyOf job.now.ordered.cells.now copy.old }
     requires kept { AreBatches job.now.ordered.task kept.old.items }
     ensures { OnOk result (AreBatches job.now.ordered.task kept.new.items) }
 {
@@ -223,7 +213,7 @@ fn run_batches<'a, A: Allocator + Copy, P: Pace>(
         let Some(nth) = draw(job) else {
             return Ok(());
         };
-        let Ran { batch, stops } = run_batch(job, copy, nth)?;
+        let Ran { batch, stops } = run_batch(job, nth)?;
         hand_over(job, &mut post, batch, kept)?;
         if stops {
             return Ok(());
@@ -232,8 +222,8 @@ fn run_batches<'a, A: Allocator + Copy, P: Pace>(
     Ok(())
 }
 
-/// Runs batches over a copy of the cells, and answers those that it has not handed over.
-fn work_on_copy<'a, A: Allocator + Copy, P: Pace>(
+/// Runs batches, and answers those that it has not handed over.
+fn work<'a, A: Allocator + Copy, P: Pace>(
     job: &CopyJob<'_, 'a, A, P>,
     post: Post<'_, 'a, A>,
 ) -> Result<Batches<'a, A>, NoMemory>
@@ -242,9 +232,8 @@ fn work_on_copy<'a, A: Allocator + Copy, P: Pace>(
     ensures { IfOk result (λ part. AreBatches job.now.ordered.task part.batches.items) }
 {
     let alloc = job.ordered.alloc;
-    let mut copy = job.ordered.cells.copy(alloc)?;
     let mut batches = Vec::new(alloc);
-    run_batches(job, post, &mut copy, &mut batches)?;
+    run_batches(job, post, &mut batches)?;
     Ok(Batches {
         contracts: job.ordered.task.contracts,
         batches,
@@ -258,7 +247,7 @@ pub(crate) struct Own<'a, A: Allocator> {
     pub(crate) part: Result<Batches<'a, A>, NoMemory>,
 }
 
-/// Judges the block, and then runs batches over a copy of the cells. Where it is rejected nobody begins a further call.
+/// Judges the block, and then runs batches. Where it is rejected nobody begins a further call.
 pub(crate) fn judge_and_work<'a, A: Allocator + Copy, P: Pace>(
     job: &CopyJob<'_, 'a, A, P>,
     post: Post<'_, 'a, A>,
@@ -274,11 +263,11 @@ pub(crate) fn judge_and_work<'a, A: Allocator + Copy, P: Pace>(
     }
     Own {
         judged,
-        part: work_on_copy(job, post),
+        part: work(job, post),
     }
 }
 
-/// Runs a worker for each post, each over a copy of its own.
+/// Runs a worker for each post.
 pub(crate) fn run_workers<'a, R: Threads + Wait + Sync, A: Allocator + Copy + Send + Sync, P: Pace>(
     rt: &R,
     job: &CopyJob<'_, 'a, A, P>,
@@ -294,7 +283,7 @@ pub(crate) fn run_workers<'a, R: Threads + Wait + Sync, A: Allocator + Copy + Se
         &|post: Post<A>| -> Result<Batches<A>, NoMemory>
             requires { IsWithinFuel job.now.ordered.task.calls.now job.now.ordered.order.now job.now.ordered.fuel × IsPostOf job.now post }
             ensures { IfOk result (λ part. AreBatches job.entry.now.ordered.task part.batches.items) }
-        { work_on_copy(job, post) },
+        { work(job, post) },
     )?;
     Ok(parts)
 }

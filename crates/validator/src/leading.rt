@@ -1,4 +1,4 @@
-//! The caller folds what workers over copies of the cells hand over, and runs batches of its own meanwhile.
+//! The caller folds what workers beside the cells hand over, and runs batches of its own meanwhile.
 
 ghost use Rattle.std.specs.Prelude.{◌≡◌, ◌≤◌, All, IfOk, IfSome, OnOk, length};
 ghost use Rattle.speculation.specs.Shares.{IsShareOf};
@@ -79,7 +79,6 @@ fn lead<'a, A: Allocator + Copy, P: Pace>(
     ensures { IfOk result (IsLedOf job.now.ordered) }
 {
     let ordered = &job.ordered;
-    let mut copy = ordered.cells.copy(ordered.alloc)?;
     for _ in 0..2 * ordered.order.len() + 2 {
         if is_rejected(job) {
             return Ok(led);
@@ -91,7 +90,7 @@ fn lead<'a, A: Allocator + Copy, P: Pace>(
         let Some(nth) = draw(job) else {
             return Ok(led);
         };
-        let Ran { batch, stops } = run_batch(job, &mut copy, nth)?;
+        let Ran { batch, stops } = run_batch(job, nth)?;
         led = take_batch(job, led, batch)?;
         if stops {
             return Ok(led);
@@ -216,7 +215,7 @@ fn lead_beside<'a, R: Threads + Wait + Sync, A: Allocator + Copy + Send + Sync, 
     )
 }
 
-/// Lets the workers run over their copies while the caller leads, and takes what is left when all have ended.
+/// Lets the workers run while the caller leads, and takes what is left when all have ended.
 fn run_all<'a, R: Threads + Wait + Sync, A: Allocator + Copy + Send + Sync, P: Pace>(
     rt: &R,
     job: &CopyJob<'_, 'a, A, P>,

@@ -1,4 +1,4 @@
-//! Validation of a block: workers run its calls at once, over copies of the cells or each once those that it waits for have ended, and the verdict is what
+//! Validation of a block: workers run its calls at once, beside the cells or each once those that it waits for have ended, and the verdict is what
 //! the calls come to when they run one after another (Dickerson, Gazzillo, Herlihy, Koskinen, "Adding Concurrency to Smart Contracts", PODC 2017, section 4: the
 //! fork-join program of a validator).
 #![tactic(auto)]
@@ -65,7 +65,7 @@ pub struct Validated<A: Allocator = Global> {
     pub again: u32,
 }
 
-/// Judges a block whose order was judged, and where workers over copies of the cells pay, runs those of its calls meanwhile that wait for none of the others.
+/// Judges a block whose order was judged, and where workers beside the cells pay, runs those of its calls meanwhile that wait for none of the others.
 fn judge_and_prepare<'a, R: Threads + Wait + Sync, A: Allocator + Copy + Send + Sync, P: Pace>(
     rt: &R,
     job: &Job<'_, 'a, A, P>,
@@ -81,7 +81,7 @@ fn judge_and_prepare<'a, R: Threads + Wait + Sync, A: Allocator + Copy + Send + 
     ensures judged { IfOk result (λ beside. IsJudged trial.now beside.judged) }
     ensures led { IfOk result (λ beside. IfSome beside.led (IsLed (setting_view job.now.version job.now.contracts.now) job.now.calls.now job.now.order.now (world_view trial.now.world.now).cells)) }
 {
-    if runners != Runners::Copying {
+    if runners != Runners::Beside {
         return Ok(Beside {
             judged: trial.judge(job.alloc),
             led: None,
@@ -194,7 +194,7 @@ fn verdict_within<R: Threads + Wait + Sync, A: Allocator + Copy + Send + Sync, P
         positions: trial.block.positions(),
         pace,
     };
-    let runners = runners_of(&job, trial.world.cells(), trial.block.fuel(), workers);
+    let runners = runners_of(&job, trial.block.fuel(), workers);
     let Beside { judged, led } = judge_and_prepare(rt, &job, trial, runners, workers)?;
     match judged {
         Ok(()) => run(rt, &job, trial, led, runners, workers),
@@ -306,9 +306,9 @@ pub fn find_verdict<R: Threads + Wait + Sync, A: Allocator + Copy + Send + Sync,
 /// The verdict on the bytes of a block of these calls over a world, with this fuel for the block: the first of the nine reasons that holds, or else
 /// the world after the block. Its order and limits are judged first: a block that they speak against makes nobody run a call, and the calls of another stay within
 /// the fuel that it may have, each run once ahead and once in its turn at most. This many workers, of which the calling thread is one, run calls at once: each as
-/// soon as those that it waits for have ended; or, in a block of 512 calls or more, over copies of the cells, those that wait for none, while one of the workers
+/// soon as those that it waits for have ended; or, in a block of 512 calls or more, beside the cells, those that wait for none, while one of the workers
 /// judges what else needs no run, and until it finds that the block is rejected. The pace is told each
-/// attempt of theirs, and each operation but those over copies, and may stop a worker there. What no worker ran the caller runs. Where workers do not pay
+/// attempt of theirs, and each operation but those beside the cells, and may stop a worker there. What no worker ran the caller runs. Where workers do not pay
 /// (`gain`), by the fuel and the turns that a block of 512 calls or more names, none is started, and the pace is told nothing.
 ///
 /// # Errors

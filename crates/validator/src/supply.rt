@@ -1,4 +1,4 @@
-//! What workers over copies prepared, by batches of positions.
+//! What workers beside the cells prepared, by batches of positions.
 
 ghost use Rattle.std.specs.Prelude.{IfOk, IfSome};
 ghost use Rattle.interp.specs.Lent.{setting_view};
@@ -22,7 +22,7 @@ pub(crate) struct Batch<'a, A: Allocator> {
     pub(crate) share: Share<'a, A>,
 }
 
-/// What workers over copies prepared, handed out in the order of the block.
+/// What workers beside the cells prepared, handed out in the order of the block.
 #[derive(Drop)]
 pub(crate) struct Supply<'a, A: Allocator> {
     /// The calls of the batch of positions at which the order is, the last first.

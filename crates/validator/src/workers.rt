@@ -13,10 +13,7 @@ use crate::profile::{is_first, most_groups, profiles_of};
 use crate::shared::Shared;
 use ahead::Ahead;
 use block::Position;
-use gain::{
-    MANY, are_apart, are_few, are_long, are_wide, count_waves, least_mean, least_mean_on_copies,
-    weight,
-};
+use gain::{MANY, are_apart, are_long, are_wide, count_waves, least_mean, least_mean_beside};
 use lanes::{Lane, Thief, lanes};
 use pace::Pace;
 use schedule::{Board, Graph};
@@ -270,23 +267,16 @@ fn count_first<A: Allocator>(positions: &[Position<A>]) -> u32 {
     count
 }
 
-/// Whether workers over copies of the cells pay for a block whose calls use so much fuel together.
-fn copies_pay<A: Allocator + Copy, P: Pace>(
+/// Whether workers beside the cells pay for a block whose calls use so much fuel together.
+fn pays_beside<A: Allocator + Copy, P: Pace>(
     job: &Job<'_, '_, A, P>,
-    cells: &Cells<A>,
     fuel: u64,
     workers: u32,
 ) -> bool
-    requires some { 1 ≤ length job.now.order.now }
-    requires few { length job.now.order.now ≤ 65535 }
+    requires { length job.now.order.now ≤ 65535 }
 {
     let count = job.order.len() as u32;
-    are_long(least_mean_on_copies(workers), count, fuel)
-        && are_few(
-            cells.entries().count(),
-            count * weight(count, fuel),
-            workers,
-        )
+    are_long(least_mean_beside(workers), count, fuel)
         && are_apart(count, count_first(job.positions))
 }
 
@@ -295,8 +285,8 @@ fn copies_pay<A: Allocator + Copy, P: Pace>(
 pub(crate) enum Runners {
     /// By workers over cells that they share, each call as soon as those that it waits for have ended.
     Sharing,
-    /// By workers over copies of the cells, the calls that wait for none of the others.
-    Copying,
+    /// By workers beside the cells, the calls that wait for none of the others.
+    Beside,
     /// By nobody.
     Nobody,
 }
@@ -304,7 +294,6 @@ pub(crate) enum Runners {
 /// By whom the calls of a block are run before their turn, which use so much fuel together as it says.
 pub(crate) fn runners_of<A: Allocator + Copy, P: Pace>(
     job: &Job<'_, '_, A, P>,
-    cells: &Cells<A>,
     fuel: u64,
     workers: u32,
 ) -> Runners
@@ -313,8 +302,8 @@ pub(crate) fn runners_of<A: Allocator + Copy, P: Pace>(
     let count = job.order.len();
     if count < MANY {
         Runners::Sharing
-    } else if copies_pay(job, cells, fuel, workers) {
-        Runners::Copying
+    } else if pays_beside(job, fuel, workers) {
+        Runners::Beside
     } else if are_long(least_mean(workers), count as u32, fuel)
         && are_wide(count as u32, most_groups(job.positions))
     {
@@ -340,6 +329,6 @@ pub(crate) fn run_ahead<'a, R: Threads + Wait + Sync, A: Allocator + Copy + Send
 {
     match runners {
         Runners::Sharing => run_ready(rt, job, cells, workers),
-        Runners::Copying | Runners::Nobody => Ok(Vec::new(job.alloc)),
+        Runners::Beside | Runners::Nobody => Ok(Vec::new(job.alloc)),
     }
 }

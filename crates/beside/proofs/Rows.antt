@@ -1,0 +1,35 @@
+-- Worked examples that compute: what a view may answer, and accesses at locks, at key 7 of contract 0.
+use Rattle.std.proofs.Common.{◌≡◌, Some, None, [], ◌∷◌, map, refl, sym, ◌∙◌, ap, arith}
+use Rattle.std.specs.FinMap.{empty, entries, entries-from_sorted, from_sorted}
+use Rattle.spec_ledger.specs.declared.Place.{Place}
+use Rattle.spec_ledger.specs.Cells.{lock_cmp, map_at, counter_at}
+use Rattle.spec_ledger.specs.Modes.{Modes}
+use Rattle.spec_footprint.specs.declared.Access.TheVariants.{Read}
+use Rattle.spec_footprint.specs.Footprints.{access_at}
+use Rattle.beside.specs.Touches.{AreAccessesAt, IsCellAt}
+
+abbrev none : Modes
+none = from_sorted []
+
+abbrev seven : Place
+seven = record { contract = 0; key = 7 }
+
+-- a map may hold 0, a counter is not there with it, and either may be absent
+zero_in_a_map : IsCellAt (map_at seven) (Some 0)
+zero_in_a_map = λ no. cc
+
+no_zero_in_a_counter : IsCellAt (counter_at seven) (Some 0) → ⊥
+no_zero_in_a_counter there = (there refl).not_zero refl
+
+nothing_in_a_counter : IsCellAt (counter_at seven) None
+nothing_in_a_counter = λ _. record { fits = omega arith; not_zero = λ no. cc }
+
+-- a call that asked for no lock has no access
+none_asked : entries none ≡ []
+none_asked = entries-from_sorted lock_cmp [] tt
+
+no_lock : AreAccessesAt none []
+no_lock = record { found = empty; later = empty; are = ap (map (access_at empty empty)) (sym none_asked) }
+
+no_needless_access : AreAccessesAt none (Read (map_at seven) None ∷ []) → ⊥
+no_needless_access told = let no : Read (map_at seven) None ∷ [] ≡ [] = told.are ∙ ap (map (access_at told.found told.later)) none_asked in absurd (cc)

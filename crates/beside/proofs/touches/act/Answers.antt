@@ -1,0 +1,19 @@
+use Rattle.std.proofs.Common.{refl, ◌∙◌, ap}
+use Rattle.std.specs.FinMap.{get}
+use Rattle.spec_ledger.specs.Modes.{join_held}
+use Rattle.serial.proofs.Replies.{is_reply}
+use Rattle.beside.specs.Touches.{modes_of}
+use Rattle.beside.proofs.Places.{one_cell}
+use Rattle.beside.proofs.Stepping.{acted}
+use Rattle.beside.proofs.touches.act.Goals as goal
+
+pub returns-clause-is_reply : goal.returns-clause-is_reply
+returns-clause-is_reply g c = let one = one_cell c.args.op c.ask-touch.result.later in is_reply c.args.op one.0 c.reply.result (c.reply.ensures ∙ one.1)
+
+pub returns-clause-touches : goal.returns-clause-touches
+returns-clause-touches g c = λ tr ms d.
+    let t = c.ask-touch.result in
+    acted c.args.touches.now c.insert.new.self c.lock-wanted.result c.args.op t (record { mode = t.mode; found = t.found; later = c.next_cell.result }) c.lock-wanted.ensures c.in-Ok.ensures.updates.0
+    (c.ask-touch.ensures.mode ∙ ap (λ m. join_held m (get (modes_of c.args.touches.now.entries) c.lock-wanted.result)) c.mode.ensures)
+    c.ask-touch.ensures.found c.ask-touch.ensures.later c.ask-touch.ensures.cell c.ask-touch.ensures.first refl refl c.next_cell.ensures
+    c.reply.result c.reply.ensures c.inverse.result c.inverse.ensures c.args.inverses.now.items c.push.new.self.items c.in_ok-push.ensures.items tr ms d

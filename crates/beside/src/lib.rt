@@ -1,0 +1,70 @@
+//! Calls that run beside the cells: over a view that is only read, with what they change kept apart. Such a run gives the call's footprint: what it found
+//! and leaves at each lock that it asked for (Dickerson, Gazzillo, Herlihy, Koskinen, "Adding Concurrency to Smart Contracts", PODC 2017, section 4: a miner
+//! runs calls speculatively).
+#![tactic(auto)]
+
+mod effects;
+mod listing;
+mod playing;
+mod touches;
+
+ghost use Rattle.std.specs.Prelude.{◌≡◌, ◌++◌, IfOk, OnOk};
+ghost use Rattle.spec_footprint.specs.Footprints.{IsFootprint};
+ghost use Rattle.interp.specs.Lent.{setting_view};
+ghost use Rattle.beside.specs.Behind.{behind};
+ghost use Rattle.beside.specs.Touches.{AreAccessesAt, IsCellAt};
+
+use crate::listing::list;
+use crate::playing::play;
+use call::Call;
+use link::deployed::Deployed as Contract;
+use serial::Executed;
+use spec_footprint::{Access, an_execution_has_a_footprint};
+use spec_ledger::{Lock, NoMemory, Receipt, Version};
+use std::alloc::Allocator;
+use storage::{Cells, returned};
+
+/// Cells that can be read. They need not stand still: what is read at one lock may be older or newer than what is read at another, and two reads of one lock
+/// may answer differently.
+pub trait Reads {
+    /// What is held at a lock: any cell that a program can hold there.
+    fn read(&self, lock: Lock) -> Option<u64>
+        ensures { IsCellAt lock result };
+}
+
+impl<A: Allocator + Copy> Reads for Cells<A> {
+    fn read(&self, lock: Lock) -> Option<u64> {
+        self.hold();
+        self.get(lock)
+    }
+}
+
+/// Runs a call over a view, by the rules of this version, and puts its footprint behind the accesses that are there: what it found and leaves at each lock
+/// that it asked for, in the order of locks. The view is read once at each of them, where the call first asks for it.
+///
+/// # Errors
+///
+/// Memory was refused. More or fewer of its accesses may have been put down.
+pub fn run_beside<A: Allocator + Copy, V: Reads>(
+    alloc: A,
+    contracts: &[Contract<A>],
+    call: &Call,
+    view: &V,
+    accesses: &mut Vec<Access, A>,
+    version: Version,
+) -> Result<Executed<A>, NoMemory>
+    ensures footprint { IfOk result (λ e. IsFootprint (setting_view version contracts.now) call.now (behind accesses.old.items accesses.new.items) e.receipt e.touched) }
+    ensures told { IfOk result (λ e. AreAccessesAt e.touched (behind accesses.old.items accesses.new.items)) }
+    ensures accesses { OnOk result (accesses.new.items ≡ accesses.old.items ++ behind accesses.old.items accesses.new.items) }
+{
+    an_execution_has_a_footprint();
+    let (finished, touches) = play(alloc, contracts, call, view, version)?;
+    finished.is_played();
+    let receipt = Receipt {
+        outcome: finished.outcome(),
+        used: finished.used(),
+        asks: finished.asks(),
+    };
+    let touched = list(alloc, touches, returned(receipt.outcome), accesses)?;
+    Ok(Executed { receipt, touched })
+}
