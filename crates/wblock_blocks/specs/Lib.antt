@@ -1,3 +1,4 @@
 pub mod Mines
+pub mod Notes
 pub mod Texts
 pub mod Validates

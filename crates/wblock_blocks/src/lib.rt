@@ -2,8 +2,10 @@
 #![tactic(auto)]
 
 mod mine;
+mod note;
 mod text;
 mod validate;
 
 pub use mine::{Mining, mine_block};
+pub use note::Noted;
 pub use validate::{Validation, validate_block};

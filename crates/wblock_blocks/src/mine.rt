@@ -1,6 +1,6 @@
 //! The command `mine WORLD CALLS BLOCK NEXT --fuel N [--workers 4] [--tries 3]`: a block of calls over a world, and the world after it.
 
-ghost use Rattle.std.specs.Prelude.{◌≡◌, ◌≤◌, IsTrue, IfOk, IfErr, OnOk, length};
+ghost use Rattle.std.specs.Prelude.{◌≡◌, ◌≤◌, IsTrue, IfOk, IfErr, OnOk, length, string_bytes};
 ghost use Rattle.std.specs.List.{AllByRecursion};
 ghost use Rattle.spec_ledger.specs.declared.Version.TheVariants.{Two};
 ghost use Rattle.spec_block.specs.Worlds.{order_of};
@@ -10,7 +10,9 @@ ghost use Rattle.world.specs.Views.{world_view};
 ghost use Rattle.wblock_line.specs.Answers.{CountsFault, IsOfFile};
 ghost use Rattle.wblock_inputs.specs.Inputs.{IsNextInput};
 ghost use Rattle.wblock_blocks.specs.Mines.{IsDone, Mines};
+ghost use Rattle.wblock_blocks.specs.Notes.{IsNoteOf, Notes};
 
+use crate::note::{Noted, note_of};
 use crate::text::block_text_of;
 use block::{Block, write_block};
 use call::Call;
@@ -106,18 +108,50 @@ fn done<'a>(alloc: Global, task: Mining<'a>, mined: &Mined) -> Result<Answer<'a>
     Ok(Answer::Done(writes, text))
 }
 
+/// What is said of the calls of a mined block.
+fn note_of_mined(
+    alloc: Global,
+    world: &World,
+    calls: &[Call],
+    mined: &Mined,
+) -> Result<String, NoMemory>
+    ensures { IfOk result (λ note. IsNoteOf mined.now.block.positions (string_bytes note)) }
+{
+    let note = note_of(alloc, world.contracts(), calls, mined.block.positions())?;
+    Ok(note)
+}
+
+/// The answer of a mined block, with what is said of its calls.
+fn noted<'a>(
+    alloc: Global,
+    world: &World,
+    calls: &[Call],
+    task: Mining<'a>,
+    mined: &Mined,
+) -> Result<Noted<'a>, NoMemory>
+    requires { mined.now.block.version ≡ Two }
+    ensures answer { IfOk result (λ n. IsDone task.entry mined.now.block (world_view mined.now.world) mined.now.left.items n.answer) }
+    ensures note { IfOk result (λ n. IsNoteOf mined.now.block.positions (string_bytes n.note)) }
+{
+    let answer = done(alloc, task, mined)?;
+    let note = note_of_mined(alloc, world, calls, mined)?;
+    Ok(Noted { answer, note })
+}
+
 /// What `mine` comes to: a block of the calls over the world is to be written, and then the world after it, and the block's lines are to be
-/// printed; or the line that says why the world or the calls are refused. No file is written yet. The pace is told each step of the workers.
+/// printed; or the line that says why the world or the calls are refused. No file is written yet. Behind a block something is to be said on standard
+/// error of the calls that did not return. The pace is told each step of the workers.
 pub fn mine_block<'a, R: Threads + Wait + Sync, F: Files, P: Pace>(
     rt: &R,
     alloc: Global,
     files: &mut F,
     task: Mining<'a>,
     pace: &P,
-) -> Result<Answer<'a>, Fault<'a>>
+) -> Result<Noted<'a>, Fault<'a>>
     requires workers { (1 ≤ task.workers) × (task.workers ≤ 64) }
     requires tries { (1 ≤ task.tries) × (task.tries ≤ 16) }
-    ensures answers { IfOk result (λ a. IsTrue F.tells → Mines (F.holds files.old) task.entry a) }
+    ensures answers { IfOk result (λ n. IsTrue F.tells → Mines (F.holds files.old) task.entry n.answer) }
+    ensures notes { IfOk result (λ n. Notes n.answer (string_bytes n.note)) }
     ensures kept { IsTrue F.tells → F.holds files.new ≡ F.holds files.old }
     ensures calm { OnOk result (F.failures files.new ≡ F.failures files.old) }
     ensures counted { IfErr result (λ f. CountsFault f (F.failures files.old) (F.failures files.new)) }
@@ -125,13 +159,18 @@ pub fn mine_block<'a, R: Threads + Wait + Sync, F: Files, P: Pace>(
 {
     let (world, calls) = match read_inputs(alloc, files, task.world, task.calls)? {
         Inputs::Read(world, calls) => (world, calls),
-        Inputs::Refused(line, why) => return Ok(Answer::Refused(line, why)),
+        Inputs::Refused(line, why) => {
+            return Ok(Noted {
+                answer: Answer::Refused(line, why),
+                note: String::new(alloc),
+            });
+        }
     };
     let Ok(mined) = mine_calls(rt, alloc, &world, &calls, task, pace) else {
         return Err(Fault::NoMemory);
     };
-    match done(alloc, task, &mined) {
-        Ok(answer) => Ok(answer),
+    match noted(alloc, &world, &calls, task, &mined) {
+        Ok(noted) => Ok(noted),
         Err(NoMemory) => Err(Fault::NoMemory),
     }
 }

@@ -1,6 +1,7 @@
 mod Asked
 mod Lines
 mod Next
+mod Noting
 pub mod Numbers
 mod Saying
 mod Showing

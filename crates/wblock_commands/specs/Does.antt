@@ -11,13 +11,13 @@ use Rattle.wblock_modules.specs.Checks.{Checks}
 use Rattle.wblock_modules.specs.Texts.{WritesText}
 use Rattle.wblock_inputs.specs.Inputs.{IsNextInput}
 use Rattle.wblock_blocks.specs.Mines.{Mines}
+use Rattle.wblock_blocks.specs.Notes.{EndsLine, Notes}
 use Rattle.wblock_blocks.specs.Validates.{Validates, IsNextFile}
 use Rattle.wblock_debug.specs.Debugs.{Debugs, IsNotListed, IsNextRead}
 use Rattle.wblock_show.specs.Named.{ShowsNamed, IsNextNamed}
 use Rattle.wblock_commands.specs.declared.command.Command.{Command}
 use Rattle.wblock_commands.specs.declared.command.Command.TheVariants.{Stored, Help, Version, Asm, Text, Check, Deploy, Mine, Validate, Debug, Show}
 use Rattle.wblock_commands.specs.Deploying.{IsTaken, DeploysFree, IsNextToDeploy}
-use Rattle.wblock_commands.specs.Lines.{EndsLine}
 
 -- a text that ends with a newline is to be printed, and no file to be written
 abbrev pub TellsText : Answer → Type 0
@@ -49,6 +49,16 @@ abbrev pub Misses : Command → Holding → Type 0
 Misses (Deploy task) holds = IsTaken task holds
 Misses (Debug task) holds = IsNotListed holds task
 Misses c holds = ⊥
+
+-- blocks are mined
+abbrev pub IsMine : Command → Type 0
+IsMine (Mine task) = Unit {0}
+IsMine c = ⊥
+
+-- what is to be said of an answer once it is carried out: nothing, but by `mine` what its calls came to
+abbrev pub IsNote : Command → Answer → List ℕ → Type 0
+IsNote (Mine task) answer note = Notes answer note
+IsNote c answer note = note ≡ []
 
 -- the answer of this status was written whole, and printed whole where the output tells what it took
 pub record Does (c : Command) (status : Status) (tells : Bool) (old new : Holding) (before after : List ℕ) : Type 0 where
@@ -99,4 +109,10 @@ Fails c name files output old new failed fails before after lost loses =
 pub record SaysText (old new : List ℕ) (failed fails : ℕ) : Type 0 where
   pub text : List ℕ
   pub ends_line : EndsLine text
+  pub said : IsSaid text old new failed fails
+
+-- nothing was said, or a text that ends with a newline
+pub record SaysNote (old new : List ℕ) (failed fails : ℕ) : Type 0 where
+  pub text : List ℕ
+  pub is_note : (text ≡ []) ⊎ EndsLine text
   pub said : IsSaid text old new failed fails

@@ -1,7 +1,7 @@
 //! What is said of a line of words that asks for nothing, and what the program says of itself.
 
 ghost use Rattle.std.specs.Prelude.{◌≡◌, IfOk, IfErr, string_bytes};
-ghost use Rattle.wblock_commands.specs.Lines.{EndsLine};
+ghost use Rattle.wblock_blocks.specs.Notes.{EndsLine};
 ghost use Rattle.wblock_commands.specs.Does.{TellsText};
 
 use crate::declared::{

@@ -5,8 +5,8 @@ use Rattle.wblock_inputs.specs.Inputs.{HoldsWorld, HoldsCalls, Gives}
 use Rattle.world.specs.Views.{world_view}
 use Rattle.wblock_blocks.proofs.mine.mine_block.Goals as goal
 
-pub returns-in-Ok-done-clause-answers : goal.returns-in-Ok-done-clause-answers
-returns-in-Ok-done-clause-answers g c = λ t.
+pub returns-in-Ok-noted-clause-answers : goal.returns-in-Ok-noted-clause-answers
+returns-in-Ok-noted-clause-answers g c = λ t.
     let holds = g.F.Files.holds c.args.files.now in
     let world = world_view c.in-Read.world in
     let mined = c.in-Ok.mined in
@@ -22,5 +22,5 @@ returns-in-Ok-done-clause-answers g c = λ t.
       version = c.in-Ok.ensures.version;
       left = mined.left.items;
       is_left = subst (λ calls. IsLeft calls (order_of mined.block) mined.left.items) c.deref.ensures.value c.in-Ok.ensures.left;
-      done = c.in-Ok-done.ensures;
+      done = c.in-Ok-noted.ensures.answer;
     })

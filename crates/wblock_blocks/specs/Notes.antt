@@ -1,0 +1,31 @@
+-- What `mine` says on standard error.
+use Rattle.std.specs.Prelude.{◌≡◌, ℕ, List, [], ◌∷◌, ◌++◌}
+use Rattle.std.specs.List.{AllByRecursion}
+use Rattle.spec_ledger.specs.declared.Outcome.{Outcome}
+use Rattle.spec_ledger.specs.declared.Outcome.TheVariants.{Returned}
+use Rattle.spec_block.specs.Worlds.{Position, Block}
+use Rattle.spec_block.specs.Bytes.{block_bytes}
+use Rattle.wblock_line.specs.Answers.{Written, writes_of}
+use Rattle.wblock_line.specs.declared.answer.Answer.{Answer}
+use Rattle.wblock_line.specs.declared.answer.Answer.TheVariants.{Done, Refused}
+
+abbrev pub IsReturn : Outcome → Type 0
+IsReturn (Returned value) = Unit {0}
+IsReturn o = ⊥
+
+-- the call at a position returned
+abbrev pub HasReturned : Position → Type 0
+HasReturned p = IsReturn p.receipt.outcome
+
+abbrev pub EndsLine : List ℕ → Type 0
+EndsLine text = (front : List ℕ) × (text ≡ front ++ 10 ∷ [])
+
+-- nothing is said of calls that all returned, and else a text that ends with a newline
+pub record IsNoteOf (positions : List Position) (note : List ℕ) : Type 0 where
+  pub silent : AllByRecursion HasReturned positions → note ≡ []
+  pub told : (AllByRecursion HasReturned positions → ⊥) → EndsLine note
+
+-- what is said is of the block that is to be written first; of a refusal nothing is
+abbrev pub Notes : Answer → List ℕ → Type 0
+Notes (Done writes text) note = (block : Block) × (name : List ℕ) × (others : List Written) × (writes_of (Done writes text) ≡ (name, block_bytes block) ∷ others) × IsNoteOf block.positions note
+Notes (Refused line why) note = note ≡ []

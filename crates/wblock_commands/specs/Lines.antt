@@ -1,6 +1,0 @@
--- Lines of printed text.
-use Rattle.std.specs.Prelude.{◌≡◌, ℕ, List, [], ◌∷◌, ◌++◌}
-
--- the text ends with a newline
-abbrev pub EndsLine : List ℕ → Type 0
-EndsLine text = (front : List ℕ) × (text ≡ front ++ 10 ∷ [])
