@@ -55,19 +55,17 @@ pub struct Came {
     pub err: Vec<u8>,
 }
 
-/// Whoever does the steps of rows.
-pub trait Kinds {
-    /// Does the step of this word over the files of its row, as the rest of its line says; None where there is no such step, the line can't be
-    /// read, or memory is refused.
-    fn run(
-        &self,
-        alloc: Global,
-        word: &str,
-        rest: &str,
-        files: &mut MemoryFiles,
-        fails: Fails,
-    ) -> Option<Came>;
+/// A step that whoever plays the rows does: the word of its line and the rest of it, the files of its row, and what fails there.
+#[derive(Drop)]
+pub struct Asked<'t> {
+    pub word: &'t str,
+    pub rest: &'t str,
+    pub files: MemoryFiles,
+    pub fails: Fails,
+}
 
+/// Whoever answers what rows ask.
+pub trait Kinds {
     /// What a kind makes of these bytes, as a text; None where there is no such kind, or memory is refused.
     fn answer(&self, alloc: Global, kind: &str, input: &[u8]) -> Option<String>;
 }

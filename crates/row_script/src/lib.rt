@@ -8,6 +8,6 @@ mod script;
 mod wanted;
 mod wrong;
 
-pub use kinds::{Came, Fails, Kinds};
+pub use kinds::{Asked, Came, Fails, Kinds};
 pub use pieces::cut;
 pub use script::Script;

@@ -1,6 +1,6 @@
 //! The rows of a file, line by line.
 
-use crate::kinds::{Came, Fails, Kinds};
+use crate::kinds::{Asked, Came, Fails, Kinds};
 use crate::pieces::{Kept, Sources, cut, find, is_piece, number_of, put_piece};
 use crate::report::Report;
 use crate::wanted::{How, fits, how_of};
@@ -156,27 +156,45 @@ impl Script {
         self.report.text.as_str()
     }
 
-    /// Plays the rows of the file of this name, whose text is this one, where it could be read. The names of bytes stay.
-    pub fn play<K: Kinds>(&mut self, kinds: &K, file: &str, text: Option<&str>) {
+    /// Begins the file of this name. The names of bytes stay.
+    pub fn begin(&mut self, file: &str) {
         self.number = 0;
         let begun = self.report.begin(self.alloc, file);
         self.note(begun);
-        match text {
-            Some(text) => self.play_lines(kinds, text),
-            None => self.note(Err(Wrong::Unread)),
+    }
+
+    /// Tells that the file can't be read.
+    pub fn tell_unread(&mut self) {
+        self.note(Err(Wrong::Unread));
+    }
+
+    /// Takes a line, and tells what is wrong with it. A step that is none of the reader's own is asked for.
+    pub fn take<'t, K: Kinds>(&mut self, kinds: &K, line: &'t str) -> Option<Asked<'t>> {
+        self.number = self.number.saturating_add(1);
+        match self.read(kinds, line) {
+            Ok(asked) => asked,
+            Err(wrong) => {
+                self.report.wrong(self.alloc, self.number, wrong);
+                None
+            }
         }
+    }
+
+    /// Takes back the files of the step that was asked for, and takes what it came to; None where there is no such step, its line can't be read, or
+    /// memory is refused.
+    pub fn hear(&mut self, files: MemoryFiles, came: Option<Came>) {
+        self.row.files = files;
+        match came {
+            Some(came) => self.put_down(came, self.number),
+            None => self.note(Err(Wrong::Step)),
+        }
+    }
+
+    /// Ends the file.
+    pub fn end<K: Kinds>(&mut self, kinds: &K) {
         self.end_row(kinds);
         self.row = head(self.alloc);
         self.common = 0;
-    }
-
-    /// Plays lines.
-    fn play_lines<K: Kinds>(&mut self, kinds: &K, text: &str) {
-        for line in text.split('\n') {
-            self.number = self.number.saturating_add(1);
-            let taken = self.take(kinds, line);
-            self.note(taken);
-        }
     }
 
     /// Tells what is wrong with the line that is played.
@@ -186,28 +204,30 @@ impl Script {
         }
     }
 
-    /// Takes a line.
-    fn take<K: Kinds>(&mut self, kinds: &K, line: &str) -> Result<(), Wrong> {
+    /// Reads a line.
+    fn read<'t, K: Kinds>(&mut self, kinds: &K, line: &'t str) -> Result<Option<Asked<'t>>, Wrong> {
         if line.is_empty() || line.starts_with('#') {
-            return Ok(());
+            return Ok(None);
         }
         let (word, rest) = cut(line.trim_start());
         if is_piece(word) {
-            return self.put(word, rest);
+            self.put(word, rest)?;
+            return Ok(None);
         }
         self.close(kinds);
         match word {
-            "row" => self.begin_row(rest),
-            "bytes" => self.begin_name(rest),
-            "file" => self.give(rest),
-            "fail" => self.fail(rest),
-            "piece" => self.set_piece(rest),
-            "out" => self.want(Target::Out, rest),
-            "err" => self.want(Target::Err, rest),
-            "after" => self.want_in_file(rest),
-            "ask" => self.ask(rest),
-            _ => self.run(kinds, word, rest),
+            "row" => self.begin_row(rest)?,
+            "bytes" => self.begin_name(rest)?,
+            "file" => self.give(rest)?,
+            "fail" => self.fail(rest)?,
+            "piece" => self.set_piece(rest)?,
+            "out" => self.want(Target::Out, rest)?,
+            "err" => self.want(Target::Err, rest)?,
+            "after" => self.want_in_file(rest)?,
+            "ask" => self.ask(rest)?,
+            _ => return Ok(Some(self.asked(word, rest)?)),
         }
+        Ok(None)
     }
 
     /// Puts a piece behind the bytes that are open. Where it has none, whatever bytes there are will do: the piece is told, and not they, too.
@@ -317,17 +337,16 @@ impl Script {
         self.aim(Target::Ask, kind, piece)
     }
 
-    /// Does a step.
-    fn run<K: Kinds>(&mut self, kinds: &K, word: &str, rest: &str) -> Result<(), Wrong> {
+    /// Asks for a step.
+    fn asked<'t>(&mut self, word: &'t str, rest: &'t str) -> Result<Asked<'t>, Wrong> {
         self.begin_step()?;
-        let came = kinds.run(self.alloc, word, rest, &mut self.row.files, self.row.fails);
-        match came {
-            Some(came) => {
-                self.hear(came, self.number);
-                Ok(())
-            }
-            None => Err(Wrong::Step),
-        }
+        let none = MemoryFiles::new(self.alloc, 1, Failures::none());
+        Ok(Asked {
+            word,
+            rest,
+            files: replace(&mut self.row.files, none),
+            fails: self.row.fails,
+        })
     }
 
     /// Begins a step: the one before has ended, and the files are there.
@@ -349,7 +368,7 @@ impl Script {
     }
 
     /// Takes what the step of a line came to.
-    fn hear(&mut self, came: Came, number: u32) {
+    fn put_down(&mut self, came: Came, number: u32) {
         if let Some(words) = &came.otherwise {
             self.report.otherwise(self.alloc, number, words.as_str());
         }
@@ -435,7 +454,7 @@ impl Script {
             out: text.into_bytes(),
             err: Vec::new(self.alloc),
         };
-        self.hear(came, self.open.number);
+        self.put_down(came, self.open.number);
         Ok(())
     }
 

@@ -5,8 +5,7 @@ ghost use Rattle.interp.specs.Lent.{setting_view};
 ghost use Rattle.publish.specs.Adoption.{AreMade, IsMade};
 
 use crate::assertions::holds;
-use crate::runs::{EIGHT, Held, REFUSED, RETURNED_5, RETURNED_10, SEVEN, STOPPED, hold_locks};
-use crate::settings::{Asked, Cell, calls, cells, contracts, hold};
+use crate::settings::{Asked, Cell, calls, cells, contracts, hold, lock};
 use boost::book::{Book, Run};
 use call::Call;
 use interp::finished::Finished;
@@ -14,11 +13,60 @@ use link::deployed::Deployed;
 use lock_profile::Touched;
 use publish::{MadeRun, Published, Publishing};
 use serial::{run_alone, touched_by};
-use spec_ledger::Mode::{Add, Excl};
-use spec_ledger::{Receipt, Step, Version};
+use spec_ledger::Kind::Counter;
+use spec_ledger::Mode::{self, Add, Excl};
+use spec_ledger::{Outcome, Receipt, Step, Version};
 use std::alloc::Global;
 use storage::Cells;
 use wtypes::Value;
+
+/// A counter of contract 0 that is held, and the mode.
+type Held = (u64, Mode);
+
+const REFUSED: Receipt = Receipt {
+    outcome: Outcome::Rejected(6),
+    used: 0,
+    asks: 0,
+};
+
+const RETURNED_5: Receipt = Receipt {
+    outcome: Outcome::Returned(Some(Value::I64(5))),
+    used: 7,
+    asks: 0,
+};
+
+const RETURNED_10: Receipt = Receipt {
+    outcome: Outcome::Returned(Some(Value::I64(10))),
+    used: 7,
+    asks: 0,
+};
+
+const STOPPED: Receipt = Receipt {
+    outcome: Outcome::OutOfFuel,
+    used: 6,
+    asks: 0,
+};
+
+const SEVEN: Cell = (0, Counter, 7);
+
+const EIGHT: Cell = (0, Counter, 8);
+
+/// The call held these locks, all of them of counters of contract 0.
+fn has_locks(touched: &Touched, locks: &[Held]) -> bool {
+    touched.held().len() == locks.len()
+        && touched.held().iter().zip(locks.iter()).all(|(held, (key, mode))| held.lock
+            == lock((0, Counter, *key))
+            && held.mode == *mode)
+}
+
+/// The calls held these locks, all of them of counters of contract 0.
+fn hold_locks(touched: &[Touched], locks: &[&[Held]]) -> bool {
+    touched.len() == locks.len()
+        && touched
+            .iter()
+            .zip(locks.iter())
+            .all(|(one, wanted)| has_locks(one, *wanted))
+}
 
 /// A run of the call of this number, alone over these cells.
 type Made<'b> = (u32, &'b [(Cell, u64)]);

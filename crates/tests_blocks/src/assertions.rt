@@ -1,7 +1,7 @@
 //! Assertions as functions: a macro's branch is proved at each place with all that lives there, and a call in a fraction of the time. A failed one shows
 //! the line of this file, so each names its place.
 
-ghost use Rattle.std.specs.Prelude.{◌≡◌, true};
+ghost use Rattle.std.specs.Prelude.{◌≡◌, true, Ok};
 
 use std::fmt::Debug;
 use std::process::Abort;
@@ -21,4 +21,14 @@ pub(crate) fn holds(rt: &impl Abort, place: &impl Debug, is: bool)
     ensures { is ≡ true }
 {
     assert!(rt; is, "at {place:?}");
+}
+
+/// What was answered; the end of the test where it is a refusal.
+pub(crate) fn given<T, E: Debug>(rt: &impl Abort, place: &impl Debug, answer: Result<T, E>) -> T
+    ensures { answer ≡ Ok result }
+{
+    match answer {
+        Ok(value) => value,
+        Err(refusal) => panic!(rt; "at {place:?}: {refusal:?}"),
+    }
 }

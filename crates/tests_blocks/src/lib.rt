@@ -1,4 +1,5 @@
-//! Tests of serial execution, publishing, worlds and blocks. There is no code here.
+//! Tests of what rows of data can't say: books whose runs are handed over, what is sealed that ran elsewhere, orders played to their end with memory refused at
+//! each block, counts without what they count in small heaps, random bytes, and what refusals say. There is no code here.
 #![tactic(auto)]
 
 #[cfg(test)]
@@ -6,22 +7,16 @@ mod adopted;
 #[cfg(test)]
 mod assertions;
 #[cfg(test)]
-mod judged_blocks;
+mod counts;
 #[cfg(test)]
-mod levels;
+mod games;
 #[cfg(test)]
-mod marks;
+mod noise;
 #[cfg(test)]
-mod orders_of_blocks;
+mod refusals;
 #[cfg(test)]
-mod published;
+mod refused_memory;
 #[cfg(test)]
-mod runs;
+mod sealed;
 #[cfg(test)]
 mod settings;
-#[cfg(test)]
-mod versions;
-#[cfg(test)]
-mod worlds;
-#[cfg(test)]
-mod worlds_read;

@@ -62,7 +62,7 @@ pub fn world(alloc: Global, held: &[(Cell, u64)]) -> Option<World> {
 }
 
 /// The world of this contract and these cells.
-pub fn world_of(alloc: Global, contract: Deployed<Global>, held: &[(Cell, u64)]) -> Option<World> {
+fn world_of(alloc: Global, contract: Deployed<Global>, held: &[(Cell, u64)]) -> Option<World> {
     let mut contracts = Vec::new(alloc);
     contracts.push(contract).ok()?;
     let cells = cells(alloc, held)?;

@@ -1,17 +1,11 @@
-//! Tests of the machine through its public calls. There is no code here.
+//! Tests of the machine and of the debugger that are no rows of data: want of memory, and refusals that no row comes to. There is no code here.
 #![tactic(auto)]
 
 #[cfg(test)]
 mod assertions;
 #[cfg(test)]
-mod levels;
-#[cfg(test)]
-mod machines;
-#[cfg(test)]
-mod messages;
+mod heaps;
 #[cfg(test)]
 mod programs;
 #[cfg(test)]
-mod runs;
-#[cfg(test)]
-mod turns;
+mod refusals;

@@ -1,12 +1,15 @@
 // Trees and working memory in heaps of fixed size.
 use crate::assertions::{equal, holds};
+use crate::loading::HEADER;
 use crate::verdict::Verdict::{self, Deployed, NoMemory};
 use crate::verdict::verdict_in;
+use encoder::encode;
 use link::deploy::deploy;
 use link::deployed::Deployed as Contract;
 use link::refusal::LinkRefusal;
 use linked_list_allocator::LocalHeap;
-use loader::load;
+use loader::{LoadRefusal, load};
+use module_tree::module::Module;
 use samples::{EXAMPLE, deployed, typed};
 use std::alloc::{AllocError, Global};
 use std::process::Abort;
@@ -131,5 +134,59 @@ fn working_memory_in_small_heaps(rt: HostRuntime) -> Result<(), Fail> {
         }
     }
     holds(&rt, &(refused, passed), refused > 0 && passed > 0);
+    Ok(())
+}
+
+// The module of one function of 1,000 `nop`.
+fn nops(a: Global) -> Result<Vec<u8>, AllocError> {
+    let mut bytes = HEADER.to_vec(a)?;
+    bytes.extend_from_slice(&FRONT)?;
+    for _ in 0..1_000 {
+        bytes.push(0x01)?;
+    }
+    bytes.push(0x0B)?;
+    Ok(bytes)
+}
+
+// Its type section, its function section, and its code section up to the first `nop`.
+const FRONT: [u8; 17] = [
+    0x01, 0x04, 0x01, 0x60, 0x00, 0x00, 0x03, 0x02, 0x01, 0x00, 0x0A, 0xED, 0x07, 0x01, 0xEA, 0x07,
+    0x00,
+];
+
+// Whether the load of the bytes wants more memory than the heap has, which is empty again behind it.
+fn is_too_large(rt: &impl Abort, heap: &LocalHeap, bytes: &[u8]) -> bool {
+    let refusal = load(heap, bytes).err();
+    equal(rt, &"used of the small heap", &heap.used(), &0);
+    refusal == Some(LoadRefusal::NoMemory)
+}
+
+// The tree in the heap spells the bytes.
+fn assert_tree(
+    rt: &impl Abort,
+    a: Global,
+    place: &str,
+    tree: &Module<&LocalHeap>,
+    bytes: &[u8],
+) -> Result<(), Fail> {
+    let mut spelled = Vec::new(a);
+    encode(tree, &mut spelled)?;
+    holds(rt, &place, spelled.as_slice() == bytes);
+    Ok(())
+}
+
+// A load that one heap has no room for leaves a tree in another as it was.
+#[test]
+fn a_refused_load_beside_a_tree(rt: HostRuntime) -> Result<(), Fail> {
+    let small = LocalHeap::new(rt.alloc(), 1_024)?;
+    let other = LocalHeap::new(rt.alloc(), 1_048_576)?;
+    let bytes = nops(rt.alloc())?;
+    let tree = load(&other, &bytes).ok().ok_or("not loaded")?;
+    let used = other.used();
+    assert_tree(&rt, rt.alloc(), "before", &tree, &bytes)?;
+    let is_refused = is_too_large(&rt, &small, &bytes);
+    holds(&rt, &"a heap of 1,024 bytes", is_refused);
+    assert_tree(&rt, rt.alloc(), "after", &tree, &bytes)?;
+    equal(&rt, &"used of the other heap", &other.used(), &used);
     Ok(())
 }

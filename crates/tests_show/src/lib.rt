@@ -1,4 +1,5 @@
-//! Tests of what is shown of files, and of pictures of blocks. There is no code here.
+//! Tests of what is shown of blocks that no row of data says: the block of the most positions, one whose calls are not all there, and pictures of
+//! blocks. There is no code here.
 #![tactic(auto)]
 
 #[cfg(test)]
@@ -6,12 +7,8 @@ mod assertions;
 #[cfg(test)]
 mod blocks;
 #[cfg(test)]
-mod contents;
-#[cfg(test)]
 mod drawings;
 #[cfg(test)]
-mod json;
-#[cfg(test)]
-mod named;
+mod missing_calls;
 #[cfg(test)]
 mod pictures;

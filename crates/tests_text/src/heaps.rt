@@ -1,10 +1,9 @@
 use crate::assertions::{equal, holds};
-use crate::texts::{read, repeated, tree_of};
 use lexer::{LexRefusal, tokens};
 use linked_list_allocator::LocalHeap;
 use std::alloc::{Allocator, Global};
 use std::test::Fail;
-use text_tree::{Field, parse};
+use text_tree::parse;
 use text_words::TextRefusal;
 
 // Each kind of field, with names, strings and instructions that take memory.
@@ -64,44 +63,5 @@ fn heaps_that_are_too_small(rt: HostRuntime) -> Result<(), Fail> {
         }
     }
     holds(&rt, &("full", full, "read", read), full > 10 && read > 10);
-    Ok(())
-}
-
-// How a text of so many pieces between a front and a back is refused.
-fn refusal(a: Global, parts: [&str; 3], times: u32) -> Result<Option<TextRefusal>, Fail> {
-    let text = repeated(a, parts, times)?;
-    Ok(read(a, text.as_str())?.err())
-}
-
-// Fronts, pieces and backs, how many pieces, and the place at which the text is refused: at the second bracket, and at the end.
-const BRACKETS: [([&str; 3], u32, usize); 3] = [
-    (["", "(", ""], 1_048_576, 1),
-    (["(module (func ", "(block ", ""], 140_000, 980_014),
-    (["(module (func ", "(drop ", "))"], 140_000, 840_016),
-];
-
-#[test]
-fn a_megabyte_of_brackets(rt: HostRuntime) -> Result<(), Fail> {
-    for (parts, times, at) in BRACKETS {
-        let wanted = Some(TextRefusal::Unexpected(at));
-        equal(&rt, &at, &refusal(rt.alloc(), parts, times)?, &wanted);
-    }
-    Ok(())
-}
-
-// How many instructions the only field has, where it is a function.
-fn size_of_body(fields: &[Field<'_, Global>]) -> Option<usize> {
-    match fields.first() {
-        Some(Field::Func(found)) if fields.len() == 1 => Some(found.body.len()),
-        _ => None,
-    }
-}
-
-#[test]
-fn operands_within_operands(rt: HostRuntime) -> Result<(), Fail> {
-    let opened = repeated(rt.alloc(), ["(module (func ", "(drop ", ""], 100_000)?;
-    let text = repeated(rt.alloc(), [opened.as_str(), ")", ""], 100_002)?;
-    let tree = tree_of(rt.alloc(), text.as_str())?;
-    equal(&rt, &"size", &size_of_body(&tree.fields), &Some(100_000));
     Ok(())
 }

@@ -178,6 +178,53 @@ const ADDED_7: Entry = Entry {
     turn: 0,
 };
 
+const EXCLUDED_7_LATER: Entry = Entry {
+    lock: Lock {
+        contract: 0,
+        kind: Counter,
+        key: 7,
+    },
+    mode: Mode::Excl,
+    turn: 1,
+};
+
+/// Two places of the example's map, of which one mover reads the first and writes the second, and the other the second and the first.
+const MAP_1: Lock = Lock {
+    contract: 0,
+    kind: Map,
+    key: 1,
+};
+
+const MAP_2: Lock = Lock {
+    contract: 0,
+    kind: Map,
+    key: 2,
+};
+
+const READ_1: Entry = Entry {
+    lock: MAP_1,
+    mode: Mode::Read,
+    turn: 0,
+};
+
+const WRITTEN_2: Entry = Entry {
+    lock: MAP_2,
+    mode: Mode::Excl,
+    turn: 0,
+};
+
+const WRITTEN_1_LATER: Entry = Entry {
+    lock: MAP_1,
+    mode: Mode::Excl,
+    turn: 1,
+};
+
+const READ_2_LATER: Entry = Entry {
+    lock: MAP_2,
+    mode: Mode::Read,
+    turn: 1,
+};
+
 const ADDED_5: Entry = Entry {
     lock: Lock {
         contract: 1,
@@ -431,7 +478,10 @@ pub(crate) const ROWS: &[Row] = &[
             tries: 2,
             meeting: Some(Meeting::RefusedOnce),
         },
-        places: &[(1, RETURNED, Locks::Any), (0, TOTAL_OF_3, Locks::Any)],
+        places: &[
+            (1, RETURNED, Locks::These(&[ADDED_7])),
+            (0, TOTAL_OF_3, Locks::These(&[EXCLUDED_7_LATER])),
+        ],
         in_order: true,
         by_workers: Some(2),
         used: 8,
@@ -453,7 +503,10 @@ pub(crate) const ROWS: &[Row] = &[
             tries: 1,
             meeting: Some(Meeting::BothRefused),
         },
-        places: &[(0, MOVED, Locks::Any), (1, MOVED, Locks::Any)],
+        places: &[
+            (0, MOVED, Locks::These(&[READ_1, WRITTEN_2])),
+            (1, MOVED, Locks::These(&[WRITTEN_1_LATER, READ_2_LATER])),
+        ],
         in_order: true,
         by_workers: Some(0),
         used: 8,

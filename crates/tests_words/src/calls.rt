@@ -1,9 +1,7 @@
 //! Calls and receipts as lines of text.
 
-use calls_text::{CallsRefusal, MOST_CALLS, PositionLine, ReceiptText, ValueText, read_calls};
-use file_rows::{Part, joined};
+use calls_text::{PositionLine, ReceiptText, ValueText, read_calls};
 use spec_ledger::{Outcome, Receipt};
-use std::alloc::Global;
 use std::test::Fail;
 use wtypes::{TrapCode, Value};
 
@@ -36,130 +34,6 @@ fn reads_calls(rt: HostRuntime) -> Result<(), Fail> {
     for (call, row) in calls.iter().zip(CALLS.iter()) {
         let read = (call.contract(), call.fuel(), call.entry(), call.args());
         assert_eq!(rt; read, *row);
-    }
-    Ok(())
-}
-
-/// A text, and how many calls it has or why it has none.
-type TextRow<'a> = (&'a [Part<'a>], Result<usize, CallsRefusal>);
-
-/// How many calls a text has, or why it has none.
-fn count_of(alloc: Global, text: &[Part]) -> Result<Result<usize, CallsRefusal>, Fail> {
-    let text = joined(alloc, text)?;
-    match read_calls(alloc, &text) {
-        Ok(calls) => Ok(Ok(calls.len())),
-        Err(refusal) => Ok(Err(refusal)),
-    }
-}
-
-/// Texts whose first bad line is the first.
-const BAD_AT_ONCE: &[&[u8]] = &[
-    b"0 100 run i64:7",
-    b"\n",
-    b"0 100 run  i64:7\n",
-    b" 0 100 run\n",
-    b"0 100 run \n",
-    b"0 100\n",
-    b"0 100 \n",
-    b"00 100 run\n",
-    b"-0 100 run\n",
-    b"+1 100 run\n",
-    b"4294967296 100 run\n",
-    b"0 0100 run\n",
-    b"0 18446744073709551616 run\n",
-    b"0 100 run 7\n",
-    b"0 100 run i64:\n",
-    b"0 100 run i64:-0\n",
-    b"0 100 run i64:+7\n",
-    b"0 100 run i64:07\n",
-    b"0 100 run i32:2147483648\n",
-    b"0 100 run i32:-2147483649\n",
-    b"0 100 run i64:9223372036854775808\n",
-    b"0 100 run I64:7\n",
-    b"0 100 run i64:7\r\n",
-    b"0 100 \xff\n",
-    // control characters in an entry
-    b"0 100 run\r\n",
-    b"0 100 run\t\n",
-    b"0 100 run\0\n",
-    b"0 100 \t\n",
-    b"0 100 \x1b[31mrun i64:7\n",
-    b"0 100 run\x7f i64:7\n",
-    b"0 100 run\r\n0 100 run\r\n",
-];
-
-#[test]
-fn names_the_first_bad_line(rt: HostRuntime) -> Result<(), Fail> {
-    for text in BAD_AT_ONCE {
-        let answer = count_of(rt.alloc(), &[(1, *text)])?;
-        assert_eq!(rt; answer, Err(CallsRefusal::Line(1)), "{text:?}");
-    }
-    Ok(())
-}
-
-/// What a line is whose entry has this character between two letters.
-fn wanted_of(code: u8) -> Result<usize, CallsRefusal> {
-    match code {
-        // the first line ends here
-        10 => Err(CallsRefusal::Line(2)),
-        // the entry ends here, and an argument follows that is none
-        32 => Err(CallsRefusal::Line(1)),
-        0..=31 | 127 => Err(CallsRefusal::Line(1)),
-        _ => Ok(1),
-    }
-}
-
-#[test]
-fn an_entry_has_no_control_character(rt: HostRuntime) -> Result<(), Fail> {
-    for code in 0..128u8 {
-        let letter = [code];
-        let text: [Part; 3] = [(1, b"0 100 r"), (1, &letter), (1, b"n\n")];
-        assert_eq!(rt; count_of(rt.alloc(), &text)?, wanted_of(code), "{code}");
-    }
-    // characters of several bytes are none of them
-    for letter in ["\u{80}", "\u{85}", "\u{a0}", "\u{2028}", "\u{10ffff}"] {
-        let text: [Part; 3] = [(1, b"0 100 r"), (1, letter.as_bytes()), (1, b"n\n")];
-        assert_eq!(rt; count_of(rt.alloc(), &text)?, Ok(1), "{letter:?}");
-    }
-    Ok(())
-}
-
-/// Texts of no calls and of the most, and others whose bad line is not the first or that pass a limit.
-const LIMITS: &[TextRow] = &[
-    (&[], Ok(0)),
-    (
-        &[(1, b"0 100 run i64:7\n0 100 run")],
-        Err(CallsRefusal::Line(2)),
-    ),
-    (&[(1, b"0 100 run\n\n")], Err(CallsRefusal::Line(2))),
-    (
-        &[(1, b"0 100 run\n0 100 run\r\n")],
-        Err(CallsRefusal::Line(2)),
-    ),
-    (
-        &[(1, b"0 100 run\n0  100 run\n0 100 run\n")],
-        Err(CallsRefusal::Line(2)),
-    ),
-    (&[(MOST_CALLS, b"0 1 f\n")], Ok(MOST_CALLS)),
-    (&[(65_536, b"0 1 f\n")], Err(CallsRefusal::TooMany)),
-    (
-        &[(65_536, b"0 1 f\n"), (1, b"0 1\n")],
-        Err(CallsRefusal::Line(65_537)),
-    ),
-    (
-        &[(1, b"0 1 "), (65_536, b"f"), (1, b"\n")],
-        Err(CallsRefusal::Line(1)),
-    ),
-    (
-        &[(1, b"0 1 f"), (1_025, b" i32:0"), (1, b"\n")],
-        Err(CallsRefusal::Line(1)),
-    ),
-];
-
-#[test]
-fn keeps_the_limits(rt: HostRuntime) -> Result<(), Fail> {
-    for (text, wanted) in LIMITS {
-        assert_eq!(rt; count_of(rt.alloc(), *text)?, *wanted, "{wanted:?}");
     }
     Ok(())
 }

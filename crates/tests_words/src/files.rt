@@ -1,9 +1,9 @@
 //! Files and streams, at each failure in turn.
 
 use crate::assertions;
+use crate::rows::Wanted::{self, Absent, Text};
+use crate::rows::{File, holding, holds};
 use codec::{Sink, put_all};
-use file_rows::Wanted::{self, Absent, Text};
-use file_rows::{File, holding, holds};
 use std::alloc::Global;
 use std::io::ErrorKind;
 use std::test::Fail;

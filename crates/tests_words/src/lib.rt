@@ -1,4 +1,4 @@
-//! Tests of what commands are made of: words, calls, files and the sentences of refusals, at each fault in turn. There is no code here.
+//! Tests of what commands are made of: words, calls, receipts, files and progress. There is no code here.
 #![tactic(auto)]
 
 #[cfg(test)]
@@ -6,11 +6,7 @@ mod assertions;
 #[cfg(test)]
 mod calls;
 #[cfg(test)]
-mod calls_refused;
-#[cfg(test)]
 mod files;
-#[cfg(test)]
-mod files_refused;
 #[cfg(test)]
 mod forged_calls;
 #[cfg(test)]
@@ -18,6 +14,6 @@ mod inputs;
 #[cfg(test)]
 mod progress;
 #[cfg(test)]
-mod texts_refused;
+mod rows;
 #[cfg(test)]
 mod words;

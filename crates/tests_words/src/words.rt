@@ -1,7 +1,6 @@
 //! Words that are commands of a debugger, and lines that ask to debug.
 
-use file_rows::words_of;
-use std::alloc::Global;
+use std::alloc::{AllocError, Global};
 use std::test::Fail;
 use wblock_debug::{Command, command_of, commands_of, debugging_of};
 use wblock_line::split_words;
@@ -71,6 +70,14 @@ const LISTS: [(&str, Option<&[Command]>); 3] = [
     ("step:3 stacks", None),
     ("", Some(&[])),
 ];
+
+/// The words between single spaces.
+fn words_of<'a>(alloc: Global, line: &'a str) -> Result<Vec<&'a str>, AllocError> {
+    if line.is_empty() {
+        return Ok(Vec::new(alloc));
+    }
+    line.split(' ').collect(alloc)
+}
 
 /// Whether these words spell these commands.
 fn spell(alloc: Global, words: &str, commands: Option<&[Command]>) -> Result<bool, Fail> {

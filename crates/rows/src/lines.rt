@@ -1,0 +1,247 @@
+//! Steps that are lines of words.
+
+use crate::paces::{Ahead, Clash, Gather};
+use codec::MemorySink;
+use pace::{NoPace, Pace};
+use row_script::{Came, Fails, cut};
+use std::alloc::Global;
+use std::sync::Wait;
+use std::thread::Threads;
+use wblock_commands::{run_line, usage_text};
+use wblock_io::MemoryFiles;
+use wblock_line::Status;
+
+/// How many bytes a stream takes at a time.
+const PIECE: usize = 3;
+
+/// The word of a status.
+fn word_of(status: Status) -> &'static str {
+    match status {
+        Status::Done => "done",
+        Status::Refused => "refused",
+        Status::Usage => "usage",
+        Status::File => "file",
+        Status::Memory => "memory",
+    }
+}
+
+/// The words between single spaces.
+fn words_of<'a>(alloc: Global, line: &'a str) -> Option<Vec<&'a str>> {
+    if line.is_empty() {
+        return Some(Vec::new(alloc));
+    }
+    line.split(' ').collect(alloc).ok()
+}
+
+/// How a line ended.
+#[derive(Drop)]
+struct Ended {
+    status: Status,
+    out: MemorySink,
+    err: MemorySink,
+}
+
+/// What a line came to whose words begin so, where it ended so.
+fn came(alloc: Global, words: &str, said: &str, ended: &Ended) -> Option<Came> {
+    let otherwise = if said == words {
+        None
+    } else {
+        Some(said.to_string(alloc).ok()?)
+    };
+    Some(Came {
+        otherwise,
+        out: ended.out.bytes().to_vec(alloc).ok()?,
+        err: ended.err.bytes().to_vec(alloc).ok()?,
+    })
+}
+
+/// A number, and the words behind it.
+fn counted(rest: &str) -> Option<(u64, &str)> {
+    let (count, rest) = cut(rest);
+    Some((count.parse::<u64>().ok()?, rest))
+}
+
+/// What a line came to that says how many come, where so many came.
+fn came_counted(
+    alloc: Global,
+    count: u64,
+    wanted: &str,
+    total: u64,
+    ended: &Ended,
+) -> Option<Came> {
+    let words = format!(in alloc; "{count} {wanted}").ok()?;
+    let said = format!(in alloc; "{total} {}", word_of(ended.status)).ok()?;
+    came(alloc, words.as_str(), said.as_str(), ended)
+}
+
+/// What is said of words that ask for nothing, on the standard output.
+fn usage(alloc: Global, line: &str) -> Option<Came> {
+    let words = words_of(alloc, line)?;
+    let text = usage_text(alloc, &words).ok()?;
+    Some(Came {
+        otherwise: None,
+        out: text.into_bytes(),
+        err: Vec::new(alloc),
+    })
+}
+
+/// What the runs of a line over many files come to together.
+#[derive(Drop)]
+struct Together {
+    came: Came,
+    last_out: Vec<u8>,
+    last_err: Vec<u8>,
+}
+
+impl Together {
+    /// None was run.
+    fn new(alloc: Global) -> Together {
+        Together {
+            came: Came {
+                otherwise: None,
+                out: Vec::new(alloc),
+                err: Vec::new(alloc),
+            },
+            last_out: Vec::new(alloc),
+            last_err: Vec::new(alloc),
+        }
+    }
+
+    /// Puts what a run put on its streams behind what the others did, where it is not the same as of the last one.
+    fn add(&mut self, alloc: Global, ended: &Ended) -> Option<()> {
+        if ended.out.bytes() != self.last_out.as_slice() {
+            self.last_out = ended.out.bytes().to_vec(alloc).ok()?;
+            self.came.out.extend_from_slice(ended.out.bytes()).ok()?;
+        }
+        if ended.err.bytes() != self.last_err.as_slice() {
+            self.last_err = ended.err.bytes().to_vec(alloc).ok()?;
+            self.came.err.extend_from_slice(ended.err.bytes()).ok()?;
+        }
+        Some(())
+    }
+}
+
+/// Runs a line of words at this pace.
+fn run_words<R: Threads + Wait + Sync, P: Pace>(
+    rt: &R,
+    alloc: Global,
+    line: &str,
+    files: &mut MemoryFiles,
+    fails: Fails,
+    pace: &P,
+) -> Option<Ended> {
+    let words = words_of(alloc, line)?;
+    let mut out = MemorySink::new(alloc, PIECE, fails.of_out());
+    let mut err = MemorySink::new(alloc, PIECE, fails.of_err());
+    let status = run_line(rt, alloc, &words, files, &mut out, &mut err, pace);
+    Some(Ended { status, out, err })
+}
+
+/// Runs a line of words behind the status that is wanted.
+fn plain<R: Threads + Wait + Sync>(
+    rt: &R,
+    alloc: Global,
+    rest: &str,
+    files: &mut MemoryFiles,
+    fails: Fails,
+) -> Option<Came> {
+    let (wanted, line) = cut(rest);
+    let ended = run_words(rt, alloc, line, files, fails, &NoPace)?;
+    came(alloc, wanted, word_of(ended.status), &ended)
+}
+
+/// Runs a line of words whose workers are gathered: so many are wanted, and this status.
+fn gathered<R: Threads + Wait + Sync>(
+    rt: &R,
+    alloc: Global,
+    rest: &str,
+    files: &mut MemoryFiles,
+    fails: Fails,
+) -> Option<Came> {
+    let (count, rest) = counted(rest)?;
+    let (wanted, line) = cut(rest);
+    let pace = Gather::of(count);
+    let ended = run_words(rt, alloc, line, files, fails, &pace)?;
+    came_counted(alloc, count, wanted, pace.total(), &ended)
+}
+
+/// Runs a line of words whose calls are held so that one is refused: so many refusals are wanted, and this status.
+fn clashed<R: Threads + Wait + Sync>(
+    rt: &R,
+    alloc: Global,
+    rest: &str,
+    files: &mut MemoryFiles,
+    fails: Fails,
+) -> Option<Came> {
+    let (count, rest) = counted(rest)?;
+    let (wanted, line) = cut(rest);
+    let pace = Clash::of(count);
+    let ended = run_words(rt, alloc, line, files, fails, &pace)?;
+    came_counted(alloc, count, wanted, pace.total(), &ended)
+}
+
+/// Runs a line of words that is to tell so often that calls run ahead of one, with so much fuel, behind the status that is wanted.
+fn ahead<R: Threads + Wait + Sync>(
+    rt: &R,
+    alloc: Global,
+    rest: &str,
+    files: &mut MemoryFiles,
+    fails: Fails,
+) -> Option<Came> {
+    let (times, rest) = counted(rest)?;
+    let (fuel, rest) = counted(rest)?;
+    let (wanted, line) = cut(rest);
+    let pace = Ahead::new();
+    let ended = run_words(rt, alloc, line, files, fails, &pace)?;
+    let words = format!(in alloc; "{times} {fuel} {wanted}").ok()?;
+    let status = word_of(ended.status);
+    let said = format!(in alloc; "{} {} {status}", pace.times(), pace.fuel()).ok()?;
+    came(alloc, words.as_str(), said.as_str(), &ended)
+}
+
+/// Runs a line of words over each front of a file that is not all of it, the shortest one first, behind the status that is wanted each time.
+fn fronts<R: Threads + Wait + Sync>(
+    rt: &R,
+    alloc: Global,
+    rest: &str,
+    files: &mut MemoryFiles,
+    fails: Fails,
+) -> Option<Came> {
+    let (name, rest) = cut(rest);
+    let (wanted, line) = cut(rest);
+    let whole = files.bytes_of(alloc, name).ok()??;
+    let mut together = Together::new(alloc);
+    for count in 0..whole.len() {
+        files.hold(name, whole.get(..count)?).ok()?;
+        let ended = run_words(rt, alloc, line, files, fails, &NoPace)?;
+        together.add(alloc, &ended)?;
+        let status = word_of(ended.status);
+        if status != wanted {
+            let said = format!(in alloc; "{name} {status}, of {count} bytes").ok()?;
+            together.came.otherwise = Some(said);
+        }
+    }
+    files.hold(name, &whole).ok()?;
+    Some(together.came)
+}
+
+/// Does the step of this word over the files of its row, as the rest of its line says; None where there is no such step, the line can't be read, or memory
+/// is refused.
+pub(crate) fn do_step<R: Threads + Wait + Sync>(
+    rt: &R,
+    alloc: Global,
+    word: &str,
+    rest: &str,
+    files: &mut MemoryFiles,
+    fails: Fails,
+) -> Option<Came> {
+    match word {
+        "run" => plain(rt, alloc, rest, files, fails),
+        "gather" => gathered(rt, alloc, rest, files, fails),
+        "clash" => clashed(rt, alloc, rest, files, fails),
+        "fronts" => fronts(rt, alloc, rest, files, fails),
+        "ahead" => ahead(rt, alloc, rest, files, fails),
+        "usage" => usage(alloc, rest),
+        _ => None,
+    }
+}
