@@ -1,9 +1,9 @@
-//! What the contracts of blocks refuse: each function calls functions of the blocks' layer and has their contract.
+//! What the contracts of records, worlds and blocks refuse: each function calls one function of these and has its contract.
 #![tactic(auto)]
 
+pub mod blocks_written;
 pub mod judgement;
 pub mod looking;
-pub mod prefixes;
-pub mod publication;
-pub mod sealing;
-pub mod speculating;
+pub mod sinks;
+pub mod values;
+pub mod worlds_read;

@@ -3,12 +3,10 @@
 ghost use Rattle.std.specs.Prelude.{◌≡◌, ◌≤◌, ◌<◌, ◌/◌, IfOk, length};
 ghost use Rattle.spec_ledger.specs.Order.{limits_of};
 ghost use Rattle.publish.specs.Publication.{limits};
-ghost use Rattle.sampling.specs.declared.Way.TheVariants.{OverOneBook};
 
 use call::Call;
 use link::deployed::Deployed as Contract;
 use publish::Published;
-use sampling::Way;
 use spec_ledger::NoMemory;
 use std::alloc::Allocator;
 use storage::Cells;
@@ -27,19 +25,4 @@ pub fn run_samples<'a, A: Allocator + Copy>(
     ensures touched { IfOk result (λ published. length published.touched.items ≡ length published.order.items) }
 {
     sampling::run_samples(alloc, contracts, cells, calls, block_fuel)
-}
-
-/// As [`sampling::find_way`].
-pub fn find_way<'a, A: Allocator + Copy>(
-    alloc: A,
-    contracts: &'a [Contract<A>],
-    cells: &Cells<A>,
-    calls: &'a [Call],
-    block_fuel: u64,
-    workers: u32,
-) -> Way
-    requires { length calls.now ≤ 65535 }
-    ensures { length calls.now < 512 → result ≡ OverOneBook }
-{
-    sampling::find_way(alloc, contracts, cells, calls, block_fuel, workers)
 }

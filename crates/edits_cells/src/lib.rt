@@ -1,6 +1,13 @@
-//! What the contracts of cells, of abstract locks and of lock profiles refuse: each function calls one function of these and has its contract.
+//! What the contracts of cells, locks, books, shards, lanes and what else workers share refuse: each function calls one function of these and has its contract.
 #![tactic(auto)]
 
+pub mod books;
 pub mod cells;
+pub mod graphs;
+pub mod handovers;
+pub mod intakes;
+pub mod journals;
 pub mod locks;
-pub mod profiles;
+pub mod sharded;
+pub mod shared_books;
+pub mod stealing;

@@ -1,9 +1,8 @@
-//! Functions of the machine, each restated by its public contract and proved from that contract alone. So a wrong body in
-//! must-fail is refused by the contract itself.
+//! What the contracts of the machine, of calls over cells and of the debugger refuse: each function calls one function of these and has its contract.
 #![tactic(auto)]
 
-pub mod instances;
-pub mod readers;
+pub mod calls;
+pub mod loops;
 pub mod runs;
-pub mod tells;
-pub mod turning;
+pub mod sessions;
+pub mod strides;

@@ -1,6 +1,0 @@
-//! Functions of numbers and memories, each restated by its public contract and proved from that contract alone. So a
-//! wrong body in must-fail is refused by the contract itself.
-#![tactic(auto)]
-
-pub mod memories;
-pub mod operators;

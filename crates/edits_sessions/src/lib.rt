@@ -1,5 +1,0 @@
-//! Functions of the debugger's sessions, each restated by its public contract and proved from that contract alone.
-//! So a wrong body in must-fail is refused by the contract itself.
-#![tactic(auto)]
-
-pub mod sessions;
