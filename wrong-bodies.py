@@ -316,6 +316,9 @@ class Real:
             inside = self.text[block.end() :]
             self.told = re.findall(r"^    ghost (\w+):", inside[: re.search(r"^\}", inside, re.M).start()], re.M)
 
+    def has_one_clause(self):
+        return sum(it.startswith("ensures") for it in self.clauses) == 1
+
     def head(self, name, receiver):
         """The signature and the clauses of a free function with the same contract."""
         params, result, clauses, generics = list(self.params), self.result.strip(), "\n".join(f"    {it}" for it in self.clauses), list(self.generics)
@@ -371,13 +374,13 @@ class Wrappers:
         self.made, self.modules, self.faults, self.uses = {}, {}, list(rows.faults), {}
         for it in rows.uses:
             self.uses.update({} if it.startswith("ghost ") else used(it[4:-1]))
-        reals = {}
+        self.reals = {}
         for row in rows.all:
             try:
-                if row.function not in reals:
-                    reals[row.function] = Real(self.package, row.function)
-                    self.add(reals[row.function], row, None)
-                self.add(reals[row.function], row, row)
+                if row.function not in self.reals:
+                    self.reals[row.function] = Real(self.package, row.function)
+                    self.add(self.reals[row.function], row, None)
+                self.add(self.reals[row.function], row, row)
             except Unmade as why:
                 self.faults.append(f"{rows.crate.name}/{row.name}: BAD: {why}")
 
@@ -451,9 +454,11 @@ def try_rows(crate, known, kit):
         elif verdict.startswith((*UNTOLD, "there is no")):
             lines.append(("failed", f"{name}: NOT TRIED: {verdict[:200]}"))
         else:
-            why, named = why_refused(verdict, ran.stdout), named_clauses(row)
+            why, told = why_refused(verdict, ran.stdout), named_clauses(row)
+            # the goals of a clause that stands alone do not name it
+            named = [] if made.reals[row.function].has_one_clause() else told
             goals = [rf"\breturns[\w-]*-clause-{it}\b" for it in named] or [r"\breturns\b(?![\w-]*-clause-)"]
-            other = (named or row.clauses == "-") and not any(re.search(it, why) for it in goals)
+            other = (told or row.clauses == "-") and not any(re.search(it, why) for it in goals)
             lines.append(("refused", f"{name}: refused: {why}{'; NOT BY ' + row.clauses if other else ''}"))
     return lines
 
