@@ -1,6 +1,7 @@
 pub mod Turns
 pub mod Apart
 pub mod Accepted
+pub mod OneOrder
 pub mod Edges
 pub mod Heaviest
 pub mod Times

@@ -1,11 +1,12 @@
-//! Laws of blocks that are accepted: their turns let no position wait for a later one, so each has waves and a longest chain, and nobody runs it in
-//! less time than that chain takes. The functions here state laws.
+//! Laws of blocks that are accepted: there is one of an order, their turns let no position wait for a later one, so each has waves and a longest chain,
+//! and nobody runs it in less time than that chain takes. The functions here state laws.
 #![tactic(auto)]
 
 ghost use Rattle.std.specs.Prelude.{◌≡◌, ℕ, ◌≤◌, IsSome, Some, List, [], ◌∷◌};
 ghost use Rattle.spec_ledger.specs.declared.Entry.{Entry};
-ghost use Rattle.spec_block.specs.Worlds.{Block, Call, World, profiles_of};
+ghost use Rattle.spec_block.specs.Worlds.{Block, Call, World, order_of, profiles_of};
 ghost use Rattle.spec_block.specs.Bytes.{SpellsBlock};
+ghost use Rattle.spec_block.specs.Headline.{Headline};
 ghost use Rattle.spec_block.specs.Schedule.{HaveTurns};
 ghost use Rattle.spec_block.specs.Verdicts.{Accept, IsLeast, IsVerdictOf};
 ghost use Rattle.block_figures.specs.Chains.{AreForward, IsChain, fuels_of};
@@ -13,6 +14,14 @@ ghost use Rattle.block_figures.specs.Figures.{AreFigures};
 ghost use Rattle.block_figures.specs.declared.figures.Chains.{Chains};
 ghost use Rattle.block_figures.specs.declared.figures.Figures.{Figures};
 ghost use Rattle.accepted_blocks.specs.Timetables.{CanEnd, IsTimetable, adds_then_reads, at_once, one_by_one};
+
+/// A world, calls and an order have one block of a version, and one world after it: whoever mined it, and in whatever schedule.
+pub fn one_block()
+    ensures block { (world : World) (calls : List Call) (fuel : ℕ) (b c : Block) (after_b after_c : World) → b.version ≡ c.version → order_of b ≡ order_of c → Headline world calls fuel b after_b → Headline world calls fuel c after_c → b ≡ c }
+    ensures next { (world : World) (calls : List Call) (fuel : ℕ) (b c : Block) (after_b after_c : World) → b.version ≡ c.version → order_of b ≡ order_of c → Headline world calls fuel b after_b → Headline world calls fuel c after_c → after_b ≡ after_c }
+{
+    spec_block::one_serial_run();
+}
 
 /// Where the turns are those of the modes in their order, each edge leads from an earlier position to a later one.
 pub fn turns_go_forward()

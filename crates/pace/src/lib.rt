@@ -41,7 +41,7 @@ pub enum Step {
 ///
 /// - The miner's workers over one book tell every step.
 /// - The validator's workers that wait for a position's turn tell its attempt, as try 0, and each operation.
-/// - Workers over copies of the cells, of the miner and of the validator, tell the attempt alone, as try 0.
+/// - Workers beside the cells, of the miner and of the validator, tell the attempt alone, as try 0.
 /// - A thread that runs calls one after another, since no workers pay, or before or behind them, tells nothing.
 /// - A debugger tells by `runs_alone` that calls of a block are about to run, and then nothing of them.
 pub trait Pace: Sync {

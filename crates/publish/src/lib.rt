@@ -4,6 +4,7 @@
 #![tactic(auto)]
 
 mod adopting;
+mod laws;
 mod so_far;
 
 ghost use Rattle.std.specs.Prelude.{◌≡◌, ◌<◌, ◌^◌, ◌↔◌, [], Ok, Some, true, false, IsTrue, All, IfOk, OnOk, OnErr, IfSome, IsSome, length, map, slice_get};
@@ -21,6 +22,7 @@ ghost use Rattle.publish.specs.Adoption.{AreMade, MayFollowBy, ran_by};
 
 pub use crate::adopting::MadeRun;
 use crate::adopting::walk;
+pub use crate::laws::one_sweep;
 use crate::so_far::{SoFar, unmarked};
 use boost::book::Closed;
 use call::Call;

@@ -1,5 +1,6 @@
 // What follows from the definitions of storage and of the book. Each law is the contract of a function with nothing to do.
-ghost use Rattle.std.specs.Prelude.{◌≡◌, ℕ, Bool, List};
+ghost use Rattle.std.specs.Prelude.{◌≡◌, ℕ, ◌+◌, ◌-◌, ◌<◌, ◌≤◌, ◌↔◌, Bool, Contains, List, [], ◌∷◌, ◌++◌, if◌then◌else◌, length, nat_le, slice_index, take};
+ghost use Rattle.std.specs.List.Sorted.{IsStrictlyIncreasing};
 ghost use Rattle.std.specs.FinMap.{empty};
 ghost use Rattle.spec_ledger.specs.declared.Inverse.{Inverse};
 ghost use Rattle.spec_ledger.specs.declared.Op.{Op};
@@ -11,6 +12,7 @@ ghost use Rattle.spec_ledger.specs.Cells.{AreCells, Cells, back, cells_after, in
 ghost use Rattle.spec_ledger.specs.Events.{BeginDone, CommitDone, EnterDone, LeaveDone, OpDone, UndoDone};
 ghost use Rattle.spec_ledger.specs.Facts.{CellsAreSettledButForHolders, EntriesAreSerialRun, LiveAttemptsGoTogether, LiveTracesGetReplies};
 ghost use Rattle.spec_ledger.specs.Modes.{GoTogether};
+ghost use Rattle.spec_ledger.specs.Order.{IsAdmissible, first_fit, limits_of};
 
 /// Taking back the inverse of an operation undoes it, and taking back those of a trace, last first, undoes the trace (PODC 2017, section 3: inverses).
 pub fn taking_back_undoes()
@@ -53,4 +55,13 @@ pub fn a_kept_book_has_its_facts()
 /// What a trace leaves are the cells after the operations that stand: what was dropped leaves nothing.
 pub fn what_stands_is_left()
     ensures { (trace : List Step) (cells : Cells) → after trace cells ≡ ops_after (standing trace) cells }
+{}
+
+/// The list's order is admissible, and its numbers rise. A call stands in it exactly where its limit is within the fuel that the calls before it in the list leave.
+/// With one call more in the list, that call stands last, or the order is the same.
+pub fn first_fit_is_admissible()
+    ensures admissible { (limits : List ℕ) (fuel : ℕ) → IsAdmissible limits (first_fit limits fuel) fuel }
+    ensures rising { (limits : List ℕ) (fuel : ℕ) → IsStrictlyIncreasing (first_fit limits fuel) }
+    ensures joins { (limits : List ℕ) (fuel call : ℕ) → call < length limits → Contains (first_fit limits fuel) call ↔ (slice_index limits call ≤ fuel - limits_of limits (first_fit (take call limits) fuel)) }
+    ensures grows { (limits : List ℕ) (fuel call : ℕ) → call < length limits → first_fit (take (call + 1) limits) fuel ≡ (if nat_le (slice_index limits call) (fuel - limits_of limits (first_fit (take call limits) fuel)) then first_fit (take call limits) fuel ++ call ∷ [] else first_fit (take call limits) fuel) }
 {}

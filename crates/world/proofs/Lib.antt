@@ -1,1 +1,2 @@
 mod Contracts
+mod Cells

@@ -6,7 +6,7 @@ ghost use Rattle.std.specs.Int.{w64, to_le_bytes};
 ghost use Rattle.std.specs.FinMap as finite;
 ghost use Rattle.codec.specs.Putting.{IsCutShort, IsRaised};
 ghost use Rattle.sha2.specs.Sha256.{sha256};
-ghost use Rattle.spec_block.specs.Bytes.{counted, contract_bytes, cell_bytes, cells_bytes, world_bytes};
+ghost use Rattle.spec_block.specs.Bytes.{counted, contract_bytes, cell_bytes, cells_bytes, is_counter, is_map, world_bytes};
 ghost use Rattle.world.specs.Views.{contract_view, world_view, is_of, is_cell_of};
 
 use crate::value::World;
@@ -24,6 +24,12 @@ const MAGIC: u32 = 0x4457_4257;
 
 /// The version of the format.
 const VERSION: u32 = 1;
+
+/// The bytes of a cell: its contract, its key and its number.
+const CELL_SIZE: usize = 20;
+
+/// The bytes of a count of cells.
+const COUNT_SIZE: usize = 8;
 
 /// Appends a length and the shortest spelling of a contract.
 fn append_contract<A: Allocator>(
@@ -64,21 +70,20 @@ fn is_kind(a: Kind, b: Kind) -> bool
     )
 }
 
-/// The cells of a kind, in the order of locks.
-fn cells_of<A: Allocator + Copy>(
-    alloc: A,
-    cells: &Cells<A>,
-    kind: Kind,
-) -> Result<Vec<(Lock, u64), A>, AllocError>
-    ensures { IfOk result (λ these. these.items ≡ filter (is_cell_of kind) (finite.entries cells.now.cells)) }
+/// How many cells there are of maps, and how many counters.
+fn counts_of<A: Allocator + Copy>(cells: &Cells<A>) -> (u64, u64)
+    ensures maps { result.0 ≡ length (filter (is_cell_of Kind.Map) (finite.entries cells.now.cells)) }
+    ensures counters { result.1 ≡ length (filter (is_cell_of Kind.Counter) (finite.entries cells.now.cells)) }
 {
-    let mut these = Vec::new(alloc);
-    for (lock, value) in cells.entries() {
-        if is_kind(kind, lock.kind) {
-            these.push((lock, value))?;
+    let mut maps: u64 = 0;
+    let mut counters: u64 = 0;
+    for (lock, _number) in cells.entries() {
+        match lock.kind {
+            Kind::Map => maps += 1,
+            Kind::Counter => counters += 1,
         }
     }
-    Ok(these)
+    (maps, counters)
 }
 
 /// Appends a cell.
@@ -91,28 +96,39 @@ fn append_cell<A: Allocator>(out: &mut Vec<u8, A>, cell: &(Lock, u64)) -> Result
     Ok(())
 }
 
-/// Appends a count and the cells.
-fn append_cells<A: Allocator>(out: &mut Vec<u8, A>, cells: &[(Lock, u64)]) -> Result<(), AllocError>
-    ensures { OnOk result (out.new.items ≡ out.old.items ++ (to_le_bytes w64 (length cells.now) ++ flat_map cell_bytes cells.now)) }
-{
-    append_u64(out, cells.len() as u64)?;
-    for cell in cells {
-        append_cell(out, cell)?;
-    }
-    Ok(())
-}
-
-/// Appends the cells of a kind.
-fn append_kind<A: Allocator + Copy>(
-    alloc: A,
+/// Appends the cells of a kind, in the order of locks.
+fn append_cells<A: Allocator + Copy>(
     out: &mut Vec<u8, A>,
     cells: &Cells<A>,
     kind: Kind,
 ) -> Result<(), AllocError>
-    ensures { OnOk result (out.new.items ≡ out.old.items ++ cells_bytes (is_of kind) cells.now.cells) }
+    ensures { OnOk result (out.new.items ≡ out.old.items ++ flat_map cell_bytes (filter (is_cell_of kind) (finite.entries cells.now.cells))) }
 {
-    let these = cells_of(alloc, cells, kind)?;
-    append_cells(out, &these)?;
+    for cell in cells.entries() {
+        if is_kind(kind, cell.0.kind) {
+            append_cell(out, &cell)?;
+        }
+    }
+    Ok(())
+}
+
+/// Appends the cells of maps, and then the counters, each behind their count. Room for all is made at once.
+fn append_storage<A: Allocator + Copy>(
+    out: &mut Vec<u8, A>,
+    cells: &Cells<A>,
+) -> Result<(), AllocError>
+    ensures { OnOk result (out.new.items ≡ out.old.items ++ cells_bytes is_map cells.now.cells ++ cells_bytes is_counter cells.now.cells) }
+{
+    let (maps, counters) = counts_of(cells);
+    let room = (maps as usize)
+        .saturating_add(counters as usize)
+        .saturating_mul(CELL_SIZE)
+        .saturating_add(2 * COUNT_SIZE);
+    out.reserve(room)?;
+    append_u64(out, maps)?;
+    append_cells(out, cells, Kind::Map)?;
+    append_u64(out, counters)?;
+    append_cells(out, cells, Kind::Counter)?;
     Ok(())
 }
 
@@ -126,8 +142,7 @@ fn append_world<A: Allocator + Copy>(
     append_u32(out, MAGIC)?;
     append_u32(out, VERSION)?;
     append_contracts(alloc, out, world.contracts())?;
-    append_kind(alloc, out, world.cells(), Kind::Map)?;
-    append_kind(alloc, out, world.cells(), Kind::Counter)?;
+    append_storage(out, world.cells())?;
     Ok(())
 }
 
