@@ -370,7 +370,7 @@ impl<A: Allocator + Clone + Drop> Linear<A> {
     ///
     /// # Errors
     ///
-    /// None comes today. `NoMemory` is kept for a form that takes memory here.
+    /// There is none. The result has room for one, as no clause says that there is none.
     pub fn new(alloc: A, pages: u32, max: u32) -> Result<Linear<A>, NoMemory>
         requires fits { pages ≤ max }
         requires limit { max ≤ page_limit }
