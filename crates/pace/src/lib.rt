@@ -53,10 +53,7 @@ pub trait Pace: Sync {
     /// Whether it watches the workers. A list under a pace that watches is mined over the book in shards, and a block is validated by the board, the lanes and
     /// the cells ahead, as the papers describe it, at any length and whether that pays or not. Under any other pace calls are run in the fastest way.
     fn watches(&self) -> bool
-        ensures { result ≡ watching self.now }
-    {
-        true
-    }
+        ensures { result ≡ watching self.now };
 
     /// The calling thread is at this step.
     fn at(&self, step: Step);
@@ -83,4 +80,29 @@ impl Pace for NoPace {
     }
 
     fn at(&self, _step: Step) {}
+}
+
+/// Tells another pace what it is told, and watches whether that one does or not: for whoever wants the papers' way, and has no thread to hold.
+#[derive(Clone, Copy, Debug)]
+pub struct Watching<'a, P> {
+    /// The pace that is told.
+    pub pace: &'a P,
+}
+
+impl<P: Pace> Pace for Watching<'_, P> {
+    fn watches(&self) -> bool {
+        true
+    }
+
+    fn at(&self, step: Step) {
+        self.pace.at(step);
+    }
+
+    fn stops(&self, step: Step) -> bool {
+        self.pace.stops(step)
+    }
+
+    fn runs_alone(&self, fuel: u64) {
+        self.pace.runs_alone(fuel);
+    }
 }

@@ -77,6 +77,10 @@ impl Gather {
 }
 
 impl Pace for Gather {
+    fn watches(&self) -> bool {
+        true
+    }
+
     fn at(&self, step: Step) {
         if matches!(step, Step::Attempt { nth: 0, .. }) && !self.0.is_over() {
             self.0.tell();
@@ -108,6 +112,10 @@ impl Clash {
 }
 
 impl Pace for Clash {
+    fn watches(&self) -> bool {
+        true
+    }
+
     fn at(&self, step: Step) {
         match step {
             Step::Op { call: 0, n: 1 } => self.acted.look(1, LOOKS),
@@ -149,6 +157,10 @@ impl Ahead {
 }
 
 impl Pace for Ahead {
+    fn watches(&self) -> bool {
+        true
+    }
+
     fn at(&self, _step: Step) {}
 
     fn runs_alone(&self, fuel: u64) {

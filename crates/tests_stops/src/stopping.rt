@@ -38,6 +38,10 @@ impl Stops {
 }
 
 impl Pace for Stops {
+    fn watches(&self) -> bool {
+        true
+    }
+
     fn at(&self, _step: Step) {}
 
     fn stops(&self, step: Step) -> bool {

@@ -166,6 +166,10 @@ impl Meet {
 }
 
 impl Pace for Meet {
+    fn watches(&self) -> bool {
+        true
+    }
+
     fn at(&self, step: Step) {
         let Some(meeting) = self.meeting else {
             return;
