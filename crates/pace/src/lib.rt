@@ -82,16 +82,20 @@ impl Pace for NoPace {
     fn at(&self, _step: Step) {}
 }
 
-/// Tells another pace what it is told, and watches whether that one does or not: for whoever wants the papers' way, and has no thread to hold.
+/// Tells another pace what it is told, and watches or not as it is said here, whatever that one does.
 #[derive(Clone, Copy, Debug)]
-pub struct Watching<'a, P> {
+pub struct Watched<'a, P> {
     /// The pace that is told.
     pub pace: &'a P,
+    /// Whether it watches.
+    pub watches: bool,
 }
 
-impl<P: Pace> Pace for Watching<'_, P> {
+impl<P: Pace> Pace for Watched<'_, P> {
+    ghost watching = { λ w. w.watches };
+
     fn watches(&self) -> bool {
-        true
+        self.watches
     }
 
     fn at(&self, step: Step) {
