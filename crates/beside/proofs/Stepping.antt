@@ -4,7 +4,7 @@ use Rattle.std.proofs.lemmas.List.{take-append-drop}
 use Rattle.std.specs.Prelude.{IsSome}
 use Rattle.std.specs.List.{AllByRecursion}
 use Rattle.std.specs.Ordering.{eq_by_cmp}
-use Rattle.std.specs.FinMap.{empty, get, get-insert, same_map}
+use Rattle.std.specs.FinMap.{empty, get}
 use Rattle.std.specs.BTreeMap as tree
 use Rattle.std.specs.BTreeMap.{BTreeMap}
 use Rattle.spec_ledger.specs.declared.Inverse.{Inverse}
@@ -16,36 +16,21 @@ use Rattle.spec_ledger.specs.declared.Step.{Step}
 use Rattle.spec_ledger.specs.declared.Step.TheVariants as step
 use Rattle.spec_ledger.specs.declared.Step.TheVariants.{Did}
 use Rattle.spec_ledger.specs.Cells.{Cells, lock_cmp, lock_of, cell_after, cells_after, reply_of, inverse_of, inverse_to, set_at, update}
-use Rattle.spec_ledger.specs.Modes.{Modes, mode_of, mode_at, join_held, ops_of, touched, touched_by}
+use Rattle.spec_ledger.specs.Modes.{Modes, mode_of, join_held, ops_of, touched}
 use Rattle.spec_ledger.specs.Book.{back_all, standing, inverses_of}
-use Rattle.spec_ledger.proofs.Maps.{is_key, lock_cmp_total, lock_cmp-IsAntisymmetric}
 use Rattle.spec_ledger.proofs.Ops.{AreCells-empty}
-use Rattle.spec_ledger.proofs.Traces.{All-weaken, All-standing, Holds, IsMark, all_hold, get-touched_by, mode_at-push, ops_of-append, touched-mark}
-use Rattle.storage.specs.Counts.{Counts, opened, opened_all, closed_all}
-use Rattle.storage.proofs.Counted.{AreCounts-empty, AreCounts-opened_all, closed_all-opened_all, opened_all-push}
+use Rattle.spec_ledger.proofs.Traces.{All-weaken, All-standing, Holds, IsMark, all_hold, get-touched_by, touched-mark}
+use Rattle.storage.specs.Counts.{opened_all, closed_all}
+use Rattle.storage.proofs.Counted.{AreCounts-empty, AreCounts-opened_all, closed_all-opened_all, opened_all-append, opened_all-push}
 use Rattle.interp.specs.Progress.{mark_of}
 use Rattle.serial.specs.Asking.{asked}
 use Rattle.serial.specs.Playing.{AreDoneInLevels}
 use Rattle.serial.proofs.Levels.{none_in_levels, did_one, entered, kept, dropped, left_outside, within}
+use Rattle.serial.proofs.Modes.{touched-push}
 use Rattle.beside.specs.declared.touches.Touch.{Touch}
 use Rattle.beside.specs.Touches.{AreTouchesOf, IsCellAt, IsTouched, found_in, later_in, modes_of, with_changes}
 use Rattle.beside.proofs.Places.{get_written, same_at, written, written_twice}
 use Rattle.beside.proofs.Meeting.{met}
-
--- ---- the locks that a trace asked for
-
-touched_by-push : (t : List Op) (s : Op) → touched_by (t ++ s ∷ []) ≡ asked (touched_by t) s
-touched_by-push t s = same_map lock_cmp_total lock_cmp-IsAntisymmetric _ _ (λ q.
-    get-touched_by (t ++ s ∷ []) q ∙ mode_at-push t s q
-    ∙ elim (eq_by_cmp lock_cmp q (lock_of s)) as (λ b. eq_by_cmp lock_cmp q (lock_of s) ≡ b
-    → cond b (Some (join_held (mode_of s) (mode_at q t))) (mode_at q t) ≡ cond b (Some (join_held (mode_of s) (get (touched_by t) (lock_of s)))) (get (touched_by t) q)) [
-      | true ↦ λ e. ap (λ x. Some (join_held (mode_of s) x)) (sym (get-touched_by t q) ∙ ap (get (touched_by t)) (is_key lock_cmp_total lock_cmp-IsAntisymmetric q (lock_of s) e))
-      | false ↦ λ _. sym (get-touched_by t q)
-    ] refl
-    ∙ sym (get-insert lock_cmp_total (touched_by t) (lock_of s) (join_held (mode_of s) (get (touched_by t) (lock_of s))) q))
-
-touched-push : (t : List Step) (op : Op) (r : Reply) → touched (t ++ Did op r ∷ []) ≡ asked (touched t) op
-touched-push t op r = ap touched_by (ops_of-append t (Did op r ∷ [])) ∙ touched_by-push (ops_of t) op
 
 is_mark : (keep : Bool) → IsMark (mark_of keep)
 is_mark true = tt
@@ -145,10 +130,6 @@ module _ (m n : BTreeMap Lock Touch) (wanted : Lock) (op : Op) (t next : Touch) 
         }
 
 -- ---- levels
-
-opened_all-append : (is js : List Inverse) (m : Counts) → opened_all (is ++ js) m ≡ opened_all js (opened_all is m)
-opened_all-append [] js m = refl
-opened_all-append (i ∷ is) js m = opened_all-append is js (opened i m)
 
 counts_left : (n : ℕ) (is js : List Inverse) → js ≡ take n is → opened_all js empty ≡ closed_all (drop n is) (opened_all is empty)
 counts_left n is js e =

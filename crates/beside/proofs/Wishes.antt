@@ -9,14 +9,12 @@ use Rattle.spec_ledger.specs.declared.Step.TheVariants.{Did}
 use Rattle.spec_execution.specs.Configuration.{Setting}
 use Rattle.spec_execution.specs.Run.{ContractCall}
 use Rattle.interp.specs.Played.{Played}
-use Rattle.interp.specs.Progress.{Progress, AnsweredAt, HasAnswered, HasReplied, IsSameCall, mark_of}
+use Rattle.interp.specs.Progress.{Progress, HasAnswered, IsSameCall, mark_of}
 use Rattle.turn_loop.specs.Going.{HasAskedFor, HasEntered, HasLeft}
+use Rattle.serial.proofs.Meeting.{replied_to}
 use Rattle.beside.specs.declared.touches.Touch.{Touch}
 use Rattle.beside.specs.Touches.{AreTouches, AreTouchesOf, IsPlayedBeside, WereTouchedBy}
 use Rattle.beside.proofs.Stepping.{enters, none_touched}
-
-replied_to : (p q s : Progress) (op : Op) (r : Reply) → HasAskedFor p op q → HasAnswered q r s → HasReplied q op r s
-replied_to p q s op r asks answers = subst (λ x. AnsweredAt q r s x) asks.asking answers
 
 -- an operation that the run asked for
 pub asked_more : (p q s : Progress) (es : List (Lock × Touch)) (is : List Inverse) (ms : List ℕ) (op : Op) (r : Reply) → HasAskedFor p op q → HasAnswered q r s → AreTouchesOf (p.trace ++ Did op r ∷ []) es is ms → AreTouchesOf s.trace es is ms

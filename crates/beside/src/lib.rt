@@ -3,7 +3,6 @@
 //! runs calls speculatively).
 #![tactic(auto)]
 
-mod effects;
 mod listing;
 mod playing;
 mod touches;

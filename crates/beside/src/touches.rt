@@ -13,12 +13,11 @@ ghost use Rattle.interp.specs.Progress.{mark_of};
 ghost use Rattle.beside.specs.Touches.{AreTouches, AreTouchesOf, IsCellAt, IsTouched, found_in, later_in, modes_of};
 
 use crate::Reads;
-use crate::effects::{counter_lock, former_cell, inverse, map_lock, mode, next_cell, reply};
 use abstract_locks::join_to;
 use spec_ledger::{Inverse, Lock, Mode, NoMemory, Op, Reply};
 use std::alloc::Allocator;
 use std::collections::BTreeMap;
-use storage::lock;
+use storage::{counter_lock, former_cell, inverse, lock, map_lock, mode, next_cell, reply};
 
 /// What a call did at a lock so far.
 #[derive(Clone, Copy, Debug, PartialEq, Eq)]

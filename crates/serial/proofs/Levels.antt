@@ -11,8 +11,8 @@ use Rattle.spec_ledger.specs.declared.Step.TheVariants.{Did, Opened, Kept, Dropp
 use Rattle.spec_ledger.specs.Cells.{AreCells, cells_after, reply_to, inverse_to}
 use Rattle.spec_ledger.specs.Book.{Marked, kept_at, dropped_at, stepped, noted, ops_after, back_all, standing, standing_at, GetsReplies, inverses_of}
 use Rattle.spec_ledger.proofs.Traces.{IsMark, AreFronts, fronts_of, standing_at-push, after-standing, back_all-inverses, inverses_of-append, inverses_of-length, GetsReplies-mark, AreCells-ops, ops_after-append}
-use Rattle.storage.specs.Counts.{Counts, Store, AreCounts, opened, opened_all, closed_all, AreUnsettled}
-use Rattle.storage.proofs.Counted.{AreCounts-empty, AreCounts-opened_all, AreUnsettled-opened_all, closed_all-opened_all}
+use Rattle.storage.specs.Counts.{Store, AreCounts, opened, opened_all, closed_all, AreUnsettled}
+use Rattle.storage.proofs.Counted.{AreCounts-empty, AreCounts-opened_all, AreUnsettled-opened_all, closed_all-opened_all, opened_all-append}
 use Rattle.interp.specs.Progress.{mark_of}
 use Rattle.serial.specs.Playing.{AreDone, AreSomeDone, AreDoneInLevels, MayBeLeft}
 use Rattle.serial.proofs.Doing.{done_none, done_more}
@@ -93,10 +93,6 @@ front_of now (x ∷ xs) n rest h e =
     let count : n ≡ length x = cc in
     let less : reverse rest ≡ map length xs = cc in
     record { stood = x; more = h.0.0; split = h.0.1; count = count; now_is = refl; marks_are = less }
-
-opened_all-append : (is js : List Inverse) (m : Counts) → opened_all (is ++ js) m ≡ opened_all js (opened_all is m)
-opened_all-append [] js m = refl
-opened_all-append (i ∷ is) js m = opened_all-append is js (opened i m)
 
 none_left : (ms : List ℕ) (n : ℕ) → n ≡ length ms → n ≡ 0 → ms ≡ []
 none_left [] n size none = refl

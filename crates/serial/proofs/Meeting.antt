@@ -19,7 +19,7 @@ use Rattle.serial.proofs.Levels.{did_one, entered}
 pub came_to : (p q : Progress) (o : Option Wish) (w : Wish) → o ≡ Some w → IfSome o (λ x. HasComeTo p x q) → HasComeTo p w q
 came_to p q o w is come = subst (λ x. IfSome x (λ y. HasComeTo p y q)) is come
 
-replied_to : (p q s : Progress) (op : Op) (r : Reply) → HasAskedFor p op q → HasAnswered q r s → HasReplied q op r s
+pub replied_to : (p q s : Progress) (op : Op) (r : Reply) → HasAskedFor p op q → HasAnswered q r s → HasReplied q op r s
 replied_to p q s op r asks answers = subst (λ x. AnsweredAt q r s x) asks.asking answers
 
 -- ---- the steps are done on cells

@@ -33,7 +33,7 @@ touched_by-push t s = same_map lock_cmp_total lock_cmp-IsAntisymmetric _ _ (λ q
     ] refl
     ∙ sym (get-insert lock_cmp_total (touched_by t) (lock_of s) (join_held (mode_of s) (get (touched_by t) (lock_of s))) q))
 
-touched-push : (t : List Step) (op : Op) (r : Reply) → touched (t ++ Did op r ∷ []) ≡ asked (touched t) op
+pub touched-push : (t : List Step) (op : Op) (r : Reply) → touched (t ++ Did op r ∷ []) ≡ asked (touched t) op
 touched-push t op r = ap touched_by (ops_of-append t (Did op r ∷ [])) ∙ touched_by-push (ops_of t) op
 
 touched_step : (t : List Step) (s : Step) → touched (t ++ s ∷ []) ≡ asked_by (touched t) s

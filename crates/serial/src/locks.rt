@@ -1,6 +1,6 @@
 // The locks that a call asked for.
 ghost use Rattle.std.specs.Prelude.{◌≡◌, IfOk, OnOk};
-ghost use Rattle.spec_ledger.specs.Modes.{mode_of, touched};
+ghost use Rattle.spec_ledger.specs.Modes.{touched};
 ghost use Rattle.serial.specs.Asking.{modes_in, asked, asked_by};
 
 use abstract_locks::join_to;
@@ -8,18 +8,7 @@ use lock_profile::{Held, Touched};
 use spec_ledger::{Lock, Mode, NoMemory, Op, Step};
 use std::alloc::Allocator;
 use std::collections::BTreeMap;
-use storage::lock;
-
-/// The mode that an operation asks for.
-fn mode(op: Op) -> Mode
-    ensures { result ≡ mode_of op }
-{
-    match op {
-        Op::Get(_) | Op::Has(_) | Op::Total(_) => Mode::Read,
-        Op::Put(_, _) | Op::Del(_) => Mode::Excl,
-        Op::Add(_, _) => Mode::Add,
-    }
-}
+use storage::{lock, mode};
 
 /// Joins the mode that an operation asks for to what is held of its lock.
 fn ask<A: Allocator + Copy>(held: &mut BTreeMap<Lock, Mode, A>, op: Op) -> Result<(), NoMemory>

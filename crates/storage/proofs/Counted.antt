@@ -104,6 +104,10 @@ pub opened_all-push : (is : List Inverse) (i : Inverse) (m : Counts) → opened_
 opened_all-push [] i m = refl
 opened_all-push (j ∷ is) i m = opened_all-push is i (opened j m)
 
+pub opened_all-append : (is js : List Inverse) (m : Counts) → opened_all (is ++ js) m ≡ opened_all js (opened_all is m)
+opened_all-append [] js m = refl
+opened_all-append (i ∷ is) js m = opened_all-append is js (opened i m)
+
 -- the last of a list taken
 module _ (old new : List Inverse) (i : Inverse) (is : old ≡ new ++ i ∷ []) where
   pub back_all_popped : (m : Cells) → back_all new (back i m) ≡ back_all old m

@@ -2,13 +2,10 @@
 #![tactic(auto)]
 
 mod changes;
+mod effects;
 
-ghost use Rattle.std.specs.Prelude.{◌≡◌, ◌≢◌, ◌+◌, ◌-◌, ◌<◌, ◌≤◌, ◌^◌, ◌%◌, ℕ, Some, None, IsSome, IfOk, OnOk, OnErr, ◌↔◌, IsTrue, if◌then◌else◌, Option, length};
-ghost use Rattle.std.specs.BTreeMap.{get, IsUnchanged};
-ghost use Rattle.std.specs.Ordering.{eq_by_cmp};
-ghost use Rattle.spec_ledger.specs.declared.Mode.TheVariants.{Read};
-ghost use Rattle.spec_ledger.specs.Cells.{lock_cmp, lock_of, cell_after, reply_of, inverse_of, cells_after, reply_to, inverse_to, back, subtracted, counter, set_at, update, is_reading, number, counter_at, map_at, AreCells, IsOfItsType, AreOfTheirTypes};
-ghost use Rattle.spec_ledger.specs.Modes.{mode_of};
+ghost use Rattle.std.specs.Prelude.{◌≡◌, ◌≢◌, ◌+◌, ◌-◌, ◌<◌, ◌^◌, ℕ, Some, None, IfOk, OnOk, OnErr, ◌↔◌, IsTrue, length};
+ghost use Rattle.spec_ledger.specs.Cells.{cell_after, cells_after, reply_to, inverse_to, back, counter, set_at, update, number, AreCells, IsOfItsType, AreOfTheirTypes};
 ghost use Rattle.storage.specs.Counts.{opened, closed, IsUnsettled, count_at};
 ghost use Rattle.spec_ledger.specs.declared.Lock.{Lock};
 ghost use Rattle.storage.specs.Slots.{cells_in, counts_in, cell_back};
@@ -16,6 +13,8 @@ ghost use Rattle.std.specs.FinMap as finite;
 ghost use Rattle.std.specs.Iterator.{YieldsFirst, item_count};
 
 pub use changes::{end_all, returned, settle_all, take_all_back, take_back_to};
+use effects::reads;
+pub use effects::{counter_lock, former_cell, inverse, lock, map_lock, mode, next_cell, reply};
 pub use spec_ledger::{Inverse, Kind, Lock, NoMemory, Op, Place, Reply, Step};
 use std::alloc::{Allocator, Global};
 use std::collections::BTreeMap;
@@ -29,83 +28,6 @@ pub struct Slot {
     pub cell: Option<u64>,
     /// How many changes of the cell may still be taken back.
     pub unsettled: u64,
-}
-
-fn map_lock(place: Place) -> Lock
-    ensures { result ≡ map_at place }
-{
-    Lock {
-        contract: place.contract,
-        kind: Kind::Map,
-        key: place.key,
-    }
-}
-
-fn counter_lock(place: Place) -> Lock
-    ensures { result ≡ counter_at place }
-{
-    Lock {
-        contract: place.contract,
-        kind: Kind::Counter,
-        key: place.key,
-    }
-}
-
-/// The lock of an operation.
-pub fn lock(op: Op) -> Lock
-    ensures { result ≡ lock_of op }
-{
-    match op {
-        Op::Get(place) | Op::Has(place) | Op::Put(place, _) | Op::Del(place) => map_lock(place),
-        Op::Add(place, _) | Op::Total(place) => counter_lock(place),
-    }
-}
-
-fn sum_cell(cell: Option<u64>, value: u64) -> Option<u64>
-    ensures { result ≡ counter ((number cell + value) % 2 ^ 64) }
-{
-    let sum = cell.unwrap_or(0).wrapping_add(value);
-    if sum == 0 { None } else { Some(sum) }
-}
-
-fn next_cell(op: Op, cell: Option<u64>) -> Option<u64>
-    ensures { result ≡ cell_after op cell }
-{
-    match op {
-        Op::Get(_) | Op::Has(_) | Op::Total(_) => cell,
-        Op::Put(_, value) => Some(value),
-        Op::Del(_) => None,
-        Op::Add(_, value) => sum_cell(cell, value),
-    }
-}
-
-fn reply(op: Op, cell: Option<u64>) -> Reply
-    ensures { result ≡ reply_of op cell }
-{
-    match op {
-        Op::Get(_) | Op::Total(_) => Reply::I64(cell.unwrap_or(0).cast_signed()),
-        Op::Has(_) | Op::Del(_) => Reply::I32(if cell.is_some() { 1 } else { 0 }),
-        Op::Put(_, _) | Op::Add(_, _) => Reply::Nothing,
-    }
-}
-
-fn inverse(op: Op, cell: Option<u64>) -> Inverse
-    ensures { result ≡ inverse_of op cell }
-{
-    match op {
-        Op::Get(_) | Op::Has(_) | Op::Total(_) => Inverse::Keep,
-        Op::Put(place, _) | Op::Del(place) => Inverse::Restore(place, cell),
-        Op::Add(place, value) => Inverse::Subtract(place, value),
-    }
-}
-
-fn reads(op: Op) -> bool
-    ensures { result ≡ is_reading op }
-{
-    match op {
-        Op::Get(_) | Op::Has(_) | Op::Total(_) => true,
-        Op::Put(_, _) | Op::Del(_) | Op::Add(_, _) => false,
-    }
 }
 
 /// A number that is held is of its type, and so is its lock.
@@ -167,17 +89,6 @@ fn open_slot<A: Allocator + Copy>(
         unsettled: slot.unsettled + 1,
     };
     Ok(before)
-}
-
-/// What a cell holds once a change is taken back.
-fn former_cell(inverse: Inverse, cell: Option<u64>) -> Option<u64>
-    ensures { result ≡ cell_back inverse cell }
-{
-    match inverse {
-        Inverse::Keep => cell,
-        Inverse::Subtract(_, value) => less_cell(cell, value),
-        Inverse::Restore(_, former) => former,
-    }
 }
 
 /// Takes a change back in a lock's slot, in place, and drops the slot where that leaves it empty. One change less of the lock is unsettled.
@@ -440,11 +351,4 @@ fn settle_slot<A: Allocator + Copy>(slots: &mut BTreeMap<Lock, Slot, A>, lock: L
     ensures counts { counts_in slots.new.entries ≡ update (counts_in slots.old.entries) lock (λ n. counter (number n - 1)) }
 {
     close_slot(slots, lock, Inverse::Keep);
-}
-
-fn less_cell(cell: Option<u64>, value: u64) -> Option<u64>
-    ensures { result ≡ subtracted value cell }
-{
-    let rest = cell.unwrap_or(0).wrapping_sub(value);
-    if rest == 0 { None } else { Some(rest) }
 }

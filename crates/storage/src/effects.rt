@@ -1,12 +1,13 @@
 // What an operation does with the cell at its lock, and how that is taken back.
 ghost use Rattle.std.specs.Prelude.{◌≡◌, ◌+◌, ◌%◌, ◌^◌};
-ghost use Rattle.spec_ledger.specs.Cells.{cell_after, counter, counter_at, inverse_of, map_at, number, reply_of, subtracted};
+ghost use Rattle.spec_ledger.specs.Cells.{cell_after, counter, counter_at, inverse_of, is_reading, lock_of, map_at, number, reply_of, subtracted};
 ghost use Rattle.spec_ledger.specs.Modes.{mode_of};
 ghost use Rattle.storage.specs.Slots.{cell_back};
 
 use spec_ledger::{Inverse, Kind, Lock, Mode, Op, Place, Reply};
 
-pub(crate) fn map_lock(place: Place) -> Lock
+/// The lock of the map cell at a place.
+pub fn map_lock(place: Place) -> Lock
     ensures { result ≡ map_at place }
 {
     Lock {
@@ -16,7 +17,8 @@ pub(crate) fn map_lock(place: Place) -> Lock
     }
 }
 
-pub(crate) fn counter_lock(place: Place) -> Lock
+/// The lock of the counter at a place.
+pub fn counter_lock(place: Place) -> Lock
     ensures { result ≡ counter_at place }
 {
     Lock {
@@ -26,8 +28,18 @@ pub(crate) fn counter_lock(place: Place) -> Lock
     }
 }
 
+/// The lock of an operation.
+pub fn lock(op: Op) -> Lock
+    ensures { result ≡ lock_of op }
+{
+    match op {
+        Op::Get(place) | Op::Has(place) | Op::Put(place, _) | Op::Del(place) => map_lock(place),
+        Op::Add(place, _) | Op::Total(place) => counter_lock(place),
+    }
+}
+
 /// The mode that an operation asks for.
-pub(crate) fn mode(op: Op) -> Mode
+pub fn mode(op: Op) -> Mode
     ensures { result ≡ mode_of op }
 {
     match op {
@@ -52,7 +64,7 @@ fn less_cell(cell: Option<u64>, value: u64) -> Option<u64>
 }
 
 /// What an operation leaves in its cell.
-pub(crate) fn next_cell(op: Op, cell: Option<u64>) -> Option<u64>
+pub fn next_cell(op: Op, cell: Option<u64>) -> Option<u64>
     ensures { result ≡ cell_after op cell }
 {
     match op {
@@ -64,7 +76,7 @@ pub(crate) fn next_cell(op: Op, cell: Option<u64>) -> Option<u64>
 }
 
 /// What an operation answers from its cell.
-pub(crate) fn reply(op: Op, cell: Option<u64>) -> Reply
+pub fn reply(op: Op, cell: Option<u64>) -> Reply
     ensures { result ≡ reply_of op cell }
 {
     match op {
@@ -75,7 +87,7 @@ pub(crate) fn reply(op: Op, cell: Option<u64>) -> Reply
 }
 
 /// How an operation on this cell is taken back.
-pub(crate) fn inverse(op: Op, cell: Option<u64>) -> Inverse
+pub fn inverse(op: Op, cell: Option<u64>) -> Inverse
     ensures { result ≡ inverse_of op cell }
 {
     match op {
@@ -85,8 +97,18 @@ pub(crate) fn inverse(op: Op, cell: Option<u64>) -> Inverse
     }
 }
 
+/// Whether an operation only reads its cell.
+pub(crate) fn reads(op: Op) -> bool
+    ensures { result ≡ is_reading op }
+{
+    match op {
+        Op::Get(_) | Op::Has(_) | Op::Total(_) => true,
+        Op::Put(_, _) | Op::Del(_) | Op::Add(_, _) => false,
+    }
+}
+
 /// What a cell holds once a change is taken back.
-pub(crate) fn former_cell(inverse: Inverse, cell: Option<u64>) -> Option<u64>
+pub fn former_cell(inverse: Inverse, cell: Option<u64>) -> Option<u64>
     ensures { result ≡ cell_back inverse cell }
 {
     match inverse {
