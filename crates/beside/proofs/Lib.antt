@@ -3,6 +3,7 @@ mod Ending
 mod Meeting
 mod Places
 mod Popping
+mod Reading
 mod Rows
 mod Stepping
 mod Wishes

@@ -1,11 +1,13 @@
--- Worked examples that compute: what a view may answer, and accesses at locks, at key 7 of contract 0.
-use Rattle.std.proofs.Common.{◌≡◌, Some, None, [], ◌∷◌, map, refl, sym, ◌∙◌, ap, arith}
-use Rattle.std.specs.FinMap.{empty, entries, entries-from_sorted, from_sorted}
+-- Worked examples that compute: what a view may answer, what was found by it, and accesses at locks, at key 7 of contract 0.
+use Rattle.std.proofs.Common.{◌≡◌, ℕ, Option, Some, None, [], ◌∷◌, map, refl, sym, ◌∙◌, ap, arith}
+use Rattle.std.specs.FinMap.{empty, entries, entries-from_sorted, from_sorted, get, get-empty}
+use Rattle.spec_ledger.specs.declared.Lock.{Lock}
 use Rattle.spec_ledger.specs.declared.Place.{Place}
 use Rattle.spec_ledger.specs.Cells.{lock_cmp, map_at, counter_at}
 use Rattle.spec_ledger.specs.Modes.{Modes}
-use Rattle.spec_footprint.specs.declared.Access.TheVariants.{Read}
+use Rattle.spec_footprint.specs.declared.Access.TheVariants.{Read, Added, Replaced}
 use Rattle.spec_footprint.specs.Footprints.{access_at}
+use Rattle.beside.specs.Found.{IsFoundBy}
 use Rattle.beside.specs.Touches.{AreAccessesAt, IsCellAt}
 
 abbrev none : Modes
@@ -23,6 +25,19 @@ no_zero_in_a_counter there = (there refl).not_zero refl
 
 nothing_in_a_counter : IsCellAt (counter_at seven) None
 nothing_in_a_counter = λ _. record { fits = omega arith; not_zero = λ no. cc }
+
+-- a view of no cells answers that nothing is there: so it is found, whatever is left, and an addition says nothing of it
+abbrev of_no_cells : Lock → Option ℕ → Type 0
+of_no_cells lock found = found ≡ get (empty {R = lock_cmp}) lock
+
+nothing_was_found : IsFoundBy of_no_cells (Read (map_at seven) None)
+nothing_was_found = sym (get-empty lock_cmp (map_at seven))
+
+no_number_was_found : IsFoundBy of_no_cells (Replaced (map_at seven) (Some 3) None) → ⊥
+no_number_was_found found = let no : ◌≡◌ {A = Option ℕ} (Some 3) None = found ∙ get-empty lock_cmp (map_at seven) in absurd (cc)
+
+an_addition_found_nothing : IsFoundBy of_no_cells (Added seven 3)
+an_addition_found_nothing = tt
 
 -- a call that asked for no lock has no access
 none_asked : entries none ≡ []

@@ -56,6 +56,10 @@ IsTouched modes Keep = Unit {0}
 IsTouched modes (Subtract p v) = IsSome (get modes (counter_at p))
 IsTouched modes (Restore p c) = IsSome (get modes (map_at p))
 
+-- what was found at each touched lock may be read there
+abbrev pub AreFoundBy : (Lock → Option ℕ → Type 0) → List (Lock × Touch) → Type 0
+AreFoundBy may_read touches = (lock : Lock) → IsSome (get (modes_of touches) lock) → may_read lock (get (found_in touches) lock)
+
 -- they are of this one
 pub record WereTouchedBy (trace : List Step) (touches : List (Lock × Touch)) : Type 0 where
   pub inverses : List Inverse

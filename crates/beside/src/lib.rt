@@ -7,10 +7,13 @@ mod listing;
 mod playing;
 mod touches;
 
-ghost use Rattle.std.specs.Prelude.{◌≡◌, ◌++◌, IfOk, OnOk};
+ghost use Rattle.std.specs.Prelude.{◌≡◌, ◌++◌, ℕ, All, IfOk, OnOk, Option};
+ghost use Rattle.std.specs.FinMap.{get};
+ghost use Rattle.spec_ledger.specs.declared.Lock.{Lock};
 ghost use Rattle.spec_footprint.specs.Footprints.{IsFootprint};
 ghost use Rattle.interp.specs.Lent.{setting_view};
 ghost use Rattle.beside.specs.Behind.{behind};
+ghost use Rattle.beside.specs.Found.{IsFoundBy};
 ghost use Rattle.beside.specs.Touches.{AreAccessesAt, IsCellAt};
 
 use crate::listing::list;
@@ -26,12 +29,18 @@ use storage::{Cells, returned};
 /// Cells that can be read. They need not stand still: what is read at one lock may be older or newer than what is read at another, and two reads of one lock
 /// may answer differently.
 pub trait Reads {
-    /// What is held at a lock: any cell that a program can hold there.
+    /// What a read at a lock may answer.
+    ghost may_read: { Self → Lock → Option ℕ → Type 0 };
+
+    /// What is held at a lock: any cell that a program can hold there, and that the view may answer.
     fn read(&self, lock: Lock) -> Option<u64>
-        ensures { IsCellAt lock result };
+        ensures cell { IsCellAt lock result }
+        ensures may { may_read self.now lock result };
 }
 
 impl<A: Allocator + Copy> Reads for Cells<A> {
+    ghost may_read = { λ cells lock found. found ≡ get cells.cells lock };
+
     fn read(&self, lock: Lock) -> Option<u64> {
         self.hold();
         self.get(lock)
@@ -39,7 +48,8 @@ impl<A: Allocator + Copy> Reads for Cells<A> {
 }
 
 /// Runs a call over a view, by the rules of this version, and puts its footprint behind the accesses that are there: what it found and leaves at each lock
-/// that it asked for, in the order of locks. The view is read once at each of them, where the call first asks for it.
+/// that it asked for, in the order of locks. The view is read once at each of them, where the call first asks for it, and what it found is what the view may
+/// answer.
 ///
 /// # Errors
 ///
@@ -54,6 +64,7 @@ pub fn run_beside<A: Allocator + Copy, V: Reads>(
 ) -> Result<Executed<A>, NoMemory>
     ensures footprint { IfOk result (λ e. IsFootprint (setting_view version contracts.now) call.now (behind accesses.old.items accesses.new.items) e.receipt e.touched) }
     ensures told { IfOk result (λ e. AreAccessesAt e.touched (behind accesses.old.items accesses.new.items)) }
+    ensures read { IfOk result (λ e. All (IsFoundBy (V.may_read view.now)) (behind accesses.old.items accesses.new.items)) }
     ensures accesses { OnOk result (accesses.new.items ≡ accesses.old.items ++ behind accesses.old.items accesses.new.items) }
 {
     an_execution_has_a_footprint();

@@ -5,7 +5,7 @@ ghost use Rattle.interp.specs.Lent.{setting_view};
 ghost use Rattle.interp.specs.Starting.{IsOpened, IsRejection};
 ghost use Rattle.interp.specs.Progress.{IsFree, IsSameCall};
 ghost use Rattle.turn_loop.specs.Going.{MayGoOn, IsEnded};
-ghost use Rattle.beside.specs.Touches.{AreTouches, AreTouchesOf, IsPlayedBeside, WereTouchedBy};
+ghost use Rattle.beside.specs.Touches.{AreFoundBy, AreTouches, AreTouchesOf, IsPlayedBeside, WereTouchedBy};
 
 use crate::Reads;
 use crate::touches::{Touch, act, leave};
@@ -32,6 +32,7 @@ fn do_next<'a, A: Allocator + Copy, V: Reads>(
     requires touches { AreTouches touches.old.entries inverses.old.items marks.old.items }
     ensures same { OnOk result (IsSameCall machine.old machine.new) }
     ensures touches { OnOk result (AreTouchesOf machine.old.trace touches.old.entries inverses.old.items marks.old.items → AreTouchesOf machine.new.trace touches.new.entries inverses.new.items marks.new.items) }
+    ensures read { OnOk result (AreFoundBy (V.may_read view.now) touches.old.entries → AreFoundBy (V.may_read view.now) touches.new.entries) }
     ensures goes_on { result ≡ Ok true → MayGoOn machine.old machine.new }
     ensures ended { result ≡ Ok false → IsEnded machine.new.status }
 {
@@ -66,6 +67,7 @@ fn run_on<'a, A: Allocator + Copy, V: Reads>(
     ensures same { OnOk result (IsSameCall machine.old machine.new) }
     ensures ended { OnOk result (IsEnded machine.new.status) }
     ensures touches { IfOk result (λ touches. WereTouchedBy machine.new.trace touches.entries) }
+    ensures read { IfOk result (λ touches. AreFoundBy (V.may_read view.now) touches.entries) }
 {
     let mut touches = BTreeMap::new(alloc);
     let mut inverses = Vec::new(alloc);
@@ -82,7 +84,8 @@ fn run<'a, A: Allocator + Copy, V: Reads>(
 ) -> Result<(Finished<'a, A>, BTreeMap<Lock, Touch, A>), NoMemory>
     requires free { IsFree machine.status }
     requires first { machine.trace ≡ [] }
-    ensures { IfOk result (λ r. IsPlayedBeside machine.entry.setting machine.entry.call r.0 r.1.entries) }
+    ensures played { IfOk result (λ r. IsPlayedBeside machine.entry.setting machine.entry.call r.0 r.1.entries) }
+    ensures read { IfOk result (λ r. AreFoundBy (V.may_read view.now) r.1.entries) }
 {
     let touches = run_on(alloc, &mut machine, view)?;
     match machine.finish() {
@@ -116,7 +119,8 @@ pub(crate) fn play<'a, A: Allocator + Copy, V: Reads>(
     view: &V,
     version: Version,
 ) -> Result<(Finished<'a, A>, BTreeMap<Lock, Touch, A>), NoMemory>
-    ensures { IfOk result (λ r. IsPlayedBeside (setting_view version contracts.now) call.now r.0 r.1.entries) }
+    ensures played { IfOk result (λ r. IsPlayedBeside (setting_view version contracts.now) call.now r.0 r.1.entries) }
+    ensures read { IfOk result (λ r. AreFoundBy (V.may_read view.now) r.1.entries) }
 {
     if let Some(finished) = Finished::without_fuel(alloc, contracts, call, version) {
         return Ok((finished, BTreeMap::new(alloc)));

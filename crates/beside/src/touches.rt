@@ -10,7 +10,7 @@ ghost use Rattle.spec_ledger.specs.declared.Step.TheVariants.{Did};
 ghost use Rattle.spec_execution.specs.Run.{IsReply};
 ghost use Rattle.storage.specs.Slots.{cell_back};
 ghost use Rattle.interp.specs.Progress.{mark_of};
-ghost use Rattle.beside.specs.Touches.{AreTouches, AreTouchesOf, IsCellAt, IsTouched, found_in, later_in, modes_of};
+ghost use Rattle.beside.specs.Touches.{AreFoundBy, AreTouches, AreTouchesOf, IsCellAt, IsTouched, found_in, later_in, modes_of};
 
 use crate::Reads;
 use abstract_locks::join_to;
@@ -41,6 +41,7 @@ fn ask<A: Allocator + Copy, V: Reads>(
     ensures found { IsSome (get (modes_of touches.now.entries) lock) → result.found ≡ get (found_in touches.now.entries) lock }
     ensures later { IsSome (get (modes_of touches.now.entries) lock) → result.later ≡ get (later_in touches.now.entries) lock }
     ensures cell { get (modes_of touches.now.entries) lock ≡ None → IsCellAt lock result.found }
+    ensures read { get (modes_of touches.now.entries) lock ≡ None → V.may_read view.now lock result.found }
     ensures first { get (modes_of touches.now.entries) lock ≡ None → result.later ≡ result.found }
 {
     match touches.get(&lock) {
@@ -69,6 +70,7 @@ pub(crate) fn act<A: Allocator + Copy, V: Reads>(
 ) -> Result<Reply, NoMemory>
     ensures is_reply { IfOk result (λ reply. IsReply op reply) }
     ensures touches { IfOk result (λ reply. (trace : List Step) (marks : List ℕ) → AreTouchesOf trace touches.old.entries inverses.old.items marks → AreTouchesOf (trace ++ Did op reply ∷ []) touches.new.entries inverses.new.items marks) }
+    ensures read { OnOk result (AreFoundBy (V.may_read view.now) touches.old.entries → AreFoundBy (V.may_read view.now) touches.new.entries) }
 {
     let wanted = lock(op);
     let touch = ask(view, touches, wanted, mode(op));
@@ -145,7 +147,9 @@ pub(crate) fn leave<A: Allocator + Copy>(
     keep: bool,
 )
     requires { AreTouches touches.old.entries inverses.old.items marks.old.items }
-    ensures { (trace : List Step) → AreTouchesOf trace touches.old.entries inverses.old.items marks.old.items → AreTouchesOf (trace ++ mark_of keep ∷ []) touches.new.entries inverses.new.items marks.new.items }
+    ensures touches { (trace : List Step) → AreTouchesOf trace touches.old.entries inverses.old.items marks.old.items → AreTouchesOf (trace ++ mark_of keep ∷ []) touches.new.entries inverses.new.items marks.new.items }
+    ensures found { found_in touches.new.entries ≡ found_in touches.old.entries }
+    ensures modes { modes_of touches.new.entries ≡ modes_of touches.old.entries }
 {
     let Some(mark) = marks.pop() else {
         return;

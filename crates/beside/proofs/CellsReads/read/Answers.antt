@@ -3,5 +3,5 @@ use Rattle.spec_ledger.specs.Cells.{IsCounter}
 use Rattle.beside.proofs.Places.{counter_there}
 use Rattle.beside.proofs.CellsReads.read.Goals as goal
 
-pub returns : goal.returns
-returns g c = λ kind. subst IsCounter (sym c.get.ensures) (counter_there c.args.self.now.cells c.args.lock c.hold.ensures.cells kind)
+pub returns-clause-cell : goal.returns-clause-cell
+returns-clause-cell g c = λ kind. subst IsCounter (sym c.get.ensures) (counter_there c.args.self.now.cells c.args.lock c.hold.ensures.cells kind)

@@ -1,6 +1,7 @@
 use Rattle.std.proofs.Common.{◌≡◌, IfSome, length, subst, arith}
 use Rattle.turn_loop.specs.Going.{HasComeTo}
 use Rattle.serial.proofs.Meeting.{goes_on_asked, goes_on_entered, goes_on_left}
+use Rattle.beside.proofs.Reading.{still_found}
 use Rattle.beside.proofs.Wishes.{asked_more, entered_more, left_more}
 use Rattle.beside.proofs.playing.do_next.Goals as goal
 
@@ -33,7 +34,10 @@ pub returns-in-Leave-clause-touches : goal.returns-in-Leave-clause-touches
 returns-in-Leave-clause-touches g c = λ d.
     let come = subst (λ o. IfSome o (λ w. HasComeTo c.args.machine.now w c.next_wish.new.machine)) c.in-Some.is c.in_ok-wish.ensures.asks in
     let leaves = subst (λ w. HasComeTo c.args.machine.now w c.next_wish.new.machine) c.in-Leave.is come in
-    left_more c.args.machine.now c.next_wish.new.machine c.leave.new.touches.entries c.leave.new.inverses.items c.leave.new.marks.items c.in-Leave.keep leaves (c.leave.ensures c.args.machine.now.trace d)
+    left_more c.args.machine.now c.next_wish.new.machine c.leave.new.touches.entries c.leave.new.inverses.items c.leave.new.marks.items c.in-Leave.keep leaves (c.leave.ensures.touches c.args.machine.now.trace d)
+
+pub returns-in-Leave-clause-read : goal.returns-in-Leave-clause-read
+returns-in-Leave-clause-read g c = still_found (g.V.Reads.may_read c.args.view.now) c.args.touches.now.entries c.leave.new.touches.entries c.leave.ensures.found c.leave.ensures.modes
 
 pub returns-in-Leave-clause-goes_on : goal.returns-in-Leave-clause-goes_on
 returns-in-Leave-clause-goes_on g c = λ _.

@@ -1,4 +1,5 @@
 use Rattle.std.proofs.Common.{refl}
+use Rattle.beside.proofs.Reading.{none_found}
 use Rattle.beside.proofs.Wishes.{of_some, started}
 use Rattle.beside.proofs.playing.run_on.Goals as goal
 
@@ -10,4 +11,5 @@ operations-init g c = record {
   same = record { setting = refl; call = refl; contract = refl; func = refl };
   free = c.requires.free;
   touches = started c.args.machine.now.trace c.new-touches.result.entries c.new-inverses.result.items c.new-marks.result.items c.requires.first c.new-touches.ensures.empty c.new-inverses.ensures.items c.new-marks.ensures.items;
+  found = none_found (g.V.Reads.may_read c.args.view.now) c.new-touches.result.entries c.new-touches.ensures.empty;
 }

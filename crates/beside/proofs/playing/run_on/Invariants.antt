@@ -1,5 +1,5 @@
 use Rattle.interp.specs.Progress.{IsSameCall, IsFree, left_of}
-use Rattle.beside.specs.Touches.{AreTouchesOf}
+use Rattle.beside.specs.Touches.{AreFoundBy, AreTouchesOf}
 use Rattle.beside.proofs.playing.run_on.Given as goal
 
 abbrev pub invariant-operations : goal.invariant-operations
@@ -7,6 +7,7 @@ invariant-operations g l = record {
   same : IsSameCall l.fn.machine l.machine;
   free : IsFree l.machine.status;
   touches : AreTouchesOf l.machine.trace l.touches.entries l.inverses.items l.marks.items;
+  found : AreFoundBy (g.V.Reads.may_read l.view) l.touches.entries;
 }
 
 abbrev pub decreases-operations : goal.decreases-operations

@@ -4,6 +4,7 @@ use Rattle.spec_ledger.specs.Modes.{join_held}
 use Rattle.serial.proofs.Replies.{is_reply}
 use Rattle.beside.specs.Touches.{modes_of}
 use Rattle.beside.proofs.Places.{one_cell}
+use Rattle.beside.proofs.Reading.{one_found}
 use Rattle.beside.proofs.Stepping.{acted}
 use Rattle.beside.proofs.touches.act.Goals as goal
 
@@ -17,3 +18,9 @@ returns-clause-touches g c = λ tr ms d.
     (c.ask-touch.ensures.mode ∙ ap (λ m. join_held m (get (modes_of c.args.touches.now.entries) c.lock-wanted.result)) c.mode.ensures)
     c.ask-touch.ensures.found c.ask-touch.ensures.later c.ask-touch.ensures.cell c.ask-touch.ensures.first refl refl c.next_cell.ensures
     c.reply.result c.reply.ensures c.inverse.result c.inverse.ensures c.args.inverses.now.items c.push.new.self.items c.in_ok-push.ensures.items tr ms d
+
+pub returns-clause-read : goal.returns-clause-read
+returns-clause-read g c = λ are.
+    let t = c.ask-touch.result in
+    one_found (g.V.Reads.may_read c.args.view.now) c.args.touches.now c.insert.new.self c.lock-wanted.result t (record { mode = t.mode; found = t.found; later = c.next_cell.result }) c.in-Ok.ensures.updates.0
+    c.ask-touch.ensures.found c.ask-touch.ensures.read refl are

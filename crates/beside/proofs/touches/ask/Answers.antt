@@ -16,6 +16,9 @@ returns-in-Some-clause-later g c = λ _. later_there c.args.touches.now c.args.l
 pub returns-in-Some-clause-cell : goal.returns-in-Some-clause-cell
 returns-in-Some-clause-cell g c = λ none. absurd (let no = mode_there c.args.touches.now c.args.lock c.in-Some.touch.now c.in-Some.ensures.value ∙ none in cc)
 
+pub returns-in-Some-clause-read : goal.returns-in-Some-clause-read
+returns-in-Some-clause-read g c = λ none. absurd (let no = mode_there c.args.touches.now c.args.lock c.in-Some.touch.now c.in-Some.ensures.value ∙ none in cc)
+
 pub returns-in-Some-clause-first : goal.returns-in-Some-clause-first
 returns-in-Some-clause-first g c = λ none. absurd (let no = mode_there c.args.touches.now c.args.lock c.in-Some.touch.now c.in-Some.ensures.value ∙ none in cc)
 
