@@ -77,10 +77,6 @@ impl Gather {
 }
 
 impl Pace for Gather {
-    fn watches(&self) -> bool {
-        true
-    }
-
     fn at(&self, step: Step) {
         if matches!(step, Step::Attempt { nth: 0, .. }) && !self.0.is_over() {
             self.0.tell();
@@ -112,10 +108,6 @@ impl Clash {
 }
 
 impl Pace for Clash {
-    fn watches(&self) -> bool {
-        true
-    }
-
     fn at(&self, step: Step) {
         match step {
             Step::Op { call: 0, n: 1 } => self.acted.look(1, LOOKS),
@@ -157,10 +149,6 @@ impl Ahead {
 }
 
 impl Pace for Ahead {
-    fn watches(&self) -> bool {
-        true
-    }
-
     fn at(&self, _step: Step) {}
 
     fn runs_alone(&self, fuel: u64) {

@@ -351,10 +351,6 @@ pub(crate) struct Counts {
 }
 
 impl Pace for Counts {
-    fn watches(&self) -> bool {
-        true
-    }
-
     fn at(&self, step: Step) {
         match step {
             Step::Attempt { .. } => {

@@ -38,10 +38,6 @@ impl Stops {
 }
 
 impl Pace for Stops {
-    fn watches(&self) -> bool {
-        true
-    }
-
     fn at(&self, _step: Step) {}
 
     fn stops(&self, step: Step) -> bool {

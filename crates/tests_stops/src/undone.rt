@@ -62,10 +62,6 @@ impl<'r> StopAt<'r> {
 }
 
 impl Pace for StopAt<'_> {
-    fn watches(&self) -> bool {
-        true
-    }
-
     fn at(&self, step: Step) {
         if matches!(step, Step::Attempt { call: 1, .. }) {
             self.arrived.store(true, Ordering::SeqCst);

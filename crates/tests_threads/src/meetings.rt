@@ -166,10 +166,6 @@ impl Meet {
 }
 
 impl Pace for Meet {
-    fn watches(&self) -> bool {
-        true
-    }
-
     fn at(&self, step: Step) {
         let Some(meeting) = self.meeting else {
             return;

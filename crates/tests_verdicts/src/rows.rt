@@ -40,10 +40,6 @@ struct Uneven {
 }
 
 impl Pace for Uneven {
-    fn watches(&self) -> bool {
-        true
-    }
-
     fn at(&self, _step: Step) {
         let step = self.steps.fetch_add(1, Ordering::SeqCst);
         if step % 3 == 0 {
