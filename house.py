@@ -31,22 +31,26 @@ MAP = TOP / "docs/ARCHITECTURE.md"
 BEGIN, END = "<!-- map: written by house.py --map -->", "<!-- map: end -->"
 
 # What all documents have together at most, in bytes, without the parts that scripts write.
-ALL_BYTES = 269_000
-# What each document has at most: bytes, the median of the words of its sentences, and how many sentences have more than 40 words.
+ALL_BYTES = 233_000
+# What each document has at most, in bytes.
 LIMITS = {
-    "README.md": (9_000, 13, 2),
-    "CONTRIBUTING.md": (15_000, 10, 0),
-    "CHANGELOG.md": (20_000, 19, 19),
-    "docs/ARCHITECTURE.md": (13_000, 11, 0),
-    "docs/BENCHMARKS.md": (16_000, 13, 0),
-    "docs/DECISIONS.md": (30_000, 13, 0),
-    "docs/DEFINITIONS.md": (26_000, 18, 5),
-    "docs/GUIDE.md": (23_000, 14, 1),
-    "docs/PROOFS.md": (8_000, 9, 0),
-    "docs/REFERENCE.md": (64_000, 15, 16),
-    "docs/STATUS.md": (9_000, 15, 0),
-    "docs/WRONG_BODIES.md": (44_000, 19, 5),
+    "README.md": 9_000,
+    "CONTRIBUTING.md": 15_000,
+    "CHANGELOG.md": 20_000,
+    "docs/ARCHITECTURE.md": 13_000,
+    "docs/BENCHMARKS.md": 16_000,
+    "docs/DECISIONS.md": 30_000,
+    "docs/DEFINITIONS.md": 26_000,
+    "docs/GUIDE.md": 23_000,
+    "docs/PROOFS.md": 8_000,
+    "docs/REFERENCE.md": 64_000,
+    "docs/STATUS.md": 9_000,
+    "docs/WRONG_BODIES.md": 8_000,
 }
+# The median of the words of a document's sentences, and how many of them have more than 40; and where more is allowed, until they are shortened.
+MEDIAN, LONG = 17, 0
+MORE_MEDIAN = {"docs/DEFINITIONS.md": 18, "CHANGELOG.md": 19}
+MORE_LONG = {"docs/GUIDE.md": 1, "docs/REFERENCE.md": 16, "docs/DEFINITIONS.md": 5, "CHANGELOG.md": 19, "README.md": 2}
 # Where the part of a document begins and ends that a script writes.
 WRITTEN = {"docs/WRONG_BODIES.md": ("## 2. All wrong bodies", "## 3."), "docs/ARCHITECTURE.md": (BEGIN, END)}
 
@@ -171,7 +175,11 @@ def faults_of_documents():
         if name not in LIMITS:
             faults.append(f"{name} has no limits in house.py")
             continue
-        for what, value, most in zip(("bytes", "words in the median of its sentences", "sentences of more than 40 words"), (size, median, long), LIMITS[name]):
+        for what, value, most in (
+            ("bytes", size, LIMITS[name]),
+            ("words in the median of its sentences", median, MORE_MEDIAN.get(name, MEDIAN)),
+            ("sentences of more than 40 words", long, MORE_LONG.get(name, LONG)),
+        ):
             if value > most:
                 faults.append(f"{name} has {value} {what}, and may have {most}")
     if together > ALL_BYTES:
