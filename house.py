@@ -31,26 +31,26 @@ MAP = TOP / "docs/ARCHITECTURE.md"
 BEGIN, END = "<!-- map: written by house.py --map -->", "<!-- map: end -->"
 
 # What all documents have together at most, in bytes, without the parts that scripts write.
-ALL_BYTES = 233_000
+ALL_BYTES = 215_000
 # What each document has at most, in bytes.
 LIMITS = {
-    "README.md": 9_000,
+    "README.md": 5_000,
     "CONTRIBUTING.md": 15_000,
-    "CHANGELOG.md": 20_000,
+    "CHANGELOG.md": 9_000,
     "docs/ARCHITECTURE.md": 13_000,
     "docs/BENCHMARKS.md": 16_000,
     "docs/DECISIONS.md": 30_000,
-    "docs/DEFINITIONS.md": 26_000,
+    "docs/DEFINITIONS.md": 24_000,
     "docs/GUIDE.md": 23_000,
     "docs/PROOFS.md": 8_000,
     "docs/REFERENCE.md": 64_000,
-    "docs/STATUS.md": 9_000,
+    "docs/STATUS.md": 10_000,
     "docs/WRONG_BODIES.md": 8_000,
 }
 # The median of the words of a document's sentences, and how many of them have more than 40; and where more is allowed, until they are shortened.
 MEDIAN, LONG = 17, 0
-MORE_MEDIAN = {"docs/DEFINITIONS.md": 18, "CHANGELOG.md": 19}
-MORE_LONG = {"docs/GUIDE.md": 1, "docs/REFERENCE.md": 16, "docs/DEFINITIONS.md": 5, "CHANGELOG.md": 19, "README.md": 2}
+MORE_MEDIAN = {}
+MORE_LONG = {"docs/GUIDE.md": 1, "docs/REFERENCE.md": 16}
 # Where the part of a document begins and ends that a script writes.
 WRITTEN = {"docs/WRONG_BODIES.md": ("## 2. All wrong bodies", "## 3."), "docs/ARCHITECTURE.md": (BEGIN, END)}
 
