@@ -31,13 +31,13 @@ MAP = TOP / "docs/ARCHITECTURE.md"
 BEGIN, END = "<!-- map: written by house.py --map -->", "<!-- map: end -->"
 
 # What all documents have together at most, in bytes, without the parts that scripts write.
-ALL_BYTES = 215_000
+ALL_BYTES = 214_000
 # What each document has at most, in bytes.
 LIMITS = {
     "README.md": 5_000,
-    "CONTRIBUTING.md": 15_000,
+    "CONTRIBUTING.md": 13_000,
     "CHANGELOG.md": 9_000,
-    "docs/ARCHITECTURE.md": 13_000,
+    "docs/ARCHITECTURE.md": 14_000,
     "docs/BENCHMARKS.md": 16_000,
     "docs/DECISIONS.md": 30_000,
     "docs/DEFINITIONS.md": 24_000,
