@@ -31,15 +31,15 @@ MAP = TOP / "docs/ARCHITECTURE.md"
 BEGIN, END = "<!-- map: written by house.py --map -->", "<!-- map: end -->"
 
 # What all documents have together at most, in bytes, without the parts that scripts write.
-ALL_BYTES = 206_000
+ALL_BYTES = 205_000
 # What each document has at most, in bytes.
 LIMITS = {
     "README.md": 5_000,
-    "CONTRIBUTING.md": 12_000,
-    "CHANGELOG.md": 9_000,
+    "CONTRIBUTING.md": 11_000,
+    "CHANGELOG.md": 8_000,
     "docs/ARCHITECTURE.md": 14_000,
     "docs/BENCHMARKS.md": 14_000,
-    "docs/DECISIONS.md": 28_000,
+    "docs/DECISIONS.md": 29_000,
     "docs/DEFINITIONS.md": 19_000,
     "docs/GUIDE.md": 23_000,
     "docs/PROOFS.md": 8_000,
