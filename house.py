@@ -58,7 +58,7 @@ README_LINES = 40
 # READMEs that are longer, and why.
 LONG_READMES = {"rows": (90, "it has the words of rows, which authors of tests look up")}
 # Crates that may lack a README.
-NO_README = {name: "its text comes with the road of calls" for name in ("mining", "validator", "in_order", "speculation", "sampling", "handover", "gain")}
+NO_README = {}
 
 # Crates that depend on one of a higher layer, and why.
 UPWARD = {
