@@ -151,7 +151,7 @@ fn open_level<'a, A: Allocator + Copy>(
 }
 
 // Parts with nothing open.
-pub(crate) fn no_parts<'a, A: Allocator + Copy>(alloc: A, instance: Instance<A>) -> Parts<'a, A>
+pub(crate) fn no_parts<'a, A: Allocator + Copy>(alloc: A, instance: Instance<'a, A>) -> Parts<'a, A>
     ensures instance { result.instance ≡ instance }
     ensures code { result.code.now ≡ [] }
     ensures entries { result.entries.items ≡ [] }
