@@ -41,9 +41,9 @@ LIMITS = {
     "docs/BENCHMARKS.md": 14_000,
     "docs/DECISIONS.md": 27_500,
     "docs/DEFINITIONS.md": 18_500,
-    "docs/GUIDE.md": 20_500,
+    "docs/GUIDE.md": 19_500,
     "docs/PROOFS.md": 7_500,
-    "docs/REFERENCE.md": 61_500,
+    "docs/REFERENCE.md": 60_500,
     "docs/STATUS.md": 9_000,
     "docs/WRONG_BODIES.md": 8_000,
 }
@@ -54,7 +54,7 @@ WRITTEN = {"docs/WRONG_BODIES.md": ("## 2. All wrong bodies", "## 3."), "docs/AR
 
 README_LINES = 40
 # READMEs that are longer, and why.
-LONG_READMES = {"rows": (90, "it has the words of rows, which authors of tests look up")}
+LONG_READMES = {"rows": (101, "it has the words of rows, which authors of tests look up")}
 # Crates that may lack a README.
 NO_README = {}
 
@@ -62,12 +62,10 @@ NO_README = {}
 UPWARD = {
     ("call", "spec_execution"): "what contracts see of a call is a record of the definitions",
     ("module_rows", "opening"): "a row asks which function a call enters",
-    ("tests_modules", "opening"): "it tests the numbers of what does not start a call",
     ("debugger", "storage"): "a session runs a call over cells",
     ("machine_rows", "storage"): "a row runs a call over cells",
-    ("sampling", "gain"): "the look at some calls asks for the bounds",
-    ("tests_storage", "ration"): "it tests refusals of memory",
     ("tests_blocks", "ration"): "it tests refusals of memory",
+    ("tests_verdicts", "calls_text"): "it reads lists of calls as texts",
 }
 
 

@@ -30,7 +30,7 @@ prepare() {
     "$wblock" asm "bench/contracts/$name.wat" "$work/$name.wasm" >"$work/log" || fail "asm $name: $(cat "$work/log")"
     modules+=("$work/$name.wasm")
   done
-  "$wblock" deploy "$work/bare" "${modules[@]}" >"$work/log" || fail "deploy $contract: $(cat "$work/log")"
+  "$wblock" deploy "$work/bare" "${modules[@]}" --force >"$work/log" || fail "deploy $contract: $(cat "$work/log")"
   python3 bench/contracts/calls.py setup "$contract" "$count" 0 >"$work/setup"
   "$wblock" mine "$work/bare" "$work/setup" "$work/setup.block" "$work/world" --fuel $most --workers 1 >"$work/log" || fail "setup of $contract: status $?"
   if grep -E ' call |^left' "$work/log" | grep -qv ' returned'; then fail "setup of $contract: $(grep -Ev ' returned' "$work/log" | head -n 1)"; fi

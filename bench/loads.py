@@ -6,14 +6,14 @@
     loads.py chains LENGTH COUNT
     loads.py groups COUNT
 
-`calls` are COUNT calls of LENGTH instructions, 7, 100, 1000 or 10000, of which SHARED of 100 use one cell, the first ones of each hundred. `chains` is the same
+`calls` are COUNT calls of LENGTH instructions, a number of ROUNDS below, of which SHARED of 100 use one cell, the first ones of each hundred. `chains` is the same
 with each tenth call on one cell. Each other call uses a cell of its own. `groups` are COUNT calls on one counter in two groups: first those that
 read it, then those that add to it.
 """
 import sys
 
 # the rounds of the loop by which a call has its length
-ROUNDS = {"7": 0, "100": 10, "1000": 110, "10000": 1110}
+ROUNDS = {"7": 0, "100": 10, "298": 32, "1000": 110, "1999": 221, "3997": 443, "10000": 1110}
 
 
 def body(rounds):

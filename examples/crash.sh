@@ -7,7 +7,7 @@
 #
 # It needs the shell, coreutils, and unshare of util-linux. A file system is filled where one may be mounted. It kills for some 30 seconds, and for at
 # most 120 on a machine with other work. A kill is no fall of the power: that a file is written down to the disk before it takes its place is tested in
-# tests_disk. The status is 0 where all passed, 1 where one failed, 2 where there is no program.
+# tests_program. The status is 0 where all passed, 1 where one failed, 2 where there is no program.
 # shellcheck source=SCRIPTDIR/checks.sh
 . "$(dirname "${BASH_SOURCE[0]}")/checks.sh" "$@"
 export program

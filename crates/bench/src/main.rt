@@ -40,7 +40,7 @@ const USAGE: &str = "usage: bench assemble TEXT
        bench operate KEYS
        bench serial CALLS
        bench mine WORKERS WORLD CALLS
-       bench block serial|mine|validate WORKERS WORLD CALLS";
+       bench block serial|mine|book|validate|board WORKERS WORLD CALLS";
 
 /// The line of what the words ask to measure. `None` where they ask for nothing.
 fn measured<R: Threads + Wait + Clock + std::rt::Files + Sync>(

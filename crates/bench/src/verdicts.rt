@@ -10,7 +10,7 @@ use block::{Block, write_block};
 use call::Call;
 use codec::{Failures, MemorySink};
 use mining::mine;
-use pace::NoPace;
+use pace::{NoPace, Watched};
 use std::alloc::Global;
 use std::io;
 use std::sync::Wait;
@@ -27,10 +27,21 @@ const TRIES: u32 = 3;
 enum Work {
     /// The calls run one after another.
     Serial,
-    /// They are mined.
+    /// They are mined in the list's order.
     Mine,
+    /// They are mined by workers over one book, as under a pace that watches.
+    Book,
     /// The block of the calls one after another is validated.
     Validate,
+    /// It is validated by workers over cells that they share, as under a pace that watches.
+    Board,
+}
+
+impl Work {
+    /// Whether the pace watches.
+    fn watches(self) -> bool {
+        matches!(self, Work::Book | Work::Board)
+    }
 }
 
 /// What is measured, and by how many workers.
@@ -47,7 +58,9 @@ impl Task {
         let work = match work {
             "serial" => Work::Serial,
             "mine" => Work::Mine,
+            "book" => Work::Book,
             "validate" => Work::Validate,
+            "board" => Work::Board,
             _ => return None,
         };
         let workers = workers.parse::<u32>().ok()?;
@@ -72,12 +85,25 @@ fn mined<R: Threads + Wait + Sync>(
     alloc: Global,
     world: &World,
     calls: &[Call],
-    workers: u32,
+    task: Task,
 ) -> Option<Block>
-    requires calls { length calls.now ≤ 65535 }
-    requires workers { (1 ≤ workers) × (workers ≤ 64) }
+    requires { length calls.now ≤ 65535 }
 {
-    let mined = mine(rt, alloc, world, calls, u64::MAX, workers, TRIES, &NoPace).ok()?;
+    let pace = Watched {
+        pace: &NoPace,
+        watches: task.work.watches(),
+    };
+    let mined = mine(
+        rt,
+        alloc,
+        world,
+        calls,
+        u64::MAX,
+        task.workers,
+        TRIES,
+        &pace,
+    );
+    let mined = mined.ok()?;
     if mined.left.is_empty() {
         Some(mined.block)
     } else {
@@ -92,12 +118,24 @@ fn accepted<R: Threads + Wait + Sync>(
     world: &World,
     calls: &[Call],
     bytes: &[u8],
-    workers: u32,
+    task: Task,
 ) -> Option<World>
-    requires calls { length calls.now ≤ 65535 }
-    requires workers { (1 ≤ workers) × (workers ≤ 64) }
+    requires { length calls.now ≤ 65535 }
 {
-    let verdict = validate(rt, alloc, world, calls, u64::MAX, bytes, workers, &NoPace);
+    let pace = Watched {
+        pace: &NoPace,
+        watches: task.work.watches(),
+    };
+    let verdict = validate(
+        rt,
+        alloc,
+        world,
+        calls,
+        u64::MAX,
+        bytes,
+        task.workers,
+        &pace,
+    );
     match verdict.ok()? {
         Verdict::Accept(next) => Some(next),
         Verdict::Reject(_) => None,
@@ -123,8 +161,12 @@ fn time_block<R: Threads + Wait + Clock + Sync>(
 ) -> io::Result<(Duration, Block)> {
     let start = Instant::now(rt)?;
     let block = match task.work {
-        Work::Mine => mined(rt, alloc, &inputs.world, &inputs.calls, task.workers),
-        Work::Serial | Work::Validate => one_by_one(alloc, &inputs.world, &inputs.calls),
+        Work::Mine | Work::Book => mined(rt, alloc, &inputs.world, &inputs.calls, task),
+        Work::Serial | Work::Validate | Work::Board => one_by_one(
+            alloc,
+            &inputs.world,
+            &inputs.calls,
+        ),
     };
     let time = start.elapsed(rt)?;
     match block {
@@ -139,22 +181,13 @@ fn time_verdict<R: Threads + Wait + Clock + Sync>(
     alloc: Global,
     inputs: &Inputs,
     block: &Block,
-    workers: u32,
-) -> io::Result<(Duration, World)>
-    requires { (1 ≤ workers) × (workers ≤ 64) }
-{
+    task: Task,
+) -> io::Result<(Duration, World)> {
     let Some(bytes) = bytes_of(alloc, block) else {
         return Err(refused());
     };
     let start = Instant::now(rt)?;
-    let next = accepted(
-        rt,
-        alloc,
-        &inputs.world,
-        &inputs.calls,
-        bytes.bytes(),
-        workers,
-    );
+    let next = accepted(rt, alloc, &inputs.world, &inputs.calls, bytes.bytes(), task);
     let time = start.elapsed(rt)?;
     match next {
         Some(next) => Ok((time, next)),
@@ -170,10 +203,10 @@ fn line_of<R: Threads + Wait + Clock + Sync>(
     task: Task,
 ) -> io::Result<String> {
     let (making, block) = time_block(rt, alloc, inputs, task)?;
-    let (judging, next) = time_verdict(rt, alloc, inputs, &block, task.workers)?;
+    let (judging, next) = time_verdict(rt, alloc, inputs, &block, task)?;
     let time = match task.work {
-        Work::Serial | Work::Mine => making,
-        Work::Validate => judging,
+        Work::Serial | Work::Mine | Work::Book => making,
+        Work::Validate | Work::Board => judging,
     };
     let rate = a_second(inputs.calls.len() as u64, time);
     let Ok(digest) = digest_world(alloc, &next) else {

@@ -1,9 +1,10 @@
 //! Blocks that fit their calls or do not, before a call is run.
 
-use crate::refused::Refused;
-use crate::scene::{Scene, scene_of, world_of};
-use crate::words::{cut, lines_before, short, text_of};
 use block_judge::{Reason, judge};
+use book_rows::words::{cut, short, text_of};
+use file_rows::Refused;
+use file_rows::scene::{Scene, scene_of, world_of};
+use file_rows::words::lines_before;
 use std::alloc::Global;
 
 /// The order of a block that fits the world, the calls and the fuel of the lines, or why it does not fit them: the block stands behind an empty line.
@@ -19,6 +20,8 @@ pub(crate) fn judged(alloc: Global, input: &[u8]) -> Result<String, Refused> {
         fuel,
         runs: _,
         acts: _,
+        committed: _,
+        handed: _,
     } = scene_of(alloc, lines)?;
     let world = world_of(contracts, cells)?;
     if calls.len() > 65_535 {

@@ -2,9 +2,10 @@
 
 ghost use Rattle.std.specs.Prelude.{IfOk, length, ◌<◌, ◌^◌};
 
-use crate::put::put_entries;
-use crate::refused::Refused;
-use crate::words::{cut, entry_of, held_of, text_of};
+use book_rows::words::{cut, text_of};
+use file_rows::Refused;
+use file_rows::put::put_entries;
+use file_rows::words::{entry_of, held_of};
 use lock_profile::{Profile, Touched, turns};
 use schedule::{Graph, turns_agree, waves_of};
 use std::alloc::Global;

@@ -5,16 +5,31 @@ ghost use Rattle.spec_ledger.specs.declared.Version.TheVariants.{Two};
 ghost use Rattle.interp.specs.Lent.{setting_view};
 ghost use Rattle.publish.specs.Publication.{IsSameJob};
 
-use crate::refused::Refused;
 use crate::runs::put_core;
-use crate::scene::{Act, Scene, scene_of};
 use call::Call;
+use file_rows::Refused;
+use file_rows::scene::{Act, Scene, scene_of};
 use link::deployed::Deployed;
 use publish::{Published, Publishing};
 use serial::run_alone;
 use spec_ledger::Version;
 use std::alloc::Global;
 use storage::Cells;
+
+/// Puts what is published: the order, the calls left out, the fuel, the receipts, the locks and the cells.
+pub(crate) fn put_published(out: &mut String, published: &Published) -> Result<(), Refused> {
+    let order = published.order.as_slice();
+    let left = published.left.as_slice();
+    let fuel = published.fuel;
+    writeln!(out, "order {order:?} left {left:?} fuel {fuel}")?;
+    put_core(
+        out,
+        &published.receipts,
+        &published.touched,
+        &published.cells,
+    )?;
+    Ok(())
+}
 
 /// Whether a call is taken by its run over the opening cells.
 fn takes_run(
@@ -117,15 +132,6 @@ pub(crate) fn published(alloc: Global, lines: &[u8]) -> Result<String, Refused> 
     }
     let mut out = String::new(alloc);
     let published = publish(alloc, &mut out, &scene.contracts, &scene.calls, &scene)?;
-    let order = published.order.as_slice();
-    let left = published.left.as_slice();
-    let fuel = published.fuel;
-    writeln!(out, "order {order:?} left {left:?} fuel {fuel}")?;
-    put_core(
-        &mut out,
-        &published.receipts,
-        &published.touched,
-        &published.cells,
-    )?;
+    put_published(&mut out, &published)?;
     Ok(out)
 }

@@ -1,15 +1,17 @@
 //! What calls come to that run one after another.
 
-ghost use Rattle.std.specs.Prelude.{◌≡◌, IfSome};
+ghost use Rattle.std.specs.Prelude.{◌≡◌, ◌<◌, ◌+◌, IfSome, All, length};
+ghost use Rattle.spec_ledger.specs.Order.{limits_of};
+ghost use Rattle.spec_block.specs.Worlds.{limits};
 ghost use Rattle.std.specs.FinMap as finite;
 
-use crate::files::put_block_bytes;
-use crate::put::{put_cells, put_locks, put_receipt};
-use crate::refused::Refused;
-use crate::scene::{Scene, scene_of, world_of};
-use crate::words::{cut, long, place_of, text_of};
 use block::Block;
+use book_rows::words::{cut, long, place_of, text_of};
 use call::Call;
+use file_rows::Refused;
+use file_rows::files::put_block_bytes;
+use file_rows::put::{put_cells, put_locks, put_receipt};
+use file_rows::scene::{Scene, scene_of, world_of};
 use interp::finished::Finished;
 use lock_profile::Touched;
 use serial::{execute, replay, run_alone, serial_core, touched_by};
@@ -143,91 +145,53 @@ pub(crate) fn trace_locks(alloc: Global, lines: &[u8]) -> Result<String, Refused
     Ok(out)
 }
 
-/// A call whose limit is 100.
-fn of_100(call: Option<Call>) -> Option<Call>
-    ensures { IfSome result (λ it. it.fuel ≡ 100) }
+/// What the limits of the calls of an order leave of this fuel. `None` where they exceed it.
+fn remaining(calls: &[Call], order: &[u32], fuel: u64) -> Option<u64>
+    requires { All (λ number. number < length calls.now) order.now }
+    ensures { IfSome result (λ rest. rest + limits_of (limits calls.now) order.now ≡ fuel) }
 {
-    let call = call?;
-    if call.fuel() == 100 { Some(call) } else { None }
+    let mut rest = fuel;
+    for number in order {
+        rest = rest.checked_sub(calls[*number as usize].fuel())?;
+    }
+    Some(rest)
 }
 
-/// The block of no calls in a world, and the world after it.
-fn of_none(alloc: Global, world: &World, version: Version) -> Result<(Block, World), Refused> {
-    Ok(run_as(alloc, world, &[], &[], version)?)
-}
-
-/// The block of one call in a world, and the world after it.
-fn of_one(
+/// The block of calls in this order in a world, and the world after it.
+fn of_order(
     alloc: Global,
     world: &World,
-    call: Call,
-    version: Version,
-) -> Result<(Block, World), Refused>
-    requires { call.fuel ≡ 100 }
-{
-    let calls = [call];
-    Ok(run_as(alloc, world, &calls, &[0], version)?)
-}
-
-/// The block of two calls in a world, the second one first where this says so, and the world after it.
-fn of_two(
-    alloc: Global,
-    world: &World,
-    first: Call,
-    second: Call,
-    swapped: bool,
-    version: Version,
-) -> Result<(Block, World), Refused>
-    requires first { first.fuel ≡ 100 }
-    requires second { second.fuel ≡ 100 }
-{
-    let calls = [first, second];
-    let order = if swapped { [1, 0] } else { [0, 1] };
-    Ok(run_as(alloc, world, &calls, &order, version)?)
-}
-
-/// The block of at most two calls in this order in a world, and the world after it.
-fn of_calls(
-    alloc: Global,
-    world: &World,
-    calls: &mut Vec<Call>,
+    calls: &[Call],
     order: &[u32],
     version: Version,
 ) -> Result<(Block, World), Refused> {
-    match order {
-        [] => of_none(alloc, world, version),
-        [0] => match of_100(calls.pop()) {
-            Some(call) => of_one(alloc, world, call, version),
-            None => Err(Refused::Line),
-        },
-        [first, _] => {
-            let second = of_100(calls.pop());
-            match (of_100(calls.pop()), second) {
-                (Some(one), Some(other)) => {
-                    of_two(alloc, world, one, other, *first == 1, version)
-                }
-                _ => Err(Refused::Line),
-            }
-        }
-        _ => Err(Refused::Line),
+    let known = order.iter().all(|number| (*number as usize) < calls.len());
+    if !known || calls.len() > 65_535 || order.len() > calls.len() {
+        return Err(Refused::Line);
+    }
+    match remaining(calls, order, u64::MAX) {
+        Some(_) => Ok(run_as(alloc, world, calls, order, version)?),
+        None => Err(Refused::Line),
     }
 }
 
-/// The bytes of the block of calls in an order, at most two of a limit of 100 each, and the cells after it.
+/// The bytes of the block of calls in an order, and the cells after it.
 pub(crate) fn serial_block(alloc: Global, lines: &[u8]) -> Result<String, Refused> {
     let Scene {
         contracts,
         cells,
         later: _,
-        mut calls,
+        calls,
         order,
         version,
         fuel: _,
         runs: _,
         acts: _,
+        committed: _,
+        handed: _,
     } = scene_of(alloc, lines)?;
     let world = world_of(contracts, cells)?;
-    let (block, next) = of_calls(alloc, &world, &mut calls, &order, version)?;
+    let (block, next) = of_order(alloc, &world, &calls, &order, version)?;
     let mut out = String::new(alloc);
     put_block_bytes(alloc, &mut out, &block)?;
     writeln!(out, "contracts {}", next.contracts().len())?;

@@ -3,7 +3,6 @@
 
 pub mod blocks_written;
 pub mod judgement;
-pub mod looking;
 pub mod sinks;
 pub mod values;
 pub mod worlds_read;

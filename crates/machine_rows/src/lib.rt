@@ -5,6 +5,8 @@
 mod alike;
 mod finishes;
 mod machines;
+mod memories;
+mod over_operands;
 mod question;
 mod refused;
 mod sessions;
@@ -23,6 +25,8 @@ fn told(alloc: Global, kind: &str, input: &[u8]) -> Option<Result<String, Refuse
         "turns" => turns::told(alloc, input),
         "alike" => alike::alike(alloc, input),
         "session" => sessions::told(alloc, input),
+        "operands" => over_operands::told(alloc, input),
+        "memory" => memories::told(alloc, input),
         _ => return None,
     };
     Some(told)

@@ -21,7 +21,7 @@ pub(crate) struct Question {
 }
 
 /// The lines before the first empty one, and the bytes behind it.
-fn parted(input: &[u8]) -> Option<(&str, &[u8])> {
+pub(crate) fn parted(input: &[u8]) -> Option<(&str, &[u8])> {
     let mut before = 0;
     for (place, byte) in input.iter().enumerate() {
         if *byte == b'\n' && before == b'\n' {
@@ -58,7 +58,7 @@ fn put_contract(
 }
 
 /// The contracts of modules that stand one behind another: each ends where the head of the next one stands.
-fn contracts_of(alloc: Global, bytes: &[u8]) -> Result<Vec<Deployed<Global>>, Refused> {
+pub(crate) fn contracts_of(alloc: Global, bytes: &[u8]) -> Result<Vec<Deployed<Global>>, Refused> {
     let mut contracts = Vec::new(alloc);
     let mut from = 0;
     for place in 1..bytes.len() {
@@ -72,7 +72,7 @@ fn contracts_of(alloc: Global, bytes: &[u8]) -> Result<Vec<Deployed<Global>>, Re
 }
 
 /// The value of a word.
-fn value_of(word: &str) -> Option<Value> {
+pub(crate) fn value_of(word: &str) -> Option<Value> {
     match word.split_once(':')? {
         ("i32", digits) => Some(Value::I32(digits.parse::<i32>().ok()?)),
         ("i64", digits) => Some(Value::I64(digits.parse::<i64>().ok()?)),
@@ -140,6 +140,19 @@ pub(crate) fn version_of(asks: &[String]) -> Result<Option<Version>, Refused> {
             "version 2" => Ok(Some(Version::Two)),
             _ => Err(Refused::Line),
         },
+    }
+}
+
+/// The first word of a line, and what stands behind the space after it.
+pub(crate) fn cut(line: &str) -> (&str, &str) {
+    line.split_once(' ').unwrap_or((line, ""))
+}
+
+/// A number of 32 bits.
+pub(crate) fn short(digits: &str) -> Result<u32, Refused> {
+    match digits.parse::<u32>() {
+        Ok(number) => Ok(number),
+        Err(_) => Err(Refused::Line),
     }
 }
 

@@ -1,7 +1,7 @@
 // Mining over contracts and cells.
-ghost use Rattle.std.specs.Prelude.{◌≡◌, ◌≤◌, All, IfOk, IfSome, length};
+ghost use Rattle.std.specs.Prelude.{◌≡◌, ◌≤◌, false, All, IfOk, IfSome, length};
 ghost use Rattle.std.specs.FinMap as finite;
-ghost use Rattle.spec_ledger.specs.Order.{IsAdmissible};
+ghost use Rattle.spec_ledger.specs.Order.{IsAdmissible, first_fit};
 ghost use Rattle.spec_execution.specs.Serial.{Serial};
 ghost use Rattle.spec_ledger.specs.declared.Version.TheVariants.{Two};
 ghost use Rattle.interp.specs.Lent.{setting_view};
@@ -11,7 +11,7 @@ ghost use Rattle.publish.specs.Publication.{AreLeft, limits, fuel_used};
 ghost use Rattle.attempts.specs.Handed.{AreRuns};
 ghost use Rattle.mining.specs.Handed.{IsSerialBook};
 
-use crate::leading::mine_on_copies;
+use crate::list_order::mine_in_order;
 use crate::outcome::publish;
 use crate::rest::{draw_rest, make_room};
 use attempts::{Brake, Job, Worked, work};
@@ -21,7 +21,6 @@ use intake::{Intake, Seat};
 use link::deployed::Deployed as Contract;
 use lock_profile::Touched;
 use pace::Pace;
-use sampling::{Way, find_way};
 use shard_parts::CloseRefusal;
 use shards::{NoGate, Shards};
 use spec_ledger::{NoMemory, Receipt};
@@ -46,32 +45,27 @@ pub struct MinedCore<A: Allocator = Global> {
     pub fuel: u64,
     /// The numbers of the calls outside the order, rising.
     pub left: Vec<u32, A>,
-    /// How many calls of the order the workers committed. The others ran alone, after the workers.
+    /// How many calls of the order came of threads at once: those that workers committed in the book, or those that were done by what they had found and left when they ran ahead of their turn.
+    /// The caller ran the others, each in its turn.
     pub by_workers: u32,
 }
 
-/// Runs calls over contracts and cells in this many workers at once, of which the calling thread is one, and publishes an
-/// order of them. A worker draws the least call that no worker has drawn, reserves its limit of the block's fuel, and tries it
-/// at most so often; a try ends when an operation does not go with what another live attempt has done. The pace is told each step,
-/// and may stop the worker there: it undoes its live attempt and ends. When the workers have ended, the caller draws the calls that
-/// nobody drew. Then these and the calls that were tried in vain or stopped run alone in rising number, and then each other call
-/// that still has room.
+/// Runs calls over contracts and cells, and publishes an order of them that is admissible. The receipts, locks and cells are those of its calls run one after another in that
+/// order, whatever threads do at once.
 ///
-/// Where workers beside the cells pay (as far as some of 512 calls or more tell, which run first within a 64th of the block's fuel and are forgotten), each worker
-/// but the calling thread runs the calls that it draws over
-/// the cells of the world, which nobody changes, and hands them over in batches. The calling thread publishes each by its footprint where the cells that are published so far hold what it found, and
-/// runs and publishes calls that it draws itself while nothing is handed over. The pace is told the beginning of each call. The calls that did not fit run
-/// alone in rising number at the end. Where workers do not pay, none is started, and all calls that have room run alone in rising number.
+/// The order is the list's: each call has its turn as it stands in the list, and joins where its limit is within the fuel that is left. At most so many threads run the calls of the order ahead of their turn,
+/// over the cells as they were given, and the calling thread, which is one of them, does them with the cells in that order (`in_order`). Where the pace stops it, the calls that remain run alone, and
+/// the pace is told nothing more.
 ///
-/// The book that the workers share is in so many shards, each behind a lock of its own. Where these are not parts of one book at its end, no run
-/// stands, and all calls that have room run alone in rising number.
-///
-/// Whatever the workers do at once, the order is admissible, and the receipts, locks and cells are those of its calls run one
-/// after another in that order.
+/// Under a pace that watches, this many workers, of which the calling thread is one, run the calls over one book, and the order is that in which they commit them. A worker draws the least call that no
+/// worker has drawn, reserves its limit of the block's fuel, and tries it at most so often; a try ends when an operation does not go with what another live attempt has done. The pace is told each step,
+/// and may stop the worker there: it undoes its live attempt and ends. When the workers have ended, the caller draws the calls that nobody drew. Then these and the calls that were tried in vain or
+/// stopped run alone in rising number, and then each other call that still has room. The book is in so many shards, each behind a lock of its own. Where these are not parts of one book at its end, no
+/// run stands, and all calls that have room run alone in rising number.
 ///
 /// # Errors
 ///
-/// Memory was refused to the caller or to a worker. Where it was to the calls that run first and are forgotten, it is no error.
+/// Memory was refused to the caller or to another thread.
 pub fn mine_core<'a, R: Threads + Wait + Sync, A: Allocator + Copy + Send + Sync, P: Pace>(
     rt: &R,
     alloc: A,
@@ -90,6 +84,7 @@ pub fn mine_core<'a, R: Threads + Wait + Sync, A: Allocator + Copy + Send + Sync
     requires shards { (1 ≤ shards) × (shards ≤ 16) }
     ensures serial { IfOk result (λ core. Serial (setting_view Two contracts.now) calls.now core.order.items cells.now.cells (positions core.receipts.items core.touched.items) core.cells.cells) }
     ensures admissible { IfOk result (λ core. IsAdmissible (limits calls.now) core.order.items block_fuel) }
+    ensures order { IfOk result (λ core. P.watching pace.now ≡ false → core.order.items ≡ first_fit (limits calls.now) block_fuel) }
     ensures receipts { IfOk result (λ core. length core.receipts.items ≡ length core.order.items) }
     ensures touched { IfOk result (λ core. length core.touched.items ≡ length core.order.items) }
     ensures settled { IfOk result (λ core. core.cells.unsettled ≡ finite.empty) }
@@ -97,31 +92,17 @@ pub fn mine_core<'a, R: Threads + Wait + Sync, A: Allocator + Copy + Send + Sync
     ensures left { IfOk result (λ core. AreLeft core.order.items (length calls.now) core.left.items) }
     ensures by_workers { IfOk result (λ core. core.by_workers ≤ length core.order.items) }
 {
-    match find_way(alloc, contracts, cells, calls, block_fuel, workers) {
-        Way::Alone => {
-            let none = Vec::new(alloc);
-            let rest = Ok(Vec::new(alloc));
-            publish(
-                alloc,
-                contracts,
-                calls,
-                cells,
-                block_fuel,
-                Ok(None),
-                none,
-                rest,
-            )
-        }
-        Way::Beside => mine_on_copies(
-            rt, alloc, contracts, cells, calls, block_fuel, workers, pace,
-        ),
-        Way::OverOneBook => mine_over_book(
+    if pace.watches() {
+        return mine_over_book(
             rt, alloc, contracts, cells, calls, block_fuel, workers, tries, pace, shards,
-        ),
+        );
     }
+    mine_in_order(
+        rt, alloc, contracts, cells, calls, block_fuel, workers, pace,
+    )
 }
 
-/// Mines by workers over one book, in so many shards.
+/// Mines by workers over one book, in so many shards. The order is that in which they commit the calls.
 fn mine_over_book<'a, R: Threads + Wait + Sync, A: Allocator + Copy + Send + Sync, P: Pace>(
     rt: &R,
     alloc: A,

@@ -197,7 +197,7 @@ fn take_runs<'a, A: Allocator + Copy>(
 
 /// Runs calls alone and publishes them, where there is room.
 #[tactic(auto, using(crate::proofs::Jobs::job_itself, crate::proofs::Jobs::job_after, crate::proofs::Jobs::grown))]
-pub(crate) fn take_alone<'a, A: Allocator + Copy>(
+fn take_alone<'a, A: Allocator + Copy>(
     publishing: &mut Publishing<'a, A>,
     calls: &[u32],
 ) -> Result<(), NoMemory>
@@ -318,7 +318,7 @@ pub(crate) fn publish<'a, A: Allocator + Copy>(
 }
 
 /// Publishes the other calls that have room, in rising number, and hands out what was published.
-pub(crate) fn finish<A: Allocator + Copy>(
+fn finish<A: Allocator + Copy>(
     mut publishing: Publishing<'_, A>,
     by_workers: u32,
 ) -> Result<MinedCore<A>, NoMemory>

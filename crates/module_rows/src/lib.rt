@@ -4,6 +4,7 @@
 
 mod bytes;
 mod entries;
+mod large;
 mod numbers;
 mod refused;
 mod verdict;
@@ -15,6 +16,7 @@ use std::alloc::Global;
 fn told(alloc: Global, kind: &str, input: &[u8]) -> Option<Result<String, Refused>> {
     let told = match kind {
         "verdict" => verdict::verdict_text(alloc, input),
+        "many_exports" => large::many_exports(alloc, input),
         "load" => bytes::loaded(alloc, input),
         "module" => bytes::module(alloc, input),
         "shortest" => bytes::shortest(alloc, input),

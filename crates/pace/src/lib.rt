@@ -1,6 +1,8 @@
 //! The steps of a call's way through the threads that run calls at once, told to whoever wants to know them or to hold a thread at one of them.
 #![tactic(auto)]
 
+ghost use Rattle.std.specs.Prelude.{◌≡◌, Bool, true, false};
+
 /// A step of a call. Calls are named by their number; tries and operations count from 0.
 #[derive(Clone, Copy, Debug, PartialEq, Eq)]
 pub enum Step {
@@ -39,12 +41,20 @@ pub enum Step {
 ///
 /// Which steps of a call are told depends on who runs it:
 ///
-/// - The miner's workers over one book tell every step.
-/// - The validator's workers that wait for a position's turn tell its attempt, as try 0, and each operation.
-/// - Workers beside the cells, of the miner and of the validator, tell the attempt alone, as try 0.
-/// - A thread that runs calls one after another, since no workers pay, or before or behind them, tells nothing.
+/// - Where the pace watches, the miner's workers over one book tell every step.
+/// - Where the pace watches, the validator's workers that wait for a position's turn tell its attempt, as try 0, and each operation.
+/// - Else the threads that run the calls of an order ahead of their turn tell the attempt alone, as try 0, and so does the thread that runs those calls in their
+///   turn that nobody ran ahead. A call that is run again tells nothing.
 /// - A debugger tells by `runs_alone` that calls of a block are about to run, and then nothing of them.
 pub trait Pace: Sync {
+    /// Whether it watches.
+    ghost watching: { Self → Bool } = { λ _. true };
+
+    /// Whether it watches the workers. A list under a pace that watches is mined over the book in shards, and a block is validated by the board, the lanes and
+    /// the cells ahead, as the papers describe it, at any length and whether that pays or not. Under any other pace calls are run in the fastest way.
+    fn watches(&self) -> bool
+        ensures { result ≡ watching self.now };
+
     /// The calling thread is at this step.
     fn at(&self, step: Step);
 
@@ -63,5 +73,40 @@ pub trait Pace: Sync {
 pub struct NoPace;
 
 impl Pace for NoPace {
+    ghost watching = { λ _. false };
+
+    fn watches(&self) -> bool {
+        false
+    }
+
     fn at(&self, _step: Step) {}
+}
+
+/// Tells another pace what it is told, and watches or not as it is said here, whatever that one does.
+#[derive(Clone, Copy, Debug)]
+pub struct Watched<'a, P> {
+    /// The pace that is told.
+    pub pace: &'a P,
+    /// Whether it watches.
+    pub watches: bool,
+}
+
+impl<P: Pace> Pace for Watched<'_, P> {
+    ghost watching = { λ w. w.watches };
+
+    fn watches(&self) -> bool {
+        self.watches
+    }
+
+    fn at(&self, step: Step) {
+        self.pace.at(step);
+    }
+
+    fn stops(&self, step: Step) -> bool {
+        self.pace.stops(step)
+    }
+
+    fn runs_alone(&self, fuel: u64) {
+        self.pace.runs_alone(fuel);
+    }
 }

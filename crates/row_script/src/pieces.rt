@@ -40,7 +40,17 @@ pub(crate) fn number_of(word: &str) -> Result<u64, Wrong> {
 pub(crate) fn is_piece(word: &str) -> bool {
     matches!(
         word,
-        "text" | "line" | "hex" | "of" | "changed" | "cutoff" | "held" | "size" | "again" | "times"
+        "text"
+            | "line"
+            | "hex"
+            | "of"
+            | "changed"
+            | "cutoff"
+            | "slice"
+            | "held"
+            | "size"
+            | "again"
+            | "times"
     )
 }
 
@@ -127,6 +137,19 @@ fn front<'a>(names: &'a [Kept], rest: &str) -> Result<&'a [u8], Wrong> {
     }
 }
 
+/// Some of the bytes that have a name: a name, the place of the first one, and the place behind the last one.
+fn slice<'a>(names: &'a [Kept], rest: &str) -> Result<&'a [u8], Wrong> {
+    let (name, places) = cut(rest);
+    let bytes = named(names, name)?;
+    let (from, to) = cut(places);
+    let from = number_of(from)?;
+    let to = number_of(to)?;
+    match bytes.get(from as usize..to as usize) {
+        Some(slice) => Ok(slice),
+        None => Err(Wrong::Place),
+    }
+}
+
 /// The bytes that a file holds.
 fn held(alloc: Global, files: &MemoryFiles, name: &str) -> Result<Vec<u8>, Wrong> {
     match files.bytes_of(alloc, name)? {
@@ -163,6 +186,7 @@ fn put_once(
         "of" => value.extend_from_slice(named(sources.names, rest)?)?,
         "changed" => value.extend_from_slice(&changed(alloc, sources.names, rest)?)?,
         "cutoff" => value.extend_from_slice(front(sources.names, rest)?)?,
+        "slice" => value.extend_from_slice(slice(sources.names, rest)?)?,
         "held" => value.extend_from_slice(&held(alloc, sources.files, rest)?)?,
         "size" => put_size(alloc, sources.files, value, rest)?,
         "again" => value.extend_from_slice(sources.again)?,

@@ -1,5 +1,6 @@
 //! The kinds that libraries answer.
 
+use crate::{kept, words};
 use row_script::Kinds;
 use std::alloc::Global;
 
@@ -24,5 +25,17 @@ fn answer_of(alloc: Global, kind: &str, input: &[u8]) -> Option<String> {
     if let Some(answer) = machine_rows::answer(alloc, kind, input) {
         return Some(answer);
     }
-    block_rows::answer(alloc, kind, input)
+    if let Some(answer) = book_rows::answer(alloc, kind, input) {
+        return Some(answer);
+    }
+    if let Some(answer) = file_rows::answer(alloc, kind, input) {
+        return Some(answer);
+    }
+    if let Some(answer) = block_rows::answer(alloc, kind, input) {
+        return Some(answer);
+    }
+    if let Some(answer) = words::answer(alloc, kind, input) {
+        return Some(answer);
+    }
+    kept::answer(alloc, kind, input)
 }

@@ -1,6 +1,6 @@
 //! Steps that are lines of words.
 
-use crate::paces::{Ahead, Clash, Gather};
+use crate::paces::{Ahead, Clash, Gather, Uneven};
 use codec::MemorySink;
 use pace::{NoPace, Pace};
 use row_script::{Came, Fails, cut};
@@ -26,7 +26,7 @@ fn word_of(status: Status) -> &'static str {
 }
 
 /// The words between single spaces.
-fn words_of<'a>(alloc: Global, line: &'a str) -> Option<Vec<&'a str>> {
+pub(crate) fn words_of<'a>(alloc: Global, line: &'a str) -> Option<Vec<&'a str>> {
     if line.is_empty() {
         return Some(Vec::new(alloc));
     }
@@ -225,6 +225,160 @@ fn fronts<R: Threads + Wait + Sync>(
     Some(together.came)
 }
 
+/// Runs a line of words, and once more with `--boosted`.
+fn run_twice<R: Threads + Wait + Sync>(
+    rt: &R,
+    alloc: Global,
+    line: &str,
+    files: &mut MemoryFiles,
+    fails: Fails,
+) -> Option<(Ended, Ended)> {
+    let plain = run_words(rt, alloc, line, files, fails, &Uneven::new())?;
+    let words = format!(in alloc; "{line} --boosted").ok()?;
+    let boosted = run_words(rt, alloc, words.as_str(), files, fails, &Uneven::new())?;
+    Some((plain, boosted))
+}
+
+/// Whether a line put the same on its streams both times.
+fn are_alike(plain: &Ended, boosted: &Ended) -> bool {
+    plain.out.bytes() == boosted.out.bytes() && plain.err.bytes() == boosted.err.bytes()
+}
+
+/// What is told of a line that ended so both times, where it is not this status, or not the same on the streams.
+fn told_of_both(
+    alloc: Global,
+    wanted: &str,
+    plain: &Ended,
+    boosted: &Ended,
+) -> Option<Option<String>> {
+    let first = word_of(plain.status);
+    let second = word_of(boosted.status);
+    let streams = if are_alike(plain, boosted) {
+        "the same"
+    } else {
+        "something else"
+    };
+    if first == wanted && second == wanted && streams == "the same" {
+        return Some(None);
+    }
+    let told = format!(in alloc; "{first}, and with --boosted to {second} and {streams}");
+    Some(Some(told.ok()?))
+}
+
+/// Runs a line of words behind the status that is wanted, and once more with `--boosted`: what it puts on its streams is the same.
+fn twice<R: Threads + Wait + Sync>(
+    rt: &R,
+    alloc: Global,
+    rest: &str,
+    files: &mut MemoryFiles,
+    fails: Fails,
+) -> Option<Came> {
+    let (wanted, line) = cut(rest);
+    let (plain, boosted) = run_twice(rt, alloc, line, files, fails)?;
+    Some(Came {
+        otherwise: told_of_both(alloc, wanted, &plain, &boosted)?,
+        out: plain.out.bytes().to_vec(alloc).ok()?,
+        err: plain.err.bytes().to_vec(alloc).ok()?,
+    })
+}
+
+/// How often the runs of a line over many files come to the same, one behind another.
+#[derive(Drop)]
+struct Tally {
+    /// What one of them came to otherwise.
+    otherwise: Option<String>,
+    text: Vec<u8>,
+    last: Vec<u8>,
+    count: u64,
+}
+
+impl Tally {
+    /// None was run.
+    fn new(alloc: Global) -> Tally {
+        Tally {
+            otherwise: None,
+            text: Vec::new(alloc),
+            last: Vec::new(alloc),
+            count: 0,
+        }
+    }
+
+    /// Counts what a run put on the standard output.
+    fn add(&mut self, alloc: Global, out: &[u8]) -> Option<()> {
+        if out != self.last.as_slice() {
+            self.put(alloc)?;
+            self.last = out.to_vec(alloc).ok()?;
+        }
+        self.count = self.count.saturating_add(1);
+        Some(())
+    }
+
+    /// Puts how often the last one came, and it, behind the others.
+    fn put(&mut self, alloc: Global) -> Option<()> {
+        if self.count > 0 {
+            let count = format!(in alloc; "{} ", self.count).ok()?;
+            self.text.extend_from_slice(count.as_bytes()).ok()?;
+            self.text.extend_from_slice(&self.last).ok()?;
+        }
+        self.count = 0;
+        Some(())
+    }
+}
+
+/// Flips a bit.
+fn flip(bytes: &mut [u8], place: usize, bit: u8) {
+    if let Some(byte) = bytes.get_mut(place) {
+        *byte ^= bit;
+    }
+}
+
+/// Counts what a line of words comes to over a file of these bytes, without `--boosted` and with it.
+fn tally_of<R: Threads + Wait + Sync>(
+    rt: &R,
+    alloc: Global,
+    name: &str,
+    rest: &str,
+    bytes: &[u8],
+    files: &mut MemoryFiles,
+    fails: Fails,
+    tally: &mut Tally,
+) -> Option<()> {
+    files.hold(name, bytes).ok()?;
+    let (wanted, line) = cut(rest);
+    let (plain, boosted) = run_twice(rt, alloc, line, files, fails)?;
+    if let Some(told) = told_of_both(alloc, wanted, &plain, &boosted)? {
+        tally.otherwise = Some(told);
+    }
+    tally.add(alloc, plain.out.bytes())
+}
+
+/// Runs a line of words as [`twice`] does over a file with each bit of it flipped, behind the status that is wanted each time.
+fn flips<R: Threads + Wait + Sync>(
+    rt: &R,
+    alloc: Global,
+    rest: &str,
+    files: &mut MemoryFiles,
+    fails: Fails,
+) -> Option<Came> {
+    let (name, rest) = cut(rest);
+    let mut bytes = files.bytes_of(alloc, name).ok()??;
+    let mut tally = Tally::new(alloc);
+    for place in 0..bytes.len() {
+        for bit in [1, 2, 4, 8, 16, 32, 64, 128] {
+            flip(&mut bytes, place, bit);
+            tally_of(rt, alloc, name, rest, &bytes, files, fails, &mut tally)?;
+            flip(&mut bytes, place, bit);
+        }
+    }
+    files.hold(name, &bytes).ok()?;
+    tally.put(alloc)?;
+    Some(Came {
+        otherwise: tally.otherwise,
+        out: tally.text,
+        err: Vec::new(alloc),
+    })
+}
+
 /// Does the step of this word over the files of its row, as the rest of its line says; None where there is no such step, the line can't be read, or memory
 /// is refused.
 pub(crate) fn do_step<R: Threads + Wait + Sync>(
@@ -239,7 +393,9 @@ pub(crate) fn do_step<R: Threads + Wait + Sync>(
         "run" => plain(rt, alloc, rest, files, fails),
         "gather" => gathered(rt, alloc, rest, files, fails),
         "clash" => clashed(rt, alloc, rest, files, fails),
+        "twice" => twice(rt, alloc, rest, files, fails),
         "fronts" => fronts(rt, alloc, rest, files, fails),
+        "flips" => flips(rt, alloc, rest, files, fails),
         "ahead" => ahead(rt, alloc, rest, files, fails),
         "usage" => usage(alloc, rest),
         _ => None,

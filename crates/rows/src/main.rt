@@ -3,8 +3,10 @@
 #![tactic(auto)]
 
 mod answers;
+mod kept;
 mod lines;
 mod paces;
+mod words;
 
 use crate::answers::Libraries;
 use crate::lines::do_step;

@@ -1,4 +1,4 @@
-//! Paces that hold the threads of a line, to count them and how often one is refused, and one that hears how much runs ahead of a call.
+//! Paces that hold the threads of a line, to count them and how often one is refused, one that lets others go first, and one that hears how much runs ahead of a call.
 
 use pace::{Pace, Step};
 use std::sync::atomic::{AtomicBool, AtomicU64, Ordering};
@@ -77,6 +77,10 @@ impl Gather {
 }
 
 impl Pace for Gather {
+    fn watches(&self) -> bool {
+        true
+    }
+
     fn at(&self, step: Step) {
         if matches!(step, Step::Attempt { nth: 0, .. }) && !self.0.is_over() {
             self.0.tell();
@@ -108,6 +112,10 @@ impl Clash {
 }
 
 impl Pace for Clash {
+    fn watches(&self) -> bool {
+        true
+    }
+
     fn at(&self, step: Step) {
         match step {
             Step::Op { call: 0, n: 1 } => self.acted.look(1, LOOKS),
@@ -117,6 +125,37 @@ impl Pace for Clash {
             }
             Step::Refused { .. } => self.refused.tell(),
             _ => {}
+        }
+    }
+}
+
+/// Lets other threads go first now and then.
+#[derive(Drop)]
+pub(crate) struct Uneven {
+    steps: AtomicU64,
+}
+
+impl Uneven {
+    /// No step was told.
+    pub(crate) fn new() -> Uneven {
+        Uneven {
+            steps: AtomicU64::new(0),
+        }
+    }
+}
+
+impl Pace for Uneven {
+    ghost use Rattle.std.specs.Prelude.{false};
+
+    ghost watching = { λ _. false };
+
+    fn watches(&self) -> bool {
+        false
+    }
+
+    fn at(&self, _step: Step) {
+        if self.steps.fetch_add(1, Ordering::SeqCst) % 3 == 0 {
+            thread::yield_now();
         }
     }
 }
@@ -149,6 +188,14 @@ impl Ahead {
 }
 
 impl Pace for Ahead {
+    ghost use Rattle.std.specs.Prelude.{false};
+
+    ghost watching = { λ _. false };
+
+    fn watches(&self) -> bool {
+        false
+    }
+
     fn at(&self, _step: Step) {}
 
     fn runs_alone(&self, fuel: u64) {

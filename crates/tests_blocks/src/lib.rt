@@ -1,9 +1,8 @@
-//! Tests of what rows of data can't say: books whose runs are handed over, what is sealed that ran elsewhere, orders played to their end with memory refused at
-//! each block, counts without what they count in small heaps, random bytes, and what refusals say. There is no code here.
+//! Tests of memory, of the machine, of orders and of blocks that are no rows of data: memory and machines in heaps that refuse, what is sealed that ran
+//! elsewhere, orders played to their end with memory refused at each block, counts without what they count in small heaps, random bytes, and what refusals
+//! say. There is no code here.
 #![tactic(auto)]
 
-#[cfg(test)]
-mod adopted;
 #[cfg(test)]
 mod assertions;
 #[cfg(test)]
@@ -11,7 +10,13 @@ mod counts;
 #[cfg(test)]
 mod games;
 #[cfg(test)]
+mod machine_in_heaps;
+#[cfg(test)]
+mod memory_in_heaps;
+#[cfg(test)]
 mod noise;
+#[cfg(test)]
+mod programs;
 #[cfg(test)]
 mod refusals;
 #[cfg(test)]

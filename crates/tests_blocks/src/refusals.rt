@@ -1,12 +1,17 @@
-// What refusals say to people: what is wrong, and where.
+//! What refusals say to people, what is wrong and where; and the codes of those of the debugger.
+
 use crate::assertions::{equal, given};
 use block::{BlockRefusal, WriteRefusal};
 use codec::SinkFault;
+use debugger::session::Refusal;
+use interp::readers::BytesRefusal;
+use memory::StoreRefusal;
 use records::Fault;
 use std::alloc::Global;
 use std::fmt::Display;
 use std::process::Abort;
 use world_reader::ReadRefusal;
+use wtypes::TrapCode;
 
 fn says<T: Display>(rt: &impl Abort, alloc: Global, refusal: &T, text: &str) {
     let said = given(rt, &text, format!(in alloc; "{refusal}"));
@@ -43,4 +48,27 @@ fn refusals_say_what_and_where(rt: HostRuntime) {
         "what begins at byte 8 spells no world",
     );
     says(&rt, alloc, &ReadRefusal::NoMemory, "memory was refused");
+    says(
+        &rt,
+        alloc,
+        &StoreRefusal::Trap(TrapCode::MemoryOutOfBounds),
+        "trap: MemoryOutOfBounds",
+    );
+    says(
+        &rt,
+        alloc,
+        &BytesRefusal::OutOfRange,
+        "the bytes do not all lie in memory",
+    );
+}
+
+#[test]
+fn codes_of_refusals(rt: HostRuntime) {
+    let refusals = [
+        Refusal::BeforeStart,
+        Refusal::NoSuchPlace,
+        Refusal::OutOfRange,
+        Refusal::NoMemory,
+    ];
+    equal(&rt, &"codes", &refusals.map(Refusal::code), &[1, 2, 3, 4]);
 }

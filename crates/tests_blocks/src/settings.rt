@@ -1,16 +1,11 @@
-// Calls, cells and worlds, as rows name them.
-ghost use Rattle.std.specs.Prelude.{◌≡◌, ◌≤◌, IfSome, length};
+// Cells and worlds, as rows name them.
+ghost use Rattle.std.specs.Prelude.{◌≡◌, IfSome};
 ghost use Rattle.std.specs.FinMap as finite;
 
-use call::Call;
 use link::deployed::Deployed;
 use std::alloc::Global;
 use storage::{Cells, Kind, Lock};
 use world::World;
-use wtypes::Value;
-
-/// A call: its contract, its entry, its arguments and its fuel.
-pub type Asked<'b> = (u32, &'b str, &'b [Value], u64);
 
 /// A cell: its contract, its kind and its key.
 pub type Cell = (u32, Kind, u64);
@@ -21,23 +16,6 @@ pub fn lock(cell: Cell) -> Lock {
         contract,
         kind,
         key,
-    }
-}
-
-/// The calls.
-pub fn calls(alloc: Global, asked: &[Asked]) -> Option<Vec<Call>>
-    ensures { IfSome result (λ calls. length calls.items ≤ 65535) }
-{
-    let mut calls = Vec::new(alloc);
-    for (contract, entry, args, fuel) in asked {
-        calls
-            .push(samples::call(alloc, *contract, *entry, *args, *fuel).ok()?)
-            .ok()?;
-    }
-    if calls.len() <= 65_535 {
-        Some(calls)
-    } else {
-        None
     }
 }
 
@@ -70,15 +48,6 @@ fn world_of(alloc: Global, contract: Deployed<Global>, held: &[(Cell, u64)]) -> 
         return None;
     }
     Some(World::new(contracts, cells))
-}
-
-/// The contract of the first module, or no contract.
-pub fn contracts(alloc: Global, there: bool) -> Option<Vec<Deployed<Global>>> {
-    let mut contracts = Vec::new(alloc);
-    if there {
-        contracts.push(samples::first(alloc).ok()?).ok()?;
-    }
-    Some(contracts)
 }
 
 /// The cells hold this.

@@ -12,8 +12,11 @@ use std::alloc::{Allocator, Global};
 use std::process::Abort;
 use std::test::Fail;
 
-// The shortest spelling of a module.
-fn encoded<A: Allocator>(a: Global, module: &Module<A>) -> Result<Vec<u8, Global>, Fail> {
+/// The shortest spelling of a module.
+pub(crate) fn encoded<A: Allocator>(
+    a: Global,
+    module: &Module<A>,
+) -> Result<Vec<u8, Global>, Fail> {
     let mut out = Vec::new(a);
     encode(module, &mut out)?;
     Ok(out)
@@ -123,8 +126,8 @@ fn is_nested<A: Allocator>(module: &Module<A>) -> bool {
     module.depth() == 128 && module.instr_at(0, 127).is_some() && module.instr_at(0, 128).is_none()
 }
 
-// The refusal of bytes in this allocator.
-fn refusal<A: Allocator + Clone>(a: A, bytes: &[u8]) -> Option<LoadRefusal> {
+/// The refusal of bytes in this allocator.
+pub(crate) fn refusal<A: Allocator + Clone>(a: A, bytes: &[u8]) -> Option<LoadRefusal> {
     load(a, bytes).err()
 }
 

@@ -1,9 +1,9 @@
 // Trees and working memory in heaps of fixed size.
 use crate::assertions::{equal, holds};
+use crate::both::encoded;
 use crate::loading::HEADER;
 use crate::verdict::Verdict::{self, Deployed, NoMemory};
 use crate::verdict::verdict_in;
-use encoder::encode;
 use link::deploy::deploy;
 use link::deployed::Deployed as Contract;
 use link::refusal::LinkRefusal;
@@ -169,9 +169,7 @@ fn assert_tree(
     tree: &Module<&LocalHeap>,
     bytes: &[u8],
 ) -> Result<(), Fail> {
-    let mut spelled = Vec::new(a);
-    encode(tree, &mut spelled)?;
-    holds(rt, &place, spelled.as_slice() == bytes);
+    holds(rt, &place, encoded(a, tree)?.as_slice() == bytes);
     Ok(())
 }
 

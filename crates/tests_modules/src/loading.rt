@@ -1,22 +1,10 @@
 use crate::assertions::holds;
+use crate::both::refusal;
 use loader::LoadRefusal::{self, Malformed};
-use loader::load;
 use samples::EXAMPLE;
-use std::alloc::{AllocError, Global};
 
 /// The header of a module.
 pub const HEADER: [u8; 8] = [0x00, 0x61, 0x73, 0x6D, 0x01, 0x00, 0x00, 0x00];
-
-fn refusal(a: Global, bytes: &[u8]) -> Option<LoadRefusal> {
-    load(a, bytes).err()
-}
-
-/// Puts a section of this number and content behind the bytes.
-pub fn put_section(bytes: &mut Vec<u8, Global>, id: u8, content: &[u8]) -> Result<(), AllocError> {
-    bytes.push(id)?;
-    leb::write_u32(bytes, u32::try_from(content.len()).unwrap_or(u32::MAX))?;
-    bytes.extend_from_slice(content)
-}
 
 // Whether this is to be answered to the front of the example contract of so many bytes.
 fn is_answer(front: usize, answer: Option<LoadRefusal>) -> bool {

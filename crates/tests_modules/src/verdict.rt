@@ -1,14 +1,9 @@
 // What is answered to a module.
-use crate::assertions::equal;
-use crate::loading::HEADER;
 use body_typing::scope::TypeRefusal;
 use link::deploy::deploy;
 use link::refusal::LinkRefusal;
-use loader::load;
 use module_tree::module::Module;
-use std::alloc::{AllocError, Allocator, Global};
-use std::process::Abort;
-use std::test::Fail;
+use std::alloc::{Allocator, Global};
 use typing::check::check;
 use typing::valid::Valid;
 
@@ -17,8 +12,6 @@ use typing::valid::Valid;
 pub enum Verdict {
     /// It is deployed.
     Deployed,
-    /// The bytes spell no module.
-    Unread,
     /// It is not typed: the function, the ordinal and the number of the rule that is broken.
     Broken(Option<u32>, u32, u8),
     /// It is typed and is not deployed.
@@ -51,26 +44,4 @@ pub fn verdict_in<W: Allocator + Clone>(a: Global, work: &W, tree: Module<Global
         Ok(valid) => linked(a, valid),
         Err((_tree, refusal)) => broken(refusal),
     }
-}
-
-// What is answered to the module of these sections.
-fn verdict_of(a: Global, sections: &[u8]) -> Result<Verdict, AllocError> {
-    let mut bytes = HEADER.to_vec(a)?;
-    bytes.extend_from_slice(sections)?;
-    match load(a, &bytes) {
-        Ok(tree) => Ok(verdict_in(a, &a, tree)),
-        Err(_refusal) => Ok(Verdict::Unread),
-    }
-}
-
-/// The sections of a module, and what has to be answered.
-pub type Row<'b> = (&'b [u8], Verdict);
-
-/// Each row is answered as it has to be.
-pub fn judge(rt: &impl Abort, a: Global, rows: &[Row]) -> Result<(), Fail> {
-    for (sections, verdict) in rows {
-        let found = verdict_of(a, *sections)?;
-        equal(rt, sections, &found, verdict);
-    }
-    Ok(())
 }

@@ -1,21 +1,22 @@
-//! Tests of storage, of the table of locks, of the book of calls and its levels, of its shards and of sinks. There is no code here.
+//! Tests of storage and of the book of calls that are no rows of data: calls of one thread and of two over a book in 1, 2 and 16 shards, each block of memory
+//! refused in turn, and sinks. There is no code here.
 #![tactic(auto)]
 
 #[cfg(test)]
 mod assertions;
 #[cfg(test)]
-mod book_events;
-#[cfg(test)]
 mod books;
 #[cfg(test)]
-mod cells;
+mod held;
 #[cfg(test)]
 mod levels;
 #[cfg(test)]
-mod numbers;
-#[cfg(test)]
 mod parts;
+#[cfg(test)]
+mod refused;
+#[cfg(test)]
+mod scripts;
 #[cfg(test)]
 mod sinks;
 #[cfg(test)]
-mod tables;
+mod whole;

@@ -11,6 +11,10 @@ struct Log {
 }
 
 impl Pace for Log {
+    fn watches(&self) -> bool {
+        true
+    }
+
     fn at(&self, step: Step) {
         self.told.fetch_add(1, Ordering::SeqCst);
         if let Step::Committed { call } = step {

@@ -1,6 +1,6 @@
 // Threads that share a book, and really meet in it.
 use crate::assertions::{equal, holds};
-use crate::meetings::{LOOKS, hold};
+use crate::waiting::{LOOKS, hold};
 use boost::book::{
     BeginRefusal, Book, Closed, CommitRefusal, EnterRefusal, LeaveRefusal, OpRefusal, Run, Ticket,
 };
@@ -27,6 +27,17 @@ const TRAPPED: Outcome = Outcome::Trapped(TrapCode::Unreachable);
 const HOT: Place = Place {
     contract: 0,
     key: 1_000,
+};
+
+/// A map cell of call 0 alone, and one of call 1.
+const OWN_0: Place = Place {
+    contract: 0,
+    key: 0,
+};
+
+const OWN_1: Place = Place {
+    contract: 0,
+    key: 1,
 };
 
 /// A counter that all calls add to.
@@ -152,93 +163,71 @@ fn answered<R: Wait>(
 
 const BEGUN: Answer = Answer::Begun(Ok(()));
 
+const NO_SUCH_CALL: Answer = Answer::Begun(Err(BeginRefusal::NoSuchCall));
+
+const LIVE: Answer = Answer::Begun(Err(BeginRefusal::Live));
+
+const COMMITTED: Answer = Answer::Begun(Err(BeginRefusal::Committed));
+
 const DONE: Answer = Answer::Did(Ok(Reply::Nothing));
 
 const IS_100: Answer = Answer::Did(Ok(Reply::I64(100)));
 
 const CONFLICT: Answer = Answer::Did(Err(OpRefusal::Conflict));
 
+const STALE_OP: Answer = Answer::Did(Err(OpRefusal::Stale));
+
 const ENTERED: Answer = Answer::Entered(Ok(()));
+
+const STALE_ENTRY: Answer = Answer::Entered(Err(EnterRefusal::Stale));
 
 const LEFT: Answer = Answer::Left(Ok(()));
 
+const NOT_ENTERED: Answer = Answer::Left(Err(LeaveRefusal::NotEntered));
+
+const STALE_EXIT: Answer = Answer::Left(Err(LeaveRefusal::Stale));
+
+const IS_FIRST: Answer = Answer::Committed(Ok(0));
+
+const DIFFERS: Answer = Answer::Committed(Err(CommitRefusal::Differs));
+
+const STALE_COMMIT: Answer = Answer::Committed(Err(CommitRefusal::Stale));
+
+const TOTAL: Asked = Asked::Do(Op::Total(SUM));
+
+const ADD_3: Asked = Asked::Do(Op::Add(SUM, 3));
+
+const ADD_5: Asked = Asked::Do(Op::Add(SUM, 5));
+
+const ADD_20: Asked = Asked::Do(Op::Add(SUM, 20));
+
 /// Which of two books is asked what, for which call, one after another, and what is answered.
 const SCRIPT: &[(bool, u32, Asked, Answer)] = &[
-    (
-        true,
-        2,
-        Asked::Begin,
-        Answer::Begun(Err(BeginRefusal::NoSuchCall)),
-    ),
+    (true, 2, Asked::Begin, NO_SUCH_CALL),
     (true, 0, Asked::Begin, BEGUN),
-    (
-        true,
-        0,
-        Asked::Begin,
-        Answer::Begun(Err(BeginRefusal::Live)),
-    ),
-    (
-        false,
-        0,
-        Asked::Do(Op::Total(SUM)),
-        Answer::Did(Err(OpRefusal::Stale)),
-    ),
-    (true, 0, Asked::Do(Op::Add(SUM, 5)), DONE),
+    (true, 0, Asked::Begin, LIVE),
+    (false, 0, TOTAL, STALE_OP),
+    (true, 0, ADD_5, DONE),
     (true, 1, Asked::Begin, BEGUN),
-    (true, 1, Asked::Do(Op::Total(SUM)), CONFLICT),
+    (true, 1, TOTAL, CONFLICT),
     (true, 0, Asked::Undo, Answer::Undone),
-    (true, 1, Asked::Do(Op::Total(SUM)), IS_100),
-    (
-        true,
-        1,
-        Asked::Leave(true),
-        Answer::Left(Err(LeaveRefusal::NotEntered)),
-    ),
+    (true, 1, TOTAL, IS_100),
+    (true, 1, Asked::Leave(true), NOT_ENTERED),
     (true, 1, Asked::Enter, ENTERED),
-    (
-        false,
-        1,
-        Asked::Enter,
-        Answer::Entered(Err(EnterRefusal::Stale)),
-    ),
-    (
-        false,
-        1,
-        Asked::Leave(false),
-        Answer::Left(Err(LeaveRefusal::Stale)),
-    ),
-    (true, 1, Asked::Do(Op::Add(SUM, 20)), DONE),
+    (false, 1, Asked::Enter, STALE_ENTRY),
+    (false, 1, Asked::Leave(false), STALE_EXIT),
+    (true, 1, ADD_20, DONE),
     (true, 1, Asked::Enter, ENTERED),
     (true, 1, Asked::Leave(true), LEFT),
     (true, 1, Asked::Leave(false), LEFT),
-    (true, 1, Asked::Do(Op::Total(SUM)), IS_100),
+    (true, 1, TOTAL, IS_100),
     (true, 1, Asked::Enter, ENTERED),
     (true, 1, Asked::Leave(true), LEFT),
-    (
-        true,
-        1,
-        Asked::Leave(false),
-        Answer::Left(Err(LeaveRefusal::NotEntered)),
-    ),
-    (
-        true,
-        1,
-        Asked::Commit(&[TOTAL_OF_100]),
-        Answer::Committed(Err(CommitRefusal::Differs)),
-    ),
-    (
-        false,
-        1,
-        Asked::Commit(&[]),
-        Answer::Committed(Err(CommitRefusal::Stale)),
-    ),
-    (true, 1, Asked::Commit(&LEVELS), Answer::Committed(Ok(0))),
-    (
-        true,
-        1,
-        Asked::Begin,
-        Answer::Begun(Err(BeginRefusal::Committed)),
-    ),
+    (true, 1, Asked::Leave(false), NOT_ENTERED),
+    (true, 1, Asked::Commit(&[TOTAL_OF_100]), DIFFERS),
+    (false, 1, Asked::Commit(&[]), STALE_COMMIT),
+    (true, 1, Asked::Commit(&LEVELS), IS_FIRST),
+    (true, 1, Asked::Begin, COMMITTED),
 ];
 
 /// The first row of the script that two books answer otherwise.
@@ -322,25 +311,17 @@ struct Meeting {
     hot: Option<u64>,
 }
 
-const PUT_0: Op = Op::Put(
-    Place {
-        contract: 0,
-        key: 0,
-    },
-    9,
-);
+const PUT_0: Op = Op::Put(OWN_0, 9);
 
-const PUT_1: Op = Op::Put(
-    Place {
-        contract: 0,
-        key: 1,
-    },
-    9,
-);
+const PUT_1: Op = Op::Put(OWN_1, 9);
 
-const ADD_5: Act = Act::Asks(Asked::Do(Op::Add(SUM, 5)), DONE);
+const PUT_HOT: Op = Op::Put(HOT, 9);
 
 const BEGINS: Act = Act::Asks(Asked::Begin, BEGUN);
+
+const ADDS_5: Act = Act::Asks(ADD_5, DONE);
+
+const READS_9: Answer = Answer::Did(Ok(Reply::I64(9)));
 
 const MEETINGS: &[Meeting] = &[
     // each puts its own cell, adds to the common counter, and commits when two attempts have come this far
@@ -351,7 +332,7 @@ const MEETINGS: &[Meeting] = &[
             &[
                 BEGINS,
                 Act::Asks(Asked::Do(PUT_0), DONE),
-                ADD_5,
+                ADDS_5,
                 Act::Tells,
                 Act::Waits(2),
             ],
@@ -361,7 +342,7 @@ const MEETINGS: &[Meeting] = &[
             &[
                 BEGINS,
                 Act::Asks(Asked::Do(PUT_1), DONE),
-                ADD_5,
+                ADDS_5,
                 Act::Tells,
                 Act::Waits(2),
             ],
@@ -379,9 +360,9 @@ const MEETINGS: &[Meeting] = &[
         first: (
             &[
                 BEGINS,
-                ADD_5,
+                ADDS_5,
                 Act::Asks(Asked::Enter, ENTERED),
-                Act::Asks(Asked::Do(Op::Add(SUM, 20)), DONE),
+                Act::Asks(ADD_20, DONE),
                 Act::Tells,
                 Act::Waits(2),
                 Act::Asks(Asked::Leave(false), LEFT),
@@ -393,7 +374,7 @@ const MEETINGS: &[Meeting] = &[
             &[
                 BEGINS,
                 Act::Waits(1),
-                Act::Asks(Asked::Do(Op::Add(SUM, 3)), DONE),
+                Act::Asks(ADD_3, DONE),
                 Act::Tells,
                 Act::Waits(3),
             ],
@@ -411,23 +392,23 @@ const MEETINGS: &[Meeting] = &[
         first: (
             &[
                 BEGINS,
-                Act::Asks(Asked::Do(Op::Put(HOT, 9)), DONE),
+                Act::Asks(Asked::Do(PUT_HOT), DONE),
                 Act::Tells,
                 Act::Waits(2),
             ],
-            &[Step::Did(Op::Put(HOT, 9), Reply::Nothing)],
+            &[Step::Did(PUT_HOT, Reply::Nothing)],
         ),
         second: (
             &[
                 BEGINS,
-                ADD_5,
+                ADDS_5,
                 Act::Waits(1),
                 Act::Asks(Asked::Do(Op::Get(HOT)), CONFLICT),
                 Act::Asks(Asked::Undo, Answer::Undone),
                 Act::Tells,
                 Act::Waits(3),
                 BEGINS,
-                Act::Asks(Asked::Do(Op::Get(HOT)), Answer::Did(Ok(Reply::I64(9)))),
+                Act::Asks(Asked::Do(Op::Get(HOT)), READS_9),
             ],
             &[Step::Did(Op::Get(HOT), Reply::I64(9))],
         ),

@@ -1,34 +1,27 @@
-//! Tests of verdicts: random blocks of the example contract and of contracts that ask one another, as they were made and with single things
-//! changed, small ones cut and with each bit flipped, and what the validator says of them beside a plain verdict, which reads the bytes, runs the calls and compares on its own. There is no code here.
+//! Tests of blocks that several threads mine and judge: under a pace that does not watch, by the calls of an order that threads run ahead of their turn; under
+//! one that watches, over the book in shards, and by the board, the lanes and the cells ahead, where calls really meet. Workers are stopped, and refused memory.
+//! There is no code here.
 #![tactic(auto)]
 
 #[cfg(test)]
 mod assertions;
 #[cfg(test)]
-mod calls;
+mod beyond;
 #[cfg(test)]
-mod change;
+mod given;
 #[cfg(test)]
-mod forged;
+mod honest;
 #[cfg(test)]
-mod levels;
+mod meetings;
 #[cfg(test)]
-mod nested;
+mod met;
 #[cfg(test)]
-mod plain;
+mod paces;
 #[cfg(test)]
-mod plain_executor;
+mod refused_memory;
 #[cfg(test)]
-mod random;
+mod road;
 #[cfg(test)]
-mod read;
+mod stops;
 #[cfg(test)]
-mod rows;
-#[cfg(test)]
-mod sealed;
-#[cfg(test)]
-mod verdict;
-#[cfg(test)]
-mod versions;
-#[cfg(test)]
-mod write;
+mod undone;

@@ -1,44 +1,30 @@
 -- What the workers share and hand back may cross threads, over an allocator that may, and whose blocks any thread may give back.
 use denote.RattleType.{RattleType}
-use denote.Ref.{NamedLft, ShrRef}
+use denote.Ref.{NamedLft}
 use denote.Struct.Field.{row_field}
-use denote.Param.Send.{Frees, IsSend, IsSync, shr_sync, sendable}
-use denote.Param.SendFields.{declared_send, declared_sync, as_row_sync}
+use denote.Param.Send.{Frees, IsSend, IsSync, sendable}
+use denote.Param.SendFields.{declared_sync, as_row_sync}
 use Rattle.std.specs.declared.alloc.Allocator.{Ghosts}
 use Rattle.std.proofs.Crossing as std
 use Rattle.std.proofs.CrossingOver as over
 use Rattle.std.proofs.MapsCrossingOver as maps_over
 use Rattle.spec_ledger.proofs.Entry.TheSendSync as entry
-use Rattle.spec_ledger.proofs.Version.TheSendSync as version
 use Rattle.schedule.specs.contracts.board.Board as board_row
 use Rattle.std.specs.contracts.vec.Vec as vec_row
 use Rattle.link.specs.contracts.deployed.Deployed as contract_row
 use Rattle.storage.specs.contracts.Cells as cells_row
 use Rattle.world.specs.contracts.value.World as world_row
 use Rattle.block.specs.contracts.value.Block as block_row
-use Rattle.block_judge.proofs.reason.Unfit.TheSendSync as unfit
 use Rattle.ahead.specs.contracts.Ahead as ahead_row
 use Rattle.lock_profile.specs.contracts.Profile as profile_row
 use Rattle.records.specs.contracts.position.Position as position_row
 use Rattle.serial_block.proofs.Crossing.{crosses, vec_send, vec_sync, contract_sync, contracts_send, cells_sync, finished_send}
-use Rattle.handover.specs.declared.rule.Fact as fact
-use Rattle.handover.specs.contracts.handover.Handover as line_row
-use Rattle.handover.specs.contracts.pass.Pass as pass_row
-use Rattle.handover.proofs.handover.Handover.TheSendSync as line
-use Rattle.handover.proofs.pass.Pass.TheSendSync as pass
-use Rattle.speculation.specs.contracts.Task as task_row
-use Rattle.speculation.proofs.Crossing.{share_send, task_send, task_sync}
-use Rattle.validator.specs.contracts.copies.Batches as batches_row
-use Rattle.validator.specs.contracts.copies.CopyJob as copy_job_row
-use Rattle.validator.specs.contracts.copies.Own as own_row
+use Rattle.in_order.proofs.Crossing.{job_sync as order_sync}
 use Rattle.validator.specs.contracts.trial.Trial as trial_row
 use Rattle.validator.specs.contracts.job.Made as made_row
 use Rattle.validator.specs.contracts.job.Part as part_row
 use Rattle.validator.specs.contracts.job.Job as job_row
-use Rattle.validator.specs.contracts.ordered.Ordered as ordered_row
-use Rattle.validator.specs.contracts.post.Post as post_row
 use Rattle.validator.specs.contracts.shared.Shared as shared_row
-use Rattle.validator.specs.contracts.supply.Batch as batch_row
 
 module _ (B : RattleType) (g : Ghosts B.Denot) (send : IsSend B) (sync : IsSync B) (frees : Frees g g.dealloc_token) where
   made_send : (a : NamedLft) → IsSend (made_row.the_row a B g)
@@ -66,62 +52,6 @@ module _ (B : RattleType) (g : Ghosts B.Denot) (send : IsSend B) (sync : IsSync 
   pub shared_sync : IsSync (shared_row.the_row B g)
   shared_sync = search (sendable, std.crosses, over.crosses, board_send, ahead_send) depth 60 fits 100000
 
-  -- the workers may share the job, where they may share the pace
-  pub job_sync : (a b : NamedLft) (P : RattleType) → IsSync P → IsSync (job_row.the_row a b B P g)
-  job_sync a b P pace =
-      let contract = contract_sync B g send sync frees in
-      declared_sync (job_row.the_type a b B P g) (
-        as_row_sync (row_field B) sync,
-        (
-          search (crosses, contract) depth 60 fits 100000,
-          (
-            search crosses depth 60 fits 100000,
-            (
-              search (crosses, version.the_sync) depth 60 fits 100000,
-              (
-                search crosses depth 60 fits 100000,
-                (
-                  search crosses depth 60 fits 100000,
-                  (
-                    search (crosses, position_sync) depth 60 fits 100000,
-                    (as_row_sync (row_field (ShrRef a.mir a.lft P)) (shr_sync a.mir a.lft P pace), tt),
-                  ),
-                ),
-              ),
-            ),
-          ),
-        ),
-      )
-
-  batch_send : (a : NamedLft) → IsSend (batch_row.the_row a B g)
-  batch_send a = declared_send (batch_row.the_type a B g) (search crosses depth 60 fits 100000, (share_send B g send sync frees a, tt))
-
-  -- what a worker beside the cells hands back may go to the thread that joins it
-  pub batches_send : (a : NamedLft) → IsSend (batches_row.the_row a B g)
-  batches_send a =
-      let vec = vec_send B g send sync frees in
-      let contracts = contracts_send B g send sync frees in
-      search (crosses, over.crosses, vec, contracts, batch_send) depth 60 fits 100000
-
-  -- threads may share the queue of a job
-  line_sync : (a : NamedLft) (F : RattleType) (f : fact.Ghosts F.Denot (task_row.the_row a B g).Denot (batch_row.the_row a B g).Denot) → IsSync (line_row.the_row (task_row.the_row a B g) (batch_row.the_row a B g) F B f g)
-  line_sync a F f = line.the_sync (task_row.the_row a B g) (batch_row.the_row a B g) F B f g (task_send B g send sync frees a) (batch_send a) send (task_sync B g send sync frees a) sync frees
-
-  pass_send : (a : NamedLft) → IsSend (pass_row.the_row (task_row.the_row a B g) (batch_row.the_row a B g))
-  pass_send a = pass.the_send (task_row.the_row a B g) (batch_row.the_row a B g) (task_send B g send sync frees a) (batch_send a)
-
-  -- and a post may go to its thread
-  pub post_send : (a b : NamedLft) → IsSend (post_row.the_row a b B g)
-  post_send a b = declared_send (post_row.the_type a b B g) (search (crosses, line_sync) depth 60 fits 100000, (pass_send b, tt))
-
-  ordered_sync : (a b : NamedLft) → IsSync (ordered_row.the_row a b B g)
-  ordered_sync a b =
-      let cells = cells_sync B g send sync frees in
-      declared_sync (ordered_row.the_type a b B g) (
-        as_row_sync (row_field B) sync,
-        (task_sync B g send sync frees b, (search crosses depth 60 fits 100000, (search crosses depth 60 fits 100000, (search (crosses, cells) depth 60 fits 100000, tt)))),
-      )
-
   pub world_sync : IsSync (world_row.the_row B g)
   world_sync =
       let contracts = vec_sync B g send sync frees (contract_row.the_row B g) (contract_sync B g send sync frees) in
@@ -134,20 +64,9 @@ module _ (B : RattleType) (g : Ghosts B.Denot) (send : IsSend B) (sync : IsSync 
   trial_sync : (a : NamedLft) → IsSync (trial_row.the_row a B g)
   trial_sync a = search (crosses, world_sync, block_sync) depth 60 fits 100000
 
-  -- the workers may share their job, where they may share the pace
-  pub copy_job_sync : (a b : NamedLft) (P : RattleType) → IsSync P → IsSync (copy_job_row.the_row a b B P g)
-  copy_job_sync a b P pace =
-      declared_sync (copy_job_row.the_type a b B P g) (
-        ordered_sync a b,
-        (
-          search (crosses, position_sync) depth 60 fits 100000,
-          (
-            search (crosses, trial_sync) depth 60 fits 100000,
-            (search (sendable, std.crosses) depth 60 fits 100000, (as_row_sync (row_field (ShrRef a.mir a.lft P)) (shr_sync a.mir a.lft P pace), tt)),
-          ),
-        ),
-      )
-
-  -- and what one hands back may go to the thread that joins it
-  pub own_send : (a : NamedLft) → IsSend (own_row.the_row a B g)
-  own_send a = search (crosses, over.crosses, unfit.the_send, batches_send) depth 60 fits 100000
+  -- threads may share the job, where they may share the pace
+  pub job_sync : (a b : NamedLft) (P : RattleType) → IsSync P → IsSync (job_row.the_row a b B P g)
+  job_sync a b P pace = declared_sync (job_row.the_type a b B P g) (
+    order_sync B g send sync frees a b P pace,
+    (search (crosses, trial_sync) depth 60 fits 100000, tt),
+  )

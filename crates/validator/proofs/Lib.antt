@@ -2,5 +2,4 @@ pub mod Agreeing
 pub mod Crossing
 pub mod Ends
 pub mod Fits
-pub mod Folds
 pub mod Runs

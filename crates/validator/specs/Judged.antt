@@ -6,6 +6,8 @@ use Rattle.serial.specs.Positions.{positions as ran_of}
 use Rattle.serial_block.specs.Ordered.{used_by}
 use Rattle.spec_block.specs.Worlds.{Block}
 use Rattle.spec_block.specs.Verdicts.{IsLeast, IsOther, Verdict, Accept}
+use Rattle.block_judge.specs.declared.reason.Unfit.{Unfit}
+use Rattle.block_judge.specs.declared.reason.Unfit.TheVariants as unfit
 use Rattle.block_judge.specs.Judging.{told}
 use Rattle.world.specs.Views.{world_view}
 use Rattle.validator.specs.declared.compare.Compared.{Compared}
@@ -15,6 +17,11 @@ use Rattle.validator.specs.declared.verdict.Verdict.TheVariants as verdict
 abbrev pub told_by : {A : Type 0} → code.Verdict A → Verdict
 told_by (verdict.Accept w) = Accept (world_view w)
 told_by (verdict.Reject r) = told r
+
+-- a verdict that was found without running a call; there is none where memory was refused
+abbrev pub IsToldBy : Unfit → Verdict → Type 0
+IsToldBy (unfit.Rejected r) v = v ≡ told r
+IsToldBy unfit.NoMemory v = ⊥
 
 -- how a block stands to calls that came to these receipts and locks
 pub record IsCompared (block : Block) (receipts : List Receipt) (touched : List Modes) (c : Compared) : Type 0 where

@@ -1,5 +1,5 @@
-pub mod Folded
 pub mod Fuel
 pub mod Handed
+pub mod Jobs
 pub mod Judged
 pub mod Tried

@@ -1,18 +1,20 @@
-//! A worker's run of a position's call.
+//! A worker's run of a position's call, over the cells that the workers share.
 
-ghost use Rattle.std.specs.Prelude.{◌≡◌, ◌<◌, ◌≤◌, ◌^◌, Ok, true, false, All, IfOk, IfSome, OnOk, length};
+ghost use Rattle.std.specs.Prelude.{◌≡◌, ◌<◌, ◌≤◌, ◌^◌, Ok, true, false, IfOk, IfSome, OnOk, length};
 ghost use Rattle.spec_execution.specs.Run.{IsReply, opening};
 ghost use Rattle.interp.specs.Lent.{setting_view};
 ghost use Rattle.interp.specs.Starting.{IsOpened, IsRejection};
 ghost use Rattle.interp.specs.Progress.{IsFree, IsSameCall};
 ghost use Rattle.turn_loop.specs.Going.{MayGoOn, IsEnded};
-ghost use Rattle.validator.specs.Handed.{IsMade, IsRunOf};
+ghost use Rattle.validator.specs.Handed.{IsMade, IsRunIn};
+ghost use Rattle.validator.specs.Jobs.{IsJob};
 
 use crate::job::{Came, Job, Made};
 use crate::profile::allows;
 use ahead::Ahead;
 use brief_lock::acquire;
 use call::Call;
+use in_order::Task;
 use interp::finished::Finished;
 use interp::machine::Machine;
 use interp::start::StartRefusal;
@@ -37,7 +39,7 @@ enum Stop {
 }
 
 /// Tells the pace a step, and answers whether the worker stops there.
-pub(crate) fn told<P: Pace>(pace: &P, step: Step) -> bool {
+fn told<P: Pace>(pace: &P, step: Step) -> bool {
     pace.at(step);
     pace.stops(step)
 }
@@ -201,18 +203,24 @@ fn play<'a, A: Allocator + Copy, R: Wait, P: Pace>(
     place: &Place<'_, A, P>,
     number: u32,
 ) -> Result<Finished<'a, A>, Stop>
-    requires { number < length job.now.calls.now }
-    ensures { IfOk result (IsRunOf (setting_view job.now.version job.now.contracts.now) job.now.calls.now number) }
+    requires { number < length job.now.ordered.task.calls.now }
+    ensures { IfOk result (IsRunIn job.now number) }
 {
-    let call = &job.calls[number as usize];
+    let alloc = job.ordered.alloc;
+    let Task {
+        contracts,
+        calls,
+        version,
+    } = job.ordered.task;
+    let call = &calls[number as usize];
     let _limit = call.fuel();
-    if let Some(finished) = Finished::without_fuel(job.alloc, job.contracts, call, job.version) {
+    if let Some(finished) = Finished::without_fuel(alloc, contracts, call, version) {
         return Ok(finished);
     }
-    match Machine::start_as(job.alloc, job.contracts, call, job.version) {
-        Ok(machine) => run(rt, job.alloc, place, machine),
+    match Machine::start_as(alloc, contracts, call, version) {
+        Ok(machine) => run(rt, alloc, place, machine),
         Err(StartRefusal::NoMemory) => Err(Stop::NoMemory),
-        Err(_) => Ok(rejected(job.alloc, job.contracts, call, job.version)),
+        Err(_) => Ok(rejected(alloc, contracts, call, version)),
     }
 }
 
@@ -232,22 +240,25 @@ pub(crate) fn attempt<'a, A: Allocator + Copy, R: Wait, P: Pace>(
     ahead: &Mutex<Ahead<A>>,
     position: u32,
 ) -> Result<Came<'a, A>, NoMemory>
-    requires { All (λ number. number < length job.now.calls.now) job.now.order.now }
-    ensures { IfOk result (λ came. IfSome came.run (IsMade (setting_view job.now.version job.now.contracts.now) job.now.calls.now)) }
+    requires { IsJob job.now }
+    ensures { IfOk result (λ came. IfSome came.run (IsMade job.now)) }
 {
     let at = position as usize;
-    if at >= job.order.len() || at >= job.positions.len() {
+    let order = job.ordered.order;
+    let trial = job.trial;
+    let positions = trial.block.positions();
+    if at >= order.len() || at >= positions.len() {
         return Ok(Came {
             run: None,
             stops: false,
         });
     }
-    let number = job.order[at];
+    let number = order[at];
     let step = Step::Attempt {
         call: number,
         nth: 0,
     };
-    if told(job.pace, step) {
+    if told(job.ordered.pace, step) {
         return Ok(Came {
             run: None,
             stops: true,
@@ -256,19 +267,15 @@ pub(crate) fn attempt<'a, A: Allocator + Copy, R: Wait, P: Pace>(
     let place = Place {
         position,
         number,
-        profile: job.positions[at].profile(),
+        profile: positions[at].profile(),
         ahead,
-        pace: job.pace,
+        pace: job.ordered.pace,
     };
     let played = play(rt, job, &place, number);
     acquire(rt, ahead).end(at, stands(&played));
     match played {
         Ok(finished) => Ok(Came {
-            run: Some(Made {
-                position,
-                call: number,
-                finished,
-            }),
+            run: Some(Made { position, finished }),
             stops: false,
         }),
         Err(Stop::Outside) => Ok(Came {

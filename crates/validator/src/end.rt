@@ -9,14 +9,20 @@ ghost use Rattle.spec_block.specs.Blocks.{world_after as after};
 ghost use Rattle.spec_block.specs.Verdicts.{HoldsOf, RunOf};
 ghost use Rattle.block_judge.specs.Judging.{IsFirstFrom};
 ghost use Rattle.world.specs.Views.{world_view};
+ghost use Rattle.in_order.specs.Ran.{IsRanOf};
+ghost use Rattle.validator.specs.Jobs.{IsJob};
 ghost use Rattle.validator.specs.Judged.{IsCompared, told_by};
+ghost use Rattle.validator.specs.Tried.{IsFirst, IsFit};
 
 use crate::compare::{Compared, compare};
-use crate::verdict::Verdict;
+use crate::job::Job;
+use crate::verdict::{Validated, Verdict};
 use block::Block;
 use block_judge::Reason;
+use gain::digesters;
+use in_order::Ran;
 use lock_profile::Touched;
-use serial::Core;
+use pace::Pace;
 use serial_block::copied;
 use spec_ledger::{NoMemory, Receipt};
 use std::alloc::Allocator;
@@ -76,29 +82,31 @@ fn compare_and_digest<R: Threads + Sync, A: Allocator + Copy + Send + Sync>(
     Ok((compared, digest?))
 }
 
-/// The verdict on a block whose order came to `core`, which none of the first seven reasons speaks against.
-pub(crate) fn conclude<R: Threads + Sync, A: Allocator + Copy + Send + Sync>(
+/// The verdict on a block that none of the first seven reasons speaks against, whose calls came to this.
+fn conclude<R: Threads + Sync, A: Allocator + Copy + Send + Sync>(
     rt: &R,
     alloc: A,
     world: &World<A>,
     block: &Block<A>,
-    core: Core<A>,
+    ran: Ran<A>,
     workers: u32,
 ) -> Result<Verdict<A>, NoMemory>
     requires few { length block.now.positions ≤ 65535 }
-    requires receipts { length core.receipts.items ≡ length block.now.positions }
-    requires touched { length core.touched.items ≡ length block.now.positions }
-    ensures { IfOk result (λ verdict. (calls : List TheCall) (fuel : ℕ) → RunOf (world_view world.now) calls block.now (ran_of core.receipts.items core.touched.items) core.cells.cells → IsFirstFrom (HoldsOf (world_view world.now) calls fuel block.now) 8 (told_by verdict)) }
+    requires receipts { length ran.receipts.items ≡ length block.now.positions }
+    requires touched { length ran.touched.items ≡ length block.now.positions }
+    ensures { IfOk result (λ verdict. (calls : List TheCall) (fuel : ℕ) → RunOf (world_view world.now) calls block.now (ran_of ran.receipts.items ran.touched.items) ran.cells.cells → IsFirstFrom (HoldsOf (world_view world.now) calls fuel block.now) 8 (told_by verdict)) }
 {
     spec_block::one_serial_run();
-    let Core {
+    let Ran {
         receipts,
         touched,
         cells,
-    } = core;
+        ahead: _,
+    } = ran;
     let next = world_after(alloc, world, cells)?;
+    let threads = digesters(workers, next.cells(), receipts.len());
     let (compared, digest) = compare_and_digest(
-        rt, &alloc, block, receipts, touched, &next, workers,
+        rt, &alloc, block, receipts, touched, &next, threads,
     )?;
     if let Some(position) = compared.deviating {
         return Ok(Verdict::Reject(Reason::Deviates(position)));
@@ -110,4 +118,40 @@ pub(crate) fn conclude<R: Threads + Sync, A: Allocator + Copy + Send + Sync>(
         return Ok(Verdict::Reject(Reason::WrongEnd));
     }
     Ok(Verdict::Accept(next))
+}
+
+/// How many of the calls were not done by what they did ahead of their turn.
+fn count_again<A: Allocator>(ran: &Ran<A>) -> u32
+    requires few { length ran.now.receipts.items ≤ 65535 }
+    requires ahead { ran.now.ahead ≤ length ran.now.receipts.items }
+    ensures { result ≤ length ran.now.receipts.items }
+{
+    ran.receipts.len() as u32 - ran.ahead
+}
+
+/// What is found of a block that none of the first seven reasons speaks against, all of whose calls have run.
+pub(crate) fn end<'a, R: Threads + Sync, A: Allocator + Copy + Send + Sync, P: Pace>(
+    rt: &R,
+    job: &Job<'_, 'a, A, P>,
+    ran: Ran<A>,
+    workers: u32,
+) -> Result<Validated<A>, NoMemory>
+    requires job { IsJob job.now }
+    requires fit { IsFit job.now.trial.now }
+    requires ran { IsRanOf job.now.ordered ran }
+    requires whole { length ran.receipts.items ≡ length job.now.ordered.order.now }
+    ensures verdict { IfOk result (λ found. IsFirst job.now.trial.now (told_by found.verdict)) }
+    ensures again { IfOk result (λ found. found.again ≤ length job.now.trial.now.block.now.positions) }
+{
+    let again = count_again(&ran);
+    let trial = job.trial;
+    let verdict = conclude(
+        rt,
+        job.ordered.alloc,
+        trial.world,
+        trial.block,
+        ran,
+        workers,
+    )?;
+    Ok(Validated { verdict, again })
 }

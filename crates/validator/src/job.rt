@@ -1,35 +1,24 @@
 //! What the workers share, and what they hand back.
 
-use block::Position;
-use call::Call;
+use crate::trial::Trial;
+use in_order::InOrder;
 use interp::finished::Finished;
 use link::deployed::Deployed as Contract;
 use pace::Pace;
-use spec_ledger::Version;
 use std::alloc::Allocator;
 
-/// What the workers share: the calls that a block orders, and what it publishes of them by position.
+/// A block whose order was judged, and its calls in that order over the cells before the block.
 #[derive(Drop)]
 pub(crate) struct Job<'s, 'a, A: Allocator, P: Pace> {
-    pub(crate) alloc: A,
-    pub(crate) contracts: &'a [Contract<A>],
-    pub(crate) calls: &'a [Call],
-    /// The version of the block, by whose rules the calls run.
-    pub(crate) version: Version,
-    pub(crate) order: &'s [u32],
-    /// The fuel that the block may have.
-    pub(crate) fuel: u64,
-    pub(crate) positions: &'s [Position<A>],
-    pub(crate) pace: &'s P,
+    pub(crate) ordered: InOrder<'s, 'a, A, P>,
+    pub(crate) trial: &'s Trial<'s, A>,
 }
 
 /// A run that a worker made.
 #[derive(Drop)]
 pub(crate) struct Made<'a, A: Allocator> {
-    /// The position.
+    /// The position of its call.
     pub(crate) position: u32,
-    /// The number of the call.
-    pub(crate) call: u32,
     pub(crate) finished: Finished<'a, A>,
 }
 
@@ -38,7 +27,7 @@ pub(crate) struct Made<'a, A: Allocator> {
 pub(crate) struct Came<'a, A: Allocator> {
     /// The run that the worker made, if it did.
     pub(crate) run: Option<Made<'a, A>>,
-    /// Whether the pace stopped the worker.
+    /// Whether the pace stops the worker.
     pub(crate) stops: bool,
 }
 

@@ -1,7 +1,8 @@
 -- What `mine` answers.
-use Rattle.std.specs.Prelude.{◌≡◌, ℕ, ◌⊎◌, List, [], ◌∷◌, string_bytes}
+use Rattle.std.specs.Prelude.{◌≡◌, false, ℕ, ◌⊎◌, List, [], ◌∷◌, string_bytes}
 use Rattle.spec_ledger.specs.declared.Version.TheVariants.{Two}
-use Rattle.spec_block.specs.Worlds.{World, Call, Block, order_of}
+use Rattle.spec_ledger.specs.Order.{first_fit}
+use Rattle.spec_block.specs.Worlds.{World, Call, Block, limits, order_of}
 use Rattle.spec_block.specs.Bytes.{world_bytes, block_bytes}
 use Rattle.spec_block.specs.Headline.{Headline, IsLeft}
 use Rattle.wblock_io.specs.Holding.{Holding}
@@ -20,7 +21,7 @@ pub record IsDone (task : Mining) (block : Block) (next : World) (left : List �
   pub text : text_of a ≡ block_text block left
 
 -- the block is one of version 2, of the calls over the world that their files hold: the order is admissible, and what the block and the next world say is what the
--- calls come to when they run one after another in that order
+-- calls come to when they run one after another in that order; which is that of the list, unless workers over one book were asked for
 pub record IsMined (holds : Holding) (task : Mining) (a : Answer) : Type 0 where
   pub world : World
   pub held_world : HoldsWorld holds task.world.now world
@@ -30,6 +31,7 @@ pub record IsMined (holds : Holding) (task : Mining) (a : Answer) : Type 0 where
   pub next : World
   pub headline : Headline world calls task.fuel block next
   pub version : block.version ≡ Two
+  pub order : task.boosted ≡ false → order_of block ≡ first_fit (limits calls) task.fuel
   pub left : List ℕ
   pub is_left : IsLeft calls (order_of block) left
   pub done : IsDone task block next left a

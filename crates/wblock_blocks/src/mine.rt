@@ -1,9 +1,10 @@
-//! The command `mine WORLD CALLS BLOCK NEXT --fuel N [--workers 4] [--tries 3]`: a block of calls over a world, and the world after it.
+//! The command `mine WORLD CALLS BLOCK NEXT --fuel N [--workers 4] [--boosted] [--tries 3]`: a block of calls over a world, and the world after it.
 
-ghost use Rattle.std.specs.Prelude.{◌≡◌, ◌≤◌, IsTrue, IfOk, IfErr, OnOk, length, string_bytes};
+ghost use Rattle.std.specs.Prelude.{◌≡◌, ◌≤◌, false, IsTrue, IfOk, IfErr, OnOk, length, string_bytes};
 ghost use Rattle.std.specs.List.{AllByRecursion};
 ghost use Rattle.spec_ledger.specs.declared.Version.TheVariants.{Two};
-ghost use Rattle.spec_block.specs.Worlds.{order_of};
+ghost use Rattle.spec_ledger.specs.Order.{first_fit};
+ghost use Rattle.spec_block.specs.Worlds.{limits, order_of};
 ghost use Rattle.spec_block.specs.Bytes.{block_bytes, ForVersion};
 ghost use Rattle.spec_block.specs.Headline.{Headline, IsLeft};
 ghost use Rattle.world.specs.Views.{world_view};
@@ -18,7 +19,7 @@ use block::{Block, write_block};
 use call::Call;
 use codec::{Failures, MemorySink};
 use mining::{Mined, mine};
-use pace::Pace;
+use pace::{Pace, Watched};
 use std::alloc::Global;
 use std::sync::Wait;
 use std::thread::Threads;
@@ -43,8 +44,10 @@ pub struct Mining<'a> {
     pub fuel: u64,
     /// How many workers run the calls, 1 to 64.
     pub workers: u32,
-    /// How often a worker tries a call at most, 1 to 16.
+    /// How often a worker over one book tries a call at most, 1 to 16.
     pub tries: u32,
+    /// Whether workers over one book run the calls, as the papers describe it: then the order is theirs, and else that of the list.
+    pub boosted: bool,
 }
 
 /// What is mined of calls over a world.
@@ -61,8 +64,10 @@ fn mine_calls<R: Threads + Wait + Sync, P: Pace>(
     requires tries { (1 ≤ task.tries) × (task.tries ≤ 16) }
     ensures headline { IfOk result (λ mined. Headline (world_view world.now) calls.now task.entry.fuel mined.block (world_view mined.world)) }
     ensures version { IfOk result (λ mined. mined.block.version ≡ Two) }
+    ensures order { IfOk result (λ mined. task.entry.boosted ≡ false → order_of mined.block ≡ first_fit (limits calls.now) task.entry.fuel) }
     ensures left { IfOk result (λ mined. IsLeft calls.now (order_of mined.block) mined.left.items) }
 {
+    let watches = task.boosted;
     mine(
         rt,
         alloc,
@@ -71,7 +76,7 @@ fn mine_calls<R: Threads + Wait + Sync, P: Pace>(
         task.fuel,
         task.workers,
         task.tries,
-        pace,
+        &Watched { pace, watches },
     )
 }
 
@@ -140,7 +145,7 @@ fn noted<'a>(
 
 /// What `mine` comes to: a block of the calls over the world is to be written, and then the world after it, and the block's lines are to be
 /// printed; or the line that says why the world or the calls are refused. No file is written yet. Behind a block something is to be said on standard
-/// error of the calls that did not return. The pace is told each step of the workers.
+/// error of the calls that did not return. The pace is told the steps of the workers; what it says of watching is not asked, since the command says it.
 pub fn mine_block<'a, R: Threads + Wait + Sync, F: Files, P: Pace>(
     rt: &R,
     alloc: Global,

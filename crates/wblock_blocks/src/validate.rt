@@ -1,4 +1,4 @@
-//! The command `validate WORLD CALLS BLOCK --fuel N [--workers 4] [--next NEXT]`: the verdict on a block of calls over a world, and the world after
+//! The command `validate WORLD CALLS BLOCK --fuel N [--workers 4] [--boosted] [--next NEXT]`: the verdict on a block of calls over a world, and the world after
 //! the block.
 
 ghost use Rattle.std.specs.Prelude.{◌≡◌, ◌≤◌, IsTrue, IfOk, IfErr, OnOk, length, map, string_bytes};
@@ -9,7 +9,7 @@ ghost use Rattle.wblock_line.specs.Answers.{CountsFault, IsOfFile, write_of};
 ghost use Rattle.wblock_blocks.specs.Validates.{accept_text, next_writes, TellsVerdict, Validates, IsNextFile};
 
 use call::Call;
-use pace::Pace;
+use pace::{Pace, Watched};
 use std::alloc::Global;
 use std::sync::Wait;
 use std::thread::Threads;
@@ -33,6 +33,8 @@ pub struct Validation<'a> {
     pub fuel: u64,
     /// How many workers run the calls, 1 to 64.
     pub workers: u32,
+    /// Whether workers over cells that they share run the calls, each once those that it waits for have ended, as the papers describe it.
+    pub boosted: bool,
     /// The name of the file that is to hold the world after the block where it is accepted, if any.
     pub next: Option<&'a str>,
 }
@@ -51,6 +53,7 @@ fn judge<R: Threads + Wait + Sync, P: Pace>(
     requires workers { (1 ≤ task.workers) × (task.workers ≤ 64) }
     ensures { IfOk result (λ verdict. IsVerdictOf (world_view world.now) calls.now task.entry.fuel bytes.now (told_by verdict)) }
 {
+    let watches = task.boosted;
     validate(
         rt,
         alloc,
@@ -59,7 +62,7 @@ fn judge<R: Threads + Wait + Sync, P: Pace>(
         task.fuel,
         bytes,
         task.workers,
-        pace,
+        &Watched { pace, watches },
     )
 }
 
@@ -114,7 +117,7 @@ fn tell<'a>(
 
 /// What `validate` comes to: `accept` and the digest of the world after the block, which is to be written where a file is named for it, or `reject`
 /// with the first of the nine reasons that holds; or the line that says why the world or the calls are refused. No file is written yet. The pace is
-/// told each step of the workers.
+/// told the steps of the workers; what it says of watching is not asked, since the command says it.
 pub fn validate_block<'a, R: Threads + Wait + Sync, F: Files, P: Pace>(
     rt: &R,
     alloc: Global,

@@ -1,5 +1,5 @@
 -- What options ask for.
-use Rattle.std.specs.Prelude.{◌≡◌, ℕ, ◌+◌, ◌-◌, ◌^◌, ◌≤◌, ◌⊎◌, List, [], ◌∷◌, Option, Some, None, codes, decimal, length, if◌then◌else◌}
+use Rattle.std.specs.Prelude.{◌≡◌, ℕ, ◌+◌, ◌-◌, ◌^◌, ◌≤◌, ◌⊎◌, List, [], ◌∷◌, Bool, true, false, Option, Some, None, codes, decimal, length, if◌then◌else◌}
 use Rattle.std.specs.Borrow.{Bor}
 use Rattle.std.specs.Str.{bytes_eq}
 use Rattle.wblock_line.specs.Words.{Choice}
@@ -60,12 +60,20 @@ AsksForm options form = IsForm (values_in (codes "--json") options) (values_in (
 abbrev pub AsksNext : List Choice → Option (Bor (List ℕ)) → Type 0
 AsksNext options next = IsNameOrNone (values_in (codes "--next") options) next
 
+-- `--boosted`, once and without a value, or not
+abbrev pub IsSwitch : (switches : List (List ℕ)) → Bool → Type 0
+IsSwitch switches true = switches ≡ [] ∷ []
+IsSwitch switches false = switches ≡ []
+
+abbrev pub AsksBoosted : List Choice → Bool → Type 0
+AsksBoosted options boosted = IsSwitch (values_in (codes "--boosted") options) boosted
+
 -- no option has another name: together these are as many as there are options
 abbrev pub HasOnlyMining : List Choice → Type 0
-HasOnlyMining options = length options ≡ count_of (codes "--fuel") options + count_of (codes "--workers") options + count_of (codes "--tries") options
+HasOnlyMining options = length options ≡ count_of (codes "--fuel") options + count_of (codes "--workers") options + count_of (codes "--boosted") options + count_of (codes "--tries") options
 
 abbrev pub HasOnlyValidation : List Choice → Type 0
-HasOnlyValidation options = length options ≡ count_of (codes "--fuel") options + count_of (codes "--workers") options + count_of (codes "--next") options
+HasOnlyValidation options = length options ≡ count_of (codes "--fuel") options + count_of (codes "--workers") options + count_of (codes "--boosted") options + count_of (codes "--next") options
 
 abbrev pub HasOnlyShowing : List Choice → Type 0
 HasOnlyShowing options = length options ≡ count_of (codes "--calls") options + count_of (codes "--json") options + count_of (codes "--svg") options

@@ -11,8 +11,8 @@ ghost use Rattle.wblock_show.specs.declared.file.Showing.{Showing as TheShowing}
 
 use crate::declared::HEAP;
 use crate::options::{
-    calls_in, form_in, fuel_in, has_only_mining, has_only_showing, has_only_validation, next_in,
-    number_within, tries_in, workers_in,
+    boosted_in, calls_in, form_in, fuel_in, has_only_mining, has_only_showing, has_only_validation,
+    next_in, number_within, tries_in, workers_in,
 };
 use std::alloc::{AllocError, Global};
 use wblock_blocks::{Mining, Validation};
@@ -48,7 +48,7 @@ pub enum Command<'l, 'w> {
     Check(&'w str, Option<u32>),
     /// `deploy WORLD MODULE... [--force]`: the world of these modules, 1 to 1,024.
     Deploy(Deploying<'l, 'w>),
-    /// `mine WORLD CALLS BLOCK NEXT --fuel N [--workers 4] [--tries 3]`: a block of the calls over the world, and the world after it.
+    /// `mine WORLD CALLS BLOCK NEXT --fuel N [--workers 4] [--boosted] [--tries 3]`: a block of the calls over the world, and the world after it.
     Mine(Mining<'w>),
     /// `validate WORLD CALLS BLOCK --fuel N [--workers 4] [--next NEXT]`: the verdict on the block, and the world after it.
     Validate(Validation<'w>),
@@ -273,6 +273,9 @@ fn mining_of<'w>(
     let Some(tries) = tries_in(alloc, options)? else {
         return Ok(None);
     };
+    let Some(boosted) = boosted_in(alloc, options)? else {
+        return Ok(None);
+    };
     let mining = Mining {
         world: words[1],
         calls: words[2],
@@ -281,6 +284,7 @@ fn mining_of<'w>(
         fuel,
         workers,
         tries,
+        boosted,
     };
     if !keeps_inputs(mining) {
         return Ok(None);
@@ -321,6 +325,7 @@ fn counted_validation<'w>(
         block: words[3],
         fuel,
         workers,
+        boosted: false,
         next: None,
     }))
 }
@@ -336,10 +341,17 @@ fn spelled_validation<'w>(
     let Some(counted) = counted_validation(alloc, words, options)? else {
         return Ok(None);
     };
+    let Some(boosted) = boosted_in(alloc, options)? else {
+        return Ok(None);
+    };
     let Some(next) = next_in(alloc, options)? else {
         return Ok(None);
     };
-    Ok(Some(Validation { next, ..counted }))
+    Ok(Some(Validation {
+        boosted,
+        next,
+        ..counted
+    }))
 }
 
 /// What `validate` is asked for.

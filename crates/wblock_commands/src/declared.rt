@@ -68,6 +68,12 @@ pub(crate) const FORCE: Switch = Switch {
     help: "Writes the new world in the place of a file that is there",
 };
 
+/// The papers' way to run calls.
+pub(crate) const BOOSTED: Switch = Switch {
+    name: "boosted",
+    help: "Lets workers run the calls over boosted storage, as the papers describe it",
+};
+
 /// The bytes of the heap of `check`.
 pub(crate) const HEAP: NumberOption = NumberOption {
     word: "--heap",
@@ -117,7 +123,7 @@ pub(crate) const TRIES: NumberOption = NumberOption {
     least: 1,
     most: 16,
     usual: Some(USUAL_TRIES),
-    help: "How often a call is tried that meets a conflict, 1 to 16",
+    help: "With --boosted how often a call is tried that meets a conflict, 1 to 16; else it has no effect",
 };
 
 /// The file of the block in which a call is debugged.

@@ -4,7 +4,7 @@ use crate::declared::{BLOCK, CALLS, FUEL, NEXT, SVG};
 use calls_text::number_of;
 use std::alloc::{AllocError, Global};
 use wblock_debug::command_of;
-use wblock_line::{FORCE_SWITCH, JSON_SWITCH, split_words};
+use wblock_line::{BOOSTED_SWITCH, FORCE_SWITCH, JSON_SWITCH, split_words};
 
 /// Two words of a line that name one file, the second of which would be written.
 fn clash(alloc: Global, first: &str, second: &str, name: &str) -> Result<String, AllocError> {
@@ -198,7 +198,7 @@ pub(crate) fn misuse_text(alloc: Global, words: &[&str]) -> Result<String, Alloc
         return Ok(text);
     }
     for (name, value) in &line.options {
-        if *name == JSON_SWITCH || *name == FORCE_SWITCH {
+        if *name == JSON_SWITCH || *name == FORCE_SWITCH || *name == BOOSTED_SWITCH {
             if !value.is_empty() {
                 return format!(in alloc; "usage: `{name}` takes no value");
             }

@@ -1,15 +1,15 @@
 //! What options ask for.
 
 ghost use Rattle.std.specs.Borrow.{Bor};
-ghost use Rattle.std.specs.Prelude.{◌≡◌, ◌≢◌, ◌≤◌, ◌<◌, ◌+◌, ◌^◌, ◌↔◌, ℕ, List, [], Option, IfOk, IsTrue, MatchOption, decimal, length};
-ghost use Rattle.wblock_commands.specs.Options.{values_in, IsNumber, IsNumberOr, IsNameOrNone, IsForm, count_of, AsksFuel, AsksWorkers, AsksTries, AsksNext, AsksCalls, AsksForm, HasOnlyMining, HasOnlyValidation, HasOnlyShowing};
+ghost use Rattle.std.specs.Prelude.{◌≡◌, ◌≢◌, ◌≤◌, ◌<◌, ◌+◌, ◌^◌, ◌↔◌, ℕ, Bool, List, [], Option, IfOk, IsTrue, MatchOption, decimal, length};
+ghost use Rattle.wblock_commands.specs.Options.{values_in, IsNumber, IsNumberOr, IsNameOrNone, IsForm, count_of, AsksFuel, AsksWorkers, AsksTries, AsksBoosted, IsSwitch, AsksNext, AsksCalls, AsksForm, HasOnlyMining, HasOnlyValidation, HasOnlyShowing};
 ghost use Rattle.wblock_commands.specs.Words.{texts, choices};
 ghost use Rattle.wblock_show.specs.declared.file.Form.{Form as TheForm};
 
 use crate::declared::{CALLS, FUEL, NEXT, SVG, TRIES, USUAL_TRIES, USUAL_WORKERS, WORKERS};
 use calls_text::number_of;
 use std::alloc::{AllocError, Global};
-use wblock_line::JSON_SWITCH;
+use wblock_line::{BOOSTED_SWITCH, JSON_SWITCH};
 use wblock_show::Form;
 
 /// The values of the options of a name, in their order.
@@ -121,6 +121,28 @@ pub(crate) fn tries_in(alloc: Global, options: &[(&str, &str)]) -> Result<Option
     )
 }
 
+/// Whether a switch was given, once and without a value, by its values; or None where it was given otherwise.
+fn switch_of(switches: &[&str]) -> Option<bool>
+    ensures { MatchOption result ((given : Bool) → ¬ IsSwitch (texts switches.now) given) (IsSwitch (texts switches.now)) }
+{
+    match switches {
+        [] => Some(false),
+        [value] if value.is_empty() => Some(true),
+        _ => None,
+    }
+}
+
+/// Whether options ask for workers over one book; or None where they ask for it otherwise than once and without a value.
+pub(crate) fn boosted_in(
+    alloc: Global,
+    options: &[(&str, &str)],
+) -> Result<Option<bool>, AllocError>
+    ensures { IfOk result (λ found. MatchOption found ((boosted : Bool) → ¬ AsksBoosted (choices options.now) boosted) (AsksBoosted (choices options.now))) }
+{
+    let switches = values_of(alloc, options, BOOSTED_SWITCH)?;
+    Ok(switch_of(switches.as_slice()))
+}
+
 /// The name that the only value is, or that there is none; or None where there are several.
 fn only_name<'w>(values: &[&'w str]) -> Option<Option<&'w str>>
     ensures { MatchOption result ((name : Option (Bor (List ℕ))) → ¬ IsNameOrNone (texts values.now) name) (IsNameOrNone (texts values.now)) }
@@ -218,8 +240,9 @@ pub(crate) fn has_only_mining(options: &[(&str, &str)]) -> bool
 {
     let fuel = count_of(options, FUEL.word);
     let workers = count_of(options, WORKERS.word);
+    let boosted = count_of(options, BOOSTED_SWITCH);
     let tries = count_of(options, TRIES.word);
-    options.len() == fuel + workers + tries
+    options.len() == fuel + workers + boosted + tries
 }
 
 /// Whether all options are options of `validate`.
@@ -228,8 +251,9 @@ pub(crate) fn has_only_validation(options: &[(&str, &str)]) -> bool
 {
     let fuel = count_of(options, FUEL.word);
     let workers = count_of(options, WORKERS.word);
+    let boosted = count_of(options, BOOSTED_SWITCH);
     let next = count_of(options, NEXT.word);
-    options.len() == fuel + workers + next
+    options.len() == fuel + workers + boosted + next
 }
 
 /// Whether all are options of `show`.

@@ -5,8 +5,8 @@ ghost use Rattle.wblock_blocks.specs.Notes.{EndsLine};
 ghost use Rattle.wblock_commands.specs.Does.{TellsText};
 
 use crate::declared::{
-    BLOCK, CALLS, FORCE, FUEL, FileOption, HEAP, JSON, NEXT, NumberOption, QUIET, SVG, Switch,
-    TRIES, WORKERS,
+    BLOCK, BOOSTED, CALLS, FORCE, FUEL, FileOption, HEAP, JSON, NEXT, NumberOption, QUIET, SVG,
+    Switch, TRIES, WORKERS,
 };
 use crate::misuse::misuse_text;
 use clap::builder::ValueParser;
@@ -126,6 +126,7 @@ fn mine<'a>(alloc: Global) -> Result<Command<'a>, AllocError> {
         ))?
         .arg(fuel(alloc))?
         .arg(number(alloc, WORKERS))?
+        .arg(switch(alloc, BOOSTED))?
         .arg(number(alloc, TRIES))?
         .arg(switch(alloc, QUIET))
 }
@@ -140,6 +141,7 @@ fn validate<'a>(alloc: Global) -> Result<Command<'a>, AllocError> {
             "The fuel with which the block was mined, 0 to 18446744073709551615",
         ))?
         .arg(number(alloc, WORKERS))?
+        .arg(switch(alloc, BOOSTED))?
         .arg(file(alloc, NEXT))?
         .arg(switch(alloc, QUIET))
 }

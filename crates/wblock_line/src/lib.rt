@@ -14,5 +14,5 @@ pub use answer::{Answer, Fault, Write, read_file};
 pub use modules::{Stop, read_contract, read_valid};
 pub use perform::{Status, carry_out, tell_fault};
 pub use refusals::ModuleRefusal;
-pub use words::{FORCE_SWITCH, JSON_SWITCH, Line, split_words};
+pub use words::{BOOSTED_SWITCH, FORCE_SWITCH, JSON_SWITCH, Line, split_words};
 pub use worlds::judge_world;

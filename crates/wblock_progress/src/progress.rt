@@ -79,6 +79,14 @@ impl<'a, C: Clock, E: Print> Progress<'a, C, E> {
 }
 
 impl<C: Clock + Sync, E: Print + Sync> Pace for Progress<'_, C, E> {
+    ghost use Rattle.std.specs.Prelude.{false};
+
+    ghost watching = { λ _. false };
+
+    fn watches(&self) -> bool {
+        false
+    }
+
     fn at(&self, step: Step) {
         if matches!(step, Step::Attempt { nth: 0, .. }) && self.speaks {
             self.count();

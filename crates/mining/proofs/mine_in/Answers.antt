@@ -66,3 +66,10 @@ returns-clause-by_workers g c =
     let again = order_again Two (world_view c.args.world.now) c.args.calls.now c.deref.result.now core.receipts.items core.touched.items core.cells.cells (c.in_ok-order.ensures.receipts ∙ same) (c.in_ok-order.ensures.touched ∙ same) in
     let order = ap order_of c.in_ok-block.ensures.block ∙ (again ∙ c.deref.ensures.value) in
     omega (arith, c.in_ok-order.ensures.by_workers, ap length order, length-map (c.in_ok-block.block).positions (λ position. position.call))
+
+pub returns-clause-order : goal.returns-clause-order
+returns-clause-order g c unwatched =
+    let core = c.in_ok-order.field-0 in
+    let same = sym (ap length c.deref.ensures.value) in
+    let again = order_again Two (world_view c.args.world.now) c.args.calls.now c.deref.result.now core.receipts.items core.touched.items core.cells.cells (c.in_ok-order.ensures.receipts ∙ same) (c.in_ok-order.ensures.touched ∙ same) in
+    ap order_of c.in_ok-block.ensures.block ∙ again ∙ c.deref.ensures.value ∙ c.in_ok-order.ensures.order unwatched

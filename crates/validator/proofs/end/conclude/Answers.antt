@@ -11,7 +11,7 @@ use Rattle.validator.proofs.end.conclude.Goals as goal
 
 pub returns-in-Some : goal.returns-in-Some
 returns-in-Some g c = λ calls fuel run.
-    let core = c.args.core in
+    let core = c.args.ran in
     let block = c.args.block.now in
     let ran = ran_of core.receipts.items core.touched.items in
     deviates c.one_serial_run.ensures.one (world_view c.args.world.now) block ran core.cells.cells calls fuel run c.in-Some.position
@@ -19,7 +19,7 @@ returns-in-Some g c = λ calls fuel run.
 
 pub returns-then-not-compared : goal.returns-then-not-compared
 returns-then-not-compared g c = λ calls fuel run.
-    let core = c.args.core in
+    let core = c.args.ran in
     let rs = core.receipts.items in
     let ms = core.touched.items in
     let block = c.args.block.now in
@@ -30,7 +30,7 @@ returns-then-not-compared g c = λ calls fuel run.
 
 pub returns-then-not-is_digest : goal.returns-then-not-is_digest
 returns-then-not-is_digest g c = λ calls fuel run.
-    let core = c.args.core in
+    let core = c.args.ran in
     let rs = core.receipts.items in
     let ms = core.touched.items in
     let world = world_view c.args.world.now in
@@ -42,7 +42,7 @@ returns-then-not-is_digest g c = λ calls fuel run.
 
 pub returns : goal.returns
 returns g c = λ calls fuel run.
-    let core = c.args.core in
+    let core = c.args.ran in
     let rs = core.receipts.items in
     let ms = core.touched.items in
     let world = world_view c.args.world.now in

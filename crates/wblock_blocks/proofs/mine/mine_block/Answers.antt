@@ -1,5 +1,6 @@
-use Rattle.std.proofs.Common.{inr, subst}
-use Rattle.spec_block.specs.Worlds.{order_of}
+use Rattle.std.proofs.Common.{◌≡◌, inr, subst}
+use Rattle.spec_ledger.specs.Order.{first_fit}
+use Rattle.spec_block.specs.Worlds.{limits, order_of}
 use Rattle.spec_block.specs.Headline.{Headline, IsLeft}
 use Rattle.wblock_inputs.specs.Inputs.{HoldsWorld, HoldsCalls, Gives}
 use Rattle.world.specs.Views.{world_view}
@@ -20,6 +21,7 @@ returns-in-Ok-noted-clause-answers g c = λ t.
       next = world_view mined.world;
       headline = subst (λ calls. Headline world calls c.args.task.fuel mined.block (world_view mined.world)) c.deref.ensures.value c.in-Ok.ensures.headline;
       version = c.in-Ok.ensures.version;
+      order = λ listed. subst (λ calls. order_of mined.block ≡ first_fit (limits calls) c.args.task.fuel) c.deref.ensures.value (c.in-Ok.ensures.order listed);
       left = mined.left.items;
       is_left = subst (λ calls. IsLeft calls (order_of mined.block) mined.left.items) c.deref.ensures.value c.in-Ok.ensures.left;
       done = c.in-Ok-noted.ensures.answer;

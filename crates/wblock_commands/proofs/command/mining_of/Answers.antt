@@ -6,3 +6,6 @@ returns-in_default-2 c = λ m a. if_none c.in_ok-workers.field-0 _ _ c.in_defaul
 
 pub returns-in_default-3 : goal.returns-in_default-3
 returns-in_default-3 c = λ m a. if_none c.in_ok-tries.field-0 _ _ c.in_default-3.is c.in_ok-tries.ensures m.tries a.tries
+
+pub returns-in_default-4 : goal.returns-in_default-4
+returns-in_default-4 c = λ m a. if_none c.in_ok-boosted.field-0 _ _ c.in_default-4.is c.in_ok-boosted.ensures m.boosted a.boosted

@@ -1,10 +1,12 @@
 use Rattle.std.proofs.Common.{◌≡◌, ℕ, List, sym}
+use Rattle.std.specs.declared.result.Result.{Result}
+use Rattle.std.specs.declared.result.Result.TheVariants.{Ok, Err}
 use Rattle.spec_block.specs.Worlds.{Call, World}
 use Rattle.spec_block.specs.Verdicts.{HoldsOf}
 use Rattle.block_judge.specs.Judging.{NoneFrom}
-use Rattle.block_judge.proofs.Stages.{before_turns, on_ok}
+use Rattle.block_judge.proofs.Stages.{before_turns}
 use Rattle.world.specs.Views.{world_view}
-use Rattle.validator.proofs.Fits.{judged_before}
+use Rattle.validator.proofs.Fits.{judged_before, is_fit}
 use Rattle.validator.proofs.trial.Trial.judge.Goals as goal
 
 pub returns-in_err-judge_digests : goal.returns-in_err-judge_digests
@@ -15,12 +17,9 @@ returns g c =
     let t = c.args.self.now in
     let world = world_view t.world.now in
     let calls = t.calls.now in
-    let block = t.block.now in
     let may = c.requires in
-    let before = before_turns world calls t.fuel block t.order.now (sym may.trial.order) (c.in_ok-judge_digests.ensures.passed t.fuel) may.within.admissible in
+    let before = before_turns world calls t.fuel t.block.now t.order.now (sym may.trial.order) (c.in_ok-judge_digests.ensures.passed t.fuel) may.within.admissible in
     record {
       rejected = c.judge_turns.ensures.rejected world calls t.fuel before;
-      passed = on_ok c.judge_turns.result ((w : World) (cs : List Call) (f : ℕ) → NoneFrom (HoldsOf w cs f block) 1 7 → NoneFrom (HoldsOf w cs f block) 1 8) (NoneFrom (HoldsOf world calls t.fuel block) 1 8)
-          (λ passed. passed world calls t.fuel before) c.judge_turns.ensures.passed;
-      turns = c.judge_turns.ensures.turns;
+      passed = is_fit t c.judge_turns.result before c.judge_turns.ensures.passed c.judge_turns.ensures.turns;
     }

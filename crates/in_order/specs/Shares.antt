@@ -1,0 +1,30 @@
+-- Calls that were run ahead of their turn, with their footprints.
+use Rattle.std.specs.Prelude.{◌≡◌, ◌-◌, ◌≤◌, ℕ, List, All, drop, length, take}
+use Rattle.spec_execution.specs.Configuration.{Setting}
+use Rattle.spec_execution.specs.Run.{ContractCall}
+use Rattle.spec_footprint.specs.declared.Access.{Access}
+use Rattle.interp.specs.Lent.{setting_view}
+use Rattle.footprint.specs.Calls.{IsFootprintOf}
+use Rattle.in_order.specs.declared.footprints.Prepared.{Prepared}
+use Rattle.in_order.specs.declared.footprints.Share.{Share}
+use Rattle.in_order.specs.declared.Task.{Task}
+
+-- a call's own part of the accesses
+abbrev pub footprint_of : {A : Type 0} → List Access → Prepared A → List Access
+footprint_of accesses p = take (p.until - p.from) (drop p.from accesses)
+
+-- that part is a footprint of the call
+pub record IsPrepared {A : Type 0} (setting : Setting) (calls : List ContractCall) (accesses : List Access) (p : Prepared A) : Type 0 where
+  pub begins : p.from ≤ p.until
+  pub ends : p.until ≤ length accesses
+  pub footprint : IsFootprintOf setting calls p.call (footprint_of accesses p) p.executed
+
+abbrev pub IsPreparedOf : {A : Type 0} → Task A → List Access → Prepared A → Type 0
+IsPreparedOf task accesses p = IsPrepared (setting_view task.version task.contracts.now) task.calls.now accesses p
+
+abbrev pub AreAllPrepared : {A : Type 0} → Setting → List ContractCall → List Access → List (Prepared A) → Type 0
+AreAllPrepared setting calls accesses ps = All (IsPrepared setting calls accesses) ps
+
+-- what was run are calls of the task, with their footprints
+abbrev pub IsShareOf : {A : Type 0} → Task A → Share A → Type 0
+IsShareOf task s = AreAllPrepared (setting_view task.version task.contracts.now) task.calls.now s.accesses.items s.prepared.items

@@ -1,0 +1,83 @@
+//! Batches of calls that are run ahead of their turn.
+
+ghost use Rattle.std.specs.Prelude.{◌<◌, IfOk, OnOk};
+ghost use Rattle.in_order.specs.Ran.{IsKnown};
+ghost use Rattle.in_order.specs.Shares.{IsShareOf};
+
+use crate::footprints::{Share, open_share, prepare};
+use crate::line::Batch;
+use crate::straight::told;
+use crate::{InOrder, NO_MORE};
+use pace::Pace;
+use spec_ledger::NoMemory;
+use std::alloc::Allocator;
+use std::sync::atomic::Ordering;
+
+/// From how many calls on the batches are large.
+const MANY: usize = 512;
+
+/// How many positions a thread takes at a time, of an order of so many.
+pub(crate) fn batch_of(len: usize) -> usize
+    ensures { 0 < result }
+{
+    if len >= MANY { 32 } else { 4 }
+}
+
+/// Draws the next batch, if one is left.
+pub(crate) fn draw<A: Allocator + Copy, P: Pace>(job: &InOrder<'_, '_, A, P>) -> Option<usize> {
+    let nth = job.drawn.fetch_add(1, Ordering::SeqCst) as usize;
+    if nth > job.order.len() / batch_of(job.order.len()) {
+        return None;
+    }
+    Some(nth)
+}
+
+/// A batch that was run.
+#[derive(Drop)]
+pub(crate) struct Made<'a, A: Allocator> {
+    pub(crate) batch: Batch<'a, A>,
+    /// Whether the pace stops the thread.
+    pub(crate) stops: bool,
+}
+
+/// Runs the calls of a batch, as long as calls are run ahead of their turn. Answers whether the pace stops the thread.
+fn run_calls<A: Allocator + Copy, P: Pace>(
+    job: &InOrder<'_, '_, A, P>,
+    nth: usize,
+    share: &mut Share<'_, A>,
+) -> Result<bool, NoMemory>
+    requires known { IsKnown job.now }
+    requires share { IsShareOf job.now.task share.old }
+    ensures { OnOk result (IsShareOf job.now.task share.new) }
+{
+    let size = batch_of(job.order.len());
+    for offset in 0..size {
+        let position = nth.saturating_mul(size).saturating_add(offset);
+        if position >= job.order.len() || job.drawn.load(Ordering::SeqCst) >= NO_MORE {
+            return Ok(false);
+        }
+        let call = job.order[position];
+        if told(job.pace, call) {
+            return Ok(true);
+        }
+        prepare(job.alloc, &job.task, job.cells, call, share)?;
+    }
+    Ok(false)
+}
+
+/// Runs a batch.
+pub(crate) fn run_batch<'a, A: Allocator + Copy, P: Pace>(
+    job: &InOrder<'_, 'a, A, P>,
+    nth: usize,
+) -> Result<Made<'a, A>, NoMemory>
+    requires { IsKnown job.now }
+    ensures { IfOk result (λ made. IsShareOf job.now.task made.batch.share) }
+{
+    let mut share = open_share(job.alloc, job.task, batch_of(job.order.len()))?;
+    let stops = run_calls(job, nth, &mut share)?;
+    share.prepared.reverse();
+    Ok(Made {
+        batch: Batch { nth, share },
+        stops,
+    })
+}

@@ -1,0 +1,358 @@
+//! The thread that does the calls in their turn, while others run them ahead.
+
+ghost use Rattle.std.specs.Prelude.{◌≤◌, All, IfOk, IfSome};
+ghost use Rattle.in_order.specs.Ran.{IsKnown, IsRanOf};
+ghost use Rattle.in_order.specs.Handed.{IsPostOf, IsSupplyOf};
+ghost use Rattle.in_order.specs.Shares.{IsShareOf};
+
+use crate::ahead_of_turn::{Made, batch_of, draw, run_batch};
+use crate::footprints::Share;
+use crate::line::{Line, make_posts};
+use crate::post::Post;
+use crate::straight::{Came, run_straight, run_to};
+use crate::supply::{Supply, keep, open_supply, place, take_in, take_out};
+use crate::turns::do_next;
+use crate::working::{work, work_all};
+use crate::{InOrder, Ran};
+use pace::Pace;
+use spec_ledger::NoMemory;
+use std::alloc::Allocator;
+use std::hint::spin_loop;
+use std::sync::Wait;
+use std::sync::atomic::Ordering;
+use std::thread::{Threads, join};
+
+/// How often the thread that does the calls looks for a batch that another has drawn, before it runs the calls itself.
+const LOOKS: u32 = 100;
+
+/// Of how many batches it is reckoned whether it pays to run calls ahead.
+const WINDOW: u32 = 16;
+
+/// How the last batches went.
+#[derive(Clone, Copy)]
+struct Tally {
+    batches: u32,
+    calls: u64,
+    /// How many of the calls were done as they were run ahead.
+    ahead: u64,
+}
+
+/// A tally of no batches.
+const NONE: Tally = Tally {
+    batches: 0,
+    calls: 0,
+    ahead: 0,
+};
+
+/// Notes a batch. Answers whether running calls ahead brings nothing: of the last batches 9 of 10 calls had to be run again.
+fn note(tally: &mut Tally, calls: u64, ahead: u64) -> bool {
+    tally.batches = tally.batches.saturating_add(1);
+    tally.calls = tally.calls.saturating_add(calls);
+    tally.ahead = tally.ahead.saturating_add(ahead);
+    if tally.batches < WINDOW {
+        return false;
+    }
+    let is_vain = tally.ahead.saturating_mul(10) <= tally.calls;
+    *tally = NONE;
+    is_vain
+}
+
+/// Does the calls of a batch by their footprints, and runs those again that found other cells, as long as the order is not stopped.
+fn do_batch<'a, A: Allocator + Copy, P: Pace>(
+    job: &InOrder<'_, 'a, A, P>,
+    mut ran: Ran<A>,
+    share: &mut Share<'a, A>,
+) -> Result<Ran<A>, NoMemory>
+    requires known { IsKnown job.now }
+    requires ran { IsRanOf job.now ran }
+    requires share { IsShareOf job.now.task share.old }
+    ensures { IfOk result (IsRanOf job.now) }
+{
+    for _position in ran.receipts.len()..job.order.len() {
+        if job.is_stopped.load(Ordering::SeqCst) {
+            return Ok(ran);
+        }
+        let Some(prepared) = share.prepared.pop() else {
+            return Ok(ran);
+        };
+        ran = do_next(job, ran, Some(prepared), &share.accesses, None)?;
+    }
+    Ok(ran)
+}
+
+/// Does a batch that has come, and keeps what is left of it.
+fn do_share<'a, A: Allocator + Copy, P: Pace>(
+    job: &InOrder<'_, 'a, A, P>,
+    ran: Ran<A>,
+    supply: &mut Supply<'a, A>,
+    tally: &mut Tally,
+    share: Share<'a, A>,
+) -> Result<Came<A>, NoMemory>
+    requires known { IsKnown job.now }
+    requires ran { IsRanOf job.now ran }
+    requires supply { IsSupplyOf job.now.task supply.old }
+    requires share { IsShareOf job.now.task share }
+    ensures ran { IfOk result (λ came. IsRanOf job.now came.ran) }
+    ensures supply { IsSupplyOf job.now.task supply.new }
+{
+    let mut share = share;
+    let (done, ahead) = (ran.receipts.len(), ran.ahead);
+    let ran = do_batch(job, ran, &mut share)?;
+    keep(job, supply, share)?;
+    let calls = ran.receipts.len().saturating_sub(done) as u64;
+    let ahead = u64::from(ran.ahead.saturating_sub(ahead));
+    if note(tally, calls, ahead) {
+        job.close();
+        return run_to(job, ran, job.order.len());
+    }
+    Ok(Came { ran, stops: false })
+}
+
+/// Takes a batch that another thread has drawn, where it comes soon.
+fn look<'a, A: Allocator + Copy, P: Pace>(
+    job: &InOrder<'_, 'a, A, P>,
+    supply: &mut Supply<'a, A>,
+    post: &mut Post<'_, 'a, A>,
+    nth: usize,
+) -> Option<Share<'a, A>>
+    requires supply { IsSupplyOf job.now.task supply.old }
+    requires post { IsPostOf job.now post.old }
+    ensures supply { IsSupplyOf job.now.task supply.new }
+    ensures post { IsPostOf job.now post.new }
+    ensures share { IfSome result (IsShareOf job.now.task) }
+{
+    for _ in 0..LOOKS {
+        take_in(job, supply, post);
+        let share = take_out(job, supply, nth);
+        if share.is_some() {
+            return share;
+        }
+        spin_loop();
+    }
+    None
+}
+
+/// Goes on by a batch: does the next one, where it has come, or runs one that is drawn, the next straight over the cells and another ahead of its turn. Where none
+/// is left to draw and the next one does not come, the calls are run here all the same, and whoever runs them too runs them in vain.
+fn lead_on<'a, A: Allocator + Copy, P: Pace>(
+    job: &InOrder<'_, 'a, A, P>,
+    ran: Ran<A>,
+    supply: &mut Supply<'a, A>,
+    post: &mut Post<'_, 'a, A>,
+    tally: &mut Tally,
+) -> Result<Came<A>, NoMemory>
+    requires known { IsKnown job.now }
+    requires ran { IsRanOf job.now ran }
+    requires supply { IsSupplyOf job.now.task supply.old }
+    requires post { IsPostOf job.now post.old }
+    ensures ran { IfOk result (λ came. IsRanOf job.now came.ran) }
+    ensures supply { IsSupplyOf job.now.task supply.new }
+    ensures post { IsPostOf job.now post.new }
+{
+    let size = batch_of(job.order.len());
+    let position = ran.receipts.len();
+    let nth = position / size;
+    let end = nth.saturating_add(1).saturating_mul(size);
+    if position % size != 0 {
+        return run_to(job, ran, end);
+    }
+    take_in(job, supply, post);
+    if let Some(share) = take_out(job, supply, nth) {
+        return do_share(job, ran, supply, tally, share);
+    }
+    if let Some(drawn) = draw(job) {
+        if drawn == nth {
+            return run_to(job, ran, end);
+        }
+        let Made { batch, stops } = run_batch(job, drawn)?;
+        place(job, supply, batch);
+        return Ok(Came { ran, stops });
+    }
+    match look(job, supply, post, nth) {
+        Some(share) => do_share(job, ran, supply, tally, share),
+        None => run_to(job, ran, end),
+    }
+}
+
+/// Does the calls in their turn, batch by batch, until all are done or the order or the thread is stopped.
+fn lead<'a, A: Allocator + Copy, P: Pace>(
+    job: &InOrder<'_, 'a, A, P>,
+    ran: Ran<A>,
+    mut post: Post<'_, 'a, A>,
+) -> Result<Ran<A>, NoMemory>
+    requires known { IsKnown job.now }
+    requires ran { IsRanOf job.now ran }
+    requires post { IsPostOf job.now post }
+    ensures { IfOk result (IsRanOf job.now) }
+{
+    let places = job.order.len() / batch_of(job.order.len()) + 1;
+    let mut supply = open_supply(job, places)?;
+    let mut tally = NONE;
+    let mut came = Came { ran, stops: false };
+    for _ in 0..2 * job.order.len() + 2 {
+        let is_whole = came.ran.receipts.len() >= job.order.len();
+        if is_whole || came.stops || job.is_stopped.load(Ordering::SeqCst) {
+            break;
+        }
+        came = lead_on(job, came.ran, &mut supply, &mut post, &mut tally)?;
+    }
+    Ok(came.ran)
+}
+
+/// Does the calls in their turn. When that ends, nobody begins a further call ahead of its turn.
+fn lead_and_close<'a, A: Allocator + Copy, P: Pace>(
+    job: &InOrder<'_, 'a, A, P>,
+    ran: Ran<A>,
+    post: Post<'_, 'a, A>,
+) -> Result<Ran<A>, NoMemory>
+    requires known { IsKnown job.now }
+    requires ran { IsRanOf job.now ran }
+    requires post { IsPostOf job.now post }
+    ensures { IfOk result (IsRanOf job.now) }
+{
+    let led = lead(job, ran, post);
+    job.close();
+    led
+}
+
+/// Does the calls in their turn while a thread works at each post.
+fn lead_beside<'a, R: Threads + Wait + Sync, A: Allocator + Copy + Send + Sync, P: Pace>(
+    rt: &R,
+    job: &InOrder<'_, 'a, A, P>,
+    ran: Ran<A>,
+    posts: Vec<Post<'_, 'a, A>, A>,
+    own: Post<'_, 'a, A>,
+) -> Result<Ran<A>, NoMemory>
+    requires known { IsKnown job.now }
+    requires ran { IsRanOf job.now ran }
+    requires posts { All (IsPostOf job.now) posts.items }
+    requires own { IsPostOf job.now own }
+    ensures { IfOk result (IsRanOf job.now) }
+{
+    if posts.is_empty() {
+        return lead_and_close(job, ran, own);
+    }
+    let ((), led) = join(
+        rt,
+        move ||
+            requires { IsKnown job.now × All (IsPostOf job.now) posts.items }
+        { work_all(rt, job, posts) },
+        move || -> Result<Ran<A>, NoMemory>
+            requires { IsKnown job.now × IsRanOf job.now ran × IsPostOf job.now own }
+            ensures { IfOk result (IsRanOf job.entry.now) }
+        { lead_and_close(job, ran, own) },
+    );
+    led
+}
+
+/// Does an errand and then work in another thread, and leads meanwhile.
+fn join_errand<
+    R: Threads,
+    T: Send + Drop,
+    X: Drop,
+    F: FnOnce() -> T + Send,
+    W: FnOnce() + Send,
+    L: FnOnce() -> X,
+>(rt: &R, errand: F, work: W, lead: L) -> (T, X)
+    requires errand { F.pre errand }
+    requires work { W.pre work }
+    requires lead { L.pre lead }
+    ensures errand { F.post errand result.0 }
+    ensures lead { L.post lead result.1 }
+{
+    join(
+        rt,
+        move || -> T
+            requires { F.pre errand × W.pre work }
+            ensures { F.post errand result }
+        {
+            let told = errand();
+            work();
+            told
+        },
+        lead,
+    )
+}
+
+/// Does the calls in their turn while one thread does the errand and then works, and others work at once.
+fn join_all<
+    'a,
+    R: Threads + Wait + Sync,
+    A: Allocator + Copy + Send + Sync,
+    P: Pace,
+    T: Send + Drop,
+    F: FnOnce() -> T + Send,
+>(
+    rt: &R,
+    job: &InOrder<'_, 'a, A, P>,
+    ran: Ran<A>,
+    posts: Vec<Post<'_, 'a, A>, A>,
+    first: Post<'_, 'a, A>,
+    own: Post<'_, 'a, A>,
+    errand: F,
+) -> (T, Result<Ran<A>, NoMemory>)
+    requires known { IsKnown job.now }
+    requires ran { IsRanOf job.now ran }
+    requires posts { All (IsPostOf job.now) posts.items }
+    requires first { IsPostOf job.now first }
+    requires own { IsPostOf job.now own }
+    requires errand { F.pre errand }
+    ensures errand { F.post errand result.0 }
+    ensures ran { IfOk result.1 (IsRanOf job.now) }
+{
+    join_errand(
+        rt,
+        errand,
+        move ||
+            requires { IsKnown job.now × IsPostOf job.now first }
+        { work(job, first) },
+        move || -> Result<Ran<A>, NoMemory>
+            requires { IsKnown job.now × IsRanOf job.now ran × All (IsPostOf job.now) posts.items × IsPostOf job.now own }
+            ensures { IfOk result (IsRanOf job.entry.now) }
+        { lead_beside(rt, job, ran, posts, own) },
+    )
+}
+
+/// Runs the calls by so many threads, one of which does the errand before.
+pub(crate) fn run_beside<
+    'a,
+    R: Threads + Wait + Sync,
+    A: Allocator + Copy + Send + Sync,
+    P: Pace,
+    T: Send + Drop,
+    F: FnOnce() -> T + Send,
+>(
+    rt: &R,
+    job: &InOrder<'_, 'a, A, P>,
+    ran: Ran<A>,
+    threads: u32,
+    errand: F,
+) -> (T, Result<Ran<A>, NoMemory>)
+    requires known { IsKnown job.now }
+    requires ran { IsRanOf job.now ran }
+    requires threads { 2 ≤ threads }
+    requires errand { F.pre errand }
+    ensures errand { F.post errand result.0 }
+    ensures ran { IfOk result.1 (IsRanOf job.now) }
+{
+    let size = batch_of(job.order.len());
+    let Ok((line, mut pass)) = Line::open(job.alloc, job.order.len() / size + 2, job.task) else {
+        return (errand(), Err(NoMemory));
+    };
+    let line = &line;
+    let own = Post {
+        line,
+        pass: line.another(&mut pass),
+    };
+    let Ok(posts) = make_posts(job, line, &mut pass, threads - 2) else {
+        return (errand(), Err(NoMemory));
+    };
+    let first = Post { line, pass };
+    let begun = ran.receipts.len().div_ceil(size) as u64;
+    job.drawn.fetch_add(begun, Ordering::SeqCst);
+    let (told, led) = join_all(rt, job, ran, posts, first, own, errand);
+    if job.lacks_memory.load(Ordering::SeqCst) {
+        return (told, Err(NoMemory));
+    }
+    (told, led)
+}

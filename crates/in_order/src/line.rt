@@ -1,0 +1,93 @@
+//! Where threads hand over the batches of calls that they ran ahead of their turn.
+
+ghost use Rattle.std.specs.Prelude.{◌≡◌, All, IfOk, IfSome};
+ghost use Rattle.handover.specs.Passes.{IsPassOf};
+ghost use Rattle.in_order.specs.Handed.{IsPostOf};
+ghost use Rattle.in_order.specs.Shares.{IsShareOf};
+
+use crate::footprints::Share;
+use crate::post::Post;
+use crate::{InOrder, Task};
+use handover::{Fact, Handover, Pass};
+use pace::Pace;
+use spec_ledger::NoMemory;
+use std::alloc::Allocator;
+use std::hint::spin_loop;
+
+/// How often a thread tries to hand a batch over while another is in the way.
+const TRIES: u32 = 10_000;
+
+/// The calls of a batch of positions, the last first.
+#[derive(Drop)]
+pub(crate) struct Batch<'a, A: Allocator> {
+    /// How many batches come before it.
+    pub(crate) nth: usize,
+    pub(crate) share: Share<'a, A>,
+}
+
+/// Where the threads hand over the batches that they ran.
+pub(crate) type Line<'a, A> = Handover<Task<'a, A>, Batch<'a, A>, Footprints, A>;
+
+/// By what a thread calls there.
+pub(crate) type LinePass<'a, A> = Pass<Task<'a, A>, Batch<'a, A>>;
+
+/// That what is handed over are footprints of calls of the task.
+pub(crate) struct Footprints;
+
+impl<'a, A: Allocator> Fact<Task<'a, A>, Batch<'a, A>> for Footprints {
+    ghost use Rattle.in_order.specs.Shares.{IsShareOf};
+
+    ghost holds = { λ task batch. IsShareOf task batch.share };
+}
+
+/// Hands a batch over. It is dropped where another thread is in the way for too long.
+pub(crate) fn hand_over<'a, A: Allocator + Copy, P: Pace>(
+    _job: &InOrder<'_, 'a, A, P>,
+    post: &mut Post<'_, 'a, A>,
+    batch: Batch<'a, A>,
+)
+    requires post { IsPostOf _job.now post.old }
+    requires batch { IsShareOf _job.now.task batch.share }
+    ensures { IsPostOf _job.now post.new }
+{
+    let mut next = batch;
+    for _ in 0..TRIES {
+        let Err(back) = post.line.give(&mut post.pass, next) else {
+            return;
+        };
+        next = back;
+        spin_loop();
+    }
+}
+
+/// Takes a batch that a thread handed over.
+pub(crate) fn receive<'a, A: Allocator + Copy, P: Pace>(
+    _job: &InOrder<'_, 'a, A, P>,
+    post: &mut Post<'_, 'a, A>,
+) -> Option<Batch<'a, A>>
+    requires { IsPostOf _job.now post.old }
+    ensures post { IsPostOf _job.now post.new }
+    ensures batch { IfSome result (λ batch. IsShareOf _job.now.task batch.share) }
+{
+    post.line.take(&mut post.pass)
+}
+
+/// A post for each of so many threads.
+pub(crate) fn make_posts<'l, 'a, A: Allocator + Copy, P: Pace>(
+    job: &InOrder<'_, 'a, A, P>,
+    line: &'l Line<'a, A>,
+    own: &mut LinePass<'a, A>,
+    count: u32,
+) -> Result<Vec<Post<'l, 'a, A>, A>, NoMemory>
+    requires task { line.now.key ≡ job.now.task }
+    requires own { IsPassOf line.now own.old }
+    ensures own { IsPassOf line.now own.new }
+    ensures posts { IfOk result (λ posts. All (IsPostOf job.now) posts.items) }
+{
+    let mut posts = Vec::new(job.alloc);
+    for _ in 0..count {
+        let pass = line.another(own);
+        posts.push(Post { line, pass })?;
+    }
+    Ok(posts)
+}

@@ -1,0 +1,107 @@
+//! Calls in their turn, which the thread that does them runs straight over the cells.
+
+ghost use Rattle.std.specs.Prelude.{◌≡◌, ◌+◌, ◌≤◌, IfOk, length};
+ghost use Rattle.in_order.specs.Ran.{IsKnown, IsRanOf};
+
+use crate::turns::do_next;
+use crate::{InOrder, Ran};
+use gain::threads;
+use pace::{Pace, Step};
+use spec_ledger::{NoMemory, Receipt};
+use std::alloc::Allocator;
+use std::sync::atomic::Ordering;
+
+/// How many calls run before any thread is started, so that it is known how long they are.
+const FIRST: usize = 16;
+
+/// How many calls are run by one thread whatever they are.
+const FEW: usize = 32;
+
+/// Tells the pace the beginning of a call, and asks whether it stops the thread.
+pub(crate) fn told<P: Pace>(pace: &P, call: u32) -> bool {
+    let step = Step::Attempt { call, nth: 0 };
+    pace.at(step);
+    pace.stops(step)
+}
+
+/// What the calls of the first positions came to.
+#[derive(Drop)]
+pub(crate) struct Came<A: Allocator> {
+    pub(crate) ran: Ran<A>,
+    /// Whether the order or the thread was stopped.
+    pub(crate) stops: bool,
+}
+
+/// Runs the next calls straight over the cells, up to a position, as long as neither the order nor the thread is stopped.
+pub(crate) fn run_to<A: Allocator + Copy, P: Pace>(
+    job: &InOrder<'_, '_, A, P>,
+    mut ran: Ran<A>,
+    end: usize,
+) -> Result<Came<A>, NoMemory>
+    requires known { IsKnown job.now }
+    requires ran { IsRanOf job.now ran }
+    ensures { IfOk result (λ came. IsRanOf job.now came.ran) }
+{
+    let end = end.min(job.order.len());
+    for position in ran.receipts.len()..end {
+        if job.is_stopped.load(Ordering::SeqCst) || told(job.pace, job.order[position]) {
+            return Ok(Came { ran, stops: true });
+        }
+        ran = do_next(job, ran, None, &[], None)?;
+    }
+    Ok(Came { ran, stops: false })
+}
+
+/// Runs all further calls straight over the cells, as long as neither the order nor the thread is stopped.
+pub(crate) fn run_straight<A: Allocator + Copy, P: Pace>(
+    job: &InOrder<'_, '_, A, P>,
+    ran: Ran<A>,
+) -> Result<Ran<A>, NoMemory>
+    requires known { IsKnown job.now }
+    requires ran { IsRanOf job.now ran }
+    ensures { IfOk result (IsRanOf job.now) }
+{
+    let came = run_to(job, ran, job.order.len())?;
+    Ok(came.ran)
+}
+
+/// The fuel that calls used together, from a position on.
+fn fuel_from(receipts: &[Receipt], position: usize) -> u64 {
+    let mut fuel = 0u64;
+    for at in position..receipts.len() {
+        fuel = fuel.saturating_add(receipts[at].used);
+    }
+    fuel
+}
+
+/// What the first calls came to, and by how many threads the others run.
+#[derive(Drop)]
+pub(crate) struct Begun<A: Allocator> {
+    pub(crate) ran: Ran<A>,
+    /// With the caller's; 0 where it was stopped.
+    pub(crate) threads: u32,
+}
+
+/// Runs some calls straight, where there are so many that other threads may be wanted, and reckons by them how many threads are.
+pub(crate) fn begin_straight<A: Allocator + Copy, P: Pace>(
+    job: &InOrder<'_, '_, A, P>,
+    ran: Ran<A>,
+    workers: u32,
+) -> Result<Begun<A>, NoMemory>
+    requires known { IsKnown job.now }
+    requires ran { IsRanOf job.now ran }
+    ensures ran { IfOk result (λ begun. IsRanOf job.now begun.ran) }
+{
+    let from = ran.receipts.len();
+    let left = job.order.len().saturating_sub(from);
+    if workers < 2 || left <= FEW {
+        return Ok(Begun { ran, threads: 1 });
+    }
+    let Came { ran, stops } = run_to(job, ran, from + FIRST)?;
+    if stops {
+        return Ok(Begun { ran, threads: 0 });
+    }
+    let fuel = fuel_from(&ran.receipts, from);
+    let threads = threads(workers, fuel, FIRST as u32, (left - FIRST) as u32);
+    Ok(Begun { ran, threads })
+}

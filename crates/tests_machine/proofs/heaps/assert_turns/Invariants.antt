@@ -1,5 +1,0 @@
-use Rattle.interp.specs.Progress.{IsFree}
-use Rattle.tests_machine.proofs.heaps.assert_turns.Given as goal
-
-abbrev pub invariant-turns : goal.invariant-turns
-invariant-turns g l = IsFree l.machine.status
