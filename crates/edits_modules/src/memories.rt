@@ -9,7 +9,7 @@ use wtypes::TrapCode;
 
 /// As [`memory::Linear::load`].
 pub fn load<A: Allocator + Clone + Drop>(
-    memory: &Linear<A>,
+    memory: &Linear<'_, A>,
     at: u32,
     offset: u32,
     width: u32,

@@ -48,10 +48,10 @@ fn copy_entries<'a, A: Allocator + Copy>(
     Ok(copies)
 }
 
-fn copy_instance<A: Allocator + Copy>(
+fn copy_instance<'a, A: Allocator + Copy>(
     alloc: A,
-    instance: &Instance<A>,
-) -> Result<Instance<A>, NoMemory>
+    instance: &Instance<'a, A>,
+) -> Result<Instance<'a, A>, NoMemory>
     ensures { IfOk result (λ copy. IsInstanceCopy instance.now copy) }
 {
     let memory = instance.memory.copy()?;

@@ -45,7 +45,7 @@ pub struct Parts<'a, A: Allocator + Copy> {
     /// The locals of the innermost frame.
     pub locals: Vec<Value, A>,
     /// The instance.
-    pub instance: Instance<A>,
+    pub instance: Instance<'a, A>,
     /// Lists of calls that were left, whose room serves the locals of calls to come. What they hold says nothing.
     pub spare: Vec<Vec<Value, A>, A>,
 }

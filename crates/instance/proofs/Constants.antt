@@ -1,5 +1,5 @@
 -- The value of a constant expression is that of its one instruction.
-use Rattle.std.proofs.Common.{◌≡◌, Option, Some, None, refl, sym, ap, ◌∙◌}
+use Rattle.std.proofs.Common.{◌≡◌, Some, None, refl, sym, ap, ◌∙◌}
 use Rattle.wtypes.specs.declared.ValType.TheVariants.{I32}
 use Rattle.wtypes.specs.declared.Value.{Value}
 use Rattle.wtypes.specs.declared.PlainInstr.{PlainInstr}

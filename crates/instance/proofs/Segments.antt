@@ -1,10 +1,10 @@
--- Data segments in memory.
-use Rattle.std.proofs.Common.{◌≡◌, ℕ, zero, suc, ◌+◌, ◌*◌, ◌^◌, ◌≤◌, ◌<◌, min, Bool, true, false, nat_le, List, [], ◌∷◌, ◌++◌, length, map, take, drop, refl, sym, ap, ◌∙◌, subst, arith, length-append, Some, None, Option, slice_get}
+-- The memories of a linked module, and lists with items in place.
+use Rattle.std.proofs.Common.{◌≡◌, ℕ, zero, suc, ◌+◌, ◌≤◌, ◌<◌, min, Bool, true, false, nat_le, List, [], ◌∷◌, ◌++◌, length, map, take, drop, refl, ap, ◌∙◌, subst, arith, length-append, Some, None, Option, slice_get}
 use Rattle.std.specs.Prelude.{IfSome, unwrap_or, slice_index_or, All, filter_map}
 use Rattle.std.specs.List.{cons_option}
 use Rattle.std.proofs.Math.Logic.{∥∥₁_elim}
 use Rattle.std.specs.Int.{cast_unsigned, w32}
-use Rattle.std.proofs.lemmas.List.{take_more, map-append, length-take, length-drop}
+use Rattle.std.proofs.lemmas.List.{length-take, length-drop}
 use Rattle.std.proofs.lemmas.List.Elements.{All-head, All-tail}
 use Rattle.std.proofs.lemmas.Bool.{leb-true, le-leb}
 use Rattle.wtypes.specs.declared.Value.TheVariants as value
@@ -12,17 +12,13 @@ use Rattle.wtypes.specs.declared.HostCall.{HostCall}
 use Rattle.spec_ledger.specs.declared.Version.{Version}
 use Rattle.spec_ledger.specs.declared.Version.TheVariants.{One, Two}
 use Rattle.wtypes.specs.declared.PlainInstr.TheVariants.{Const}
-use Rattle.module_tree.specs.declared.module.Module as tree
-use Rattle.module_tree.specs.declared.module.DataSegment as tree_data
-use Rattle.module_tree.specs.ModuleView.{data_view, limits_view}
-use Rattle.module_tree.specs.Modules.{module_view}
-use Rattle.spec_syntax.specs.Syntax.{Plain, Instrs, nothing, seq, FuncType, Limits, Import, ImportDesc, ImportFunc, DataSegment, Module}
-use Rattle.spec_syntax.specs.Profile.{page_size, page_limit}
+use Rattle.spec_syntax.specs.Syntax.{Plain, Instrs, nothing, seq, FuncType, Limits, Import, ImportDesc, ImportFunc, Module}
+use Rattle.spec_syntax.specs.Profile.{page_limit}
 use Rattle.spec_numeric.specs.Operators.{bits_of}
 use Rattle.spec_typing.specs.Modules.{memories, memory_of, MemoryTyped}
-use Rattle.spec_typing.specs.Linking.{IsLinked, Resolves, InMemory, InRange, offset_number}
+use Rattle.spec_typing.specs.Linking.{IsLinked, Resolves, offset_number}
 use Rattle.spec_numeric.specs.Memory.{written}
-use Rattle.spec_execution.specs.Configuration.{constant, size_of, with_datas}
+use Rattle.spec_execution.specs.Configuration.{constant, size_of}
 use Rattle.spec_execution.specs.Reduction.{pages_of, most_pages}
 
 -- imports are functions alone
@@ -38,10 +34,6 @@ pub at_map : {X Y : Type 0} (P : Y → Type 0) (f : X → Y) (xs : List X) → A
 at_map P f [] h k d lt = absurd (omega arith)
 at_map P f (x ∷ xs) h zero d lt = All-head P (f x) (map f xs) h
 at_map P f (x ∷ xs) h (suc k) d lt = at_map P f xs (All-tail P (f x) (map f xs) h) k d (omega arith)
-
-all_right : {X : Type 0} (P : X → Type 0) (xs ys : List X) → All P (xs ++ ys) → All P ys
-all_right P [] ys h = h
-all_right P (x ∷ xs) ys h = all_right P xs ys (All-tail P x (xs ++ ys) h)
 
 below_bound : (v : Version) (n : ℕ) → n ≤ page_limit → n ≤ pages_of v n
 below_bound One n le = omega arith
@@ -82,16 +74,6 @@ module _ (m : Module) (calls : List HostCall) (l : IsLinked m calls) where
   pub memory_fits : (v : Version) → size_of m.memories ≤ most_pages v m.memories
   memory_fits v = fits_list v m.memories pages_own (subst (All MemoryTyped) memories_own l.typed.memory_limits)
 
-  data_in : (k : ℕ) (d : DataSegment) → k < length m.datas → InRange m (InMemory (slice_index_or m.datas k d))
-  data_in k d lt = at_map (InRange m) InMemory m.datas (all_right (InRange m) _ (map InMemory m.datas) l.segments_fit) k d lt
-
-  pub data_fits : (k : ℕ) (d : DataSegment) → k < length m.datas → d ≡ slice_index_or m.datas k d → bits_of (constant d.offset) + length d.bytes ≤ page_size * size_of m.memories
-  data_fits k d lt there =
-      let (end, size, (at, limits, off, found, end_is, size_is), le) = subst (λ (x : DataSegment). InRange m (InMemory x)) (sym there) (data_in k d lt) in
-      let number : bits_of (constant d.offset) ≡ at = const_number d.offset at off in
-      let own : size_of m.memories ≡ limits.min = only_one m.memories d.memory limits (subst (λ (ms : List Limits). length ms ≤ 1) memories_own l.typed.one_memory) (subst (λ (ms : List Limits). slice_get ms d.memory ≡ Some limits) memories_own found) in
-      omega (arith, number, own, end_is, size_is, le)
-
 not_both : (x y : ℕ) → x ≤ y → nat_le x y ≡ false → ⊥
 not_both x y le e = let t : nat_le x y ≡ true = le-leb x y le in cc
 
@@ -121,28 +103,3 @@ length_map f (x ∷ xs) = ap (λ (n : ℕ). suc n) (length_map f xs)
 pub length_in_place : {X : Type 0} (at : ℕ) (items old : List X) → at + length items ≤ length old → length (written at items old) ≡ length old
 length_in_place at items old le =
     length-append (take at old) (items ++ drop (at + length items) old) ∙ (omega (arith, length-append items (drop (at + length items) old), length-take at old, length-drop (at + length items) old))
-
-with_one_more : (ds : List DataSegment) (d : DataSegment) (m : List ℕ) → with_datas (ds ++ d ∷ []) m ≡ written (bits_of (constant d.offset)) d.bytes (with_datas ds m)
-with_one_more [] d m = refl
-with_one_more (x ∷ ds) d m = with_one_more ds d (written (bits_of (constant x.offset)) x.bytes m)
-
--- a segment of a deployed module
-module _ {A : Type 0} (t : tree.Module A) (calls : List HostCall) (linked : ∥ IsLinked (module_view t) calls ∥₁) (i : ℕ) (x : tree_data.DataSegment A) (lt : i < length t.datas.items) (is : x ≡ slice_index_or t.datas.items i x) where
-  there_is : data_view x ≡ slice_index_or (module_view t).datas i (data_view x)
-  there_is = ap data_view is ∙ sym (map_index data_view t.datas.items i x)
-
-  below : i < length (module_view t).datas
-  below = omega (arith, length_map data_view t.datas.items)
-
-  pub segment_fits : bits_of (constant (data_view x).offset) + length x.bytes.items ≤ page_size * size_of (map limits_view t.memories.items)
-  segment_fits = known_le _ _ linked (λ l. data_fits (module_view t) calls l i (data_view x) below there_is)
-
-  pub segment_small : bits_of (constant (data_view x).offset) < 2 ^ 32
-  segment_small =
-      let few : size_of (map limits_view t.memories.items) ≤ page_limit = few_known (module_view t) calls linked in
-      omega (arith, segment_fits, few)
-
-  pub one_segment_more : (z : List ℕ) → with_datas (map data_view (take (i + 1) t.datas.items)) z ≡ written (bits_of (constant (data_view x).offset)) x.bytes.items (with_datas (map data_view (take i t.datas.items)) z)
-  one_segment_more z =
-      ap (λ ds. with_datas (map data_view ds) z) (take_more t.datas.items i x lt ∙ ap (λ y. take i t.datas.items ++ y ∷ []) (sym is))
-      ∙ ap (λ ds. with_datas ds z) (map-append data_view (take i t.datas.items) (x ∷ [])) ∙ with_one_more (map data_view (take i t.datas.items)) (data_view x) z

@@ -3,7 +3,7 @@
 
 mod tables;
 
-ghost use Rattle.std.specs.Prelude.{◌≡◌, ◌+◌, ◌*◌, ◌≤◌, map, replicate, IfOk};
+ghost use Rattle.std.specs.Prelude.{◌≡◌, ℕ, ◌*◌, ◌≤◌, None, map, IfOk};
 ghost use Rattle.spec_numeric.specs.Operators.{bits_of};
 ghost use Rattle.module_tree.specs.View.{instrs_view};
 ghost use Rattle.module_tree.specs.ModuleView.{global_view, limits_view};
@@ -12,12 +12,13 @@ ghost use Rattle.spec_syntax.specs.Syntax as syntax;
 ghost use Rattle.spec_syntax.specs.Profile.{page_size, page_limit};
 ghost use Rattle.spec_execution.specs.Configuration.{constant, size_of, fresh};
 ghost use Rattle.spec_execution.specs.Reduction.{pages_of, most_pages};
+ghost use Rattle.memory.specs.Start.{stands, first_bytes};
 ghost use Rattle.link.specs.Parts.{tree_of};
 ghost use Rattle.instance.specs.States.{IsFresh};
 
 use crate::tables::open_table;
 use link::deployed::Deployed;
-use memory::{Linear, PAGE_LIMIT, StoreRefusal};
+use memory::{Linear, PAGE_LIMIT, Start};
 use module_tree::instr::Instr;
 use module_tree::lone::lone_plain;
 use module_tree::module::Global as Declared;
@@ -27,27 +28,28 @@ use wtypes::{Limits, NoMemory, PlainInstr, Value};
 
 /// What a call may change beside its frames (Core Specification, 4.2.5 Module Instances).
 #[derive(Drop)]
-pub struct Instance<A: Allocator + Copy = Global> {
+pub struct Instance<'a, A: Allocator + Copy = Global> {
     /// The globals.
     pub globals: Vec<Value, A>,
-    /// The memory. Where the module has none, it has no page.
-    pub memory: Linear<A>,
+    /// The memory, which is lent what it begins with. Where the module has none, it has no page.
+    pub memory: Linear<'a, A>,
     /// The number of the function that each element of the table is, or None where it is empty. Where the module has no table, it
     /// has no element.
     pub table: Vec<Option<u32>, A>,
 }
 
 /// A fresh instance (Core Specification, 4.5.4 Instantiation): its globals have their first values, and its data
-/// segments and element segments are in place. Its memory may grow to the lesser of the version's limit and the declared maximum.
+/// segments and element segments are in place. Its memory takes no memory before the first store, and may grow to the lesser of the version's
+/// limit and the declared maximum.
 ///
 /// # Errors
 ///
 /// `NoMemory` where memory was refused.
-pub fn open_instance<A: Allocator + Copy>(
+pub fn open_instance<'a, A: Allocator + Copy>(
     alloc: A,
     version: Version,
-    deployed: &Deployed<A>,
-) -> Result<Instance<A>, NoMemory>
+    deployed: &'a Deployed<A>,
+) -> Result<Instance<'a, A>, NoMemory>
     ensures { IfOk result (λ i. IsFresh version i (module_view (tree_of deployed.now))) }
 {
     let globals = match open_globals(alloc, &deployed.module().globals) {
@@ -64,26 +66,17 @@ pub fn open_instance<A: Allocator + Copy>(
 }
 
 // The memory, with the data segments in place.
-fn open_memory<A: Allocator + Copy>(
+fn open_memory<'a, A: Allocator + Copy>(
     alloc: A,
     version: Version,
-    deployed: &Deployed<A>,
-) -> Result<Linear<A>, NoMemory>
+    deployed: &'a Deployed<A>,
+) -> Result<Linear<'a, A>, NoMemory>
     ensures bytes { IfOk result (λ m. m.bytes ≡ (fresh (module_view (tree_of deployed.now))).memory) }
     ensures max { IfOk result (λ m. m.max ≡ most_pages version (map limits_view (tree_of deployed.now).memories.items)) }
 {
     deployed.is_linked();
     let tree = deployed.module();
-    let mut memory = first_memory(alloc, version, &tree.memories)?;
-    for segment in &tree.datas {
-        let at = bits(constant_of(&segment.offset)) as u32;
-        match memory.write_all(at, &segment.bytes) {
-            Ok(()) => {}
-            Err(StoreRefusal::NoMemory) => return Err(NoMemory),
-            Err(StoreRefusal::Trap(_)) => unreachable!(),
-        }
-    }
-    Ok(memory)
+    first_memory(alloc, version, &tree.memories, deployed.start())
 }
 
 // The number that a value's bits spell.
@@ -111,23 +104,30 @@ fn page_bound(version: Version, min: u32) -> u32
     }
 }
 
-// The memory before the data segments are in place.
-fn first_memory<A: Allocator + Copy>(
+// The memory that begins with these bytes.
+fn first_memory<'a, A: Allocator + Copy>(
     alloc: A,
     version: Version,
     memories: &[Limits],
-) -> Result<Linear<A>, NoMemory>
+    start: &'a Start<A>,
+) -> Result<Linear<'a, A>, NoMemory>
     requires few { size_of (map limits_view memories.now) ≤ page_limit }
     requires fits { size_of (map limits_view memories.now) ≤ most_pages version (map limits_view memories.now) }
-    ensures bytes { IfOk result (λ m. m.bytes ≡ replicate (page_size * size_of (map limits_view memories.now)) 0) }
+    requires ends { (k : ℕ) → page_size * size_of (map limits_view memories.now) ≤ k → stands start.now k ≡ None }
+    ensures bytes { IfOk result (λ m. m.bytes ≡ first_bytes start.now (page_size * size_of (map limits_view memories.now))) }
     ensures max { IfOk result (λ m. m.max ≡ most_pages version (map limits_view memories.now)) }
 {
     if memories.is_empty() {
-        return Linear::new(alloc, 0, PAGE_LIMIT);
+        return Linear::begin(alloc, start, 0, PAGE_LIMIT);
     }
     let limits = memories[0];
     let bound = page_bound(version, limits.min);
-    Linear::new(alloc, limits.min, bound.min(limits.max.unwrap_or(bound)))
+    Linear::begin(
+        alloc,
+        start,
+        limits.min,
+        bound.min(limits.max.unwrap_or(bound)),
+    )
 }
 
 // The first values of the globals.

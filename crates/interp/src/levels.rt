@@ -151,8 +151,8 @@ fn open_level<'a, A: Allocator + Copy>(
 }
 
 // Parts with nothing open.
-pub(crate) fn no_parts<'a, A: Allocator + Copy>(alloc: A, instance: Instance<A>) -> Parts<'a, A>
-    ensures instance { result.instance ≡ instance }
+pub(crate) fn no_parts<'a, A: Allocator + Copy>(alloc: A, instance: Instance<'a, A>) -> Parts<'a, A>
+    ensures instance { result.instance ≡ instance.entry }
     ensures code { result.code.now ≡ [] }
     ensures entries { result.entries.items ≡ [] }
     ensures depth { result.depth ≡ 0 }

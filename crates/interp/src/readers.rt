@@ -172,20 +172,20 @@ fn is_left_next<'a, A: Allocator + Copy>(run: &Run<'a, A>) -> bool
 }
 
 // The instance of the outer level.
-fn outer_instance<'b, 'a, A: Allocator + Copy>(run: &'b Run<'a, A>) -> &'b Instance<A>
+fn outer_instance<'b, 'a, A: Allocator + Copy>(run: &'b Run<'a, A>) -> &'b Instance<'a, A>
     ensures globals { result.now.globals.items ≡ (state_of (outermost (progress (seen run.now)).config).config).globals }
     ensures memory { result.now.memory.bytes ≡ (state_of (outermost (progress (seen run.now)).config).config).memory }
 {
-    match run.outer.first() {
-        Some(level) => &level.parts.instance,
-        None => &run.parts.instance,
+    if let Some(level) = run.outer.first() {
+        return &level.parts.instance;
     }
+    &run.parts.instance
 }
 
 // So many bytes of an instance's memory from an address on.
 fn bytes_of_instance<A: Allocator + Copy>(
     alloc: A,
-    instance: &Instance<A>,
+    instance: &Instance<'_, A>,
     from: u64,
     count: u64,
 ) -> Result<Vec<u8, A>, BytesRefusal>

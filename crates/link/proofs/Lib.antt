@@ -5,3 +5,4 @@ pub mod Faults
 pub mod Linked
 pub mod Once
 pub mod Told
+pub mod Laying

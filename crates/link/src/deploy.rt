@@ -1,6 +1,9 @@
 // The linking of a module.
 
-ghost use Rattle.std.specs.Prelude.{◌≡◌, ◌+◌, true, is_none, length, IfSome, IfOk, IfErr};
+ghost use Rattle.std.specs.Prelude.{◌≡◌, ℕ, ◌+◌, ◌*◌, ◌≤◌, true, None, is_none, length, IfSome, IfOk, IfErr};
+ghost use Rattle.spec_syntax.specs.Profile.{page_size};
+ghost use Rattle.spec_execution.specs.Configuration.{size_of, fresh};
+ghost use Rattle.memory.specs.Start.{stands, first_bytes};
 ghost use Rattle.spec_typing.specs.Modules.{ModuleTyped};
 ghost use Rattle.spec_typing.specs.Linking.{IsLinked};
 ghost use Rattle.module_tree.specs.Modules.{module_view};
@@ -13,6 +16,8 @@ use crate::deployed::Deployed;
 use crate::imports::{call_named, host_calls, import_fault};
 use crate::refusal::LinkRefusal;
 use crate::segments::{all_within, data_fault, element_fault};
+use crate::starts::first_start;
+use memory::Start;
 use module_tree::module::Module;
 use std::alloc::{AllocError, Allocator};
 use typing::valid::Valid;
@@ -114,10 +119,29 @@ fn link_module<A: Allocator + Clone>(
     }
 }
 
+// The host calls of a module that can be instantiated, and what its memory begins with.
+fn link_parts<A: Allocator + Clone>(
+    alloc: &A,
+    tree: &Module<A>,
+) -> Result<(Vec<HostCall, A>, Start<A>), LinkRefusal>
+    requires { ModuleTyped (module_view tree.now) }
+    ensures linked { IfOk result (λ parts. IsLinked (module_view tree.now) parts.0.items) }
+    ensures begun { IfOk result (λ parts. first_bytes parts.1 (page_size * size_of (module_view tree.now).memories) ≡ (fresh (module_view tree.now)).memory) }
+    ensures ends { IfOk result (λ parts. (k : ℕ) → page_size * size_of (module_view tree.now).memories ≤ k → stands parts.1 k ≡ None) }
+    ensures says { IfErr result (λ e. Says e (module_view tree.now)) }
+    ensures passed { IfErr result (λ e. PassedBefore e (module_view tree.now)) }
+{
+    let hosts = link_module(alloc, tree)?;
+    match first_start(alloc, tree, &hosts) {
+        Ok(start) => Ok((hosts, start)),
+        Err(AllocError) => Err(LinkRefusal::NoMemory),
+    }
+}
+
 /// Links a module that is typed (Core Specification, 4.5.4 Instantiation). What passes is the tree that was handed in,
 /// and is linked by its type. A refused module is handed back, what the refusal says is true of it, and what is judged
 /// before has passed: the imports are judged first, then the segments, the memory and the table. So there is one
-/// answer, want of memory aside (`refused_once`). The list of the host calls is from `alloc`.
+/// answer, want of memory aside (`refused_once`). The list of the host calls is from `alloc`, and so are the bytes that its memory begins with.
 pub fn deploy<A: Allocator + Clone>(
     alloc: &A,
     valid: Valid<A>,
@@ -127,8 +151,8 @@ pub fn deploy<A: Allocator + Clone>(
     ensures says { IfErr result (λ e. Says e.1 (module_view (Parts.tree_of valid))) }
     ensures passed { IfErr result (λ e. PassedBefore e.1 (module_view (Parts.tree_of valid))) }
 {
-    match link_module(alloc, valid.module()) {
-        Ok(hosts) => Ok(Deployed::of_linked(valid.into_module(), hosts)),
+    match link_parts(alloc, valid.module()) {
+        Ok((hosts, start)) => Ok(Deployed::of_linked(valid.into_module(), hosts, start)),
         Err(refusal) => Err((valid, refusal)),
     }
 }

@@ -1,31 +1,46 @@
 // Modules that can be instantiated.
+ghost use Rattle.std.specs.Prelude.{◌≡◌, ℕ, ◌*◌, ◌≤◌, None};
+ghost use Rattle.spec_syntax.specs.Profile.{page_size};
+ghost use Rattle.spec_execution.specs.Configuration.{size_of, fresh};
+ghost use Rattle.memory.specs.Start.{stands, first_bytes};
 ghost use Rattle.spec_typing.specs.Linking.{IsLinked};
 ghost use Rattle.module_tree.specs.Modules.{module_view};
 
+use memory::Start;
 use module_tree::module::Module;
 use std::alloc::Allocator;
 use wtypes::{HostCall, NoMemory};
 
 /// A module that can be instantiated (Core Specification, 4.5.4 Instantiation): it is typed, each of its imports is a
-/// host call of its type, its segments are in range, and its memory and its table keep the limits of the profile.
+/// host call of its type, its segments are in range, and its memory and its table keep the limits of the profile. It has the bytes that its
+/// memory begins with, at most as many as its data segments, which the memories of its instances are lent.
 #[derive(Drop)]
 pub struct Deployed<A: Allocator> {
     tree: Module<A>,
     hosts: Vec<HostCall, A>,
+    start: Start<A>,
     pub ghost linked: { ∥ IsLinked (module_view tree) hosts.items ∥₁ },
+    ghost begun: { first_bytes start (page_size * size_of (module_view tree).memories) ≡ (fresh (module_view tree)).memory },
+    ghost ends: { (k : ℕ) → page_size * size_of (module_view tree).memories ≤ k → stands start k ≡ None },
 }
 
 impl<A: Allocator> Deployed<A> {
-    ghost use Rattle.std.specs.Prelude.{◌≡◌, slice_get, IfOk};
-    ghost use Rattle.link.specs.Parts.{tree_of, hosts_of};
+    ghost use Rattle.std.specs.Prelude.{slice_get, IfOk};
+    ghost use Rattle.link.specs.Parts.{tree_of, hosts_of, start_of};
 
-    /// A module that is linked to these host calls.
-    pub fn of_linked(tree: Module<A>, hosts: Vec<HostCall, A>) -> Deployed<A>
-        requires { IsLinked (module_view tree) hosts.items }
+    /// A module that is linked to these host calls, and whose memory begins with these bytes.
+    pub(crate) fn of_linked(
+        tree: Module<A>,
+        hosts: Vec<HostCall, A>,
+        start: Start<A>,
+    ) -> Deployed<A>
+        requires linked { IsLinked (module_view tree) hosts.items }
+        requires begun { first_bytes start (page_size * size_of (module_view tree).memories) ≡ (fresh (module_view tree)).memory }
+        requires ends { (k : ℕ) → page_size * size_of (module_view tree).memories ≤ k → stands start k ≡ None }
         ensures tree { tree_of result ≡ tree }
         ensures hosts { hosts_of result ≡ hosts.items }
     {
-        Deployed { tree, hosts }
+        Deployed { tree, hosts, start }
     }
 
     /// The module.
@@ -49,6 +64,15 @@ impl<A: Allocator> Deployed<A> {
         self.hosts.get(i as usize).copied()
     }
 
+    /// The bytes that its memory begins with: those of a fresh instance, and none behind its first size.
+    pub fn start(&self) -> &Start<A>
+        ensures same { result.now ≡ start_of self.now }
+        ensures begun { first_bytes result.now (page_size * size_of (module_view (tree_of self.now)).memories) ≡ (fresh (module_view (tree_of self.now))).memory }
+        ensures ends { (k : ℕ) → page_size * size_of (module_view (tree_of self.now)).memories ≤ k → stands result.now k ≡ None }
+    {
+        &self.start
+    }
+
     /// The same module with the same host calls under another allocator. It is linked by its type.
     ///
     /// # Errors
@@ -59,8 +83,9 @@ impl<A: Allocator> Deployed<A> {
         ensures same_hosts { IfOk result (λ d. hosts_of d ≡ hosts_of self.now) }
     {
         let hosts = Vec::from_slice(alloc.clone()?, self.hosts())?;
+        let start = self.start.copy_in(alloc.clone()?)?;
         let tree = self.tree.copy_in(alloc)?;
-        Ok(Deployed { tree, hosts })
+        Ok(Deployed { tree, hosts, start })
     }
 
     /// A law: the module is typed, its imports are these host calls, and its segments are in range.

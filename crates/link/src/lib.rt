@@ -6,3 +6,4 @@ pub mod deployed;
 mod imports;
 pub mod refusal;
 mod segments;
+mod starts;

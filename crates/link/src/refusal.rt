@@ -20,7 +20,7 @@ pub enum LinkRefusal {
     /// A table begins with more than 65,536 elements.
     #[error("a table begins with more than 65536 elements")]
     TableTooLarge,
-    /// There is no memory for the list of host calls.
+    /// There is no memory for the list of host calls, or for what the memory begins with.
     #[error("memory was refused")]
     NoMemory,
 }

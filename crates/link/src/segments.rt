@@ -24,8 +24,8 @@ fn const_number(op: PlainInstr) -> Option<u32>
     }
 }
 
-// The number of an offset.
-fn offset_number<A: Allocator>(offset: &Vec<Instr<A>, A>) -> Option<u32>
+/// The number of an offset.
+pub fn offset_number<A: Allocator>(offset: &Vec<Instr<A>, A>) -> Option<u32>
     ensures { result ≡ Linking.offset_number (instrs_view offset.now.items) }
 {
     match lone_plain(offset) {

@@ -9,13 +9,17 @@ use std::str::from_utf8;
 
 /// A memory, and the last copy of it.
 #[derive(Drop)]
-struct Memories {
-    first: Linear<Global>,
-    copy: Option<Linear<Global>>,
+struct Memories<'a> {
+    first: Linear<'a, Global>,
+    copy: Option<Linear<'a, Global>>,
 }
 
 /// Puts what is answered to a store: `AT OFFSET WIDTH NUMBER`.
-fn put_stored(out: &mut String, memory: &mut Linear<Global>, rest: &str) -> Result<(), Refused> {
+fn put_stored(
+    out: &mut String,
+    memory: &mut Linear<'_, Global>,
+    rest: &str,
+) -> Result<(), Refused> {
     let (at, rest) = cut(rest);
     let (offset, rest) = cut(rest);
     let (width, value) = cut(rest);
@@ -29,7 +33,7 @@ fn put_stored(out: &mut String, memory: &mut Linear<Global>, rest: &str) -> Resu
 }
 
 /// Puts what is loaded: `AT OFFSET WIDTH`.
-fn put_loaded(out: &mut String, memory: &Linear<Global>, rest: &str) -> Result<(), Refused> {
+fn put_loaded(out: &mut String, memory: &Linear<'_, Global>, rest: &str) -> Result<(), Refused> {
     let (at, rest) = cut(rest);
     let (offset, width) = cut(rest);
     let width = short(width)?;
@@ -45,7 +49,7 @@ fn put_loaded(out: &mut String, memory: &Linear<Global>, rest: &str) -> Result<(
 fn put_written(
     alloc: Global,
     out: &mut String,
-    memory: &mut Linear<Global>,
+    memory: &mut Linear<'_, Global>,
     rest: &str,
 ) -> Result<(), Refused> {
     let (at, digits) = cut(rest);
@@ -61,7 +65,7 @@ fn put_written(
 fn put_bytes(
     alloc: Global,
     out: &mut String,
-    memory: &Linear<Global>,
+    memory: &Linear<'_, Global>,
     rest: &str,
 ) -> Result<(), Refused> {
     let (from, count) = cut(rest);
@@ -82,7 +86,7 @@ fn put_bytes(
 fn put_answer(
     alloc: Global,
     out: &mut String,
-    memory: &mut Linear<Global>,
+    memory: &mut Linear<'_, Global>,
     line: &str,
 ) -> Result<(), Refused> {
     let (word, rest) = cut(line);
@@ -112,7 +116,7 @@ fn put_answer(
 fn put_line(
     alloc: Global,
     out: &mut String,
-    memories: &mut Memories,
+    memories: &mut Memories<'_>,
     line: &str,
 ) -> Result<(), Refused> {
     let (word, rest) = cut(line);

@@ -1,2 +1,4 @@
 pub mod Linear
 pub mod Pieces
+pub mod Runs
+pub mod Start

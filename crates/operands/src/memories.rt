@@ -20,7 +20,7 @@ pub fn execute_load<A: Allocator + Copy>(
     operator: LoadOp,
     offset: u32,
     stack: &mut Vec<Value, A>,
-    memory: &Linear<A>,
+    memory: &Linear<'_, A>,
 ) -> After
     requires { HasOne val_type.I32 stack.old.items }
     ensures { DidLoad operator offset memory.now.bytes stack.old.items result stack.new.items }
@@ -45,7 +45,7 @@ pub fn loaded<A: Allocator + Copy>(
     operator: LoadOp,
     offset: u32,
     place: Value,
-    memory: &Linear<A>,
+    memory: &Linear<'_, A>,
 ) -> Result<Value, TrapCode>
     requires { type_of place ≡ val_type.I32 }
     ensures { Loaded operator offset memory.now.bytes place result }
@@ -62,7 +62,7 @@ pub fn execute_store<A: Allocator + Copy>(
     operator: StoreOp,
     offset: u32,
     stack: &mut Vec<Value, A>,
-    memory: &mut Linear<A>,
+    memory: &mut Linear<'_, A>,
 ) -> Result<After, AllocError>
     requires { HasPlace operator stack.old.items }
     ensures did { IfOk result (λ a. DidStore operator offset memory.old memory.new stack.old.items a stack.new.items) }
@@ -88,7 +88,7 @@ pub fn stored<A: Allocator + Copy>(
     offset: u32,
     place: Value,
     value: Value,
-    memory: &mut Linear<A>,
+    memory: &mut Linear<'_, A>,
 ) -> Result<(), StoreRefusal>
     requires { type_of place ≡ val_type.I32 }
     ensures { StoredAt operator offset memory.old place value result memory.new }
@@ -99,7 +99,7 @@ pub fn stored<A: Allocator + Copy>(
 /// Grows memory.
 pub fn execute_grow<A: Allocator + Copy>(
     stack: &mut Vec<Value, A>,
-    memory: &mut Linear<A>,
+    memory: &mut Linear<'_, A>,
 ) -> Result<(), AllocError>
     requires { HasOne val_type.I32 stack.old.items }
     ensures did { IfOk result (λ _. DidGrow memory.old memory.new stack.old.items stack.new.items) }
@@ -121,7 +121,7 @@ pub fn execute_grow<A: Allocator + Copy>(
 }
 
 /// The size of memory in pages, as a value.
-pub fn memory_size<A: Allocator + Copy>(memory: &Linear<A>) -> Value
+pub fn memory_size<A: Allocator + Copy>(memory: &Linear<'_, A>) -> Value
     ensures { result ≡ value_of val_type.I32 (pages memory.now.bytes) }
 {
     Value::I32(memory.size().cast_signed())

@@ -19,6 +19,7 @@ use Rattle.module_tree.specs.contracts.module.Func as func_row
 use Rattle.module_tree.specs.contracts.module.Global as global_row
 use Rattle.module_tree.specs.contracts.module.Import as import_row
 use Rattle.module_tree.specs.contracts.module.Module as tree_row
+use Rattle.memory.specs.contracts.start.Start as start_row
 use Rattle.link.specs.contracts.deployed.Deployed as contract_row
 use Rattle.interp.specs.contracts.finished.Finished as finished_row
 use Rattle.storage.specs.contracts.Cells as cells_row
@@ -44,6 +45,7 @@ use Rattle.module_tree.proofs.module.ExportDesc.TheSendSync as export_desc
 use Rattle.module_tree.proofs.module.GlobalType.TheSendSync as global_type
 use Rattle.module_tree.proofs.module.Import.TheSendSync as imported
 use Rattle.module_tree.proofs.module.ImportDesc.TheSendSync as import_desc
+use Rattle.memory.proofs.start.Run.TheSendSync as run
 use Rattle.call.proofs.Call.TheSendSync as call
 use Rattle.storage.proofs.Slot.TheSendSync as slot
 
@@ -121,8 +123,11 @@ module _ (B : RattleType) (g : Ghosts B.Denot) (send : IsSend B) (sync : IsSync 
   hosts_sync : IsSync (vec.the_row host_row.the_row B g)
   hosts_sync = search (crosses, vec_sync) depth 60 fits 100000
 
+  start_sync : IsSync (start_row.the_row B g)
+  start_sync = declared_sync (start_row.the_type B g) (search (crosses, vec_sync, run.the_field_sync) depth 60 fits 100000, (search (crosses, vec_sync) depth 60 fits 100000, tt))
+
   pub contract_sync : IsSync (contract_row.the_row B g)
-  contract_sync = declared_sync (contract_row.the_type B g) (search (crosses, tree_sync) depth 60, (search (crosses, hosts_sync) depth 60, tt))
+  contract_sync = declared_sync (contract_row.the_type B g) (search (crosses, tree_sync) depth 60, (search (crosses, hosts_sync) depth 60, (search (crosses, start_sync) depth 60, tt)))
 
   pub contracts_send : (ℓ : Lifetime) (κ : Lft) → IsSend (ShrSlice ℓ κ (contract_row.the_row B g))
   contracts_send ℓ κ = shr_slice_send ℓ κ _ contract_sync

@@ -18,7 +18,7 @@ const BYTES: u32 = 131_072;
 /// The last 8 bytes of 1,024 pages.
 const LAST: u32 = 67_108_856;
 
-fn assert_all_zero(rt: &impl Abort, memory: &Linear<&LocalHeap>) {
+fn assert_all_zero(rt: &impl Abort, memory: &Linear<'_, &LocalHeap>) {
     for word in 0..BYTES / 8 {
         equal(rt, &("word", word), &memory.load(8 * word, 0, 8), &Ok(0));
     }

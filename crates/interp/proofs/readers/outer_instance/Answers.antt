@@ -9,8 +9,8 @@ returns-in-Some-clause-globals g c = ap (λ (s : State). s.globals) (sym (state_
 pub returns-in-Some-clause-memory : goal.returns-in-Some-clause-memory
 returns-in-Some-clause-memory g c = ap (λ (s : State). s.memory) (sym (state_kept c.args.run.now c.in-Some.level.now (c.in-Some.ensures.value ∙ ap (λ xs. slice_get xs 0) c.deref.ensures.value)))
 
-pub returns-in-None-clause-globals : goal.returns-in-None-clause-globals
-returns-in-None-clause-globals g c = ap (λ (s : State). s.globals) (sym (state_inner c.args.run.now (c.in-None.ensures.value ∙ ap (λ xs. slice_get xs 0) c.deref.ensures.value)))
+pub returns-clause-globals : goal.returns-clause-globals
+returns-clause-globals g c = ap (λ (s : State). s.globals) (sym (state_inner c.args.run.now (c.in_default.ensures.value ∙ ap (λ xs. slice_get xs 0) c.deref.ensures.value)))
 
-pub returns-in-None-clause-memory : goal.returns-in-None-clause-memory
-returns-in-None-clause-memory g c = ap (λ (s : State). s.memory) (sym (state_inner c.args.run.now (c.in-None.ensures.value ∙ ap (λ xs. slice_get xs 0) c.deref.ensures.value)))
+pub returns-clause-memory : goal.returns-clause-memory
+returns-clause-memory g c = ap (λ (s : State). s.memory) (sym (state_inner c.args.run.now (c.in_default.ensures.value ∙ ap (λ xs. slice_get xs 0) c.deref.ensures.value)))

@@ -1,10 +1,21 @@
-use Rattle.std.proofs.Common.{◌≡◌, List, subst, rules}
+use Rattle.std.proofs.Common.{◌≡◌, ◌∙◌, ◌*◌, ◌≤◌, ℕ, List, None, subst, sym, rules}
 use Rattle.wtypes.specs.declared.HostCall.{HostCall}
+use Rattle.spec_syntax.specs.Syntax.{Module}
+use Rattle.spec_syntax.specs.Profile.{page_size}
 use Rattle.spec_typing.specs.Linking.{IsLinked}
+use Rattle.spec_execution.specs.Configuration.{size_of, fresh}
 use Rattle.module_tree.specs.Modules.{module_view}
+use Rattle.memory.specs.Start.{stands, first_bytes}
+use Rattle.link.proofs.Laying.{same_start}
 use Rattle.link.proofs.deployed.Deployed.copy_in.Goals as goal
 
 pub invariant_of-result : goal.invariant_of-result
 invariant_of-result g c =
     let same : c.args.self.now.hosts.items ≡ c.in_ok-hosts.hosts.items = search rules in
-    record { linked = subst (λ (hosts : List HostCall). ∥ IsLinked (module_view c.in_ok-tree.tree) hosts ∥₁) same (rw c.in_ok-tree.ensures.same_tree c.args.self.now.linked) }
+    let d = c.args.self.now in
+    record {
+      linked = subst (λ (hosts : List HostCall). ∥ IsLinked (module_view c.in_ok-tree.tree) hosts ∥₁) same (rw c.in_ok-tree.ensures.same_tree d.linked);
+      begun = subst (λ (m : Module). first_bytes c.in_ok-start.start (page_size * size_of m.memories) ≡ (fresh m).memory) (sym c.in_ok-tree.ensures.same_tree)
+          (same_start (stands d.start) (stands c.in_ok-start.start) (page_size * size_of (module_view d.tree).memories) c.in_ok-start.ensures ∙ d.begun);
+      ends = subst (λ (m : Module). (k : ℕ) → page_size * size_of m.memories ≤ k → stands c.in_ok-start.start k ≡ None) (sym c.in_ok-tree.ensures.same_tree) (λ k q. c.in_ok-start.ensures k ∙ d.ends k q);
+    }
