@@ -7,7 +7,7 @@ use crate::orders::all_numbers;
 use crate::rates::a_second;
 use crate::refusals::refused;
 use call::Call;
-use lock_profile::Touched;
+use lock_profile::{Profile, Touched};
 use mining::mine_core;
 use pace::NoPace;
 use serial::serial_core;
@@ -35,6 +35,7 @@ struct Ran {
     order: Vec<u32>,
     receipts: Vec<Receipt>,
     touched: Vec<Touched>,
+    profiles: Vec<Profile>,
     /// The cells after them.
     cells: Cells,
     /// How many of them workers committed.
@@ -60,6 +61,7 @@ fn run<R: Threads + Wait + Sync>(
             order,
             receipts: core.receipts,
             touched: core.touched,
+            profiles: Vec::new(alloc),
             cells: core.cells,
             by_workers: 0,
         });
@@ -79,7 +81,8 @@ fn run<R: Threads + Wait + Sync>(
     Ok(Ran {
         order: mined.order,
         receipts: mined.receipts,
-        touched: mined.touched,
+        touched: Vec::new(alloc),
+        profiles: mined.profiles,
         cells: mined.cells,
         by_workers: mined.by_workers,
     })
@@ -115,6 +118,7 @@ fn line_of<R: Threads + Wait + Clock + Sync>(
         order,
         receipts: _,
         touched: _,
+        profiles: _,
         cells,
         by_workers,
     } = ran;

@@ -3,27 +3,34 @@
 //! runs calls speculatively).
 #![tactic(auto)]
 
+mod again;
 mod listing;
 mod playing;
 mod touches;
 
-ghost use Rattle.std.specs.Prelude.{◌≡◌, ◌++◌, ℕ, All, IfOk, OnOk, Option};
+ghost use Rattle.std.specs.Prelude.{◌≡◌, ◌++◌, ℕ, All, IfOk, IfSome, OnOk, Option};
 ghost use Rattle.std.specs.FinMap.{get};
 ghost use Rattle.spec_ledger.specs.declared.Lock.{Lock};
+ghost use Rattle.spec_execution.specs.Configuration.{Setting};
+ghost use Rattle.spec_execution.specs.Run.{ContractCall};
 ghost use Rattle.spec_footprint.specs.Footprints.{IsFootprint};
 ghost use Rattle.interp.specs.Lent.{setting_view};
 ghost use Rattle.beside.specs.Behind.{behind};
 ghost use Rattle.beside.specs.Found.{IsFoundBy};
-ghost use Rattle.beside.specs.Touches.{AreAccessesAt, IsCellAt};
+ghost use Rattle.beside.specs.Touches.{AreAccessesAt, AreFoundBy, IsCellAt, IsPlayedBeside};
 
+use crate::again::act_again;
 use crate::listing::list;
 use crate::playing::play;
+use crate::touches::Touch;
 use call::Call;
+use interp::finished::Finished;
 use link::deployed::Deployed as Contract;
 use serial::Executed;
 use spec_footprint::{Access, an_execution_has_a_footprint};
 use spec_ledger::{Lock, NoMemory, Receipt, Version};
 use std::alloc::Allocator;
+use std::collections::BTreeMap;
 use storage::{Cells, returned};
 
 /// Cells that can be read. They need not stand still: what is read at one lock may be older or newer than what is read at another, and two reads of one lock
@@ -67,8 +74,50 @@ pub fn run_beside<A: Allocator + Copy, V: Reads>(
     ensures read { IfOk result (λ e. All (IsFoundBy (V.may_read view.now)) (behind accesses.old.items accesses.new.items)) }
     ensures accesses { OnOk result (accesses.new.items ≡ accesses.old.items ++ behind accesses.old.items accesses.new.items) }
 {
-    an_execution_has_a_footprint();
     let (finished, touches) = play(alloc, contracts, call, view, version)?;
+    let executed = told(alloc, &finished, view, touches, accesses)?;
+    Ok(executed)
+}
+
+/// Does a run of a call that was made elsewhere again beside the cells, where each of its replies is that of the view, and puts its footprint behind the accesses
+/// that are there, as [`run_beside`] does. None where a reply is another.
+///
+/// # Errors
+///
+/// Memory was refused. More or fewer of its accesses may have been put down.
+pub fn replay_beside<A: Allocator + Copy, V: Reads>(
+    alloc: A,
+    finished: &Finished<'_, A>,
+    view: &V,
+    accesses: &mut Vec<Access, A>,
+) -> Result<Option<Executed<A>>, NoMemory>
+    ensures footprint { IfOk result (λ o. IfSome o (λ e. IsFootprint finished.now.setting finished.now.call (behind accesses.old.items accesses.new.items) e.receipt e.touched)) }
+    ensures told { IfOk result (λ o. IfSome o (λ e. AreAccessesAt e.touched (behind accesses.old.items accesses.new.items))) }
+    ensures read { IfOk result (λ o. IfSome o (λ e. All (IsFoundBy (V.may_read view.now)) (behind accesses.old.items accesses.new.items))) }
+    ensures accesses { IfOk result (λ o. IfSome o (λ e. accesses.new.items ≡ accesses.old.items ++ behind accesses.old.items accesses.new.items)) }
+{
+    let Some(touches) = act_again(alloc, view, finished.trace())? else {
+        return Ok(None);
+    };
+    let executed = told(alloc, finished, view, touches, accesses)?;
+    Ok(Some(executed))
+}
+
+/// What a run comes to that touched these over a view, and its footprint behind the accesses that are there.
+fn told<A: Allocator + Copy, V: Reads>(
+    alloc: A,
+    finished: &Finished<'_, A>,
+    _view: &V,
+    touches: BTreeMap<Lock, Touch, A>,
+    accesses: &mut Vec<Access, A>,
+) -> Result<Executed<A>, NoMemory>
+    requires { AreFoundBy (V.may_read _view.now) touches.entries }
+    ensures footprint { IfOk result (λ e. (setting : Setting) (call : ContractCall) → IsPlayedBeside setting call finished.now touches.entries → IsFootprint setting call (behind accesses.old.items accesses.new.items) e.receipt e.touched) }
+    ensures told { IfOk result (λ e. AreAccessesAt e.touched (behind accesses.old.items accesses.new.items)) }
+    ensures read { IfOk result (λ e. All (IsFoundBy (V.may_read _view.now)) (behind accesses.old.items accesses.new.items)) }
+    ensures accesses { OnOk result (accesses.new.items ≡ accesses.old.items ++ behind accesses.old.items accesses.new.items) }
+{
+    an_execution_has_a_footprint();
     finished.is_played();
     let receipt = Receipt {
         outcome: finished.outcome(),

@@ -7,9 +7,8 @@ use denote.Param.SendFields.{declared_send, declared_sync, as_row_sync}
 use Rattle.std.specs.declared.alloc.Allocator.{Ghosts}
 use Rattle.std.proofs.Crossing as std
 use Rattle.std.proofs.CrossingOver as over
-use Rattle.lock_profile.specs.contracts.Touched as touched_row
-use Rattle.lock_profile.proofs.Held.TheSendSync as held
 use Rattle.spec_footprint.proofs.Access.TheSendSync as access
+use Rattle.spec_ledger.proofs.Entry.TheSendSync as entry
 use Rattle.spec_ledger.proofs.Version.TheSendSync as version
 use Rattle.serial_block.proofs.Crossing.{crosses, vec_send, contract_sync, contracts_send, cells_sync}
 use Rattle.handover.specs.declared.rule.Fact as fact
@@ -24,24 +23,24 @@ use Rattle.in_order.specs.contracts.line.Batch as batch_row
 use Rattle.in_order.specs.contracts.post.Post as post_row
 
 module _ (B : RattleType) (g : Ghosts B.Denot) (send : IsSend B) (sync : IsSync B) (frees : Frees g g.dealloc_token) where
-  touched_send : IsSend (touched_row.the_row B g)
-  touched_send = let vec = vec_send B g send sync frees in search (crosses, held.the_send, vec) depth 60 fits 100000
-
   share_send : (a : NamedLft) → IsSend (share_row.the_row a B g)
   share_send a =
       let vec = vec_send B g send sync frees in
       let contracts = contracts_send B g send sync frees in
-      search (crosses, over.crosses, vec, contracts, access.the_send, touched_send) depth 60 fits 100000
+      search (crosses, over.crosses, vec, contracts, access.the_send, entry.the_send) depth 60 fits 100000
 
   task_sync : (a : NamedLft) → IsSync (task_row.the_row a B g)
   task_sync a =
       let contract = contract_sync B g send sync frees in
-      declared_sync (task_row.the_type a B g) (search (crosses, contract) depth 60 fits 100000, (search crosses depth 60 fits 100000, (search (crosses, version.the_sync) depth 60 fits 100000, tt)))
+      let cells = cells_sync B g send sync frees in
+      declared_sync (task_row.the_type a B g)
+      (search (crosses, contract) depth 60 fits 100000, (search crosses depth 60 fits 100000, (search (crosses, version.the_sync) depth 60 fits 100000, (search (crosses, cells) depth 60 fits 100000, tt))))
 
   task_send : (a : NamedLft) → IsSend (task_row.the_row a B g)
   task_send a =
       let contracts = contracts_send B g send sync frees in
-      search (crosses, over.crosses, contracts, version.the_send) depth 60 fits 100000
+      let cells = cells_sync B g send sync frees in
+      search (crosses, over.crosses, contracts, version.the_send, cells) depth 60 fits 100000
 
   batch_send : (a : NamedLft) → IsSend (batch_row.the_row a B g)
   batch_send a = declared_send (batch_row.the_type a B g) (search crosses depth 60 fits 100000, (share_send a, tt))
@@ -60,7 +59,6 @@ module _ (B : RattleType) (g : Ghosts B.Denot) (send : IsSend B) (sync : IsSync 
   -- threads may share an order, where they may share the pace
   pub job_sync : (a b : NamedLft) (P : RattleType) → IsSync P → IsSync (job_row.the_row a b B P g)
   job_sync a b P pace =
-      let cells = cells_sync B g send sync frees in
       declared_sync (job_row.the_type a b B P g) (
         as_row_sync (row_field B) sync,
         (
@@ -68,11 +66,8 @@ module _ (B : RattleType) (g : Ghosts B.Denot) (send : IsSend B) (sync : IsSync 
           (
             search crosses depth 60 fits 100000,
             (
-              search (crosses, cells) depth 60 fits 100000,
-              (
-                as_row_sync (row_field (ShrRef a.mir a.lft P)) (shr_sync a.mir a.lft P pace),
-                (search (sendable, std.crosses) depth 60 fits 100000, (search (sendable, std.crosses) depth 60 fits 100000, (search (sendable, std.crosses) depth 60 fits 100000, tt))),
-              ),
+              as_row_sync (row_field (ShrRef a.mir a.lft P)) (shr_sync a.mir a.lft P pace),
+              (search (sendable, std.crosses) depth 60 fits 100000, (search (sendable, std.crosses) depth 60 fits 100000, (search (sendable, std.crosses) depth 60 fits 100000, tt))),
             ),
           ),
         ),

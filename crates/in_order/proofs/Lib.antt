@@ -1,3 +1,4 @@
 pub mod Crossing
 pub mod Shares
+pub mod Doing
 pub mod OneMore

@@ -1,3 +1,4 @@
 pub mod Ran
 pub mod Shares
+pub mod Done
 pub mod Handed

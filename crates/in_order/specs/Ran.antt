@@ -1,26 +1,31 @@
 -- What the calls of the first positions of an order came to.
 use Rattle.std.specs.Prelude.{◌≡◌, ◌<◌, ◌≤◌, ℕ, List, All, Some, length, slice_get, take}
-use Rattle.std.specs.FinMap.{empty}
+use Rattle.std.specs.FinMap.{get}
 use Rattle.spec_ledger.specs.Cells.{Cells}
 use Rattle.spec_execution.specs.Configuration.{Setting}
 use Rattle.spec_execution.specs.Run.{ContractCall}
 use Rattle.spec_execution.specs.Serial.{Serial}
 use Rattle.interp.specs.Lent.{setting_view}
 use Rattle.interp.specs.Played.{Played}
+use Rattle.lock_profile.specs.Groups.{GroupsOf}
+use Rattle.lock_profile.specs.Turns.{AreTurns}
 use Rattle.serial.specs.Positions.{positions}
+use Rattle.front.specs.Named.{touched_in}
 use Rattle.in_order.specs.declared.InOrder.{InOrder}
 use Rattle.in_order.specs.declared.Ran.{Ran}
 
 -- the first calls of an order, one after another from these cells on
 pub record IsRan {A : Type 0} (setting : Setting) (calls : List ContractCall) (order : List ℕ) (cells : Cells) (r : Ran A) : Type 0 where
-  pub serial : Serial setting calls (take (length r.receipts.items) order) cells (positions r.receipts.items r.touched.items) r.cells.cells
-  pub touched : length r.touched.items ≡ length r.receipts.items
+  pub serial : Serial setting calls (take (length r.receipts.items) order) cells (positions r.receipts.items (touched_in r.profiles.items)) r.front.cells
+  pub profiles : length r.profiles.items ≡ length r.receipts.items
+  pub turns : AreTurns (touched_in r.profiles.items) r.profiles.items
+  pub groups : GroupsOf (touched_in r.profiles.items) (get r.front.groups)
+  pub base : r.front.base ≡ cells
   pub within : length r.receipts.items ≤ length order
-  pub settled : r.cells.unsettled ≡ empty
   pub ahead : r.ahead ≤ length r.receipts.items
 
 abbrev pub IsRanOf : {A P : Type 0} → InOrder A P → Ran A → Type 0
-IsRanOf job r = IsRan (setting_view job.task.version job.task.contracts.now) job.task.calls.now job.order.now job.cells.now.cells r
+IsRanOf job r = IsRan (setting_view job.task.version job.task.contracts.now) job.task.calls.now job.order.now job.task.cells.now.cells r
 
 -- each number of an order is a call's, and there are at most 65535
 pub record AreKnown (calls : List ContractCall) (order : List ℕ) : Type 0 where

@@ -60,7 +60,7 @@ fn run_calls<A: Allocator + Copy, P: Pace>(
         if told(job.pace, call) {
             return Ok(true);
         }
-        prepare(job.alloc, &job.task, job.cells, call, share)?;
+        prepare(job.alloc, &job.task, call, share)?;
     }
     Ok(false)
 }

@@ -1,30 +1,28 @@
 //! Calls that are run ahead of their turn, over cells that are only read, and kept with their footprints until it is their turn.
 
-ghost use Rattle.std.specs.Prelude.{◌≡◌, ◌<◌, ◌↔◌, [], All, IfOk, IfNone, IfSome, IsSome, OnOk, Some, length, slice_get};
-ghost use Rattle.std.specs.FinMap as finite;
-ghost use Rattle.spec_execution.specs.Exec.{Executes};
-ghost use Rattle.spec_execution.specs.Run.{ContractCall};
-ghost use Rattle.spec_footprint.specs.Footprints.{Agrees};
+ghost use Rattle.std.specs.Prelude.{◌≡◌, ◌<◌, IfOk, IfNone, IfSome, OnOk, length};
 ghost use Rattle.interp.specs.Lent.{setting_view};
-ghost use Rattle.in_order.specs.Shares.{IsPrepared, IsShareOf, footprint_of};
+ghost use Rattle.in_order.specs.Done.{HasDoneOf, HasTurns};
+ghost use Rattle.in_order.specs.Shares.{IsPreparedOf, IsShareOf};
 
 use crate::Task;
-use beside::{Reads, run_beside};
-use footprint::enact;
+use crate::turns::Done;
+use beside::run_beside;
+use front::{Front, unturned};
 use link::deployed::Deployed as Contract;
-use serial::Executed;
 use spec_footprint::Access;
-use spec_ledger::NoMemory;
+use spec_ledger::{Entry, NoMemory, Receipt};
 use std::alloc::Allocator;
-use storage::Cells;
 
 /// A call that was run, and which of the accesses beside it are its footprint.
 #[derive(Drop)]
 pub(crate) struct Prepared<A: Allocator> {
     /// Its number.
     pub(crate) call: u32,
-    /// What it came to.
-    pub(crate) executed: Executed<A>,
+    /// How it ended, the fuel that it used and the levels that it entered.
+    pub(crate) receipt: Receipt,
+    /// The locks that it asked for, before it has its turns.
+    pub(crate) entries: Vec<Entry, A>,
     /// How many accesses come before its own.
     pub(crate) from: usize,
     /// How many there are with its own.
@@ -60,11 +58,10 @@ pub(crate) fn open_share<'a, A: Allocator + Copy>(
     })
 }
 
-/// Runs a call over a view of the cells, and puts it with its footprint behind those of the share.
-pub(crate) fn prepare<A: Allocator + Copy, V: Reads>(
+/// Runs a call over the cells before the first, and puts it with its footprint behind those of the share.
+pub(crate) fn prepare<A: Allocator + Copy>(
     alloc: A,
     task: &Task<'_, A>,
-    view: &V,
     call: u32,
     share: &mut Share<'_, A>,
 ) -> Result<(), NoMemory>
@@ -78,44 +75,51 @@ pub(crate) fn prepare<A: Allocator + Copy, V: Reads>(
         alloc,
         task.contracts,
         &calls[call as usize],
-        view,
+        task.cells,
         &mut share.accesses,
         task.version,
     )?;
     let until = share.accesses.len();
+    let entries = unturned(alloc, &executed.touched)?;
     share.prepared.push(Prepared {
         call,
-        executed,
+        receipt: executed.receipt,
+        entries,
         from,
         until,
     })?;
     Ok(())
 }
 
-/// Does with cells what a call did that was prepared beside these accesses, where they hold what it found, and gives what it came to.
+/// Does with the cells of a block so far what a call did that was prepared beside these accesses, where they hold what it found.
 pub(crate) fn follow<A: Allocator + Copy>(
     task: &Task<'_, A>,
     prepared: Prepared<A>,
     accesses: &[Access],
-    cells: &mut Cells<A>,
-) -> Result<Option<Executed<A>>, NoMemory>
-    requires prepared { IsPrepared (setting_view task.now.version task.now.contracts.now) task.now.calls.now accesses.now prepared }
-    requires settled { cells.old.unsettled ≡ finite.empty }
-    ensures answer { IfOk result (λ o. IsSome o ↔ All (Agrees cells.old.cells) (footprint_of accesses.now prepared)) }
-    ensures executed { IfOk result (λ o. IfSome o (λ e. (call : ContractCall) → slice_get task.now.calls.now prepared.call ≡ Some call → Executes (setting_view task.now.version task.now.contracts.now) call cells.old.cells cells.new.cells e.receipt e.touched)) }
-    ensures same { IfOk result (λ o. IfNone o (cells.new ≡ cells.old)) }
-    ensures settled { cells.new.unsettled ≡ finite.empty }
+    front: &mut Front<'_, A>,
+) -> Result<Option<Done<A>>, NoMemory>
+    requires prepared { IsPreparedOf task.now accesses.now prepared }
+    requires base { front.old.base ≡ task.now.cells.now.cells }
+    requires turns { HasTurns front.old.groups }
+    ensures done { IfOk result (λ o. IfSome o (λ done. HasDoneOf (setting_view task.now.version task.now.contracts.now) task.now.calls.now prepared.call front.old front.new done.receipt done.profile)) }
+    ensures other { IfOk result (λ o. IfNone o (front.new ≡ front.old)) }
 {
-    cells.hold();
+    front.hold();
     let Prepared {
         call: _,
-        executed,
+        receipt,
+        entries,
         from,
         until,
     } = prepared;
-    if enact(cells, &accesses[from..until])? {
-        Ok(Some(executed))
-    } else {
-        Ok(None)
+    let own = &accesses[from..until];
+    if !front.agrees(own) {
+        return Ok(None);
     }
+    let profile = front.enact(own, entries)?;
+    Ok(Some(Done {
+        receipt,
+        profile,
+        ahead: true,
+    }))
 }

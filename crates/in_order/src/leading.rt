@@ -60,9 +60,9 @@ fn note(tally: &mut Tally, calls: u64, ahead: u64) -> bool {
 /// Does the calls of a batch by their footprints, and runs those again that found other cells, as long as the order is not stopped.
 fn do_batch<'a, A: Allocator + Copy, P: Pace>(
     job: &InOrder<'_, 'a, A, P>,
-    mut ran: Ran<A>,
+    mut ran: Ran<'a, A>,
     share: &mut Share<'a, A>,
-) -> Result<Ran<A>, NoMemory>
+) -> Result<Ran<'a, A>, NoMemory>
     requires known { IsKnown job.now }
     requires ran { IsRanOf job.now ran }
     requires share { IsShareOf job.now.task share.old }
@@ -83,11 +83,11 @@ fn do_batch<'a, A: Allocator + Copy, P: Pace>(
 /// Does a batch that has come, and keeps what is left of it.
 fn do_share<'a, A: Allocator + Copy, P: Pace>(
     job: &InOrder<'_, 'a, A, P>,
-    ran: Ran<A>,
+    ran: Ran<'a, A>,
     supply: &mut Supply<'a, A>,
     tally: &mut Tally,
     share: Share<'a, A>,
-) -> Result<Came<A>, NoMemory>
+) -> Result<Came<'a, A>, NoMemory>
     requires known { IsKnown job.now }
     requires ran { IsRanOf job.now ran }
     requires supply { IsSupplyOf job.now.task supply.old }
@@ -136,11 +136,11 @@ fn look<'a, A: Allocator + Copy, P: Pace>(
 /// is left to draw and the next one does not come, the calls are run here all the same, and whoever runs them too runs them in vain.
 fn lead_on<'a, A: Allocator + Copy, P: Pace>(
     job: &InOrder<'_, 'a, A, P>,
-    ran: Ran<A>,
+    ran: Ran<'a, A>,
     supply: &mut Supply<'a, A>,
     post: &mut Post<'_, 'a, A>,
     tally: &mut Tally,
-) -> Result<Came<A>, NoMemory>
+) -> Result<Came<'a, A>, NoMemory>
     requires known { IsKnown job.now }
     requires ran { IsRanOf job.now ran }
     requires supply { IsSupplyOf job.now.task supply.old }
@@ -177,9 +177,9 @@ fn lead_on<'a, A: Allocator + Copy, P: Pace>(
 /// Does the calls in their turn, batch by batch, until all are done or the order or the thread is stopped.
 fn lead<'a, A: Allocator + Copy, P: Pace>(
     job: &InOrder<'_, 'a, A, P>,
-    ran: Ran<A>,
+    ran: Ran<'a, A>,
     mut post: Post<'_, 'a, A>,
-) -> Result<Ran<A>, NoMemory>
+) -> Result<Ran<'a, A>, NoMemory>
     requires known { IsKnown job.now }
     requires ran { IsRanOf job.now ran }
     requires post { IsPostOf job.now post }
@@ -202,9 +202,9 @@ fn lead<'a, A: Allocator + Copy, P: Pace>(
 /// Does the calls in their turn. When that ends, nobody begins a further call ahead of its turn.
 fn lead_and_close<'a, A: Allocator + Copy, P: Pace>(
     job: &InOrder<'_, 'a, A, P>,
-    ran: Ran<A>,
+    ran: Ran<'a, A>,
     post: Post<'_, 'a, A>,
-) -> Result<Ran<A>, NoMemory>
+) -> Result<Ran<'a, A>, NoMemory>
     requires known { IsKnown job.now }
     requires ran { IsRanOf job.now ran }
     requires post { IsPostOf job.now post }
@@ -219,10 +219,10 @@ fn lead_and_close<'a, A: Allocator + Copy, P: Pace>(
 fn lead_beside<'a, R: Threads + Wait + Sync, A: Allocator + Copy + Send + Sync, P: Pace>(
     rt: &R,
     job: &InOrder<'_, 'a, A, P>,
-    ran: Ran<A>,
+    ran: Ran<'a, A>,
     posts: Vec<Post<'_, 'a, A>, A>,
     own: Post<'_, 'a, A>,
-) -> Result<Ran<A>, NoMemory>
+) -> Result<Ran<'a, A>, NoMemory>
     requires known { IsKnown job.now }
     requires ran { IsRanOf job.now ran }
     requires posts { All (IsPostOf job.now) posts.items }
@@ -285,12 +285,12 @@ fn join_all<
 >(
     rt: &R,
     job: &InOrder<'_, 'a, A, P>,
-    ran: Ran<A>,
+    ran: Ran<'a, A>,
     posts: Vec<Post<'_, 'a, A>, A>,
     first: Post<'_, 'a, A>,
     own: Post<'_, 'a, A>,
     errand: F,
-) -> (T, Result<Ran<A>, NoMemory>)
+) -> (T, Result<Ran<'a, A>, NoMemory>)
     requires known { IsKnown job.now }
     requires ran { IsRanOf job.now ran }
     requires posts { All (IsPostOf job.now) posts.items }
@@ -324,10 +324,10 @@ pub(crate) fn run_beside<
 >(
     rt: &R,
     job: &InOrder<'_, 'a, A, P>,
-    ran: Ran<A>,
+    ran: Ran<'a, A>,
     threads: u32,
     errand: F,
-) -> (T, Result<Ran<A>, NoMemory>)
+) -> (T, Result<Ran<'a, A>, NoMemory>)
     requires known { IsKnown job.now }
     requires ran { IsRanOf job.now ran }
     requires threads { 2 ≤ threads }

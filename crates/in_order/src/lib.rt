@@ -21,9 +21,10 @@ use crate::leading::run_beside;
 use crate::straight::{Begun, begin_straight, run_straight};
 use crate::turns::do_next;
 use call::Call;
+use front::Front;
 use interp::finished::Finished;
 use link::deployed::Deployed as Contract;
-use lock_profile::Touched;
+use lock_profile::Profile;
 use pace::Pace;
 use spec_ledger::{NoMemory, Receipt, Version};
 use std::alloc::Allocator;
@@ -41,6 +42,8 @@ pub struct Task<'a, A: Allocator> {
     pub calls: &'a [Call],
     /// The version of the block.
     pub version: Version,
+    /// The cells before the first call, which nobody changes.
+    pub cells: &'a Cells<A>,
 }
 
 /// More batches than any order has.
@@ -55,8 +58,6 @@ pub struct InOrder<'s, 'a, A: Allocator, P: Pace> {
     pub task: Task<'a, A>,
     /// Their numbers, by position.
     pub order: &'s [u32],
-    /// The cells before the first call, which nobody changes.
-    pub cells: &'s Cells<A>,
     /// Is told the beginning of each call that is run ahead of its turn, and of each that is run in its turn because nobody had run it ahead.
     pub pace: &'s P,
     /// How many batches of positions were drawn; more than any order has where nobody is to begin a further call ahead of its turn.
@@ -73,20 +74,17 @@ impl<'s, 'a, A: Allocator, P: Pace> InOrder<'s, 'a, A, P> {
         alloc: A,
         task: Task<'a, A>,
         order: &'s [u32],
-        cells: &'s Cells<A>,
         pace: &'s P,
     ) -> InOrder<'s, 'a, A, P>
         ensures alloc { result.alloc ≡ alloc }
         ensures task { result.task ≡ task.entry }
         ensures order { result.order ≡ order.entry }
-        ensures cells { result.cells ≡ cells.entry }
         ensures pace { result.pace ≡ pace.entry }
     {
         InOrder {
             alloc,
             task,
             order,
-            cells,
             pace,
             drawn: AtomicU64::new(0),
             is_stopped: AtomicBool::new(false),
@@ -108,30 +106,32 @@ impl<'s, 'a, A: Allocator, P: Pace> InOrder<'s, 'a, A, P> {
 
 /// What the calls of the first positions came to.
 #[derive(Drop)]
-pub struct Ran<A: Allocator> {
+pub struct Ran<'a, A: Allocator> {
     /// The receipt at each position.
     pub receipts: Vec<Receipt, A>,
-    /// The locks that the call at each position asked for, each with the join of its modes.
-    pub touched: Vec<Touched<A>, A>,
-    /// The cells after them, in which nothing is unsettled.
-    pub cells: Cells<A>,
+    /// The locks that the call at each position asked for, each with the join of its modes and its turn.
+    pub profiles: Vec<Profile<A>, A>,
+    /// The cells after them.
+    pub front: Front<'a, A>,
     /// How many of them were done by what they found and left, or by the replies that they got, when they were run ahead of their turn.
     pub ahead: u32,
 }
 
-/// Nothing has run. The cells are copied.
+/// Nothing has run.
 ///
 /// # Errors
 ///
 /// Memory was refused.
-pub fn begin<A: Allocator + Copy, P: Pace>(job: &InOrder<'_, '_, A, P>) -> Result<Ran<A>, NoMemory>
+pub fn begin<'a, A: Allocator + Copy, P: Pace>(
+    job: &InOrder<'_, 'a, A, P>,
+) -> Result<Ran<'a, A>, NoMemory>
     ensures ran { IfOk result (IsRanOf job.now) }
     ensures none { IfOk result (λ ran. ran.receipts.items ≡ []) }
 {
     Ok(Ran {
-        receipts: Vec::new(job.alloc),
-        touched: Vec::new(job.alloc),
-        cells: job.cells.copy(job.alloc)?,
+        receipts: Vec::with_capacity(job.alloc, job.order.len())?,
+        profiles: Vec::with_capacity(job.alloc, job.order.len())?,
+        front: Front::open(job.alloc, job.task.cells),
         ahead: 0,
     })
 }
@@ -144,9 +144,9 @@ pub fn begin<A: Allocator + Copy, P: Pace>(job: &InOrder<'_, '_, A, P>) -> Resul
 /// Memory was refused.
 pub fn go_on<'a, A: Allocator + Copy, P: Pace>(
     job: &InOrder<'_, 'a, A, P>,
-    ran: Ran<A>,
+    ran: Ran<'a, A>,
     run: Option<&Finished<'a, A>>,
-) -> Result<Ran<A>, NoMemory>
+) -> Result<Ran<'a, A>, NoMemory>
     requires known { IsKnown job.now }
     requires ran { IsRanOf job.now ran }
     requires more { length ran.receipts.items < length job.now.order.now }
@@ -162,10 +162,10 @@ pub fn go_on<'a, A: Allocator + Copy, P: Pace>(
 /// # Errors
 ///
 /// Memory was refused.
-pub fn complete<A: Allocator + Copy, P: Pace>(
-    job: &InOrder<'_, '_, A, P>,
-    mut ran: Ran<A>,
-) -> Result<Ran<A>, NoMemory>
+pub fn complete<'a, A: Allocator + Copy, P: Pace>(
+    job: &InOrder<'_, 'a, A, P>,
+    mut ran: Ran<'a, A>,
+) -> Result<Ran<'a, A>, NoMemory>
     requires known { IsKnown job.now }
     requires ran { IsRanOf job.now ran }
     ensures ran { IfOk result (IsRanOf job.now) }
@@ -193,10 +193,10 @@ pub fn run_with<
 >(
     rt: &R,
     job: &InOrder<'_, 'a, A, P>,
-    ran: Ran<A>,
+    ran: Ran<'a, A>,
     workers: u32,
     errand: F,
-) -> (T, Result<Ran<A>, NoMemory>)
+) -> (T, Result<Ran<'a, A>, NoMemory>)
     requires known { IsKnown job.now }
     requires ran { IsRanOf job.now ran }
     requires workers { 1 ≤ workers }

@@ -26,18 +26,18 @@ pub(crate) fn told<P: Pace>(pace: &P, call: u32) -> bool {
 
 /// What the calls of the first positions came to.
 #[derive(Drop)]
-pub(crate) struct Came<A: Allocator> {
-    pub(crate) ran: Ran<A>,
+pub(crate) struct Came<'a, A: Allocator> {
+    pub(crate) ran: Ran<'a, A>,
     /// Whether the order or the thread was stopped.
     pub(crate) stops: bool,
 }
 
 /// Runs the next calls straight over the cells, up to a position, as long as neither the order nor the thread is stopped.
-pub(crate) fn run_to<A: Allocator + Copy, P: Pace>(
-    job: &InOrder<'_, '_, A, P>,
-    mut ran: Ran<A>,
+pub(crate) fn run_to<'a, A: Allocator + Copy, P: Pace>(
+    job: &InOrder<'_, 'a, A, P>,
+    mut ran: Ran<'a, A>,
     end: usize,
-) -> Result<Came<A>, NoMemory>
+) -> Result<Came<'a, A>, NoMemory>
     requires known { IsKnown job.now }
     requires ran { IsRanOf job.now ran }
     ensures { IfOk result (λ came. IsRanOf job.now came.ran) }
@@ -53,10 +53,10 @@ pub(crate) fn run_to<A: Allocator + Copy, P: Pace>(
 }
 
 /// Runs all further calls straight over the cells, as long as neither the order nor the thread is stopped.
-pub(crate) fn run_straight<A: Allocator + Copy, P: Pace>(
-    job: &InOrder<'_, '_, A, P>,
-    ran: Ran<A>,
-) -> Result<Ran<A>, NoMemory>
+pub(crate) fn run_straight<'a, A: Allocator + Copy, P: Pace>(
+    job: &InOrder<'_, 'a, A, P>,
+    ran: Ran<'a, A>,
+) -> Result<Ran<'a, A>, NoMemory>
     requires known { IsKnown job.now }
     requires ran { IsRanOf job.now ran }
     ensures { IfOk result (IsRanOf job.now) }
@@ -76,18 +76,18 @@ fn fuel_from(receipts: &[Receipt], position: usize) -> u64 {
 
 /// What the first calls came to, and by how many threads the others run.
 #[derive(Drop)]
-pub(crate) struct Begun<A: Allocator> {
-    pub(crate) ran: Ran<A>,
+pub(crate) struct Begun<'a, A: Allocator> {
+    pub(crate) ran: Ran<'a, A>,
     /// With the caller's; 0 where it was stopped.
     pub(crate) threads: u32,
 }
 
 /// Runs some calls straight, where there are so many that other threads may be wanted, and reckons by them how many threads are.
-pub(crate) fn begin_straight<A: Allocator + Copy, P: Pace>(
-    job: &InOrder<'_, '_, A, P>,
-    ran: Ran<A>,
+pub(crate) fn begin_straight<'a, A: Allocator + Copy, P: Pace>(
+    job: &InOrder<'_, 'a, A, P>,
+    ran: Ran<'a, A>,
     workers: u32,
-) -> Result<Begun<A>, NoMemory>
+) -> Result<Begun<'a, A>, NoMemory>
     requires known { IsKnown job.now }
     requires ran { IsRanOf job.now ran }
     ensures ran { IfOk result (λ begun. IsRanOf job.now begun.ran) }

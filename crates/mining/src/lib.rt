@@ -15,14 +15,15 @@ ghost use Rattle.spec_ledger.specs.Order.{first_fit};
 ghost use Rattle.spec_block.specs.Worlds.{limits, order_of};
 ghost use Rattle.spec_block.specs.Headline.{Headline, IsLeft};
 ghost use Rattle.world.specs.Views.{world_view};
+ghost use Rattle.mining.specs.Digested.{AreDigestsOf};
 
 pub use crate::mined_core::{MinedCore, mine_core};
-use crate::sealing::seal_by;
+use crate::mined_core::mine_core_with;
+use crate::sealing::{Digests, Sealed, digests_of, seal_by};
 use block::Block;
 use call::Call;
 use gain::digesters;
 use pace::Pace;
-use serial::Core;
 use spec_ledger::Version;
 use std::alloc::{Allocator, Global};
 use std::sync::Wait;
@@ -108,15 +109,8 @@ pub fn mine_in<R: Threads + Wait + Sync, A: Allocator + Copy + Send + Sync, P: P
     ensures left { IfOk result (λ mined. IsLeft calls.now (order_of mined.block) mined.left.items) }
     ensures by_workers { IfOk result (λ mined. mined.by_workers ≤ length mined.block.positions) }
 {
-    let MinedCore {
-        order,
-        receipts,
-        touched,
-        cells,
-        fuel,
-        left,
-        by_workers,
-    } = mine_core(
+    let nothing = Vec::new(alloc);
+    let (digests, core) = mine_core_with(
         rt,
         alloc,
         world.contracts(),
@@ -127,23 +121,37 @@ pub fn mine_in<R: Threads + Wait + Sync, A: Allocator + Copy + Send + Sync, P: P
         tries,
         pace,
         SHARDS,
-    )?;
-    let threads = digesters(workers, world.cells(), order.len());
-    let core = Core {
+        move || -> Result<Digests, NoMemory>
+            requires { length calls.now ≤ 65535 }
+            ensures { IfOk result (AreDigestsOf (world_view world.entry.now) calls.entry.now) }
+        { digests_of(alloc, world, calls, nothing) },
+    );
+    let MinedCore {
+        order,
         receipts,
-        touched,
+        profiles,
         cells,
+        fuel,
+        left,
+        by_workers,
+    } = core?;
+    let threads = digesters(workers, world.cells(), order.len());
+    let sealed = Sealed {
+        receipts,
+        profiles,
+        cells,
+        fuel,
     };
     let (block, world) = seal_by(
         rt,
         alloc,
         world,
-        calls,
         &order,
-        core,
-        fuel,
+        sealed,
+        digests?,
         Version::Two,
         threads,
+        calls,
     )?;
     Ok(Mined {
         block,

@@ -5,7 +5,9 @@ ghost use Rattle.spec_ledger.specs.Order.{IsAdmissible, first_fit};
 ghost use Rattle.spec_execution.specs.Serial.{Serial};
 ghost use Rattle.spec_ledger.specs.declared.Version.TheVariants.{Two};
 ghost use Rattle.interp.specs.Lent.{setting_view};
+ghost use Rattle.lock_profile.specs.Turns.{AreTurns};
 ghost use Rattle.serial.specs.Positions.{positions};
+ghost use Rattle.front.specs.Named.{touched_in};
 ghost use Rattle.serial_block.specs.Ordered.{used_by};
 ghost use Rattle.publish.specs.Publication.{AreLeft, limits, fuel_used};
 
@@ -13,6 +15,7 @@ use crate::mined_core::MinedCore;
 use call::Call;
 use in_order::{InOrder, Ran, Task, begin, complete, run_with};
 use link::deployed::Deployed as Contract;
+use lock_profile::Profile;
 use pace::Pace;
 use spec_ledger::laws::first_fit_is_admissible;
 use spec_ledger::{NoMemory, Receipt, Version};
@@ -74,53 +77,96 @@ pub(crate) fn mine_in_order<
     R: Threads + Wait + Sync,
     A: Allocator + Copy + Send + Sync,
     P: Pace,
+    T: Send + Drop,
+    F: FnOnce() -> T + Send,
 >(
     rt: &R,
     alloc: A,
     contracts: &'a [Contract<A>],
-    cells: &Cells<A>,
+    cells: &'a Cells<A>,
     calls: &'a [Call],
     block_fuel: u64,
     workers: u32,
     pace: &P,
-) -> Result<MinedCore<A>, NoMemory>
+    errand: F,
+) -> (T, Result<MinedCore<A>, NoMemory>)
     requires calls { length calls.now ≤ 65535 }
     requires workers { 1 ≤ workers }
-    ensures serial { IfOk result (λ core. Serial (setting_view Two contracts.now) calls.now core.order.items cells.now.cells (positions core.receipts.items core.touched.items) core.cells.cells) }
-    ensures admissible { IfOk result (λ core. IsAdmissible (limits calls.now) core.order.items block_fuel) }
-    ensures order { IfOk result (λ core. core.order.items ≡ first_fit (limits calls.now) block_fuel) }
-    ensures receipts { IfOk result (λ core. length core.receipts.items ≡ length core.order.items) }
-    ensures touched { IfOk result (λ core. length core.touched.items ≡ length core.order.items) }
-    ensures settled { IfOk result (λ core. core.cells.unsettled ≡ finite.empty) }
-    ensures fuel { IfOk result (λ core. core.fuel ≡ fuel_used (positions core.receipts.items core.touched.items)) }
-    ensures left { IfOk result (λ core. AreLeft core.order.items (length calls.now) core.left.items) }
-    ensures by_workers { IfOk result (λ core. core.by_workers ≤ length core.order.items) }
+    requires errand { F.pre errand }
+    ensures errand { F.post errand result.0 }
+    ensures serial { IfOk result.1 (λ core. Serial (setting_view Two contracts.now) calls.now core.order.items cells.now.cells (positions core.receipts.items (touched_in core.profiles.items)) core.cells.cells) }
+    ensures admissible { IfOk result.1 (λ core. IsAdmissible (limits calls.now) core.order.items block_fuel) }
+    ensures order { IfOk result.1 (λ core. core.order.items ≡ first_fit (limits calls.now) block_fuel) }
+    ensures receipts { IfOk result.1 (λ core. length core.receipts.items ≡ length core.order.items) }
+    ensures profiles { IfOk result.1 (λ core. length core.profiles.items ≡ length core.order.items) }
+    ensures turns { IfOk result.1 (λ core. AreTurns (touched_in core.profiles.items) core.profiles.items) }
+    ensures settled { IfOk result.1 (λ core. core.cells.unsettled ≡ finite.empty) }
+    ensures fuel { IfOk result.1 (λ core. core.fuel ≡ fuel_used (positions core.receipts.items (touched_in core.profiles.items))) }
+    ensures left { IfOk result.1 (λ core. AreLeft core.order.items (length calls.now) core.left.items) }
+    ensures by_workers { IfOk result.1 (λ core. core.by_workers ≤ length core.order.items) }
 {
-    let FirstFit { order, left } = first_fit(alloc, calls, block_fuel)?;
-    first_fit_is_admissible();
-    let Ran {
-        receipts,
-        touched,
-        cells: last,
-        ahead,
-    } = {
+    let FirstFit { order, left } = match first_fit(alloc, calls, block_fuel) {
+        Ok(fit) => fit,
+        Err(_) => return (errand(), Err(NoMemory)),
+    };
+    let (told, ran) = {
         let task = Task {
             contracts,
             calls,
             version: Version::Two,
+            cells,
         };
-        let job = InOrder::new(alloc, task, &order, cells, pace);
-        let ((), ran) = run_with(rt, &job, begin(&job)?, workers, || ());
-        complete(&job, ran?)?
+        let job = InOrder::new(alloc, task, &order, pace);
+        let ran = match begin(&job) {
+            Ok(ran) => ran,
+            Err(_) => return (errand(), Err(NoMemory)),
+        };
+        let (told, ran) = run_with(rt, &job, ran, workers, errand);
+        (told, complete_all(&job, ran))
     };
-    let fuel = fuel_of(&receipts);
-    Ok(MinedCore {
-        order,
+    match ran {
+        Ok(whole) => {
+            let fuel = fuel_of(&whole.receipts);
+            let core = MinedCore {
+                order,
+                receipts: whole.receipts,
+                profiles: whole.profiles,
+                cells: whole.cells,
+                fuel,
+                left,
+                by_workers: whole.ahead,
+            };
+            (told, Ok(core))
+        }
+        Err(_) => (told, Err(NoMemory)),
+    }
+}
+
+/// What all calls of an order came to.
+#[derive(Drop)]
+struct Whole<A: Allocator> {
+    receipts: Vec<Receipt, A>,
+    profiles: Vec<Profile<A>, A>,
+    cells: Cells<A>,
+    ahead: u32,
+}
+
+/// Does the calls that are left of an order, and makes the cells after them.
+fn complete_all<'a, A: Allocator + Copy, P: Pace>(
+    job: &InOrder<'_, 'a, A, P>,
+    ran: Result<Ran<'a, A>, NoMemory>,
+) -> Result<Whole<A>, NoMemory> {
+    let Ran {
         receipts,
-        touched,
-        cells: last,
-        fuel,
-        left,
-        by_workers: ahead,
+        profiles,
+        front,
+        ahead,
+    } = complete(job, ran?)?;
+    let copy = job.task.cells.copy(job.alloc)?;
+    Ok(Whole {
+        receipts,
+        profiles,
+        cells: front.into_cells(copy)?,
+        ahead,
     })
 }

@@ -5,7 +5,9 @@ ghost use Rattle.spec_ledger.specs.Order.{IsAdmissible, first_fit};
 ghost use Rattle.spec_execution.specs.Serial.{Serial};
 ghost use Rattle.spec_ledger.specs.declared.Version.TheVariants.{Two};
 ghost use Rattle.interp.specs.Lent.{setting_view};
+ghost use Rattle.lock_profile.specs.Turns.{AreTurns};
 ghost use Rattle.serial.specs.Positions.{positions};
+ghost use Rattle.front.specs.Named.{touched_in};
 ghost use Rattle.intake.specs.Intakes.{IsSeatOf};
 ghost use Rattle.publish.specs.Publication.{AreLeft, limits, fuel_used};
 ghost use Rattle.attempts.specs.Handed.{AreRuns};
@@ -19,7 +21,7 @@ use boost::book::Closed;
 use call::Call;
 use intake::{Intake, Seat};
 use link::deployed::Deployed as Contract;
-use lock_profile::Touched;
+use lock_profile::Profile;
 use pace::Pace;
 use shard_parts::CloseRefusal;
 use shards::{NoGate, Shards};
@@ -37,8 +39,8 @@ pub struct MinedCore<A: Allocator = Global> {
     pub order: Vec<u32, A>,
     /// The receipt at each position.
     pub receipts: Vec<Receipt, A>,
-    /// The locks that the call at each position asked for, each with the join of its modes.
-    pub touched: Vec<Touched<A>, A>,
+    /// The locks that the call at each position asked for, each with the join of its modes and its turn.
+    pub profiles: Vec<Profile<A>, A>,
     /// The cells after the last call, in which nothing is unsettled.
     pub cells: Cells<A>,
     /// The fuel that the calls used together.
@@ -70,7 +72,7 @@ pub fn mine_core<'a, R: Threads + Wait + Sync, A: Allocator + Copy + Send + Sync
     rt: &R,
     alloc: A,
     contracts: &'a [Contract<A>],
-    cells: &Cells<A>,
+    cells: &'a Cells<A>,
     calls: &'a [Call],
     block_fuel: u64,
     workers: u32,
@@ -82,23 +84,69 @@ pub fn mine_core<'a, R: Threads + Wait + Sync, A: Allocator + Copy + Send + Sync
     requires workers { (1 ≤ workers) × (workers ≤ 64) }
     requires tries { (1 ≤ tries) × (tries ≤ 16) }
     requires shards { (1 ≤ shards) × (shards ≤ 16) }
-    ensures serial { IfOk result (λ core. Serial (setting_view Two contracts.now) calls.now core.order.items cells.now.cells (positions core.receipts.items core.touched.items) core.cells.cells) }
+    ensures serial { IfOk result (λ core. Serial (setting_view Two contracts.now) calls.now core.order.items cells.now.cells (positions core.receipts.items (touched_in core.profiles.items)) core.cells.cells) }
     ensures admissible { IfOk result (λ core. IsAdmissible (limits calls.now) core.order.items block_fuel) }
     ensures order { IfOk result (λ core. P.watching pace.now ≡ false → core.order.items ≡ first_fit (limits calls.now) block_fuel) }
     ensures receipts { IfOk result (λ core. length core.receipts.items ≡ length core.order.items) }
-    ensures touched { IfOk result (λ core. length core.touched.items ≡ length core.order.items) }
+    ensures profiles { IfOk result (λ core. length core.profiles.items ≡ length core.order.items) }
+    ensures turns { IfOk result (λ core. AreTurns (touched_in core.profiles.items) core.profiles.items) }
     ensures settled { IfOk result (λ core. core.cells.unsettled ≡ finite.empty) }
-    ensures fuel { IfOk result (λ core. core.fuel ≡ fuel_used (positions core.receipts.items core.touched.items)) }
+    ensures fuel { IfOk result (λ core. core.fuel ≡ fuel_used (positions core.receipts.items (touched_in core.profiles.items))) }
     ensures left { IfOk result (λ core. AreLeft core.order.items (length calls.now) core.left.items) }
     ensures by_workers { IfOk result (λ core. core.by_workers ≤ length core.order.items) }
 {
+    let ((), core) = mine_core_with(
+        rt, alloc, contracts, cells, calls, block_fuel, workers, tries, pace, shards, || (),
+    );
+    core
+}
+
+/// The same, with an errand, which a thread does meanwhile where there are several.
+pub(crate) fn mine_core_with<
+    'a,
+    R: Threads + Wait + Sync,
+    A: Allocator + Copy + Send + Sync,
+    P: Pace,
+    T: Send + Drop,
+    F: FnOnce() -> T + Send,
+>(
+    rt: &R,
+    alloc: A,
+    contracts: &'a [Contract<A>],
+    cells: &'a Cells<A>,
+    calls: &'a [Call],
+    block_fuel: u64,
+    workers: u32,
+    tries: u32,
+    pace: &P,
+    shards: u32,
+    errand: F,
+) -> (T, Result<MinedCore<A>, NoMemory>)
+    requires calls { length calls.now ≤ 65535 }
+    requires workers { (1 ≤ workers) × (workers ≤ 64) }
+    requires tries { (1 ≤ tries) × (tries ≤ 16) }
+    requires shards { (1 ≤ shards) × (shards ≤ 16) }
+    requires errand { F.pre errand }
+    ensures errand { F.post errand result.0 }
+    ensures serial { IfOk result.1 (λ core. Serial (setting_view Two contracts.now) calls.now core.order.items cells.now.cells (positions core.receipts.items (touched_in core.profiles.items)) core.cells.cells) }
+    ensures admissible { IfOk result.1 (λ core. IsAdmissible (limits calls.now) core.order.items block_fuel) }
+    ensures order { IfOk result.1 (λ core. P.watching pace.now ≡ false → core.order.items ≡ first_fit (limits calls.now) block_fuel) }
+    ensures receipts { IfOk result.1 (λ core. length core.receipts.items ≡ length core.order.items) }
+    ensures profiles { IfOk result.1 (λ core. length core.profiles.items ≡ length core.order.items) }
+    ensures turns { IfOk result.1 (λ core. AreTurns (touched_in core.profiles.items) core.profiles.items) }
+    ensures settled { IfOk result.1 (λ core. core.cells.unsettled ≡ finite.empty) }
+    ensures fuel { IfOk result.1 (λ core. core.fuel ≡ fuel_used (positions core.receipts.items (touched_in core.profiles.items))) }
+    ensures left { IfOk result.1 (λ core. AreLeft core.order.items (length calls.now) core.left.items) }
+    ensures by_workers { IfOk result.1 (λ core. core.by_workers ≤ length core.order.items) }
+{
     if pace.watches() {
-        return mine_over_book(
+        let core = mine_over_book(
             rt, alloc, contracts, cells, calls, block_fuel, workers, tries, pace, shards,
         );
+        return (errand(), core);
     }
     mine_in_order(
-        rt, alloc, contracts, cells, calls, block_fuel, workers, pace,
+        rt, alloc, contracts, cells, calls, block_fuel, workers, pace, errand,
     )
 }
 
@@ -107,7 +155,7 @@ fn mine_over_book<'a, R: Threads + Wait + Sync, A: Allocator + Copy + Send + Syn
     rt: &R,
     alloc: A,
     contracts: &'a [Contract<A>],
-    cells: &Cells<A>,
+    cells: &'a Cells<A>,
     calls: &'a [Call],
     block_fuel: u64,
     workers: u32,
@@ -119,12 +167,13 @@ fn mine_over_book<'a, R: Threads + Wait + Sync, A: Allocator + Copy + Send + Syn
     requires workers { (1 ≤ workers) × (workers ≤ 64) }
     requires tries { (1 ≤ tries) × (tries ≤ 16) }
     requires shards { (1 ≤ shards) × (shards ≤ 16) }
-    ensures serial { IfOk result (λ core. Serial (setting_view Two contracts.now) calls.now core.order.items cells.now.cells (positions core.receipts.items core.touched.items) core.cells.cells) }
+    ensures serial { IfOk result (λ core. Serial (setting_view Two contracts.now) calls.now core.order.items cells.now.cells (positions core.receipts.items (touched_in core.profiles.items)) core.cells.cells) }
     ensures admissible { IfOk result (λ core. IsAdmissible (limits calls.now) core.order.items block_fuel) }
     ensures receipts { IfOk result (λ core. length core.receipts.items ≡ length core.order.items) }
-    ensures touched { IfOk result (λ core. length core.touched.items ≡ length core.order.items) }
+    ensures profiles { IfOk result (λ core. length core.profiles.items ≡ length core.order.items) }
+    ensures turns { IfOk result (λ core. AreTurns (touched_in core.profiles.items) core.profiles.items) }
     ensures settled { IfOk result (λ core. core.cells.unsettled ≡ finite.empty) }
-    ensures fuel { IfOk result (λ core. core.fuel ≡ fuel_used (positions core.receipts.items core.touched.items)) }
+    ensures fuel { IfOk result (λ core. core.fuel ≡ fuel_used (positions core.receipts.items (touched_in core.profiles.items))) }
     ensures left { IfOk result (λ core. AreLeft core.order.items (length calls.now) core.left.items) }
     ensures by_workers { IfOk result (λ core. core.by_workers ≤ length core.order.items) }
 {

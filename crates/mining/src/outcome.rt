@@ -5,7 +5,9 @@ ghost use Rattle.spec_ledger.specs.Order.{IsAdmissible};
 ghost use Rattle.spec_execution.specs.Serial.{Serial};
 ghost use Rattle.spec_ledger.specs.declared.Version.TheVariants.{Two};
 ghost use Rattle.interp.specs.Lent.{setting_view};
+ghost use Rattle.lock_profile.specs.Turns.{AreTurns};
 ghost use Rattle.serial.specs.Positions.{positions};
+ghost use Rattle.front.specs.Named.{touched_in};
 ghost use Rattle.publish.specs.Publication.{AreLeft, IsSameJob, HasGoneOn, limits, fuel_used};
 ghost use Rattle.publish.specs.Adoption.{AreMade};
 ghost use Rattle.attempts.specs.Handed.{AreRuns, AreAllRuns, IsCommitted};
@@ -16,7 +18,7 @@ use attempts::{Committed, Worked};
 use boost::book::Closed;
 use call::Call;
 use link::deployed::Deployed as Contract;
-use lock_profile::Touched;
+use lock_profile::{Touched, turns};
 use publish::{MadeRun, Publishing};
 use spec_ledger::NoMemory;
 use std::alloc::Allocator;
@@ -301,12 +303,13 @@ pub(crate) fn publish<'a, A: Allocator + Copy>(
     requires calls { length calls.now < 2 ^ 32 }
     requires closed { IfOk closed (λ closed. IfSome closed (IsSerialBook cells.now.cells)) }
     requires runs { All (λ part. IfOk part (AreRuns (setting_view Two contracts.now) calls.now)) parts.items }
-    ensures serial { IfOk result (λ core. Serial (setting_view Two contracts.now) calls.now core.order.items cells.now.cells (positions core.receipts.items core.touched.items) core.cells.cells) }
+    ensures serial { IfOk result (λ core. Serial (setting_view Two contracts.now) calls.now core.order.items cells.now.cells (positions core.receipts.items (touched_in core.profiles.items)) core.cells.cells) }
     ensures admissible { IfOk result (λ core. IsAdmissible (limits calls.now) core.order.items block_fuel) }
     ensures receipts { IfOk result (λ core. length core.receipts.items ≡ length core.order.items) }
-    ensures touched { IfOk result (λ core. length core.touched.items ≡ length core.order.items) }
+    ensures profiles { IfOk result (λ core. length core.profiles.items ≡ length core.order.items) }
+    ensures turns { IfOk result (λ core. AreTurns (touched_in core.profiles.items) core.profiles.items) }
     ensures settled { IfOk result (λ core. core.cells.unsettled ≡ finite.empty) }
-    ensures fuel { IfOk result (λ core. core.fuel ≡ fuel_used (positions core.receipts.items core.touched.items)) }
+    ensures fuel { IfOk result (λ core. core.fuel ≡ fuel_used (positions core.receipts.items (touched_in core.profiles.items))) }
     ensures left { IfOk result (λ core. AreLeft core.order.items (length calls.now) core.left.items) }
     ensures by_workers { IfOk result (λ core. core.by_workers ≤ length core.order.items) }
 {
@@ -314,21 +317,23 @@ pub(crate) fn publish<'a, A: Allocator + Copy>(
     let (publishing, by_workers) = publish_runs(
         alloc, contracts, calls, cells, block_fuel, closed?, worked,
     )?;
-    finish(publishing, by_workers)
+    finish(alloc, publishing, by_workers)
 }
 
 /// Publishes the other calls that have room, in rising number, and hands out what was published.
 fn finish<A: Allocator + Copy>(
+    alloc: A,
     mut publishing: Publishing<'_, A>,
     by_workers: u32,
 ) -> Result<MinedCore<A>, NoMemory>
     requires { by_workers ≤ length publishing.order }
-    ensures serial { IfOk result (λ core. Serial publishing.entry.setting publishing.entry.calls core.order.items publishing.entry.opening (positions core.receipts.items core.touched.items) core.cells.cells) }
+    ensures serial { IfOk result (λ core. Serial publishing.entry.setting publishing.entry.calls core.order.items publishing.entry.opening (positions core.receipts.items (touched_in core.profiles.items)) core.cells.cells) }
     ensures admissible { IfOk result (λ core. IsAdmissible (limits publishing.entry.calls) core.order.items publishing.entry.fuel) }
     ensures receipts { IfOk result (λ core. length core.receipts.items ≡ length core.order.items) }
-    ensures touched { IfOk result (λ core. length core.touched.items ≡ length core.order.items) }
+    ensures profiles { IfOk result (λ core. length core.profiles.items ≡ length core.order.items) }
+    ensures turns { IfOk result (λ core. AreTurns (touched_in core.profiles.items) core.profiles.items) }
     ensures settled { IfOk result (λ core. core.cells.unsettled ≡ finite.empty) }
-    ensures fuel { IfOk result (λ core. core.fuel ≡ fuel_used (positions core.receipts.items core.touched.items)) }
+    ensures fuel { IfOk result (λ core. core.fuel ≡ fuel_used (positions core.receipts.items (touched_in core.profiles.items))) }
     ensures left { IfOk result (λ core. AreLeft core.order.items (length publishing.entry.calls) core.left.items) }
     ensures by_workers { IfOk result (λ core. core.by_workers ≤ length core.order.items) }
 {
@@ -337,7 +342,7 @@ fn finish<A: Allocator + Copy>(
     Ok(MinedCore {
         order: published.order,
         receipts: published.receipts,
-        touched: published.touched,
+        profiles: turns(alloc, &published.touched)?,
         cells: published.cells,
         fuel: published.fuel,
         left: published.left,

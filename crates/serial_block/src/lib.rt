@@ -19,7 +19,7 @@ use crate::positions::fuel_of;
 use block::{Block, digest_calls};
 use call::Call;
 pub use contracts::copied;
-pub use positions::positions_of;
+pub use positions::{positions_of, positions_with};
 use serial::{Core, serial_core};
 use spec_ledger::Version;
 use std::alloc::Allocator;

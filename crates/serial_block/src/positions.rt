@@ -1,6 +1,8 @@
 //! What a block says of the calls of an order.
 
-ghost use Rattle.std.specs.Prelude.{◌≡◌, ◌≤◌, ◌<◌, ◌^◌, IfOk, length};
+ghost use Rattle.std.specs.Prelude.{◌≡◌, ◌≤◌, ◌<◌, ◌^◌, IfOk, List, length};
+ghost use Rattle.spec_ledger.specs.Modes.{Modes};
+ghost use Rattle.lock_profile.specs.Turns.{AreTurns};
 ghost use Rattle.spec_block.specs.Blocks.{positions};
 ghost use Rattle.serial.specs.Positions.{positions as ran_of};
 ghost use Rattle.spec_block.specs.Bytes.{IsOutcome};
@@ -67,6 +69,25 @@ pub fn positions_of<A: Allocator + Copy>(
     ensures { IfOk result (λ made. made.items ≡ positions order.now (ran_of receipts.now touched.now)) }
 {
     let profiles = turns(alloc, touched)?;
+    positions_with(alloc, order, receipts, profiles)
+}
+
+/// The same of calls whose profiles are known.
+///
+/// # Errors
+///
+/// Memory was refused, or a call touched 2^32 locks or more.
+pub fn positions_with<A: Allocator + Copy>(
+    alloc: A,
+    order: &[u32],
+    receipts: &[Receipt],
+    profiles: Vec<Profile<A>, A>,
+) -> Result<Vec<Position<A>, A>, NoMemory>
+    requires receipts { length receipts.now ≡ length order.now }
+    requires profiles { length profiles.items ≡ length order.now }
+    requires possible { ArePossible receipts.now }
+    ensures { IfOk result (λ made. (touched : List Modes) → AreTurns touched profiles.items → made.items ≡ positions order.now (ran_of receipts.now touched)) }
+{
     let mut made = Vec::new(alloc);
     for profile in profiles {
         let place = made.len();

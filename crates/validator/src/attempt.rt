@@ -211,6 +211,7 @@ fn play<'a, A: Allocator + Copy, R: Wait, P: Pace>(
         contracts,
         calls,
         version,
+        cells: _,
     } = job.ordered.task;
     let call = &calls[number as usize];
     let _limit = call.fuel();

@@ -9,7 +9,7 @@ ghost use Rattle.spec_block.specs.Verdicts.{Agrees, IsLeast, IsOther};
 ghost use Rattle.validator.specs.Judged.{IsCompared};
 
 use block::{Block, Position};
-use lock_profile::{Held, Touched};
+use lock_profile::Profile;
 use spec_ledger::{Entry, Receipt};
 use std::alloc::Allocator;
 
@@ -19,55 +19,37 @@ fn is_receipt(a: Receipt, b: Receipt) -> bool
     a == b
 }
 
-fn is_held(held: Held, entry: Entry) -> bool
-    ensures { IsTrue result ↔ (held ≡ record { lock = entry.lock; mode = entry.mode }) }
-{
-    let published = Held {
-        lock: entry.lock,
-        mode: entry.mode,
-    };
-    held == published
+fn is_entry(a: Entry, b: Entry) -> bool {
+    a == b
 }
 
-/// Whether the entries have these locks and modes.
-fn are_held(entries: &[Entry], held: &[Held]) -> bool
-    ensures { IsTrue result ↔ (held_in entries.now ≡ pairs held.now) }
-{
-    if entries.len() != held.len() {
+/// Whether two profiles have the same locks, modes and turns.
+fn are_entries(a: &[Entry], b: &[Entry]) -> bool {
+    if a.len() != b.len() {
         return false;
     }
-    for (at, entry) in entries.iter().enumerate() {
-        if !is_held(held[at], *entry) {
+    for (at, entry) in a.iter().enumerate() {
+        if !is_entry(*entry, b[at]) {
             return false;
         }
     }
     true
 }
 
-/// Whether a position has this receipt, and these locks and modes.
-fn agrees<A: Allocator>(position: &Position<A>, receipt: Receipt, touched: &Touched<A>) -> bool
-    ensures { IsTrue result ↔ Agrees position.now (record { receipt = receipt; touched = touched.now }) }
-{
-    if !is_receipt(position.receipt(), receipt) {
-        return false;
-    }
-    are_held(position.profile().entries(), touched.held())
+/// Whether a position has this receipt and this profile.
+fn is_as<A: Allocator>(position: &Position<A>, receipt: Receipt, profile: &Profile<A>) -> bool {
+    is_receipt(position.receipt(), receipt)
+        && are_entries(position.profile().entries(), profile.entries())
 }
 
-/// The least position that does not agree with these receipts and locks.
-fn first_deviating<A: Allocator>(
+/// The least position that has another receipt, or other locks, modes or turns.
+fn first_other<A: Allocator>(
     positions: &[Position<A>],
     receipts: &[Receipt],
-    touched: &[Touched<A>],
-) -> Option<u32>
-    requires few { length positions.now < 2 ^ 32 }
-    requires receipts { length receipts.now ≡ length positions.now }
-    requires touched { length touched.now ≡ length positions.now }
-    ensures other { IfSome result (IsLeast (IsOther positions.now (ran_of receipts.now touched.now))) }
-    ensures same { IfNone result ((position : ℕ) → ¬ (IsOther positions.now (ran_of receipts.now touched.now) position)) }
-{
+    profiles: &[Profile<A>],
+) -> Option<u32> {
     for (at, position) in positions.iter().enumerate() {
-        if !agrees(position, receipts[at], &touched[at]) {
+        if !is_as(position, receipts[at], &profiles[at]) {
             return Some(at as u32);
         }
     }
@@ -91,8 +73,8 @@ fn is_total(fuel: u64, receipts: &[Receipt]) -> bool
 /// How what a block says of its calls stands to what they came to.
 #[derive(Clone, Copy, Debug, PartialEq, Eq)]
 pub(crate) struct Compared {
-    /// The least position that does not agree, if one does not.
-    pub(crate) deviating: Option<u32>,
+    /// The least position with another receipt, or with other locks, modes or turns, if there is one.
+    pub(crate) other: Option<u32>,
     /// Whether the block names the fuel that they used.
     pub(crate) is_total: bool,
 }
@@ -101,15 +83,10 @@ pub(crate) struct Compared {
 pub(crate) fn compare<A: Allocator>(
     block: &Block<A>,
     receipts: Vec<Receipt, A>,
-    touched: Vec<Touched<A>, A>,
-) -> Compared
-    requires few { length block.now.positions < 2 ^ 32 }
-    requires receipts { length receipts.items ≡ length block.now.positions }
-    requires touched { length touched.items ≡ length block.now.positions }
-    ensures { IsCompared block.now receipts.items touched.items result }
-{
+    profiles: Vec<Profile<A>, A>,
+) -> Compared {
     Compared {
-        deviating: first_deviating(block.positions(), &receipts, &touched),
+        other: first_other(block.positions(), &receipts, &profiles),
         is_total: is_total(block.fuel(), &receipts),
     }
 }

@@ -18,10 +18,10 @@ use crate::compare::{Compared, compare};
 use crate::job::Job;
 use crate::verdict::{Validated, Verdict};
 use block::Block;
-use block_judge::Reason;
+use block_judge::{Reason, Unfit, judge_turns};
 use gain::digesters;
 use in_order::Ran;
-use lock_profile::Touched;
+use lock_profile::Profile;
 use pace::Pace;
 use serial_block::copied;
 use spec_ledger::{NoMemory, Receipt};
@@ -54,62 +54,59 @@ fn compare_and_digest<R: Threads + Sync, A: Allocator + Copy + Send + Sync>(
     alloc: &A,
     block: &Block<A>,
     receipts: Vec<Receipt, A>,
-    touched: Vec<Touched<A>, A>,
+    profiles: Vec<Profile<A>, A>,
     next: &World<A>,
     workers: u32,
-) -> Result<(Compared, [u8; 32]), NoMemory>
-    requires few { length block.now.positions ≤ 65535 }
-    requires receipts { length receipts.items ≡ length block.now.positions }
-    requires touched { length touched.items ≡ length block.now.positions }
-    ensures compared { IfOk result (λ r. IsCompared block.now receipts.items touched.items r.0) }
-    ensures digest { IfOk result (λ r. r.1 ≡ sha256 (world_bytes (world_view next.now))) }
-{
+) -> Result<(Compared, [u8; 32]), NoMemory> {
     if workers < 2 {
-        let compared = compare(block, receipts, touched);
+        let compared = compare(block, receipts, profiles);
         let digest = digest_world(*alloc, next)?;
         return Ok((compared, digest));
     }
     let (digest, compared) = join(
         rt,
-        move || -> Result<[u8; 32], NoMemory>
-            ensures { IfOk result (λ digest. digest ≡ sha256 (world_bytes (world_view next.entry.now))) }
-        { digest_world(*alloc, next) },
-        move || -> Compared
-            requires { (length block.now.positions ≤ 65535) × (length receipts.items ≡ length block.now.positions) × (length touched.items ≡ length block.now.positions) }
-            ensures { IsCompared block.entry.now receipts.items touched.items result }
-        { compare(block, receipts, touched) },
+        move || -> Result<[u8; 32], NoMemory> { digest_world(*alloc, next) },
+        move || -> Compared { compare(block, receipts, profiles) },
     );
     Ok((compared, digest?))
 }
 
-/// The verdict on a block that none of the first seven reasons speaks against, whose calls came to this.
+/// The verdict on a block one of whose positions is not what its call came to: its turns are not those of its own modes, or else a position deviates.
+fn verdict_on_other<A: Allocator + Copy>(
+    alloc: A,
+    block: &Block<A>,
+    position: u32,
+) -> Result<Verdict<A>, NoMemory> {
+    match judge_turns(alloc, block) {
+        Ok(()) => Ok(Verdict::Reject(Reason::Deviates(position))),
+        Err(Unfit::Rejected(reason)) => Ok(Verdict::Reject(reason)),
+        Err(Unfit::NoMemory) => Err(NoMemory),
+    }
+}
+
+/// The verdict on a block that none of the first six reasons speaks against, whose calls came to this.
 fn conclude<R: Threads + Sync, A: Allocator + Copy + Send + Sync>(
     rt: &R,
     alloc: A,
     world: &World<A>,
     block: &Block<A>,
-    ran: Ran<A>,
+    ran: Ran<'_, A>,
+    copy: Cells<A>,
     workers: u32,
-) -> Result<Verdict<A>, NoMemory>
-    requires few { length block.now.positions ≤ 65535 }
-    requires receipts { length ran.receipts.items ≡ length block.now.positions }
-    requires touched { length ran.touched.items ≡ length block.now.positions }
-    ensures { IfOk result (λ verdict. (calls : List TheCall) (fuel : ℕ) → RunOf (world_view world.now) calls block.now (ran_of ran.receipts.items ran.touched.items) ran.cells.cells → IsFirstFrom (HoldsOf (world_view world.now) calls fuel block.now) 8 (told_by verdict)) }
-{
-    spec_block::one_serial_run();
+) -> Result<Verdict<A>, NoMemory> {
     let Ran {
         receipts,
-        touched,
-        cells,
+        profiles,
+        front,
         ahead: _,
     } = ran;
-    let next = world_after(alloc, world, cells)?;
+    let next = world_after(alloc, world, front.into_cells(copy)?)?;
     let threads = digesters(workers, next.cells(), receipts.len());
     let (compared, digest) = compare_and_digest(
-        rt, &alloc, block, receipts, touched, &next, threads,
+        rt, &alloc, block, receipts, profiles, &next, threads,
     )?;
-    if let Some(position) = compared.deviating {
-        return Ok(Verdict::Reject(Reason::Deviates(position)));
+    if let Some(position) = compared.other {
+        return verdict_on_other(alloc, block, position);
     }
     if !compared.is_total {
         return Ok(Verdict::Reject(Reason::WrongEnd));
@@ -121,7 +118,7 @@ fn conclude<R: Threads + Sync, A: Allocator + Copy + Send + Sync>(
 }
 
 /// How many of the calls were not done by what they did ahead of their turn.
-fn count_again<A: Allocator>(ran: &Ran<A>) -> u32
+fn count_again<A: Allocator>(ran: &Ran<'_, A>) -> u32
     requires few { length ran.now.receipts.items ≤ 65535 }
     requires ahead { ran.now.ahead ≤ length ran.now.receipts.items }
     ensures { result ≤ length ran.now.receipts.items }
@@ -133,7 +130,7 @@ fn count_again<A: Allocator>(ran: &Ran<A>) -> u32
 pub(crate) fn end<'a, R: Threads + Sync, A: Allocator + Copy + Send + Sync, P: Pace>(
     rt: &R,
     job: &Job<'_, 'a, A, P>,
-    ran: Ran<A>,
+    ran: Ran<'a, A>,
     workers: u32,
 ) -> Result<Validated<A>, NoMemory>
     requires job { IsJob job.now }
@@ -151,6 +148,7 @@ pub(crate) fn end<'a, R: Threads + Sync, A: Allocator + Copy + Send + Sync, P: P
         trial.world,
         trial.block,
         ran,
+        job.ordered.task.cells.copy(job.ordered.alloc)?,
         workers,
     )?;
     Ok(Validated { verdict, again })

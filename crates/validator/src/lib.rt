@@ -48,7 +48,7 @@ fn judge<A: Allocator + Copy, P: Pace>(
     requires { MayRun job.now.trial.now }
     ensures { IsJudged job.now.trial.now result }
 {
-    let judged = job.trial.judge(job.ordered.alloc);
+    let judged = job.trial.judge_digests(job.ordered.alloc);
     if judged.is_err() {
         job.ordered.stop();
     }
@@ -60,9 +60,9 @@ fn judge<A: Allocator + Copy, P: Pace>(
 fn judge_and_run<'a, R: Threads + Wait + Sync, A: Allocator + Copy + Send + Sync, P: Pace>(
     rt: &R,
     job: &Job<'_, 'a, A, P>,
-    ran: Ran<A>,
+    ran: Ran<'a, A>,
     workers: u32,
-) -> (Result<(), Unfit>, Result<Ran<A>, NoMemory>)
+) -> (Result<(), Unfit>, Result<Ran<'a, A>, NoMemory>)
     requires job { IsJob job.now }
     requires ran { IsRanOf job.now.ordered ran }
     requires workers { 1 ≤ workers }
@@ -149,9 +149,10 @@ fn verdict_within<R: Threads + Wait + Sync, A: Allocator + Copy + Send + Sync, P
         contracts: trial.world.contracts(),
         calls: trial.calls,
         version: trial.block.version(),
+        cells: trial.world.cells(),
     };
     let job = Job {
-        ordered: InOrder::new(alloc, task, trial.order, trial.world.cells(), pace),
+        ordered: InOrder::new(alloc, task, trial.order, pace),
         trial,
     };
     verdict_by_pace(rt, &job, workers)

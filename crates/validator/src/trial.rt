@@ -25,7 +25,12 @@ impl<A: Allocator + Copy> Trial<'_, A> {
         requires { MayRun self.now }
         ensures { IsJudged self.now result }
     {
-        judge_digests(alloc, self.world, self.calls, self.block)?;
+        self.judge_digests(alloc)?;
         judge_turns(alloc, self.block)
+    }
+
+    /// The first of the reasons 2 to 6 that holds of the block, whose order was judged.
+    pub(crate) fn judge_digests(&self, alloc: A) -> Result<(), Unfit> {
+        judge_digests(alloc, self.world, self.calls, self.block)
     }
 }

@@ -228,7 +228,7 @@ fn run_ready<'a, R: Threads + Wait + Sync, A: Allocator + Copy + Send + Sync, P:
     let ready = Vec::from_slice(alloc, board.ready())?;
     let shared = Shared {
         board: Mutex::new(board),
-        ahead: Mutex::new(Ahead::open(alloc, job.ordered.cells, profiles.len())?),
+        ahead: Mutex::new(Ahead::open(alloc, job.ordered.task.cells, profiles.len())?),
         rest: AtomicU64::new(profiles.len() as u64),
         given_up: AtomicBool::new(false),
     };
@@ -277,7 +277,7 @@ fn run_at<'r, 'a, A: Allocator + Copy, P: Pace>(
 fn fold<'a, A: Allocator + Copy, P: Pace>(
     job: &Job<'_, 'a, A, P>,
     runs: &[Option<Made<'a, A>>],
-) -> Result<Ran<A>, NoMemory>
+) -> Result<Ran<'a, A>, NoMemory>
     requires job { IsJob job.now }
     requires runs { AreFound job.now runs.now }
     ensures ran { IfOk result (IsRanOf job.now.ordered) }
@@ -292,11 +292,16 @@ fn fold<'a, A: Allocator + Copy, P: Pace>(
 
 /// Runs the calls of a block that was judged at once, each over what its predecessors left, and then does them one after another, by those runs and else by
 /// running them.
-pub(crate) fn run_watched<'a, R: Threads + Wait + Sync, A: Allocator + Copy + Send + Sync, P: Pace>(
+pub(crate) fn run_watched<
+    'a,
+    R: Threads + Wait + Sync,
+    A: Allocator + Copy + Send + Sync,
+    P: Pace,
+>(
     rt: &R,
     job: &Job<'_, 'a, A, P>,
     workers: u32,
-) -> Result<Ran<A>, NoMemory>
+) -> Result<Ran<'a, A>, NoMemory>
     requires job { IsJob job.now }
     requires fit { IsFit job.now.trial.now }
     requires workers { 1 ≤ workers }

@@ -13,6 +13,7 @@ returns g c =
     let e = c.in_ok-executed.executed in
     let earlier = c.args.share.now.accesses.items in
     let now = c.run_beside.new.accesses.items in
-    one_more_prepared (setting_view task.version task.contracts.now) calls earlier (behind earlier now) now c.args.share.now.prepared.items c.push.new.self.items
-    (record { call = c.args.call; executed = e; from = c.len-from.result; until = c.len-until.result }) c.in_ok-push.ensures.items c.in_ok-executed.ensures.accesses c.requires.share (omega (arith, c.len-from.ensures, c.args.share.now.accesses.ok.0)) (omega (arith, c.len-until.ensures, c.run_beside.new.accesses.ok.0))
-    (record { call = c.index-calls-call.result; at = at; is = c.in_ok-executed.ensures.footprint })
+    one_more_prepared (setting_view task.version task.contracts.now) calls task.cells.now.cells earlier (behind earlier now) now c.args.share.now.prepared.items c.push.new.self.items
+    (record { call = c.args.call; receipt = e.receipt; entries = c.in_ok-entries.entries; from = c.len-from.result; until = c.len-until.result }) c.in_ok-push.ensures.items c.in_ok-executed.ensures.accesses c.requires.share
+    (omega (arith, c.len-from.ensures, c.args.share.now.accesses.ok.0)) (omega (arith, c.len-until.ensures, c.run_beside.new.accesses.ok.0))
+    (record { call = c.index-calls-call.result; at = at; touched = e.touched; names = c.in_ok-entries.ensures; footprint = c.in_ok-executed.ensures.footprint; told = c.in_ok-executed.ensures.told; found = c.in_ok-executed.ensures.read })
