@@ -50,8 +50,8 @@ sys.exit(wanted not in said)
 END
 }
 
-# The 16 calls of a list that the miner looks at before it starts workers, rising: $1 how many calls the list has.
-looked_at() { for number in {0..15}; do echo $((number * ($1 / 16 + 7) % $1)); done | sort -n; }
+# 16 calls that are spread over a list, rising: $1 how many calls the list has.
+spread_over() { for number in {0..15}; do echo $((number * ($1 / 16 + 7) % $1)); done | sort -n; }
 
 # Writes a list of calls: $1 how many, $2 the limit of those that never end, and their numbers.
 list_calls() {
@@ -86,6 +86,23 @@ sys.stdout.buffer.write(block)
 END
 }
 
+# Writes a module of 100,000 data segments of one byte: $1 `falling`, `same` or `mixed`, the order of their addresses.
+segments() {
+    python3 - "$1" <<'END'
+import sys
+count = 100_000
+def leb(n):
+    return bytes([n]) if n < 128 else bytes([n % 128 + 128]) + leb(n // 128)
+def sleb(n):
+    return bytes([n]) if n < 64 else bytes([n % 128 + 128]) + sleb(n // 128)
+section = lambda number, body: bytes([number]) + leb(len(body)) + body
+at = {"falling": lambda k: count - 1 - k, "same": lambda k: 0, "mixed": lambda k: k * 7919 % count}[sys.argv[1]]
+data = leb(count) + b"".join(b"\0\x41" + sleb(2 * at(k)) + b"\x0b\1a" for k in range(count))
+parts = [(1, b"\1\x60\0\0"), (3, b"\1\0"), (5, b"\1\0\x40"), (7, b"\1\1f\0\0"), (10, b"\1\3\0\1\x0b"), (11, data)]
+sys.stdout.buffer.write(b"\0asm\1\0\0\0" + b"".join(section(*part) for part in parts))
+END
+}
+
 cat >text <<'END'
 (module
  (import "boost" "add" (func $add (param i64) (param i64)))
@@ -107,7 +124,7 @@ for workers in 1 4; do
             list_calls $count $endless "$first" >calls
             is "$count calls, $first never ends, $workers workers" mines 2 "left $first " $((count - 1)) --fuel 65535 --workers $workers
         done
-        mapfile -t spread < <(looked_at $count)
+        mapfile -t spread < <(spread_over $count)
         list_calls $count $endless "${spread[@]}" >calls
         is "$count calls, 16 never end, $workers workers" mines 2 "$(printf 'left %s ' "${spread[@]}")" $((count - 16)) --fuel 65535 --workers $workers
     done
@@ -116,7 +133,7 @@ for workers in 1 4; do
 done
 
 # the miner: limits within the block's fuel, of which one call has all. It takes about a second, and 16 more where each of the others is tried to its end
-mapfile -t spread < <(looked_at 512)
+mapfile -t spread < <(spread_over 512)
 list_calls 512 50000000 "${spread[@]}" >calls
 is "512 calls, 16 of which may use all fuel" ends 8 mine world calls b n --fuel 50000000 --workers 1
 
@@ -165,5 +182,13 @@ list_calls 512 100000 0 >calls
 forge world calls 512 each >block
 is "a call before it uses 100,000 of fuel" shows 0 "0 at 2 0" 511 --fuel 100511
 is "so it does where no fuel is given" shows 0 "0 at 2 0" 511
+
+# data segments: what they lie over is found once, when the module is deployed, and no call pays for them
+for order in falling same mixed; do
+    segments $order >module
+    is "100,000 data segments, $order, are deployed" ends 10 deploy segments.$order module
+done
+for ((number = 0; number < 65535; number++)); do echo "0 1 f"; done >calls
+is "65,535 calls over 100,000 data segments" ends 10 mine segments.mixed calls b n --fuel 65535 --workers 1
 
 told
