@@ -21,7 +21,7 @@ use Rattle.text_fields.specs.Listed.{NoSpaces, SpacesAreOne}
 use Rattle.assembler.specs.Made.{make_at, ExpressionsFit, ReadingIsExact}
 use Rattle.assembler.proofs.Ordered.{made_in_order}
 use Rattle.assembler.proofs.Unplaced.{order_kept}
-use Rattle.text_faults.specs.OfFields.{IsOfFields}
+use Rattle.assembler.specs.OfFields.{IsOfFields}
 use Rattle.assembler.specs.Named.{HasFields, NamesNothing, LexesToNothing, ResolveToNothing, MakesNothing, IsWhy}
 
 -- ---- tokens and fields

@@ -1,6 +1,6 @@
 //! What is measured: the example contract, and calls of it.
 use call::Call;
-use samples::example;
+use test_support::example;
 use std::alloc::Global;
 use storage::Cells;
 use world::World;

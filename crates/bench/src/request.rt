@@ -3,7 +3,7 @@ use crate::files::read_file;
 use crate::refusals::refused;
 use call::Call;
 use link::deployed::Deployed;
-use samples::deployed;
+use test_support::deployed;
 use std::alloc::Global;
 use std::io;
 

@@ -1,3 +1,4 @@
 pub mod Judging
 pub mod Marks
 pub mod Turned
+pub mod Meeting

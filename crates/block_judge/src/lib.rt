@@ -3,8 +3,12 @@
 #![tactic(auto)]
 
 mod digests;
+mod fuel;
 mod laws;
 mod order;
+mod place;
+mod prefix;
+mod prefix_laws;
 mod reason;
 mod turns;
 
@@ -16,13 +20,15 @@ ghost use Rattle.spec_block.specs.Verdicts.{HoldsOf, IsVerdictOf};
 ghost use Rattle.world.specs.Views.{world_view};
 ghost use Rattle.block_judge.specs.Judging.{IfRejected, IsFirstFrom, NoneFrom, Passes};
 
+use block::{Block, BlockRefusal, read_block};
+use call::Call;
 pub use crate::digests::judge_digests;
 pub use crate::laws::first_is_verdict;
 pub use crate::order::{judge_order, numbers_of};
+pub use crate::prefix::{Met, met_by};
+pub use crate::prefix_laws::tells_of_the_run;
 pub use crate::reason::{Reason, Unfit};
 pub use crate::turns::judge_turns;
-use block::{Block, BlockRefusal, read_block};
-use call::Call;
 use std::alloc::{Allocator, Global};
 use world::World;
 
@@ -99,7 +105,7 @@ pub fn judge<A: Allocator + Copy>(
 {
     first_is_verdict();
     let block = spelled_by(alloc, bytes)?;
-    block.hold();
+    block.use_invariant();
     let order = numbers_of(alloc, &block)?;
     judge_block(alloc, world, calls, fuel, &block, &order)?;
     Ok(Fit { block, order })

@@ -86,7 +86,7 @@ fn first_other<A: Allocator + Copy>(
     let mut groups = BTreeMap::new(alloc);
     for (at, position) in positions.iter().enumerate() {
         let profile = position.profile();
-        profile.hold();
+        profile.use_invariant();
         if !have_turns(&mut groups, profile.entries())? {
             return Ok(Some(at as u32));
         }

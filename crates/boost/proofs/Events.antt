@@ -27,8 +27,8 @@ use Rattle.std.proofs.Common.{Some, slice_get}
 use Rattle.std.proofs.lemmas.Option.{slice_get-get_or}
 use Rattle.storage.specs.Counts.{opened_all, closed_all, AreUnsettled, AreCounts}
 use Rattle.boost.specs.Counted.{live_counts}
-use Rattle.boost.specs.declared.standing.Standing.{Standing}
-use Rattle.boost.specs.declared.standing.Standing.TheVariants.{Idle, Live, Committed}
+use Rattle.boost.specs.declared.standing.CallState.{CallState}
+use Rattle.boost.specs.declared.standing.CallState.TheVariants.{Idle, Live, Committed}
 use Rattle.boost.specs.Kept.{IsBook, IsPlace, AreStanding, rows_with, committed_with, live_with}
 use Rattle.boost.specs.Numbered.{HasTrace}
 use Rattle.boost.proofs.Held.{AreBelow, no_other, rows_out, rows_with-append, length-rows_with, emptied, empty_row, own_row, share_to, share_from, touched-push}
@@ -39,7 +39,7 @@ use Rattle.boost.proofs.Lists.{set_split, at_split}
 
 -- ---- the table of locks and the standings beside the attempts
 
-module _ (b : Content) (counts : Counts) (rows : List Modes) (standings : List Standing) (book : IsBook b counts rows standings) where
+module _ (b : Content) (counts : Counts) (rows : List Modes) (standings : List CallState) (book : IsBook b counts rows standings) where
   pub length-rows : length rows ≡ length b.begun
   length-rows = ap length book.locked ∙ length-rows_with b.attempts (replicate (length b.begun) empty) ∙ length-replicate (length b.begun) empty
 
@@ -52,10 +52,10 @@ module _ (b : Content) (counts : Counts) (rows : List Modes) (standings : List S
   entries_known : AllByRecursion (λ e. e.call < length b.begun) b.entries
   entries_known = All-weaken (IsEntry b.begun) (λ e. e.call < length b.begun) (λ e h. h.known) b.entries book.kept.each_entry
 
-  pub are_standing : (xs : List Attempt) (s : List Standing) → xs ≡ b.attempts → s ≡ standings → AreStanding xs s
+  pub are_standing : (xs : List Attempt) (s : List CallState) → xs ≡ b.attempts → s ≡ standings → AreStanding xs s
   are_standing xs s e f =
-      let path : ◌≡◌ {A = List Attempt × List Standing} (b.attempts, standings) (xs, s) = λ i. (sym e i, sym f i) in
-      let P : List Attempt × List Standing → Type 0 = λ (ys, t). AreStanding ys t in
+      let path : ◌≡◌ {A = List Attempt × List CallState} (b.attempts, standings) (xs, s) = λ i. (sym e i, sym f i) in
+      let P : List Attempt × List CallState → Type 0 = λ (ys, t). AreStanding ys t in
       subst P path (AreStanding-book (length b.begun) b.attempts b.entries standings book.standing calls_known book.kept.apart)
 
   module _ (p : List Attempt) (a : Attempt) (q : List Attempt) (split : b.attempts ≡ p ++ a ∷ q) where
@@ -79,14 +79,14 @@ module _ (b : Content) (counts : Counts) (rows : List Modes) (standings : List S
         ap (λ x. set x a.call empty) rows_there
         ∙ emptied (rows_with (p ++ q) (replicate (length b.begun) empty)) a.call a.modes (empty_row a.call (length b.begun) (p ++ q) known_there idle_there)
 
-    pub calls_left : (xs : List Attempt) (s : List Standing) → xs ≡ p ++ q → length s ≡ length standings → AllByRecursion (λ c. c.call < length s) xs
+    pub calls_left : (xs : List Attempt) (s : List CallState) → xs ≡ p ++ q → length s ≡ length standings → AllByRecursion (λ c. c.call < length s) xs
     calls_left xs s e f =
         let path : ◌≡◌ {A = ℕ × List Attempt} (length b.begun, p ++ q) (length s, xs) = λ i. (sym (f ∙ length-standings) i, sym e i) in
         let P : ℕ × List Attempt → Type 0 = λ (n, ys). AreBelow n ys in
         subst P path others_known
 
     -- the attempt's call stands otherwise
-    standing_left : (i : ℕ) (v : Standing) → length p ≡ i → live_with i q (set standings a.call v) ≡ live_with 0 (p ++ q) (set (committed_with b.entries (replicate (length b.begun) Idle)) a.call v)
+    standing_left : (i : ℕ) (v : CallState) → length p ≡ i → live_with i q (set standings a.call v) ≡ live_with 0 (p ++ q) (set (committed_with b.entries (replicate (length b.begun) Idle)) a.call v)
     standing_left i v e =
         ap (λ x. live_with i q (set x a.call v)) (book.standing ∙ ap (λ ys. live_with 0 ys (committed_with b.entries (replicate (length b.begun) Idle))) split)
         ∙ left_standing p a q (committed_with b.entries (replicate (length b.begun) Idle)) i v e
@@ -142,7 +142,7 @@ found_not_stale b call number before a later found stale =
 
 -- ---- an attempt at its place
 
-module _ (b : Content) (counts : Counts) (rows : List Modes) (standings : List Standing) (book : IsBook b counts rows standings) (call number i : ℕ) (xs : List Attempt) (same : xs ≡ b.attempts) (place : IsPlace xs i call number) where
+module _ (b : Content) (counts : Counts) (rows : List Modes) (standings : List CallState) (book : IsBook b counts rows standings) (call number i : ℕ) (xs : List Attempt) (same : xs ≡ b.attempts) (place : IsPlace xs i call number) where
   pub here : Attempt
   here = place.attempt
 
@@ -174,7 +174,7 @@ module _ (b : Content) (counts : Counts) (rows : List Modes) (standings : List S
   pub call_standing : call < length standings
   call_standing = subst (λ n. call < n) (sym (length-standings b counts rows standings book)) call_known
 
-  pub later_known : (xs : List Attempt) (s : List Standing) → xs ≡ take i b.attempts ++ drop (i + 1) b.attempts → length s ≡ length standings → AllByRecursion (λ c. c.call < length s) xs
+  pub later_known : (xs : List Attempt) (s : List CallState) → xs ≡ take i b.attempts ++ drop (i + 1) b.attempts → length s ≡ length standings → AllByRecursion (λ c. c.call < length s) xs
   later_known = calls_left b counts rows standings book (take i b.attempts) place.attempt (drop (i + 1) b.attempts) split
 
   pub granted_here : (op : Op) (l : Lock) (m : Mode) → l ≡ lock_of op → m ≡ mode_of op
@@ -268,7 +268,7 @@ module _ (b : Content) (counts : Counts) (rows : List Modes) (standings : List S
 
     module _ (is : List Inverse) (is_is : is ≡ z.inverses) (counts' : Counts) (counts_is : counts' ≡ closed_all is counts) (rest : List Attempt) (rest_is : rest ≡ take i b.attempts ++ drop (i + 1) b.attempts)
         (rows' : List Modes) (rows_is : rows' ≡ set rows call empty)
-        (v : Standing) (written : List Standing) (written_is : written ≡ set standings call v) (ys : List Attempt) (ys_is : ys ≡ rest) (standings' : List Standing) (standings_is : standings' ≡ live_with i (drop i ys) written) where
+        (v : CallState) (written : List CallState) (written_is : written ≡ set standings call v) (ys : List Attempt) (ys_is : ys ≡ rest) (standings' : List CallState) (standings_is : standings' ≡ live_with i (drop i ys) written) where
       inverses_here : is ≡ place.attempt.inverses
       inverses_here = is_is ∙ ap (λ (a : Attempt). a.inverses) (sym same_here)
 
@@ -390,11 +390,11 @@ few_entries b kept =
 
 -- ---- a begin
 
-module _ (b : Content) (counts : Counts) (rows : List Modes) (standings : List Standing) (book : IsBook b counts rows standings) (call : ℕ) (below : call < length b.begun) where
+module _ (b : Content) (counts : Counts) (rows : List Modes) (standings : List CallState) (book : IsBook b counts rows standings) (call : ℕ) (below : call < length b.begun) where
   pub standing_below : call < length standings
   standing_below = subst (λ n. call < n) (sym (length-standings b counts rows standings book)) below
 
-  module _ (x : Standing) (x_is : x ≡ get_or standings call x) where
+  module _ (x : CallState) (x_is : x ≡ get_or standings call x) where
     pub idle_before : x ≡ Idle → HasNoAttempt call b.attempts × call_is_new call b.entries
     idle_before e =
         stands_idle (length b.begun) b.attempts b.entries standings book.standing call below x x_is e
@@ -426,7 +426,7 @@ module _ (b : Content) (counts : Counts) (rows : List Modes) (standings : List S
     begins : ◌≡◌ {A = Content} (record b { attempts = attempts; begun = begun }) (after_begin b call)
     begins = λ k. record b { attempts = (e ∙ ap (λ x. b.attempts ++ x ∷ []) (f ∙ ap (fresh call) n)) k; begun = (g ∙ ap (λ x. set b.begun call (x + 1)) n) k }
 
-    pub IsBook-begin : (place : ℕ) → place ≡ length b.attempts → (standings' : List Standing) → standings' ≡ set standings call (Live place) → IsBook (record b { attempts = attempts; begun = begun }) counts rows standings'
+    pub IsBook-begin : (place : ℕ) → place ≡ length b.attempts → (standings' : List CallState) → standings' ≡ set standings call (Live place) → IsBook (record b { attempts = attempts; begun = begun }) counts rows standings'
     IsBook-begin place place_is standings' standings_is =
         let wide : length (set b.begun call (get_or b.begun call 0 + 1)) ≡ length b.begun = length-set b.begun call (get_or b.begun call 0 + 1) in
         record {
@@ -452,7 +452,7 @@ module _ (b : Content) (counts : Counts) (rows : List Modes) (standings : List S
 
 -- ---- the newest attempt undone
 
-module _ (b : Content) (counts : Counts) (rows : List Modes) (standings : List Standing) (book : IsBook b counts rows standings) (p : List Attempt) (a : Attempt) (split : b.attempts ≡ p ++ a ∷ []) where
+module _ (b : Content) (counts : Counts) (rows : List Modes) (standings : List CallState) (book : IsBook b counts rows standings) (p : List Attempt) (a : Attempt) (split : b.attempts ≡ p ++ a ∷ []) where
   rest_is : p ++ [] ≡ p
   rest_is = append-nil p
 
@@ -472,7 +472,7 @@ module _ (b : Content) (counts : Counts) (rows : List Modes) (standings : List S
     last_undone : ◌≡◌ {A = Content} (record b { now = now; attempts = p }) (after_undo b p a [])
     last_undone = λ k. record b { now = (now_is ∙ ap (λ x. back_all x b.now) is_is) k; attempts = sym rest_is k }
 
-    pub IsBook-undo_last : (k : ℕ) → k ≡ a.call → (rows' : List Modes) → rows' ≡ set rows k empty → (standings' : List Standing) → standings' ≡ set standings k Idle → IsBook (record b { now = now; attempts = p }) counts' rows' standings'
+    pub IsBook-undo_last : (k : ℕ) → k ≡ a.call → (rows' : List Modes) → rows' ≡ set rows k empty → (standings' : List CallState) → standings' ≡ set standings k Idle → IsBook (record b { now = now; attempts = p }) counts' rows' standings'
     IsBook-undo_last k k_is rows' rows_is' standings' standings_is = record {
       kept = subst (λ x. IsKept x) (sym last_undone) (IsKept-undo b p a [] book.kept split);
       counted = counts_is ∙ ap (λ x. closed_all x counts) is_is ∙ ap (closed_all a.inverses) last_out ∙ closed_all-opened_all a.inverses _ (AreCounts-live p empty AreCounts-empty);

@@ -13,8 +13,8 @@ use Rattle.spec_ledger.proofs.Kept.{IsKept-enter, IsKept-leave}
 use Rattle.storage.specs.Counts.{Counts, Store, opened_all, closed_all, AreCounts}
 use Rattle.storage.proofs.Counted.{closed_all-opened_all, AreCounts-empty, AreCounts-opened_all}
 use Rattle.boost.specs.Counted.{live_counts}
-use Rattle.boost.specs.declared.standing.Standing.{Standing}
-use Rattle.boost.specs.declared.standing.Standing.TheVariants.{Idle}
+use Rattle.boost.specs.declared.standing.CallState.{CallState}
+use Rattle.boost.specs.declared.standing.CallState.TheVariants.{Idle}
 use Rattle.boost.specs.Kept.{IsBook, IsPlace, rows_with, committed_with, live_with}
 use Rattle.boost.specs.Marks.{IsLeft, since, left_with}
 use Rattle.boost.proofs.Counted.{live_counts_out, AreCounts-live}
@@ -57,7 +57,7 @@ same_rows p a c q rows e f =
 
 -- ---- an attempt at its place
 
-module _ (b : Content) (counts : Counts) (rows : List Modes) (standings : List Standing) (book : IsBook b counts rows standings) (call number i : ℕ) (xs : List Attempt) (same : xs ≡ b.attempts) (place : IsPlace xs i call number) (z : Attempt) (z_is : z ≡ get_or b.attempts i z) where
+module _ (b : Content) (counts : Counts) (rows : List Modes) (standings : List CallState) (book : IsBook b counts rows standings) (call number i : ℕ) (xs : List Attempt) (same : xs ≡ b.attempts) (place : IsPlace xs i call number) (z : Attempt) (z_is : z ≡ get_or b.attempts i z) where
   abbrev before : List Attempt
   before = take i b.attempts
 

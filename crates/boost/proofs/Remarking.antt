@@ -15,8 +15,8 @@ use Rattle.spec_ledger.proofs.Kept.{All-with, apart_with, beside, live_here, liv
 use Rattle.spec_ledger.proofs.Traces.{All-standing, after-standing, live_after-append, ops_of-append, standing_at-push}
 use Rattle.storage.specs.Counts.{Counts}
 use Rattle.boost.specs.Counted.{live_counts}
-use Rattle.boost.specs.declared.standing.Standing.{Standing}
-use Rattle.boost.specs.declared.standing.Standing.TheVariants.{Idle}
+use Rattle.boost.specs.declared.standing.CallState.{CallState}
+use Rattle.boost.specs.declared.standing.CallState.TheVariants.{Idle}
 use Rattle.boost.specs.Kept.{IsBook, rows_with, committed_with, live_with}
 use Rattle.boost.specs.Numbered.{after_begin_with, BegunAs, BegunWith, marked}
 use Rattle.boost.proofs.Counted.{live_counts_out}
@@ -130,7 +130,7 @@ set_last [] x y (suc n) e = absurd (omega (arith, e))
 set_last (z ∷ xs) x y zero e = absurd (omega (arith, e))
 set_last (z ∷ xs) x y (suc n) e = ap (λ t. z ∷ t) (set_last xs x y n (omega (arith, e)))
 
-module _ (b : Content) (counts : Counts) (rows : List Modes) (standings : List Standing) (book : IsBook b counts rows standings) (p : List Attempt) (call number : ℕ) (old more : List Step) (old_are : ops_of old ≡ []) (more_are : ops_of more ≡ [])
+module _ (b : Content) (counts : Counts) (rows : List Modes) (standings : List CallState) (book : IsBook b counts rows standings) (p : List Attempt) (call number : ℕ) (old more : List Step) (old_are : ops_of old ≡ []) (more_are : ops_of more ≡ [])
     (split : b.attempts ≡ p ++ marked call number old ∷ []) where
   abbrev a : Attempt
   a = marked call number old
@@ -203,7 +203,7 @@ module _ (f b : Content) (call number : ℕ) (old : List Step) (is : b ≡ after
     pub remarks : ◌≡◌ {A = Content} (record b { attempts = set b.attempts last y }) (after_begin_with f call number more)
     remarks = λ i. record (is i) { attempts = remarked i }
 
-    pub IsBook-remark : (counts : Counts) (rows : List Modes) (standings : List Standing) → ops_of old ≡ [] → ops_of more ≡ [] → IsBook b counts rows standings → IsBook (record b { attempts = set b.attempts last y }) counts rows standings
+    pub IsBook-remark : (counts : Counts) (rows : List Modes) (standings : List CallState) → ops_of old ≡ [] → ops_of more ≡ [] → IsBook b counts rows standings → IsBook (record b { attempts = set b.attempts last y }) counts rows standings
     IsBook-remark counts rows standings old_are more_are book =
         subst (λ xs. IsBook (record b { attempts = xs }) counts rows standings) (sym remarked) (IsBook-remarked b counts rows standings book f.attempts call number old more old_are more_are attempts_are)
 

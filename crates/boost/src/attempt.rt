@@ -189,7 +189,7 @@ impl<A: Allocator + Copy> Attempt<A> {
         ensures err_cells { OnErr result (cells.new ≡ cells.old) }
         ensures err_locks { OnErr result (locks.new ≡ locks.old) }
     {
-        cells.hold();
+        cells.use_invariant();
         self.trace
             .reserve(1 + self.marks.len())
             .map_err(|_| NoMemory)?;

@@ -10,7 +10,7 @@ ghost use Rattle.spec_ledger.specs.Modes.{ops_of};
 ghost use Rattle.std.specs.FinMap as finite;
 
 use crate::attempt::{Attempt, Entry, mode};
-use crate::standing::{Standing, note_places, place_of};
+use crate::standing::{CallState, note_places, place_of};
 use crate::trace::same_trace;
 use abstract_locks::Table;
 use spec_ledger::{Lock, Op, Outcome, Reply, Step};
@@ -151,7 +151,7 @@ pub struct Book<A: Allocator = Global> {
     attempts: Vec<Attempt<A>, A>,
     begun: Vec<u64, A>,
     locks: Table<A>,
-    standings: Vec<Standing, A>,
+    standings: Vec<CallState, A>,
 }
 
 impl<A: Allocator> Model for Book<A> {
@@ -172,7 +172,7 @@ impl<A: Allocator> Model for Book<A> {
 /// Where the attempt of a ticket stands, if it lives.
 fn find<A: Allocator + Copy>(
     attempts: &[Attempt<A>],
-    standings: &[Standing],
+    standings: &[CallState],
     ticket: &Ticket,
 ) -> Option<usize>
     requires { AreStanding attempts.now standings.now }
@@ -264,7 +264,7 @@ impl<A: Allocator + Copy> Book<A> {
         let attempt = self.attempts.remove(i);
         take_all_back(&mut self.cells, attempt.into_inverses());
         self.locks.release(ticket.call);
-        self.standings[ticket.call as usize] = Standing::Idle;
+        self.standings[ticket.call as usize] = CallState::Idle;
         note_places(&mut self.standings, &self.attempts, i);
     }
 
@@ -295,7 +295,7 @@ impl<A: Allocator + Copy> Book<A> {
         let (entry, inverses) = attempt.into_entry(outcome);
         end_all(&mut self.cells, inverses, returned(outcome));
         self.locks.release(ticket.call);
-        self.standings[ticket.call as usize] = Standing::Committed;
+        self.standings[ticket.call as usize] = CallState::Committed;
         note_places(&mut self.standings, &self.attempts, i);
         match self.entries.push(entry) {
             Ok(()) => Ok(position),
@@ -332,12 +332,12 @@ impl<A: Allocator + Copy> Book<A> {
         ensures attempts { IfOk result (λ book. book.attempts ≡ []) }
         ensures begun { IfOk result (λ book. book.begun ≡ replicate calls 0) }
     {
-        opening.hold();
+        opening.use_invariant();
         let cells = opening.copy(alloc)?;
         let Ok(begun) = vec![in alloc; 0u64; calls as usize] else {
             return Err(NoMemory);
         };
-        let Ok(standings) = vec![in alloc; Standing::Idle; calls as usize] else {
+        let Ok(standings) = vec![in alloc; CallState::Idle; calls as usize] else {
             return Err(NoMemory);
         };
         let locks = Table::open(alloc, calls)?;
@@ -364,7 +364,7 @@ impl<A: Allocator + Copy> Book<A> {
         let call = attempt.call();
         take_all_back(&mut self.cells, attempt.into_inverses());
         self.locks.release(call);
-        self.standings[call as usize] = Standing::Idle;
+        self.standings[call as usize] = CallState::Idle;
         true
     }
 
@@ -416,7 +416,7 @@ impl<A: Allocator + Copy> Book<A> {
     }
 
     /// What the type of a book keeps.
-    pub fn hold(&self)
+    pub fn use_invariant(&self)
         ensures entries { EntriesAreSerialRun self.now }
         ensures cells { CellsAreSettledButForHolders self.now }
         ensures replies { LiveTracesGetReplies self.now }
@@ -464,9 +464,9 @@ impl<A: Allocator + Copy> Book<A> {
             return Err(BeginAsRefusal::NoSuchCall);
         }
         match self.standings[call as usize] {
-            Standing::Idle => (),
-            Standing::Live(_) => return Err(BeginAsRefusal::Live),
-            Standing::Committed => return Err(BeginAsRefusal::Committed),
+            CallState::Idle => (),
+            CallState::Live(_) => return Err(BeginAsRefusal::Live),
+            CallState::Committed => return Err(BeginAsRefusal::Committed),
         }
         if number < self.begun[call as usize] {
             return Err(BeginAsRefusal::Passed);
@@ -487,7 +487,7 @@ impl<A: Allocator + Copy> Book<A> {
             Err(_) => unreachable!(),
         }
         self.begun[call as usize] = number + 1;
-        self.standings[call as usize] = Standing::Live(place);
+        self.standings[call as usize] = CallState::Live(place);
         Ok(Ticket { call, number })
     }
 
@@ -535,7 +535,7 @@ impl<A: Allocator + Copy> Book<A> {
         }
         self.attempts.pop();
         self.locks.release(ticket.call);
-        self.standings[ticket.call as usize] = Standing::Idle;
+        self.standings[ticket.call as usize] = CallState::Idle;
         self.begun[ticket.call as usize] = count;
         Ok(())
     }
@@ -559,7 +559,7 @@ impl<A: Allocator> Drop for Book<A> {
 /// The ticket of a call's attempt among these.
 fn ticket_in<A: Allocator + Copy>(
     attempts: &[Attempt<A>],
-    standings: &[Standing],
+    standings: &[CallState],
     call: u32,
 ) -> Option<Ticket>
     requires { AreStanding attempts.now standings.now }

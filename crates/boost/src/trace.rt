@@ -1,9 +1,9 @@
 // Whether two traces are the same.
 ghost use Rattle.std.specs.Prelude.{◌≡◌, IsTrue, ◌↔◌};
 
-use spec_ledger::{Op, Place, Reply, Step};
+use spec_ledger::{Op, CellKey, Reply, Step};
 
-fn same_place(a: &Place, b: &Place) -> bool
+fn same_place(a: &CellKey, b: &CellKey) -> bool
     ensures { IsTrue result ↔ (a.now ≡ b.now) }
 {
     a == b

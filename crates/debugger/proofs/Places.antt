@@ -14,7 +14,7 @@ use Rattle.spec_execution.specs.Levels.{Level, Levels, asked, trap_status, signe
 use Rattle.spec_execution.specs.Turning.{FreeMoves, none, one_more, IsAnswered, not_asked, Rests, to_come, ended, Turned, opened, turned}
 use Rattle.spec_execution.specs.Turning as turning
 use Rattle.spec_execution.specs.Turns.{shown, is_to_come, place_of}
-use Rattle.soundness.specs.Coming.{PlacesAreOfWhatComes}
+use Rattle.laws_soundness.specs.Coming.{PlacesAreOfWhatComes}
 use Rattle.interp.specs.Shown.{ending_by, ending_of}
 use Rattle.debugger.specs.Sight.{StatesHavePlaces}
 

@@ -17,5 +17,5 @@ pub use link::deployed::Deployed as Contract;
 pub fn states_have_places()
     ensures { StatesHavePlaces }
 {
-    soundness::places_are_of_what_comes();
+    laws_soundness::places_are_of_what_comes();
 }

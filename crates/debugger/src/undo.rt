@@ -63,7 +63,7 @@ pub(crate) fn act<A: Allocator + Copy>(
     ensures is_reply { IfOk result (λ reply. IsReply op reply) }
     ensures undo { IfOk result (λ reply. (p : Marked TheCells) → IsNoted undo.old cells.old.cells p → IsNoted undo.new cells.new.cells (stepped cells_after (Did op reply) p)) }
 {
-    cells.hold();
+    cells.use_invariant();
     let (reply, inverse) = do_op(cells, op)?;
     if !undo.marks.is_empty() {
         undo.inverses.push(inverse)?;

@@ -1,18 +1,18 @@
 //! Several instructions at once.
 
 ghost use Rattle.std.specs.Prelude.{◌≡◌, ◌≢◌, ◌≤◌, ◌<◌, [], vec_len, vec_capacity};
-ghost use Rattle.operands.specs.Lent.{contract_of, base_of};
-ghost use Rattle.frames.specs.Steps.{IsOrderedParts, IsCounted};
-ghost use Rattle.frames.specs.Views.{view};
-ghost use Rattle.execute.specs.Strides.{Walks, IsSafeFor, PushesNext};
+ghost use Rattle.interp_state.specs.Callee.{contract_of, base_of};
+ghost use Rattle.interp_state.specs.Steps.{IsOrderedParts, IsCounted};
+ghost use Rattle.interp_state.specs.Views.{view};
+ghost use Rattle.interp_steps.specs.Strides.{Walks, IsSafeFor, PushesNext};
 
-use frames::parts::Parts;
-use operands::lent::Lent;
+use interp_state::parts::Parts;
+use interp_state::lent::Callee;
 use std::alloc::Allocator;
 
-/// As [`execute::strides::stride`].
+/// As [`interp_steps::strides::stride`].
 pub fn stride<'a, A: Allocator + Copy>(
-    lent: &Lent<'a, A>,
+    lent: &Callee<'a, A>,
     parts: &mut Parts<'a, A>,
     most: u64,
 ) -> u64
@@ -27,5 +27,5 @@ pub fn stride<'a, A: Allocator + Copy>(
     ensures counted { IsCounted parts.new }
     ensures max { parts.new.instance.memory.max ≡ parts.old.instance.memory.max }
 {
-    execute::strides::stride(lent, parts, most)
+    interp_steps::strides::stride(lent, parts, most)
 }

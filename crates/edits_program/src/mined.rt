@@ -5,13 +5,13 @@ ghost use Rattle.std.specs.FinMap as finite;
 ghost use Rattle.spec_ledger.specs.declared.Version.TheVariants.{Two};
 ghost use Rattle.spec_ledger.specs.Order.{IsAdmissible, first_fit};
 ghost use Rattle.spec_execution.specs.Serial.{Serial};
-ghost use Rattle.interp.specs.Lent.{setting_view};
+ghost use Rattle.interp.specs.Callee.{setting_view};
 ghost use Rattle.serial.specs.Positions.{positions};
 ghost use Rattle.publish.specs.Publication.{AreLeft, limits, fuel_used};
 
 use call::Call;
 use link::deployed::Deployed as Contract;
-use mining::MinedCore;
+use miner::MinedCore;
 use pace::Pace;
 use std::alloc::Allocator;
 use std::sync::Wait;
@@ -19,7 +19,7 @@ use std::thread::Threads;
 use storage::Cells;
 use wtypes::NoMemory;
 
-/// As [`mining::mine_core`].
+/// As [`miner::mine_core`].
 pub fn mine_core<'a, R: Threads + Wait + Sync, A: Allocator + Copy + Send + Sync, P: Pace>(
     rt: &R,
     alloc: A,
@@ -46,7 +46,7 @@ pub fn mine_core<'a, R: Threads + Wait + Sync, A: Allocator + Copy + Send + Sync
     ensures left { IfOk result (λ core. AreLeft core.order.items (length calls.now) core.left.items) }
     ensures by_workers { IfOk result (λ core. core.by_workers ≤ length core.order.items) }
 {
-    let core = mining::mine_core(
+    let core = miner::mine_core(
         rt, alloc, contracts, cells, calls, block_fuel, workers, tries, pace, shards,
     )?;
     Ok(core)

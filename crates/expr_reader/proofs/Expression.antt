@@ -6,8 +6,8 @@ use Rattle.std.proofs.lemmas.Option.{none-some}
 use Rattle.spec_syntax.specs.Syntax.{Instrs}
 use Rattle.spec_binary.specs.Grammar.{expression}
 use Rattle.spec_binary.specs.Spells.{ExpressionFits}
-use Rattle.spec_binary_laws.specs.ReadingExpressions.{expression_at}
-use Rattle.spec_binary_laws.specs.ExpressionLaws.{FitsIn, expression_reads}
+use Rattle.laws_modules.specs.ReadingExpressions.{expression_at}
+use Rattle.laws_modules.specs.ExpressionLaws.{FitsIn, expression_reads}
 use Rattle.expr_reader.specs.declared.unread.Unread.{Unread}
 use Rattle.expr_reader.specs.declared.unread.Unread.TheVariants as unread
 use Rattle.expr_reader.specs.Outcome.{Unless, Fails, refusal_before, NoExpression}

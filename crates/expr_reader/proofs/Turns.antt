@@ -3,7 +3,7 @@ use Rattle.std.proofs.Common.{◌⊎◌, ⊎_elim, inl, inr, ◌≡◌, ℕ, zer
 use Rattle.std.specs.Prelude.{option_map, ◌==◌, ◌||◌}
 use Rattle.spec_syntax.specs.Syntax as syntax
 use Rattle.spec_binary.specs.Reading.{Read, ◌>>=◌}
-use Rattle.spec_binary_laws.specs.ReadingExpressions.{Body, seq_at, body_at, one_at, one_with, result_at}
+use Rattle.laws_modules.specs.ReadingExpressions.{Body, seq_at, body_at, one_at, one_with, result_at}
 use Rattle.expr_reader.specs.declared.unread.Unread.{Unread}
 use Rattle.expr_reader.specs.declared.unread.Unread.TheVariants.{Malformed, Unsupported, TooLarge, NoMemory}
 use Rattle.expr_reader.specs.Outcome.{Fails}

@@ -3,7 +3,7 @@ ghost use Rattle.std.specs.Prelude.{◌≡◌, ◌+◌, ◌<◌, ◌≤◌, ◌^
 ghost use Rattle.expr_reader.specs.Outcome.{Gives};
 ghost use Rattle.expr_reader.specs.Numbering.{Numbered};
 ghost use Rattle.spec_binary.specs.Reading.{unsigned_at};
-ghost use Rattle.spec_binary_laws.specs.ReadingExpressions.{items_at, table_at, one_at, body_at};
+ghost use Rattle.laws_modules.specs.ReadingExpressions.{items_at, table_at, one_at, body_at};
 ghost use Rattle.module_tree.specs.View.{instr_view, instrs_view, instr_ordinals, ordinals};
 
 use crate::plain::plain_of;
@@ -33,7 +33,7 @@ fn labels_of<'b, A: Allocator + Clone>(
 }
 
 // The labels of a `br_table`, and the default label.
-#[tactic(auto, unfolding(spec_binary_laws::specs::ReadingExpressions::table_at))]
+#[tactic(auto, unfolding(laws_modules::specs::ReadingExpressions::table_at))]
 fn table_of<'b, A: Allocator + Clone>(
     alloc: &A,
     bytes: &'b [u8],
@@ -83,7 +83,7 @@ pub fn body_of<'b, A: Allocator + Clone>(
 }
 
 // The instruction whose first byte this is, and the bytes after it. Within it so many levels may stand.
-#[tactic(auto, unfolding(spec_binary_laws::specs::ReadingExpressions::one_with))]
+#[tactic(auto, unfolding(laws_modules::specs::ReadingExpressions::one_with))]
 #[cycle(body)]
 fn instr_of<'b, A: Allocator + Clone>(
     alloc: &A,

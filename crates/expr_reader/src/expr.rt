@@ -2,7 +2,7 @@
 ghost use Rattle.std.specs.Prelude.{◌≡◌, ◌+◌, ◌<◌, ◌≤◌, ◌^◌, true, length, slice_range, IfOk, IfErr};
 ghost use Rattle.spec_binary.specs.Grammar.{expression};
 ghost use Rattle.spec_binary.specs.Spells.{ExpressionFits};
-ghost use Rattle.spec_binary_laws.specs.ReadingExpressions.{expression_at};
+ghost use Rattle.laws_modules.specs.ReadingExpressions.{expression_at};
 ghost use Rattle.module_tree.specs.View.{instrs_view, ordinals};
 ghost use Rattle.spec_syntax.specs.Limits.{counts_from};
 ghost use Rattle.expr_reader.specs.Numbering.{Numbered};
@@ -19,7 +19,7 @@ const LEVELS: u32 = 129;
 
 /// The expression at the front of these bytes, and the bytes after it. Its instructions carry their ordinals. Where it
 /// is refused for another cause than memory, none within the limits on nesting and labels is spelled there.
-#[tactic(auto, unfolding(spec_binary_laws::specs::ReadingExpressions::expression_at))]
+#[tactic(auto, unfolding(laws_modules::specs::ReadingExpressions::expression_at))]
 pub fn expression_of<'b, A: Allocator + Clone>(
     alloc: &A,
     bytes: &'b [u8],

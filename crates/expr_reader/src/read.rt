@@ -2,7 +2,7 @@
 ghost use Rattle.std.specs.Prelude.{◌≡◌, ◌+◌, ◌<◌, ◌≤◌, length, IfOk};
 ghost use Rattle.expr_reader.specs.Outcome.{Gives};
 ghost use Rattle.spec_binary.specs.Reading.{unsigned_at, signed_at};
-ghost use Rattle.spec_binary_laws.specs.ReadingExpressions.{byte_at, memarg_at, result_at};
+ghost use Rattle.laws_modules.specs.ReadingExpressions.{byte_at, memarg_at, result_at};
 
 use crate::unread::Unread;
 use wtypes::ValType;
@@ -38,7 +38,7 @@ pub fn s64_of(bytes: &[u8]) -> Result<(i64, &[u8]), Unread>
 }
 
 // The byte 0.
-#[tactic(auto, unfolding(spec_binary_laws::specs::ReadingExpressions::byte_at))]
+#[tactic(auto, unfolding(laws_modules::specs::ReadingExpressions::byte_at))]
 pub fn zero_of(bytes: &[u8]) -> Result<&[u8], Unread>
     ensures value { Gives (λ x. x.now) result (byte_at 0 bytes.now) }
     ensures shorter { IfOk result (λ x. length x.now < length bytes.now) }
@@ -50,7 +50,7 @@ pub fn zero_of(bytes: &[u8]) -> Result<&[u8], Unread>
 }
 
 // An alignment and an offset.
-#[tactic(auto, unfolding(spec_binary_laws::specs::ReadingExpressions::memarg_at))]
+#[tactic(auto, unfolding(laws_modules::specs::ReadingExpressions::memarg_at))]
 pub fn memarg_of(bytes: &[u8]) -> Result<(u32, u32, &[u8]), Unread>
     ensures value { Gives (λ x. ((x.0, x.1), x.2.now)) result (memarg_at bytes.now) }
     ensures shorter { IfOk result (λ x. length x.2.now < length bytes.now) }
@@ -61,7 +61,7 @@ pub fn memarg_of(bytes: &[u8]) -> Result<(u32, u32, &[u8]), Unread>
 }
 
 // A block type.
-#[tactic(auto, unfolding(spec_binary_laws::specs::ReadingExpressions::result_at))]
+#[tactic(auto, unfolding(laws_modules::specs::ReadingExpressions::result_at))]
 pub fn result_of(bytes: &[u8]) -> Result<(Option<ValType>, &[u8]), Unread>
     ensures value { Gives (λ x. (x.0, x.1.now)) result (result_at bytes.now) }
     ensures shorter { IfOk result (λ x. length x.1.now < length bytes.now) }

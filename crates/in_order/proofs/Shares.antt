@@ -4,8 +4,8 @@ use Rattle.std.proofs.Math.Seq.{take-append-le, drop-append-le, drop-append_seam
 use Rattle.std.proofs.lemmas.List.Elements.{All-append, All-cons, All-nil, All-weaker}
 use Rattle.spec_execution.specs.Configuration.{Setting}
 use Rattle.spec_execution.specs.Run.{ContractCall}
-use Rattle.spec_footprint.specs.declared.Access.{Access}
-use Rattle.footprint.specs.Calls.{IsFootprintOf}
+use Rattle.spec_execution.specs.declared.footprints.Access.{Access}
+use Rattle.speculation.specs.Calls.{IsFootprintOf}
 use Rattle.in_order.specs.declared.footprints.Prepared.{Prepared}
 use Rattle.in_order.specs.Shares.{IsPrepared, AreAllPrepared}
 
@@ -25,20 +25,20 @@ still_prepared : {A : Type 0} (setting : Setting) (calls : List ContractCall) (a
 still_prepared setting calls accesses more p is = record {
   begins = is.begins;
   ends = omega (arith, is.ends, length-append accesses more);
-  footprint = subst (λ own. IsFootprintOf setting calls p.call own p.executed) (sym (part_kept accesses more p.from p.until is.begins is.ends)) is.footprint;
+  read_write_set = subst (λ own. IsFootprintOf setting calls p.call own p.executed) (sym (part_kept accesses more p.from p.until is.begins is.ends)) is.read_write_set;
 }
 
 -- one call more, whose accesses were put behind the others
 pub one_more_prepared : {A : Type 0} (setting : Setting) (calls : List ContractCall) (accesses own now : List Access) (xs zs : List (Prepared A)) (x : Prepared A)
     → zs ≡ xs ++ x ∷ [] → now ≡ accesses ++ own → AreAllPrepared setting calls accesses xs → x.from ≡ length accesses → x.until ≡ length now → IsFootprintOf setting calls x.call own x.executed
     → AreAllPrepared setting calls now zs
-one_more_prepared setting calls accesses own now xs zs x is behind all from until footprint =
+one_more_prepared setting calls accesses own now xs zs x is behind all from until read_write_set =
     let ends : x.until ≡ length (accesses ++ own) = until ∙ ap length behind in
     let mine : take (x.until - x.from) (drop x.from (accesses ++ own)) ≡ own = ap (λ n. take (x.until - n) (drop n (accesses ++ own))) from ∙ last_part accesses own x.until ends in
     let one : IsPrepared setting calls (accesses ++ own) x = record {
       begins = omega (arith, from, ends, length-append accesses own);
       ends = omega (arith, ends);
-      footprint = subst (λ part. IsFootprintOf setting calls x.call part x.executed) (sym mine) footprint;
+      read_write_set = subst (λ part. IsFootprintOf setting calls x.call part x.executed) (sym mine) read_write_set;
     } in
     let others = All-weaker (IsPrepared setting calls accesses) (IsPrepared setting calls (accesses ++ own)) (still_prepared setting calls accesses own) xs all in
     subst (λ l. AreAllPrepared setting calls l zs) (sym behind)

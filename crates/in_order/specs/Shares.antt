@@ -2,9 +2,9 @@
 use Rattle.std.specs.Prelude.{◌≡◌, ◌-◌, ◌≤◌, ℕ, List, All, drop, length, take}
 use Rattle.spec_execution.specs.Configuration.{Setting}
 use Rattle.spec_execution.specs.Run.{ContractCall}
-use Rattle.spec_footprint.specs.declared.Access.{Access}
-use Rattle.interp.specs.Lent.{setting_view}
-use Rattle.footprint.specs.Calls.{IsFootprintOf}
+use Rattle.spec_execution.specs.declared.footprints.Access.{Access}
+use Rattle.interp.specs.Callee.{setting_view}
+use Rattle.speculation.specs.Calls.{IsFootprintOf}
 use Rattle.in_order.specs.declared.footprints.Prepared.{Prepared}
 use Rattle.in_order.specs.declared.footprints.Share.{Share}
 use Rattle.in_order.specs.declared.Task.{Task}
@@ -13,11 +13,11 @@ use Rattle.in_order.specs.declared.Task.{Task}
 abbrev pub footprint_of : {A : Type 0} → List Access → Prepared A → List Access
 footprint_of accesses p = take (p.until - p.from) (drop p.from accesses)
 
--- that part is a footprint of the call
+-- that part is a read_write_set of the call
 pub record IsPrepared {A : Type 0} (setting : Setting) (calls : List ContractCall) (accesses : List Access) (p : Prepared A) : Type 0 where
   pub begins : p.from ≤ p.until
   pub ends : p.until ≤ length accesses
-  pub footprint : IsFootprintOf setting calls p.call (footprint_of accesses p) p.executed
+  pub read_write_set : IsFootprintOf setting calls p.call (footprint_of accesses p) p.executed
 
 abbrev pub IsPreparedOf : {A : Type 0} → Task A → List Access → Prepared A → Type 0
 IsPreparedOf task accesses p = IsPrepared (setting_view task.version task.contracts.now) task.calls.now accesses p

@@ -6,7 +6,7 @@ ghost use Rattle.in_order.specs.Shares.{IsShareOf};
 
 use crate::footprints::{Share, open_share, prepare};
 use crate::line::Batch;
-use crate::straight::told;
+use crate::straight::must_stop_at;
 use crate::{InOrder, NO_MORE};
 use pace::Pace;
 use spec_ledger::NoMemory;
@@ -57,7 +57,7 @@ fn run_calls<A: Allocator + Copy, P: Pace>(
             return Ok(false);
         }
         let call = job.order[position];
-        if told(job.pace, call) {
+        if must_stop_at(job.pace, call) {
             return Ok(true);
         }
         prepare(job.alloc, &job.task, job.cells, call, share)?;

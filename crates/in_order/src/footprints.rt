@@ -4,21 +4,20 @@ ghost use Rattle.std.specs.Prelude.{◌≡◌, ◌<◌, ◌↔◌, [], All, IfOk
 ghost use Rattle.std.specs.FinMap as finite;
 ghost use Rattle.spec_execution.specs.Exec.{Executes};
 ghost use Rattle.spec_execution.specs.Run.{ContractCall};
-ghost use Rattle.spec_footprint.specs.Footprints.{Agrees};
-ghost use Rattle.interp.specs.Lent.{setting_view};
+ghost use Rattle.spec_execution.specs.ReadWriteSets.{Agrees};
+ghost use Rattle.interp.specs.Callee.{setting_view};
 ghost use Rattle.in_order.specs.Shares.{IsPrepared, IsShareOf, footprint_of};
 
 use crate::Task;
-use beside::{Reads, run_beside};
-use footprint::enact;
+use speculation::{Reads, write_back, run_over};
 use link::deployed::Deployed as Contract;
 use serial::Executed;
-use spec_footprint::Access;
+use spec_execution::Access;
 use spec_ledger::NoMemory;
 use std::alloc::Allocator;
 use storage::Cells;
 
-/// A call that was run, and which of the accesses beside it are its footprint.
+/// A call that was run, and which of the accesses beside it are its read_write_set.
 #[derive(Drop)]
 pub(crate) struct Prepared<A: Allocator> {
     /// Its number.
@@ -60,7 +59,7 @@ pub(crate) fn open_share<'a, A: Allocator + Copy>(
     })
 }
 
-/// Runs a call over a view of the cells, and puts it with its footprint behind those of the share.
+/// Runs a call over a view of the cells, and puts it with its read_write_set behind those of the share.
 pub(crate) fn prepare<A: Allocator + Copy, V: Reads>(
     alloc: A,
     task: &Task<'_, A>,
@@ -74,7 +73,7 @@ pub(crate) fn prepare<A: Allocator + Copy, V: Reads>(
 {
     let calls = task.calls;
     let from = share.accesses.len();
-    let executed = run_beside(
+    let executed = run_over(
         alloc,
         task.contracts,
         &calls[call as usize],
@@ -106,14 +105,14 @@ pub(crate) fn follow<A: Allocator + Copy>(
     ensures same { IfOk result (λ o. IfNone o (cells.new ≡ cells.old)) }
     ensures settled { cells.new.unsettled ≡ finite.empty }
 {
-    cells.hold();
+    cells.use_invariant();
     let Prepared {
         call: _,
         executed,
         from,
         until,
     } = prepared;
-    if enact(cells, &accesses[from..until])? {
+    if write_back(cells, &accesses[from..until])? {
         Ok(Some(executed))
     } else {
         Ok(None)

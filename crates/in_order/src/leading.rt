@@ -314,7 +314,7 @@ fn join_all<
 }
 
 /// Runs the calls by so many threads, one of which does the errand before.
-pub(crate) fn run_beside<
+pub(crate) fn run_over<
     'a,
     R: Threads + Wait + Sync,
     A: Allocator + Copy + Send + Sync,

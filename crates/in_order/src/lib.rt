@@ -17,7 +17,7 @@ mod working;
 ghost use Rattle.std.specs.Prelude.{◌≡◌, ◌+◌, ◌<◌, ◌≤◌, [], IfOk, IfSome, length};
 ghost use Rattle.in_order.specs.Ran.{IsKnown, IsNextRun, IsRanOf};
 
-use crate::leading::run_beside;
+use crate::leading::run_over;
 use crate::straight::{Begun, begin_straight, run_straight};
 use crate::turns::do_next;
 use call::Call;
@@ -210,7 +210,7 @@ pub fn run_with<
     };
     let Begun { ran, threads } = begun;
     if threads >= 2 {
-        return run_beside(rt, job, ran, threads, errand);
+        return run_over(rt, job, ran, threads, errand);
     }
     let told = errand();
     if threads == 0 {

@@ -1,14 +1,14 @@
 //! Where threads hand over the batches of calls that they ran ahead of their turn.
 
 ghost use Rattle.std.specs.Prelude.{◌≡◌, All, IfOk, IfSome};
-ghost use Rattle.handover.specs.Passes.{IsPassOf};
+ghost use Rattle.typed_queue.specs.Passes.{IsPassOf};
 ghost use Rattle.in_order.specs.Handed.{IsPostOf};
 ghost use Rattle.in_order.specs.Shares.{IsShareOf};
 
 use crate::footprints::Share;
 use crate::post::Post;
 use crate::{InOrder, Task};
-use handover::{Fact, Handover, Pass};
+use typed_queue::{ItemFact, TypedQueue, QueuePass};
 use pace::Pace;
 use spec_ledger::NoMemory;
 use std::alloc::Allocator;
@@ -26,15 +26,15 @@ pub(crate) struct Batch<'a, A: Allocator> {
 }
 
 /// Where the threads hand over the batches that they ran.
-pub(crate) type Line<'a, A> = Handover<Task<'a, A>, Batch<'a, A>, Footprints, A>;
+pub(crate) type Line<'a, A> = TypedQueue<Task<'a, A>, Batch<'a, A>, ReadWriteSets, A>;
 
 /// By what a thread calls there.
-pub(crate) type LinePass<'a, A> = Pass<Task<'a, A>, Batch<'a, A>>;
+pub(crate) type LinePass<'a, A> = QueuePass<Task<'a, A>, Batch<'a, A>>;
 
 /// That what is handed over are footprints of calls of the task.
-pub(crate) struct Footprints;
+pub(crate) struct ReadWriteSets;
 
-impl<'a, A: Allocator> Fact<Task<'a, A>, Batch<'a, A>> for Footprints {
+impl<'a, A: Allocator> ItemFact<Task<'a, A>, Batch<'a, A>> for ReadWriteSets {
     ghost use Rattle.in_order.specs.Shares.{IsShareOf};
 
     ghost holds = { λ task batch. IsShareOf task batch.share };

@@ -1,6 +1,6 @@
 //! By what a thread takes its part.
 
-ghost use Rattle.handover.specs.Passes.{IsPassOf};
+ghost use Rattle.typed_queue.specs.Passes.{IsPassOf};
 
 use crate::line::{Line, LinePass};
 use std::alloc::Allocator;

@@ -5,8 +5,7 @@ ghost use Rattle.in_order.specs.Ran.{IsKnown, IsRanOf};
 
 use crate::turns::do_next;
 use crate::{InOrder, Ran};
-use gain::threads;
-use pace::{Pace, Step};
+use pace::{Pace, Step, threads};
 use spec_ledger::{NoMemory, Receipt};
 use std::alloc::Allocator;
 use std::sync::atomic::Ordering;
@@ -18,7 +17,7 @@ const FIRST: usize = 16;
 const FEW: usize = 32;
 
 /// Tells the pace the beginning of a call, and asks whether it stops the thread.
-pub(crate) fn told<P: Pace>(pace: &P, call: u32) -> bool {
+pub(crate) fn must_stop_at<P: Pace>(pace: &P, call: u32) -> bool {
     let step = Step::Attempt { call, nth: 0 };
     pace.at(step);
     pace.stops(step)
@@ -44,7 +43,7 @@ pub(crate) fn run_to<A: Allocator + Copy, P: Pace>(
 {
     let end = end.min(job.order.len());
     for position in ran.receipts.len()..end {
-        if job.is_stopped.load(Ordering::SeqCst) || told(job.pace, job.order[position]) {
+        if job.is_stopped.load(Ordering::SeqCst) || must_stop_at(job.pace, job.order[position]) {
             return Ok(Came { ran, stops: true });
         }
         ran = do_next(job, ran, None, &[], None)?;

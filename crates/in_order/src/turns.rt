@@ -4,7 +4,7 @@ ghost use Rattle.std.specs.Prelude.{◌≡◌, ◌+◌, ◌<◌, IfOk, IfNone, I
 ghost use Rattle.std.specs.FinMap as finite;
 ghost use Rattle.spec_execution.specs.Exec.{Executes};
 ghost use Rattle.spec_execution.specs.Run.{ContractCall};
-ghost use Rattle.interp.specs.Lent.{setting_view};
+ghost use Rattle.interp.specs.Callee.{setting_view};
 ghost use Rattle.in_order.specs.Ran.{IsKnown, IsNextRun, IsRanOf, IsRunOf};
 ghost use Rattle.in_order.specs.Shares.{IsPreparedOf};
 
@@ -13,7 +13,7 @@ use crate::{InOrder, Ran};
 use interp::finished::Finished;
 use pace::Pace;
 use serial::{Executed, execute, replay};
-use spec_footprint::Access;
+use spec_execution::Access;
 use spec_ledger::NoMemory;
 use std::alloc::Allocator;
 use storage::Cells;
@@ -26,7 +26,7 @@ struct Done<A: Allocator> {
     ahead: bool,
 }
 
-/// Executes the call of a number by its footprint, where one is there and the cells hold what it found.
+/// Executes the call of a number by its read_write_set, where one is there and the cells hold what it found.
 fn by_footprint<'a, A: Allocator + Copy, P: Pace>(
     job: &InOrder<'_, 'a, A, P>,
     number: u32,

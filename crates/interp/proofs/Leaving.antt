@@ -8,7 +8,7 @@ use Rattle.spec_ledger.specs.declared.Step.{Step}
 use Rattle.spec_ledger.specs.declared.Step.TheVariants.{Opened, Kept, Dropped}
 use Rattle.wtypes.specs.declared.TrapCode.{TrapCode}
 use Rattle.spec_execution.specs.Configuration.{Setting, Contract, Seq, End, Invoke, Config, Running, Trap, arguments, fresh}
-use Rattle.spec_execution.specs.Reduction.{Wish, Ask, Asks, reduce, replied}
+use Rattle.spec_execution.specs.Reduction.{HostEffect, Ask, Asks, reduce, replied}
 use Rattle.spec_execution.specs.Run.{next, ContractCall, opening, Opens, Refused, after_start, first, result_of}
 use Rattle.spec_execution.specs.Levels as spec
 use Rattle.spec_execution.specs.Levels.{Level, Levels, Move, On, Nowhere, move, by_next, wished, asked, entering, returned, back_by, back_to, fresh_level, first_level, trap_status, no_answer, Reached, moved, IsSafe}
@@ -17,10 +17,10 @@ use Rattle.spec_execution.specs.Turns.{Frees}
 use Rattle.spec_execution.proofs.Lifting.{frees_lifted}
 use Rattle.interp.specs.declared.turns.Status.{Status}
 use Rattle.interp.specs.declared.turns.Status.TheVariants as status
-use Rattle.sequences.specs.Meaning.{View, listed, height, whole, state, config, calling, invoking, IsOrdered, IsReady}
-use Rattle.sequences.specs.Plain.{onto}
-use Rattle.sequences.specs.Tails.{joined, with_tail, joined_next}
-use Rattle.sequences.specs.Joining.{reduce_joined}
+use Rattle.laws_reduction.specs.Meaning.{View, listed, height, whole, state, config, calling, invoking, IsOrdered, IsReady}
+use Rattle.laws_reduction.specs.Plain.{onto}
+use Rattle.laws_reduction.specs.Tails.{joined, with_tail, joined_next}
+use Rattle.laws_reduction.specs.Joining.{reduce_joined}
 use Rattle.interp.specs.Progress.{Pauses, IsSameCall, HasLeft, mark_of}
 use Rattle.interp.specs.Asked.{args_taken, number_of}
 use Rattle.interp.specs.Machine.{Seen, first_of, first_config, levels, config_at, config_of, progress, IsLive, IsMachine, IsCalling, IsBegunAs, HasGoneOn, IsLeaving, IsToClose, value_of_reply}
@@ -29,11 +29,11 @@ use Rattle.interp.proofs.Around.{IsSome}
 use Rattle.interp.proofs.Asking.{ordered_with, config_with, same_levels}
 
 -- the whole level asks, what waits behind all that is open included
-pub joined_asks : (s : Seen) (f : ℕ) (w : Wish) (go : Reply → Seq) → next s.contract (state s.view) (invoking s.view f) ≡ Asks w go → next s.contract (state s.view) (joined (invoking s.view f) s.tail) ≡ Asks w (λ r. joined (go r) s.tail)
+pub joined_asks : (s : Seen) (f : ℕ) (w : HostEffect) (go : Reply → Seq) → next s.contract (state s.view) (invoking s.view f) ≡ Asks w go → next s.contract (state s.view) (joined (invoking s.view f) s.tail) ≡ Asks w (λ r. joined (go r) s.tail)
 joined_asks s f w go e = reduce_joined s.tail s.contract 0 (state s.view) [] (invoking s.view f) ∙ ap (joined_next s.tail (λ ws. reduce s.contract 0 (state s.view) ws s.tail)) e
 
 -- what the innermost level does that asks
-pub asks_move : (s : Seen) (f : ℕ) (w : Wish) (go : Reply → Seq) → next s.contract (state s.view) (invoking s.view f) ≡ Asks w go →
+pub asks_move : (s : Seen) (f : ℕ) (w : HostEffect) (go : Reply → Seq) → next s.contract (state s.view) (invoking s.view f) ≡ Asks w go →
     move s.setting (levels s (with_tail s.tail (calling s.view f))) ≡ wished s.setting (levels s (with_tail s.tail (calling s.view f))).inner s.outer (state s.view) w (λ r. joined (go r) s.tail)
 asks_move s f w go e = ap (by_next s.setting (levels s (with_tail s.tail (calling s.view f))).inner s.outer (state s.view)) (joined_asks s f w go e)
 
@@ -80,7 +80,7 @@ same_call s t marks b = record { setting = b.setting; call = b.call; contract = 
 -- ---- an import that asks for no cell
 
 -- The innermost level has asked for something that the host is not asked for, and goes on with this reply, which a free move gives it.
-module _ (s : Seen) (f : ℕ) (calls : IsCalling s f) (w : Wish) (room : height s.view.entries + args_taken w ≤ length s.view.stack)
+module _ (s : Seen) (f : ℕ) (calls : IsCalling s f) (w : HostEffect) (room : height s.view.entries + args_taken w ≤ length s.view.stack)
     (asks : next s.contract (state s.view) (invoking s.view f) ≡ Asks w (λ r. whole s.view.entries (take (length s.view.stack - args_taken w) s.view.stack) s.view.locals (replied r (listed s.view.code End))))
     (r : Reply) (answer : ℤ) (stack : List Value) (taken : stack ≡ take (length s.view.stack - args_taken w) s.view.stack ++ value_of_reply r)
     (gives : (go : Reply → Seq) → wished s.setting (levels s (with_tail s.tail (calling s.view f))).inner s.outer (state s.view) w go ≡ On 0 [] (record { inner = record { contract = s.contract; config = Running (state s.view) (go r); answer = answer }; outer = s.outer })) where

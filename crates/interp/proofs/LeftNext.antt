@@ -13,9 +13,9 @@ use Rattle.interp.specs.declared.turns.Status.{Status}
 use Rattle.interp.specs.declared.turns.Status.TheVariants as status
 use Rattle.interp.specs.Progress.{IsLeftNext, IsToStop, GoesOn, mark_of}
 use Rattle.interp.specs.Machine.{Seen, levels, config_at, config_of, progress, IsMachine, IsLeaving}
-use Rattle.sequences.specs.Meaning.{Item, config, state}
-use Rattle.sequences.specs.Plain.{onto}
-use Rattle.sequences.specs.Tails.{with_tail}
+use Rattle.laws_reduction.specs.Meaning.{Item, config, state}
+use Rattle.laws_reduction.specs.Plain.{onto}
+use Rattle.laws_reduction.specs.Tails.{with_tail}
 use Rattle.interp.proofs.Around.{some_around}
 use Rattle.interp.proofs.Turning.{end_values}
 use Rattle.interp.proofs.Leaving.{leaving_kept, leaving_dropped}

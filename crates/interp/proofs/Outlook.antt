@@ -12,23 +12,23 @@ use Rattle.spec_ledger.specs.declared.Outcome.{Outcome}
 use Rattle.spec_ledger.specs.declared.Outcome.TheVariants.{Returned, Trapped, OutOfFuel, Rejected}
 use Rattle.spec_execution.specs.Configuration as c
 use Rattle.spec_execution.specs.Configuration.{Setting, Contract, Seq, End, State, Config, Running}
-use Rattle.spec_execution.specs.Reduction.{reduce, Wish, Of, Ask, Answer, Next, Goes, Traps, Asks, Branches, Returns, Ended, Stuck}
+use Rattle.spec_execution.specs.Reduction.{reduce, HostEffect, Of, Ask, Answer, Next, Goes, Traps, Asks, Branches, Returns, Ended, Stuck}
 use Rattle.spec_execution.specs.Run.{next, IsCharged, result_of, Opening, Refused, Opens}
 use Rattle.spec_execution.specs.Levels.{Level, Levels, Move, On, Host, Over, Nowhere, asked, entering, returned, fallen, back_to, back_by, trap_status, signed_of, no_answer, by_next, by_config, move, IsChargedMove, Ends, over, exhausted, IsRun}
 use Rattle.spec_execution.proofs.Lifting.{at, among, charged_lifted}
 use Rattle.spec_execution.specs.Turns.{is_to_come, stack_in, locals_in, place_in, place_of, stack_of, locals_of}
 use Rattle.interp.specs.declared.turns.Status.{Status}
 use Rattle.interp.specs.declared.turns.Status.TheVariants as status
-use Rattle.sequences.specs.Meaning.{Item, config, calling, invoking, sequence, state, listed, height, IsOrdered}
-use Rattle.sequences.specs.Branches.{in_call}
-use Rattle.sequences.specs.Plain.{onto}
+use Rattle.laws_reduction.specs.Meaning.{Item, config, calling, invoking, sequence, state, listed, height, IsOrdered}
+use Rattle.laws_reduction.specs.Branches.{in_call}
+use Rattle.laws_reduction.specs.Plain.{onto}
 use Rattle.interp.specs.Machine.{Seen, on, first_of, levels, progress, IsAt, IsLive, IsWaiting, IsOver, IsMachine}
 use Rattle.interp.specs.Shown.{ending, ending_by, state_alone, shown_at, is_out, leaves_stack, unless_ended, stack_shown, locals_shown, place_shown, is_fallen, IsShown}
-use Rattle.frames.specs.Innermost.{function_in}
-use Rattle.sequences.specs.Charging.{height-le}
-use Rattle.sequences.specs.Rest.{is_charged}
-use Rattle.sequences.specs.Tails.{joined, with_tail, joined_next}
-use Rattle.sequences.specs.Joining.{charged_joined, reduce_joined}
+use Rattle.interp_state.specs.Innermost.{function_in}
+use Rattle.laws_reduction.specs.Charging.{height-le}
+use Rattle.laws_reduction.specs.Rest.{is_charged}
+use Rattle.laws_reduction.specs.Tails.{joined, with_tail, joined_next}
+use Rattle.laws_reduction.specs.Joining.{charged_joined, reduce_joined}
 use Rattle.interp.proofs.Showing.{stack_whole, locals_whole, place_whole, call-le, Stops, IsHidden, hidden_end, hidden_stop, stops_whole}
 use Rattle.interp.proofs.Turning.{innermost, live_of, fine, end_values, end_values_of}
 
@@ -106,7 +106,7 @@ module _ (setting : Setting) (l : Level) (outer : List Level) (st : State) (b : 
   entering_in go v (Opens k f) = ap (λ (t : Bool). if t then Some OutOfFuel else None) (and_false b)
   entering_in go v (Refused status) = ap (λ (t : Bool). if t then Some OutOfFuel else None) (and_false b)
 
-  asks_in : (w : Wish) (go : Reply → Seq) → (ending_by b (by_next setting l outer st (Asks w go)) ≡ None)
+  asks_in : (w : HostEffect) (go : Reply → Seq) → (ending_by b (by_next setting l outer st (Asks w go)) ≡ None)
   asks_in (Of op) go = refl
   asks_in (Ask n e v) go = entering_in go v (asked setting (length outer) n e)
   asks_in Answer go = ap (λ (t : Bool). if t then Some OutOfFuel else None) (and_false b)

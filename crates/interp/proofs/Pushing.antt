@@ -12,14 +12,14 @@ use Rattle.spec_execution.specs.Configuration.{Setting, Contract, Function, Host
 use Rattle.spec_execution.specs.Run.{Opens}
 use Rattle.spec_execution.specs.Levels.{asked, asks_in}
 use Rattle.link.specs.declared.deployed.Deployed.{Deployed}
-use Rattle.opening.specs.Views.{contract_of}
-use Rattle.opening.proofs.Entering.{asked_for}
-use Rattle.frames.specs.Waiting.{IsEntry}
-use Rattle.frames.specs.declared.parts.Parts.{Parts}
-use Rattle.frames.specs.declared.waiting.Waiting.{Waiting}
-use Rattle.operands.specs.declared.lent.Lent.{Lent}
-use Rattle.sequences.specs.Meaning.{calling}
-use Rattle.sequences.specs.Tails.{with_tail}
+use Rattle.instance.specs.Views.{contract_of}
+use Rattle.instance.proofs.Entering.{asked_for}
+use Rattle.interp_state.specs.Waiting.{IsEntry}
+use Rattle.interp_state.specs.declared.parts.Parts.{Parts}
+use Rattle.interp_state.specs.declared.waiting.Waiting.{Waiting}
+use Rattle.interp_state.specs.declared.callee.Callee.{Callee}
+use Rattle.laws_reduction.specs.Meaning.{calling}
+use Rattle.laws_reduction.specs.Tails.{with_tail}
 use Rattle.interp.specs.declared.turns.Status.TheVariants as status
 use Rattle.interp.specs.declared.turns.Turn.TheVariants as turn
 use Rattle.interp.specs.declared.run.Run.{Run}
@@ -74,17 +74,17 @@ same_call_of r t n l pushed h =
     record { setting = same.setting; call = same.call; contract = same.contract; func = same.func }
 
 -- the fields that change places, one after another
-module _ {A : Type 0} (r : Run A) (l : Level A) (lent : Lent A) (argument : Option ℤ) (parts : Parts A) (waiting : Option (Waiting A)) (answer : ℤ) where
+module _ {A : Type 0} (r : Run A) (l : Level A) (lent : Callee A) (argument : Option ℤ) (parts : Parts A) (waiting : Option (Waiting A)) (answer : ℤ) where
   pub waiting_same : lent ≡ r.lent → argument ≡ r.argument → parts ≡ r.parts → waiting ≡ r.waiting → answer ≡ r.answer → (let k : Level A = record { lent = lent; argument = argument; parts = parts; waiting = waiting; asked = r.asked; answer = answer } in k) ≡ waiting_level r
   waiting_same e f g h i =
-      ap₂ (λ (x : Lent A) (y : Option ℤ). let k : Level A = record { lent = x; argument = y; parts = parts; waiting = waiting; asked = r.asked; answer = answer } in k) e f
+      ap₂ (λ (x : Callee A) (y : Option ℤ). let k : Level A = record { lent = x; argument = y; parts = parts; waiting = waiting; asked = r.asked; answer = answer } in k) e f
       ∙ ap₂ (λ (x : Parts A) (y : Option (Waiting A)). let k : Level A = record { lent = r.lent; argument = r.argument; parts = x; waiting = y; asked = r.asked; answer = answer } in k) g h
       ∙ ap (λ (x : ℤ). let k : Level A = record { lent = r.lent; argument = r.argument; parts = r.parts; waiting = r.waiting; asked = r.asked; answer = x } in k) i
 
   pub pushed_same : (trace : Vec Step A) (outer : Vec (Level A) A) → lent ≡ l.lent → argument ≡ l.argument → parts ≡ l.parts → waiting ≡ l.waiting → answer ≡ l.answer →
       record r { trace = trace; entered = r.entered + 1; status = status.Running; lent = lent; argument = argument; parts = parts; waiting = waiting; answer = answer; outer = outer } ≡ pushed_run r l trace outer
   pushed_same trace outer e f g h i =
-      ap₂ (λ (x : Lent A) (y : Option ℤ). record r { trace = trace; entered = r.entered + 1; status = status.Running; lent = x; argument = y; parts = parts; waiting = waiting; answer = answer; outer = outer }) e f
+      ap₂ (λ (x : Callee A) (y : Option ℤ). record r { trace = trace; entered = r.entered + 1; status = status.Running; lent = x; argument = y; parts = parts; waiting = waiting; answer = answer; outer = outer }) e f
       ∙ ap₂ (λ (x : Parts A) (y : Option (Waiting A)). record r { trace = trace; entered = r.entered + 1; status = status.Running; lent = l.lent; argument = l.argument; parts = x; waiting = y; answer = answer; outer = outer }) g h
       ∙ ap (λ (x : ℤ). record r { trace = trace; entered = r.entered + 1; status = status.Running; lent = l.lent; argument = l.argument; parts = l.parts; waiting = l.waiting; answer = x; outer = outer }) i
 

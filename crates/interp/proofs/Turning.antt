@@ -17,13 +17,13 @@ use Rattle.spec_execution.proofs.Lifting.{charged_lifted, reached_reduced, reach
 use Rattle.spec_execution.specs.Turns.{Frees, none, by_trap, state_of}
 use Rattle.interp.specs.declared.turns.Status.{Status}
 use Rattle.interp.specs.declared.turns.Status.TheVariants as status
-use Rattle.sequences.specs.Meaning.{Item, View, config, sequence, state, IsOrdered, IsFine, IsFineAfter, IsSafeAt, IsReady}
-use Rattle.sequences.specs.Plain.{onto}
+use Rattle.laws_reduction.specs.Meaning.{Item, View, config, sequence, state, IsOrdered, IsFine, IsFineAfter, IsSafeAt, IsReady}
+use Rattle.laws_reduction.specs.Plain.{onto}
 use Rattle.interp.specs.Progress.{Pauses, IsSameCall, GoesOn, HasStepped, IsToStop, EndsAt, IsLast, IsDone}
 use Rattle.interp.specs.Machine.{Seen, on, first_of, levels, config_at, config_of, progress, Reaches, IsLive, IsFallen, IsShut, IsAt, IsMachine}
-use Rattle.sequences.specs.Tails.{joined, with_tail}
-use Rattle.sequences.specs.Joining.{joined_end, reduces_joined, stuck_joined, charged_joined, at_rest}
-use Rattle.sequences.specs.Rest.{is_charged, is_ended}
+use Rattle.laws_reduction.specs.Tails.{joined, with_tail}
+use Rattle.laws_reduction.specs.Joining.{joined_end, reduces_joined, stuck_joined, charged_joined, at_rest}
+use Rattle.laws_reduction.specs.Rest.{is_charged, is_ended}
 use Rattle.interp.proofs.Among.{at_rest_pauses, moved_among}
 
 -- its innermost level

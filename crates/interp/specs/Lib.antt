@@ -4,7 +4,7 @@ pub mod Progress
 pub mod Going
 pub mod Machine
 pub mod Asked
-pub mod Lent
+pub mod Callee
 pub mod Run
 pub mod Starting
 pub mod Shown

@@ -20,10 +20,10 @@ use Rattle.interp.specs.declared.turns.Status.{Status}
 use Rattle.interp.specs.declared.turns.Status.TheVariants as status
 use Rattle.interp.specs.declared.turns.Turn.{Turn}
 use Rattle.interp.specs.declared.turns.Turn.TheVariants as turn
-use Rattle.sequences.specs.Meaning.{View, height, whole, listed, config, calling, invoking, state, IsOrdered, IsReady}
+use Rattle.laws_reduction.specs.Meaning.{View, height, whole, listed, config, calling, invoking, state, IsOrdered, IsReady}
 use Rattle.interp.specs.Progress.{Progress, Pauses, IsSameCall, GoesOn, IsToStop, mark_of}
 use Rattle.spec_execution.specs.Turning.{FreeMoves}
-use Rattle.sequences.specs.Tails.{with_tail}
+use Rattle.laws_reduction.specs.Tails.{with_tail}
 
 -- the parts of a machine in the words of the definitions
 pub record Seen : Type 0 where

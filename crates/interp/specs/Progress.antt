@@ -14,7 +14,7 @@ use Rattle.spec_execution.specs.Run.{ContractCall, opening, Opens, IsReply}
 use Rattle.spec_execution.specs.Levels.{Level, Levels, On, Host, first_level, move, IsChargedMove, Reached, Ends, IsRun}
 use Rattle.spec_execution.specs.Turns.{state_of}
 use Rattle.spec_execution.specs.Turning.{FreeMoves, Rests}
-use Rattle.operands.specs.Taking.{takes_memory}
+use Rattle.interp_state.specs.Taking.{takes_memory}
 use Rattle.interp.specs.contracts.turns.Status as status_of
 use Rattle.interp.specs.declared.turns.Status.{Status}
 use Rattle.interp.specs.declared.turns.Status.TheVariants as status

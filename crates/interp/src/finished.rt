@@ -4,12 +4,12 @@ ghost use Rattle.spec_execution.specs.Run.{opening};
 ghost use Rattle.spec_execution.specs.Levels.{asks_in};
 ghost use Rattle.interp.specs.Played.{IsPlayed};
 ghost use Rattle.interp.specs.Starting.{IsOpened, IsRejection, LacksFuel, IsWithoutFuel};
-ghost use Rattle.interp.specs.Lent.{setting_view};
+ghost use Rattle.interp.specs.Callee.{setting_view};
 
 use crate::start::{Opened, has_code, open_call};
 use call::Call;
 use link::deployed::Deployed;
-use soundness::deployed_calls_are_safe;
+use laws_soundness::deployed_calls_are_safe;
 use spec_ledger::{Outcome, Step, Version};
 use std::alloc::Allocator;
 use std::marker::Model;
@@ -32,7 +32,7 @@ impl<'a, A: Allocator> Model for Finished<'a, A> {
     ghost use Rattle.std.specs.Prelude.{◌≡◌};
     ghost use Rattle.spec_execution.specs.Levels.{asks_in};
     ghost use Rattle.interp.specs.Played.{Played, coded_played, IsPlayed};
-    ghost use Rattle.interp.specs.Lent.{setting_view};
+    ghost use Rattle.interp.specs.Callee.{setting_view};
 
     ghost Value = { Played };
 

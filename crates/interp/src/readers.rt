@@ -9,11 +9,11 @@ ghost use Rattle.interp.specs.Shown.{is_out, leaves_stack, ending, stack_shown, 
 use crate::machine::Machine;
 use crate::run::{Level, Run};
 use crate::turns::Status;
-use frames::copies::{copy_parts, copy_waiting};
-use frames::places::{height_of_call, place_in_code};
+use interp_state::copies::{copy_parts, copy_waiting};
+use interp_state::places::{height_of_call, place_in_code};
 use instance::Instance;
 use module_tree::module::Module;
-use operands::lent::Lent;
+use interp_state::lent::Callee;
 use spec_ledger::{NoMemory, Outcome, Step};
 use std::alloc::Allocator;
 use thiserror::Error;
@@ -254,10 +254,10 @@ fn copy_level<'a, A: Allocator + Copy>(
 }
 
 // The same contract.
-fn copy_lent<'a, A: Allocator + Copy>(lent: &Lent<'a, A>) -> Lent<'a, A>
+fn copy_lent<'a, A: Allocator + Copy>(lent: &Callee<'a, A>) -> Callee<'a, A>
     ensures { result ≡ lent.now }
 {
-    Lent {
+    Callee {
         number: lent.number,
         module: lent.module,
         hosts: lent.hosts,

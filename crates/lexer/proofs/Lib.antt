@@ -5,3 +5,8 @@ pub mod RunKinds
 pub mod Pieces
 pub mod Lists
 pub mod Spans
+pub mod Decoding
+pub mod Spellings
+pub mod OneWord
+pub mod Halfway
+pub mod Amounts

@@ -9,10 +9,10 @@ use Rattle.spec_syntax.specs.Profile.{byte_limit}
 use Rattle.spec_syntax.specs.Limits.{is_byte, module_fits}
 use Rattle.spec_binary.specs.Shortest.{shortest}
 use Rattle.spec_binary.specs.Spells.{Spells}
-use Rattle.spec_binary_laws.specs.ShortestBytes.{all_below}
-use Rattle.spec_module_laws.specs.ReadingModules.{module_at}
-use Rattle.spec_module_laws.specs.OneTree.{module_in, bodies_fit, globals_fit, elements_fit, datas_fit, module_takes, module_again}
-use Rattle.spec_module_laws.specs.Spellings.{spelled_fits, shortest_no_longer}
+use Rattle.laws_modules.specs.ShortestBytes.{all_below}
+use Rattle.laws_modules.specs.ReadingModules.{module_at}
+use Rattle.laws_modules.specs.OneTree.{module_in, bodies_fit, globals_fit, elements_fit, datas_fit, module_takes, module_again}
+use Rattle.laws_modules.specs.Spellings.{spelled_fits, shortest_no_longer}
 use Rattle.expr_reader.specs.declared.unread.Unread.{Unread}
 use Rattle.expr_reader.specs.declared.unread.Unread.TheVariants as unread
 use Rattle.expr_reader.specs.Outcome.{Unless, Fails, refusal_before}

@@ -6,7 +6,7 @@ ghost use Rattle.spec_syntax.specs.Syntax.{Instrs, Func};
 ghost use Rattle.spec_syntax.specs.Profile.{local_limit};
 ghost use Rattle.spec_syntax.specs.Limits.{counts_from};
 ghost use Rattle.expr_reader.specs.Outcome.{Gives};
-ghost use Rattle.spec_module_laws.specs.ReadingModules.{both_at, runs_at, locals_at, init_at, codes_at, entries_at, slot_at};
+ghost use Rattle.laws_modules.specs.ReadingModules.{both_at, runs_at, locals_at, init_at, codes_at, entries_at, slot_at};
 ghost use Rattle.module_tree.specs.View.{instrs_view, ordinals};
 ghost use Rattle.module_tree.specs.ModuleView.{func_view, func_ordinals};
 
@@ -58,7 +58,7 @@ fn runs_of<'b, A: Allocator + Clone>(
     Ok((locals, rest))
 }
 
-#[tactic(auto, unfolding(spec_module_laws::specs::ReadingModules::locals_at))]
+#[tactic(auto, unfolding(laws_modules::specs::ReadingModules::locals_at))]
 fn locals_of<'b, A: Allocator + Clone>(
     alloc: &A,
     bytes: &'b [u8],
@@ -139,7 +139,7 @@ impl<A: Allocator + Clone> Reader<A> for Entries<'_> {
 
     ghost is_numbered = { λ v. list_all (λ f. counts_from 0 (func_ordinals f)) v.items };
 
-    #[tactic(auto, unfolding(spec_module_laws::specs::ReadingModules::entries_at))]
+    #[tactic(auto, unfolding(laws_modules::specs::ReadingModules::entries_at))]
     fn read<'b>(&self, alloc: &A, bytes: &'b [u8]) -> Result<(Vec<Func<A>, A>, &'b [u8]), Unread> {
         let (count, rest) = u32_of(bytes)?;
         if count as usize != self.indices.len() {

@@ -4,7 +4,7 @@ ghost use Rattle.wtypes.specs.declared.ValType.{ValType};
 ghost use Rattle.expr_reader.specs.Outcome.{Gives};
 ghost use Rattle.spec_syntax.specs.Syntax as syntax;
 ghost use Rattle.spec_syntax.specs.Limits.{counts_from};
-ghost use Rattle.spec_module_laws.specs.ReadingModules.{u32_at, sized_at, value_type_at, func_type_at, import_at, table_type_at, limits_at, init_at, global_at, export_at, element_at, data_at, indices_at, made_at};
+ghost use Rattle.laws_modules.specs.ReadingModules.{u32_at, sized_at, value_type_at, func_type_at, import_at, table_type_at, limits_at, init_at, global_at, export_at, element_at, data_at, indices_at, made_at};
 ghost use Rattle.module_tree.specs.View.{instrs_view, ordinals};
 ghost use Rattle.module_tree.specs.ModuleView.{func_type_view, limits_view, import_view, global_view, export_view, element_view, data_view, global_ordinals, element_ordinals, data_ordinals};
 
@@ -20,7 +20,7 @@ use std::alloc::Allocator;
 use wtypes::{FuncType, Limits, ValType};
 
 // A count, and that many bytes. Bytes are no item: where there are fewer, their end is at fault.
-#[tactic(auto, unfolding(spec_module_laws::specs::ReadingModules::sized_at))]
+#[tactic(auto, unfolding(laws_modules::specs::ReadingModules::sized_at))]
 fn content_of(bytes: &[u8]) -> Result<(&[u8], &[u8]), Unread>
     ensures value { Gives (λ x. (x.0.now, x.1.now)) result (sized_at bytes.now) }
     ensures shorter { IfOk result (λ x. length x.1.now < length bytes.now) }
@@ -84,7 +84,7 @@ impl<A: Allocator + Clone> Reader<A> for FuncTypes {
 
     ghost is_numbered = { λ _. true };
 
-    #[tactic(auto, unfolding(spec_module_laws::specs::ReadingModules::func_type_at, spec_binary_laws::specs::ReadingExpressions::byte_at))]
+    #[tactic(auto, unfolding(laws_modules::specs::ReadingModules::func_type_at, laws_modules::specs::ReadingExpressions::byte_at))]
     fn read<'b>(&self, alloc: &A, bytes: &'b [u8]) -> Result<(FuncType<A>, &'b [u8]), Unread> {
         match bytes {
             [] => Err(Unread::Malformed(0)),
@@ -112,7 +112,7 @@ impl<A: Allocator + Clone> Reader<A> for Imports {
 
     ghost is_numbered = { λ _. true };
 
-    #[tactic(auto, unfolding(spec_module_laws::specs::ReadingModules::import_at))]
+    #[tactic(auto, unfolding(laws_modules::specs::ReadingModules::import_at))]
     fn read<'b>(&self, alloc: &A, bytes: &'b [u8]) -> Result<(Import<A>, &'b [u8]), Unread> {
         let (from_module, rest) = name_of(alloc, bytes)?;
         let (name, rest) = name_of(alloc, rest)?;
@@ -178,7 +178,7 @@ impl<A: Allocator + Clone> Reader<A> for Globals {
 
     ghost is_numbered = { λ g. counts_from 0 (global_ordinals g) };
 
-    #[tactic(auto, unfolding(spec_module_laws::specs::ReadingModules::global_at))]
+    #[tactic(auto, unfolding(laws_modules::specs::ReadingModules::global_at))]
     fn read<'b>(&self, alloc: &A, bytes: &'b [u8]) -> Result<(Global<A>, &'b [u8]), Unread> {
         let (global_type, rest) = global_type_of(bytes)?;
         let (init, rest) = expression_of(alloc, rest)?;
@@ -200,7 +200,7 @@ impl<A: Allocator + Clone> Reader<A> for Exports {
 
     ghost is_numbered = { λ _. true };
 
-    #[tactic(auto, unfolding(spec_module_laws::specs::ReadingModules::export_at))]
+    #[tactic(auto, unfolding(laws_modules::specs::ReadingModules::export_at))]
     fn read<'b>(&self, alloc: &A, bytes: &'b [u8]) -> Result<(Export<A>, &'b [u8]), Unread> {
         let (name, rest) = name_of(alloc, bytes)?;
         let (desc, rest) = export_desc_of(rest)?;
@@ -222,7 +222,7 @@ impl<A: Allocator + Clone> Reader<A> for Elements {
 
     ghost is_numbered = { λ e. counts_from 0 (element_ordinals e) };
 
-    #[tactic(auto, unfolding(spec_module_laws::specs::ReadingModules::element_at))]
+    #[tactic(auto, unfolding(laws_modules::specs::ReadingModules::element_at))]
     fn read<'b>(&self, alloc: &A, bytes: &'b [u8]) -> Result<(Element<A>, &'b [u8]), Unread> {
         let (table, rest) = u32_of(bytes)?;
         let (offset, rest) = expression_of(alloc, rest)?;
@@ -250,7 +250,7 @@ impl<A: Allocator + Clone> Reader<A> for Datas {
 
     ghost is_numbered = { λ d. counts_from 0 (data_ordinals d) };
 
-    #[tactic(auto, unfolding(spec_module_laws::specs::ReadingModules::data_at))]
+    #[tactic(auto, unfolding(laws_modules::specs::ReadingModules::data_at))]
     fn read<'b>(&self, alloc: &A, bytes: &'b [u8]) -> Result<(DataSegment<A>, &'b [u8]), Unread> {
         let (memory, rest) = u32_of(bytes)?;
         let (offset, rest) = expression_of(alloc, rest)?;
@@ -279,7 +279,7 @@ impl<A: Allocator + Clone> Reader<A> for TypeIndices {
 
     ghost is_numbered = { λ _. true };
 
-    #[tactic(auto, unfolding(spec_module_laws::specs::ReadingModules::indices_at))]
+    #[tactic(auto, unfolding(laws_modules::specs::ReadingModules::indices_at))]
     fn read<'b>(&self, alloc: &A, bytes: &'b [u8]) -> Result<(Vec<u32, A>, &'b [u8]), Unread> {
         let (count, rest) = u32_of(bytes)?;
         if count as usize > FUNCTION_LIMIT {

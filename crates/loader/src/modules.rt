@@ -3,7 +3,7 @@ ghost use Rattle.std.specs.Prelude.{◌≡◌, ◌<◌, ◌≤◌, ◌^◌, map,
 ghost use Rattle.std.specs.List.{list_all};
 ghost use Rattle.spec_syntax.specs.Limits.{counts_from};
 ghost use Rattle.spec_syntax.specs.Profile.{byte_limit};
-ghost use Rattle.spec_module_laws.specs.ReadingModules.{header_at, module_at};
+ghost use Rattle.laws_modules.specs.ReadingModules.{header_at, module_at};
 ghost use Rattle.module_tree.specs.ModuleView.{func_view, data_view, func_ordinals, data_ordinals};
 ghost use Rattle.module_tree.specs.Modules.{module_view};
 ghost use Rattle.spec_binary.specs.Spells.{Spells};
@@ -24,7 +24,7 @@ use module_tree::module::{DataSegment, Func, Module};
 use std::alloc::Allocator;
 
 // What is behind the header. Its two parts are items.
-#[tactic(auto, unfolding(spec_module_laws::specs::ReadingModules::header_at, spec_binary_laws::specs::ReadingExpressions::byte_at))]
+#[tactic(auto, unfolding(laws_modules::specs::ReadingModules::header_at, laws_modules::specs::ReadingExpressions::byte_at))]
 fn header_of(bytes: &[u8]) -> Result<&[u8], Unread>
     ensures value { Gives (λ x. x.now) result (header_at bytes.now) }
     ensures shorter { IfOk result (λ x. length x.now ≤ length bytes.now) }
@@ -64,7 +64,7 @@ fn tail_of<A: Allocator + Clone>(
 }
 
 // The module that all of the bytes spell.
-#[tactic(auto, unfolding(spec_module_laws::specs::ReadingModules::module_at))]
+#[tactic(auto, unfolding(laws_modules::specs::ReadingModules::module_at))]
 fn module_of<A: Allocator + Clone>(alloc: &A, bytes: &[u8]) -> Result<Module<A>, Unread>
     requires small { length bytes.now ≤ byte_limit }
     ensures value { Gives module_view result (module_at bytes.now) }

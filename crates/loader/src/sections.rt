@@ -2,7 +2,7 @@
 ghost use Rattle.std.specs.Prelude.{◌≡◌, ℕ, ◌<◌, ◌≤◌, ◌^◌, [], map, true, length, IfOk};
 ghost use Rattle.std.specs.List.{list_all};
 ghost use Rattle.expr_reader.specs.Outcome.{Gives};
-ghost use Rattle.spec_module_laws.specs.ReadingModules.{inside_at, whole_at, skip, slot_at, list_at};
+ghost use Rattle.laws_modules.specs.ReadingModules.{inside_at, whole_at, skip, slot_at, list_at};
 
 use crate::values::{sized_of, text_of};
 use crate::vectors::{Reader, VectorOf};
@@ -64,7 +64,7 @@ pub fn skip_customs(bytes: &[u8]) -> Result<&[u8], Unread>
 }
 
 // The section of this id, if it is the next, and the custom sections behind it; else what an absent one stands for.
-#[tactic(auto, unfolding(spec_module_laws::specs::ReadingModules::slot_at))]
+#[tactic(auto, unfolding(laws_modules::specs::ReadingModules::slot_at))]
 pub fn slot_of<'b, A: Allocator + Clone, R: Reader<A>>(
     alloc: &A,
     reader: &R,

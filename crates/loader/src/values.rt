@@ -3,7 +3,7 @@ ghost use Rattle.std.specs.Prelude.{◌≡◌, ◌+◌, ◌<◌, ◌≤◌, leng
 ghost use Rattle.std.specs.Str.{IsUtf8};
 ghost use Rattle.std.specs.String.{string_bytes};
 ghost use Rattle.expr_reader.specs.Outcome.{Gives};
-ghost use Rattle.spec_module_laws.specs.ReadingModules.{u32_at, sized_at, value_type_at, name_at, limits_at, table_type_at, mutability_at, global_type_at, import_desc_at, export_desc_at};
+ghost use Rattle.laws_modules.specs.ReadingModules.{u32_at, sized_at, value_type_at, name_at, limits_at, table_type_at, mutability_at, global_type_at, import_desc_at, export_desc_at};
 ghost use Rattle.module_tree.specs.ModuleView.{limits_view, global_type_view, import_desc_view, export_desc_view};
 
 use expr_reader::Unread;
@@ -22,7 +22,7 @@ pub fn u32_of(bytes: &[u8]) -> Result<(u32, &[u8]), Unread>
 }
 
 // A size, and that many bytes.
-#[tactic(auto, unfolding(spec_module_laws::specs::ReadingModules::sized_at))]
+#[tactic(auto, unfolding(laws_modules::specs::ReadingModules::sized_at))]
 pub fn sized_of(bytes: &[u8]) -> Result<(&[u8], &[u8]), Unread>
     ensures value { Gives (λ x. (x.0.now, x.1.now)) result (sized_at bytes.now) }
     ensures shorter { IfOk result (λ x. length x.0.now + length x.1.now < length bytes.now) }
@@ -34,7 +34,7 @@ pub fn sized_of(bytes: &[u8]) -> Result<(&[u8], &[u8]), Unread>
     Ok(rest.split_at(size as usize))
 }
 
-#[tactic(auto, unfolding(spec_module_laws::specs::ReadingModules::value_type_at))]
+#[tactic(auto, unfolding(laws_modules::specs::ReadingModules::value_type_at))]
 pub fn value_type_of(bytes: &[u8]) -> Result<(ValType, &[u8]), Unread>
     ensures value { Gives (λ x. (x.0, x.1.now)) result (value_type_at bytes.now) }
     ensures shorter { IfOk result (λ x. length x.1.now < length bytes.now) }
@@ -49,7 +49,7 @@ pub fn value_type_of(bytes: &[u8]) -> Result<(ValType, &[u8]), Unread>
 }
 
 // The text of a name.
-#[tactic(auto, unfolding(spec_module_laws::specs::ReadingModules::name_at))]
+#[tactic(auto, unfolding(laws_modules::specs::ReadingModules::name_at))]
 pub fn text_of(bytes: &[u8]) -> Result<(&str, &[u8]), Unread>
     ensures value { Gives (λ x. (x.0.now, x.1.now)) result (name_at bytes.now) }
     ensures shorter { IfOk result (λ x. length x.1.now < length bytes.now) }
@@ -72,7 +72,7 @@ pub fn name_of<'b, A: Allocator + Clone>(
     Ok((String::from_str(alloc.clone()?, text)?, rest))
 }
 
-#[tactic(auto, unfolding(spec_module_laws::specs::ReadingModules::limits_at))]
+#[tactic(auto, unfolding(laws_modules::specs::ReadingModules::limits_at))]
 pub fn limits_of(bytes: &[u8]) -> Result<(Limits, &[u8]), Unread>
     ensures value { Gives (λ x. (limits_view x.0, x.1.now)) result (limits_at bytes.now) }
     ensures shorter { IfOk result (λ x. length x.1.now < length bytes.now) }
@@ -93,7 +93,7 @@ pub fn limits_of(bytes: &[u8]) -> Result<(Limits, &[u8]), Unread>
     }
 }
 
-#[tactic(auto, unfolding(spec_module_laws::specs::ReadingModules::table_type_at, spec_binary_laws::specs::ReadingExpressions::byte_at))]
+#[tactic(auto, unfolding(laws_modules::specs::ReadingModules::table_type_at, laws_modules::specs::ReadingExpressions::byte_at))]
 pub fn table_type_of(bytes: &[u8]) -> Result<(Limits, &[u8]), Unread>
     ensures value { Gives (λ x. (limits_view x.0, x.1.now)) result (table_type_at bytes.now) }
     ensures shorter { IfOk result (λ x. length x.1.now < length bytes.now) }
@@ -105,7 +105,7 @@ pub fn table_type_of(bytes: &[u8]) -> Result<(Limits, &[u8]), Unread>
     }
 }
 
-#[tactic(auto, unfolding(spec_module_laws::specs::ReadingModules::mutability_at))]
+#[tactic(auto, unfolding(laws_modules::specs::ReadingModules::mutability_at))]
 fn mutability_of(bytes: &[u8]) -> Result<(bool, &[u8]), Unread>
     ensures value { Gives (λ x. (x.0, x.1.now)) result (mutability_at bytes.now) }
     ensures shorter { IfOk result (λ x. length x.1.now < length bytes.now) }
@@ -118,7 +118,7 @@ fn mutability_of(bytes: &[u8]) -> Result<(bool, &[u8]), Unread>
     }
 }
 
-#[tactic(auto, unfolding(spec_module_laws::specs::ReadingModules::global_type_at))]
+#[tactic(auto, unfolding(laws_modules::specs::ReadingModules::global_type_at))]
 pub fn global_type_of(bytes: &[u8]) -> Result<(GlobalType, &[u8]), Unread>
     ensures value { Gives (λ x. (global_type_view x.0, x.1.now)) result (global_type_at bytes.now) }
     ensures shorter { IfOk result (λ x. length x.1.now < length bytes.now) }
@@ -132,7 +132,7 @@ pub fn global_type_of(bytes: &[u8]) -> Result<(GlobalType, &[u8]), Unread>
     Ok((global_type, rest))
 }
 
-#[tactic(auto, unfolding(spec_module_laws::specs::ReadingModules::import_desc_at))]
+#[tactic(auto, unfolding(laws_modules::specs::ReadingModules::import_desc_at))]
 pub fn import_desc_of(bytes: &[u8]) -> Result<(ImportDesc, &[u8]), Unread>
     ensures value { Gives (λ x. (import_desc_view x.0, x.1.now)) result (import_desc_at bytes.now) }
     ensures shorter { IfOk result (λ x. length x.1.now < length bytes.now) }
@@ -159,7 +159,7 @@ pub fn import_desc_of(bytes: &[u8]) -> Result<(ImportDesc, &[u8]), Unread>
     }
 }
 
-#[tactic(auto, unfolding(spec_module_laws::specs::ReadingModules::export_desc_at))]
+#[tactic(auto, unfolding(laws_modules::specs::ReadingModules::export_desc_at))]
 pub fn export_desc_of(bytes: &[u8]) -> Result<(ExportDesc, &[u8]), Unread>
     ensures value { Gives (λ x. (export_desc_view x.0, x.1.now)) result (export_desc_at bytes.now) }
     ensures shorter { IfOk result (λ x. length x.1.now < length bytes.now) }

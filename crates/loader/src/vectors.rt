@@ -3,7 +3,7 @@ ghost use Rattle.std.specs.Prelude.{◌≡◌, ℕ, ◌<◌, ◌≤◌, ◌^◌,
 ghost use Rattle.std.specs.List.{list_all};
 ghost use Rattle.expr_reader.specs.Outcome.{Gives};
 ghost use Rattle.spec_binary.specs.Reading.{Read};
-ghost use Rattle.spec_binary_laws.specs.ReadingExpressions.{items_at, vector_at};
+ghost use Rattle.laws_modules.specs.ReadingExpressions.{items_at, vector_at};
 
 use crate::values::u32_of;
 use expr_reader::Unread;
@@ -54,7 +54,7 @@ pub fn items_of<'b, A: Allocator + Clone, R: Reader<A>>(
 }
 
 // A count, and that many items.
-#[tactic(auto, unfolding(spec_binary_laws::specs::ReadingExpressions::vector_at))]
+#[tactic(auto, unfolding(laws_modules::specs::ReadingExpressions::vector_at))]
 pub fn vector_of<'b, A: Allocator + Clone, R: Reader<A>>(
     alloc: &A,
     reader: &R,

@@ -118,7 +118,7 @@ impl<A: Allocator> Profile<A> {
     }
 
     /// What the type keeps: the locks strictly rise.
-    pub fn hold(&self)
+    pub fn use_invariant(&self)
         ensures { IsProfile self.now }
     {
         let _entries = &self.entries;

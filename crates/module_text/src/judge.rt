@@ -11,7 +11,7 @@ use crate::refusal::TextRefusal;
 use assembler::{AsmRefusal, assemble};
 use encoder::encode;
 use module_tree::module::Module;
-use spec_module_laws::one_tree;
+use laws_modules::one_tree;
 use std::alloc::{Allocator, Global};
 use wtypes::NoMemory;
 

@@ -14,20 +14,20 @@ use Rattle.spec_execution.specs.Levels.{RunsWith, asks_in}
 use Rattle.spec_execution.specs.Exec.{Executes}
 use Rattle.serial.specs.Positions.{positions}
 use Rattle.serial.proofs.Orders.{positions-push}
-use Rattle.publish.specs.declared.adopting.MadeRun.{MadeRun}
+use Rattle.publish.specs.declared.adopting.CallRun.{CallRun}
 use Rattle.publish.specs.Publication.{Publication, limits, HasRoom, MayFollow, is_marked}
 use Rattle.publish.specs.Adoption.{IsMade, AreMade, IsRunOf, MayFollowBy, ran_by}
 use Rattle.publish.proofs.Keeping.{Beside, with_parts, IsKeptWith, opened, fits, fits_used, more, kept_more, is_more, may_follow}
 
 -- ---- how many there are
 
-pub as_many_locks : {A : Type 0} (setting : Setting) (calls : List ContractCall) (rs : List (MadeRun A)) (ms : List Modes) → AreMade setting calls rs ms → length ms ≡ length rs
+pub as_many_locks : {A : Type 0} (setting : Setting) (calls : List ContractCall) (rs : List (CallRun A)) (ms : List Modes) → AreMade setting calls rs ms → length ms ≡ length rs
 as_many_locks setting calls [] [] made = refl
 as_many_locks setting calls [] (m ∷ ms) made = absurd made
 as_many_locks setting calls (r ∷ rs) [] made = absurd made
 as_many_locks setting calls (r ∷ rs) (m ∷ ms) made = let h = as_many_locks setting calls rs ms made.1 in omega arith
 
-pub as_many_entries : {A : Type 0} (limits : List ℕ) (fuel : ℕ) (order : List ℕ) (es : List Entry) (rs : List (MadeRun A)) → MayFollowBy limits fuel order es rs → length es ≡ length rs
+pub as_many_entries : {A : Type 0} (limits : List ℕ) (fuel : ℕ) (order : List ℕ) (es : List Entry) (rs : List (CallRun A)) → MayFollowBy limits fuel order es rs → length es ≡ length rs
 as_many_entries limits fuel order [] [] f = refl
 as_many_entries limits fuel order [] (r ∷ rs) f = absurd f
 as_many_entries limits fuel order (e ∷ es) [] f = absurd f
@@ -35,7 +35,7 @@ as_many_entries limits fuel order (e ∷ es) (r ∷ rs) f = let h = as_many_entr
 
 -- ---- what is gone over, and what is left to go over
 
-pub record IsWalked {A : Type 0} (p : Publication) (es : List Entry) (rs : List (MadeRun A)) (ms : List Modes) (b : Beside) (es' : List Entry) (rs' : List (MadeRun A)) (ms' : List Modes) : Type 0 where
+pub record IsWalked {A : Type 0} (p : Publication) (es : List Entry) (rs : List (CallRun A)) (ms : List Modes) (b : Beside) (es' : List Entry) (rs' : List (CallRun A)) (ms' : List Modes) : Type 0 where
   pub now : Cells
   pub kept : IsKeptWith p now b
   pub defined : IsDefined now es'
@@ -46,7 +46,7 @@ pub record IsWalked {A : Type 0} (p : Publication) (es : List Entry) (rs : List 
   pub follow : MayFollowBy (limits p.calls) p.fuel b.order es' rs' ↔ MayFollowBy (limits p.calls) p.fuel [] es rs
 
 -- nothing yet
-pub walked_none : {A : Type 0} (setting : Setting) (calls : List ContractCall) (opening : Cells) (fuel : ℕ) (es : List Entry) (rs : List (MadeRun A)) (ms : List Modes) (b : Beside)
+pub walked_none : {A : Type 0} (setting : Setting) (calls : List ContractCall) (opening : Cells) (fuel : ℕ) (es : List Entry) (rs : List (CallRun A)) (ms : List Modes) (b : Beside)
     → IsKeptWith (opened setting calls opening fuel) opening b → b.order ≡ [] → b.receipts ≡ [] → IsDefined opening es → AreMade setting calls rs ms
     → IsWalked (opened setting calls opening fuel) es rs ms b es rs ms
 walked_none setting calls opening fuel es rs ms b kept order receipts defined made = record {
@@ -61,7 +61,7 @@ walked_none setting calls opening fuel es rs ms b kept order receipts defined ma
 }
 
 -- what an entry leaves is what its run leaves
-pub executed_by : {A : Type 0} (setting : Setting) (calls : List ContractCall) (e : Entry) (r : MadeRun A) (m : Modes) (now : Cells)
+pub executed_by : {A : Type 0} (setting : Setting) (calls : List ContractCall) (e : Entry) (r : CallRun A) (m : Modes) (now : Cells)
     → IsMade setting calls r m → IsRunOf e r → RunsWith r.finished.setting r.finished.call r.finished.trace r.finished.outcome r.finished.used
     → (es : List Entry) → IsDefined now (e ∷ es) → Executes setting r.finished.call now (settled_by e now) (record { outcome = r.finished.outcome; used = r.finished.used; asks = asks_in r.finished.trace }) m
 executed_by setting calls e r m now made is run es defined = record {
@@ -74,7 +74,7 @@ executed_by setting calls e r m now made is run es defined = record {
 }
 
 -- one entry more
-module _ {A : Type 0} (p : Publication) (es : List Entry) (rs : List (MadeRun A)) (ms : List Modes) (b : Beside) (e : Entry) (es' : List Entry) (r : MadeRun A) (rs' : List (MadeRun A)) (m : Modes) (ms' : List Modes)
+module _ {A : Type 0} (p : Publication) (es : List Entry) (rs : List (CallRun A)) (ms : List Modes) (b : Beside) (e : Entry) (es' : List Entry) (r : CallRun A) (rs' : List (CallRun A)) (m : Modes) (ms' : List Modes)
     (w : IsWalked p es rs ms b (e ∷ es') (r ∷ rs') (m ∷ ms')) where
   abbrev here : Publication
   here = record p { cells = w.now }
@@ -130,7 +130,7 @@ module _ {A : Type 0} (p : Publication) (es : List Entry) (rs : List (MadeRun A)
         }
 
 -- one index more
-module _ {A : Type 0} (p : Publication) (es : List Entry) (rs : List (MadeRun A)) (ms : List Modes) (b : Beside) (i : ℕ) (e : Entry) (r : MadeRun A) (below : i < length rs) (even : length es ≡ length rs) (locked : length ms ≡ length rs)
+module _ {A : Type 0} (p : Publication) (es : List Entry) (rs : List (CallRun A)) (ms : List Modes) (b : Beside) (i : ℕ) (e : Entry) (r : CallRun A) (below : i < length rs) (even : length es ≡ length rs) (locked : length ms ≡ length rs)
     (e_is : e ≡ get_or es i e) (r_is : r ≡ get_or rs i r) (w : IsWalked p es rs ms b (drop i es) (drop i rs) (drop i ms)) where
   pub next_is : IsWalked p es rs ms b (e ∷ drop (i + 1) es) (r ∷ drop (i + 1) rs) (get_or ms i empty ∷ drop (i + 1) ms)
   next_is =
@@ -176,7 +176,7 @@ module _ {A : Type 0} (p : Publication) (es : List Entry) (rs : List (MadeRun A)
         (walked_more p es rs ms b e (drop (i + 1) es) r (drop (i + 1) rs) m (drop (i + 1) ms) w' limit limit_is follows is run)
 
 -- all is gone over
-module _ {A : Type 0} (p : Publication) (es : List Entry) (rs : List (MadeRun A)) (ms : List Modes) (b : Beside) (i : ℕ) (all : length rs ≤ i) (even : length es ≡ length rs) (locked : length ms ≡ length rs)
+module _ {A : Type 0} (p : Publication) (es : List Entry) (rs : List (CallRun A)) (ms : List Modes) (b : Beside) (i : ℕ) (all : length rs ≤ i) (even : length es ≡ length rs) (locked : length ms ≡ length rs)
     (touched_is : b.touched ≡ take i ms) (w : IsWalked p es rs ms b (drop i es) (drop i rs) (drop i ms)) where
   no_entry : drop i es ≡ []
   no_entry = drop_all i es (omega arith)

@@ -3,7 +3,7 @@ ghost use Rattle.std.specs.Prelude.{◌≡◌, ◌<◌, ◌^◌, ◌↔◌, [], 
 ghost use Rattle.std.specs.FinMap as finite;
 ghost use Rattle.spec_ledger.specs.Book.{IsDefined, settled};
 ghost use Rattle.spec_ledger.specs.declared.Version.TheVariants.{Two};
-ghost use Rattle.interp.specs.Lent.{setting_view};
+ghost use Rattle.interp.specs.Callee.{setting_view};
 ghost use Rattle.serial.specs.Positions.{positions};
 ghost use Rattle.publish.specs.Publication.{IsKept, limits};
 ghost use Rattle.publish.specs.Adoption.{AreMade, IsRunOf, MayFollowBy, ran_by};
@@ -20,7 +20,7 @@ use storage::Cells;
 
 /// A run of a call that was made elsewhere.
 #[derive(Drop)]
-pub struct MadeRun<'a, A: Allocator = Global> {
+pub struct CallRun<'a, A: Allocator = Global> {
     /// The number of the call.
     pub call: u32,
     /// The run.
@@ -34,7 +34,7 @@ fn same_outcome(a: Outcome, b: Outcome) -> bool
 }
 
 /// Whether a run is one of an entry's call, with the entry's trace and outcome.
-fn is_run_of<A: Allocator + Copy>(entry: &Entry<A>, run: &MadeRun<'_, A>) -> bool
+fn is_run_of<A: Allocator + Copy>(entry: &Entry<A>, run: &CallRun<'_, A>) -> bool
     ensures { IsTrue result ↔ IsRunOf entry.now run.now }
 {
     entry.call() == run.call
@@ -51,7 +51,7 @@ pub(crate) fn walk<'a, A: Allocator + Copy>(
     _cells: &Cells<A>,
     fuel: u64,
     entries: &[Entry<A>],
-    runs: &[MadeRun<'a, A>],
+    runs: &[CallRun<'a, A>],
     touched: Vec<Touched<A>, A>,
 ) -> Result<Option<SoFar<A>>, NoMemory>
     requires calls { length calls.now < 2 ^ 32 }

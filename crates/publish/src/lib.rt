@@ -13,25 +13,25 @@ ghost use Rattle.spec_ledger.specs.Book.{GetsReplies, IsDefined, settled};
 ghost use Rattle.spec_ledger.specs.Order.{IsAdmissible};
 ghost use Rattle.spec_execution.specs.Serial.{Serial};
 ghost use Rattle.spec_ledger.specs.declared.Version.TheVariants.{Two};
-ghost use Rattle.interp.specs.Lent.{setting_view};
+ghost use Rattle.interp.specs.Callee.{setting_view};
 ghost use Rattle.serial.specs.Positions.{positions};
 ghost use Rattle.publish.specs.Publication.{IsSerialOrder, MayFollow, HasTaken, IsSameJob, HasGoneOn, Sweep, AreLeft, limits, fuel_used};
-ghost use Rattle.footprint.specs.Calls.{IsFootprintOf};
-ghost use Rattle.spec_footprint.specs.Footprints.{Agrees};
+ghost use Rattle.speculation.specs.Calls.{IsFootprintOf};
+ghost use Rattle.spec_execution.specs.ReadWriteSets.{Agrees};
 ghost use Rattle.publish.specs.Adoption.{AreMade, MayFollowBy, ran_by};
 
-pub use crate::adopting::MadeRun;
+pub use crate::adopting::CallRun;
 use crate::adopting::walk;
 pub use crate::laws::one_sweep;
 use crate::so_far::{SoFar, unmarked};
 use boost::book::Closed;
 use call::Call;
-use footprint::enact;
+use speculation::write_back;
 use interp::finished::Finished;
 use link::deployed::Deployed as Contract;
 use lock_profile::Touched;
 use serial::{Executed, execute, replay};
-use spec_footprint::Access;
+use spec_execution::Access;
 use spec_ledger::{NoMemory, Receipt, Version};
 use std::alloc::{Allocator, Global};
 use std::marker::Model;
@@ -52,7 +52,7 @@ pub struct Publishing<'a, A: Allocator + Copy> {
 
 impl<'a, A: Allocator + Copy> Model for Publishing<'a, A> {
     ghost use Rattle.spec_ledger.specs.declared.Version.TheVariants.{Two};
-    ghost use Rattle.interp.specs.Lent.{setting_view};
+    ghost use Rattle.interp.specs.Callee.{setting_view};
     ghost use Rattle.serial.specs.Positions.{positions};
     ghost use Rattle.publish.specs.Publication.{Publication, coded_publication, IsKept};
 
@@ -127,7 +127,7 @@ impl<'a, A: Allocator + Copy> Publishing<'a, A> {
         cells: &'a Cells<A>,
         fuel: u64,
         closed: Closed<A>,
-        runs: &[MadeRun<'a, A>],
+        runs: &[CallRun<'a, A>],
         touched: Vec<Touched<A>, A>,
     ) -> Result<Option<Publishing<'a, A>>, NoMemory>
         requires calls { length calls.now < 2 ^ 32 }
@@ -161,7 +161,7 @@ impl<'a, A: Allocator + Copy> Publishing<'a, A> {
     }
 
     /// What the type keeps.
-    pub fn hold(&self)
+    pub fn use_invariant(&self)
         ensures { IsSerialOrder self.now }
     {
         let _fuel = self.fuel;
@@ -203,13 +203,13 @@ impl<'a, A: Allocator + Copy> Publishing<'a, A> {
         Ok(true)
     }
 
-    /// Publishes a call by a footprint of it that was taken elsewhere, where the call may be published next and the cells now hold what it found. Answers
+    /// Publishes a call by a read_write_set of it that was taken elsewhere, where the call may be published next and the cells now hold what it found. Answers
     /// whether the call was taken, with all that is published.
     ///
     /// # Errors
     ///
     /// Memory was refused. Nothing is published any more.
-    pub fn take_footprint(
+    pub fn commit_if_valid(
         self,
         call: u32,
         executed: Executed<A>,
@@ -234,8 +234,8 @@ impl<'a, A: Allocator + Copy> Publishing<'a, A> {
             mut cells,
         } = self;
         so_far.reserve()?;
-        cells.hold();
-        if !enact(&mut cells, accesses)? {
+        cells.use_invariant();
+        if !write_back(&mut cells, accesses)? {
             let published = Publishing {
                 alloc,
                 contracts,
@@ -303,7 +303,7 @@ impl<'a, A: Allocator + Copy> Publishing<'a, A> {
         for call in 0..self.count() {
             self.take_alone(call)?;
         }
-        self.hold();
+        self.use_invariant();
         Ok(())
     }
 

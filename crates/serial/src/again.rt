@@ -29,7 +29,7 @@ pub(crate) fn act_again<A: Allocator + Copy>(
     ensures other { result ≡ Ok false → ¬ (GetsReplies trace.now cells.old.cells) }
     ensures some { AreSomeDone cells.old cells.new inverses.new.items }
 {
-    cells.hold();
+    cells.use_invariant();
     // how many inverses there were at each open mark, the innermost last
     let mut marks = Vec::new(alloc);
     for step in trace {

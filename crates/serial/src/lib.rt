@@ -3,9 +3,13 @@
 #![tactic(auto)]
 
 mod again;
+mod blocks;
+mod contracts;
 mod locks;
 mod playing;
+mod positions;
 mod steps;
+mod turn_loop;
 
 ghost use Rattle.std.specs.Prelude.{◌≡◌, ◌<◌, ◌↔◌, IfOk, OnErr, IfSome, IfNone, IsSome, length};
 ghost use Rattle.std.specs.List.{All};
@@ -15,17 +19,21 @@ ghost use Rattle.spec_ledger.specs.Book.{back_all, GetsReplies};
 ghost use Rattle.storage.specs.Counts.{AreUnsettled, Store, closed_all};
 ghost use Rattle.spec_execution.specs.Exec.{Executes};
 ghost use Rattle.spec_execution.specs.Serial.{Serial};
-ghost use Rattle.interp.specs.Lent.{setting_view};
+ghost use Rattle.interp.specs.Callee.{setting_view};
 ghost use Rattle.serial.specs.Playing.{AreDone};
 ghost use Rattle.serial.specs.Positions.{positions};
 
+use call::Call;
+pub use contracts::copied;
 use crate::again::act_again;
+pub use crate::blocks::{run, run_as, build_block};
 pub use crate::locks::touched_by;
 use crate::playing::play;
-use call::Call;
+pub use crate::turn_loop::{HostRequest, next_request};
 use interp::finished::Finished;
 use link::deployed::Deployed as Contract;
 use lock_profile::Touched;
+pub use positions::positions_of;
 use spec_ledger::{Inverse, NoMemory, Receipt, Version};
 use std::alloc::{Allocator, Global};
 use storage::{Cells, end_all, returned};
@@ -94,7 +102,7 @@ pub fn execute<A: Allocator + Copy>(
     ensures settled { cells.new.unsettled ≡ finite.empty }
     ensures err { OnErr result (cells.new ≡ cells.old) }
 {
-    cells.hold();
+    cells.use_invariant();
     let (finished, inverses) = play(alloc, contracts, call, cells, version)?;
     conclude(alloc, &finished, cells, inverses)
 }
@@ -117,7 +125,7 @@ pub fn run_alone<'a, A: Allocator + Copy>(
     ensures replies { IfOk result (λ finished. GetsReplies finished.trace cells.old.cells) }
     ensures cells { cells.new ≡ cells.old }
 {
-    cells.hold();
+    cells.use_invariant();
     let (finished, done) = play(alloc, contracts, call, cells, version)?;
     end_all(cells, done, false);
     Ok(finished)
@@ -141,7 +149,7 @@ pub fn replay<A: Allocator + Copy>(
     ensures settled { cells.new.unsettled ≡ finite.empty }
     ensures err { OnErr result (cells.new ≡ cells.old) }
 {
-    cells.hold();
+    cells.use_invariant();
     let mut inverses = Vec::new(alloc);
     match act_again(alloc, cells, &mut inverses, finished.trace()) {
         Ok(true) => Ok(Some(conclude(alloc, finished, cells, inverses)?)),

@@ -25,7 +25,7 @@ pub(crate) fn act<A: Allocator + Copy>(
     ensures err { OnErr result (cells.new ≡ cells.old) }
     ensures err_inverses { OnErr result (inverses.new.items ≡ inverses.old.items) }
 {
-    cells.hold();
+    cells.use_invariant();
     inverses.reserve(1)?;
     let (reply, inverse) = cells.apply(op)?;
     inverses.push_reserved(inverse);

@@ -10,8 +10,8 @@ use Rattle.spec_ledger.specs.declared.Step.{Step}
 use Rattle.spec_ledger.specs.declared.Step.TheVariants.{Did, Opened, Kept, Dropped}
 use Rattle.spec_ledger.specs.Cells.{lock_of}
 use Rattle.spec_ledger.specs.Modes.{ops_of}
-use Rattle.spec_shards.specs.Shards.{part, shard_of}
-use Rattle.shard_parts.specs.Steps.{asks_at}
+use Rattle.spec_ledger.specs.Shards.{part, shard_of}
+use Rattle.sharding.specs.Steps.{asks_at}
 use Rattle.shards.specs.Marks.{marks_of}
 
 still_some : (b : Bool) (op : Op) (r : Reply) (t : List Step) → ¬ ([] ≡ ops_of t) → ¬ ([] ≡ ops_of (cond b (Did op r ∷ t) t))

@@ -3,11 +3,11 @@ use Rattle.std.specs.Prelude.{◌≡◌, ◌⊎◌, ℕ, Bool, false, List, [], 
 use Rattle.spec_ledger.specs.declared.Step.{Step}
 use Rattle.spec_ledger.specs.Events.{IsOther}
 use Rattle.spec_ledger.specs.Modes.{ops_of}
-use Rattle.spec_shards.specs.Shards.{part, shard_of}
+use Rattle.spec_ledger.specs.Shards.{part, shard_of}
 use Rattle.shards.specs.Marks.{marks_of}
-use Rattle.journal.specs.Journals.{IsJournal, Journal}
+use Rattle.sharding.specs.Journals.{IsJournal, Journal}
 use Rattle.spec_ledger.specs.Facts.{CellsAreSettledButForHolders, EntriesAreSerialRun, LiveAttemptsGoTogether, LiveTracesGetReplies}
-use Rattle.shard.specs.Shard.{IsShard, Shard}
+use Rattle.sharding.specs.Shard.{IsShard, Shard}
 
 -- this holds of the journal that was found under the lock, of which no more is known than what its type keeps
 pub record HoldsOfTheJournal (fact : Journal → Type 0) : Type 0 where

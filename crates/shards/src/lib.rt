@@ -7,9 +7,11 @@ mod gate;
 mod marks;
 mod opening;
 mod sharded;
+mod shared;
 mod ticket;
 
 pub use gate::{Gate, NoGate};
 pub use marks::Marks;
 pub use sharded::Shards;
+pub use shared::{OtherBook, SharedBook};
 pub use ticket::Ticket;

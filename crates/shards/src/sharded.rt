@@ -7,10 +7,10 @@ ghost use Rattle.spec_ledger.specs.Cells.{lock_of};
 ghost use Rattle.spec_ledger.specs.Events.{EnterDone, IsNotEntered, IsOther, IsStale, LeaveDone, OpDone, UndoDone};
 ghost use Rattle.spec_ledger.specs.Modes.{ops_of, touched};
 ghost use Rattle.spec_ledger.specs.declared.Step.TheVariants as TheStep;
-ghost use Rattle.spec_shards.specs.Shards.{part, shard_of};
-ghost use Rattle.shard_parts.specs.Steps.{asks_at};
-ghost use Rattle.journal.specs.Journals.{Begins, Commits, IsJournal, IsLive, Journal as TheJournal, after_undo};
-ghost use Rattle.shard.specs.Shard.{HasToWait, IsOver, IsReady, Shard as TheShard};
+ghost use Rattle.spec_ledger.specs.Shards.{part, shard_of};
+ghost use Rattle.sharding.specs.Steps.{asks_at};
+ghost use Rattle.sharding.specs.Journals.{Begins, Commits, IsJournal, IsLive, Journal as TheJournal, after_undo};
+ghost use Rattle.sharding.specs.Shard.{HasToWait, IsOver, IsReady, Shard as TheShard};
 ghost use Rattle.shards.specs.Taking.{HasOtherSteps, HasStrayed, HoldsOfAShard, HoldsOfTheJournal, IsLawful};
 ghost use Rattle.shards.specs.Marks.{IsOutside, closing, marks_of};
 
@@ -20,10 +20,8 @@ use crate::ticket::Ticket;
 use boost::book::{
     BeginRefusal, Closed, CommitRefusal, EnterRefusal, LeaveRefusal, OpRefusal, Run,
 };
-use brief_lock::acquire;
-use journal::Journal;
-use shard::Shard;
-use shard_parts::{CloseRefusal, close, home, is_part};
+use pace::acquire;
+use sharding::{CloseRefusal, Journal, Shard, close, home, is_part};
 use spec_ledger::{Op, Outcome, Reply, Step};
 use std::alloc::{Allocator, Global};
 use std::marker::Model;
@@ -64,14 +62,14 @@ impl<'g, G: Gate, A: Allocator> Model for Shards<'g, G, A> {
 fn look_at_journal<A: Allocator + Copy>(journal: &Journal<A>)
     ensures { IsJournal journal.now }
 {
-    journal.hold();
+    journal.use_invariant();
 }
 
 /// What is known of a shard that was found under its lock.
 fn look_at_shard<A: Allocator + Copy>(shard: &Shard<A>)
     ensures { IsLawful shard.now }
 {
-    shard.hold();
+    shard.use_invariant();
 }
 
 /// Undoes an attempt in the journal that was found under its lock.
@@ -79,7 +77,7 @@ fn undo_in_journal<A: Allocator + Copy>(journal: &mut Journal<A>, call: u32, num
     ensures lawful { IsJournal journal.old }
     ensures done { (IsLive journal.old call number × (journal.new ≡ after_undo journal.old call)) ⊎ (¬ (IsLive journal.old call number) × (journal.new ≡ journal.old)) }
 {
-    journal.hold();
+    journal.use_invariant();
     if journal.is_live(call, number) {
         journal.undo(call, number);
     }

@@ -22,7 +22,7 @@ pub fn one_block_a_spelling()
     ensures calls { (xs ys : List Call) → length xs ≤ 65535 → length ys ≤ 65535 → AllByRecursion IsCall xs → AllByRecursion IsCall ys → calls_bytes xs ≡ calls_bytes ys → xs ≡ ys }
     ensures worlds { (bytes : List ℕ) (v w : World) → SpellsWorld bytes v → SpellsWorld bytes w → v ≡ w }
 {
-    spec_module_laws::one_tree();
+    laws_modules::one_tree();
     spec_typing::resolved_once();
 }
 

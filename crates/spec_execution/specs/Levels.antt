@@ -15,7 +15,7 @@ use Rattle.spec_ledger.specs.declared.Step.TheVariants.{Did, Opened, Kept, Dropp
 use Rattle.spec_ledger.specs.declared.Outcome.{Outcome}
 use Rattle.spec_ledger.specs.declared.Outcome.TheVariants.{Returned, Trapped, OutOfFuel, Rejected}
 use Rattle.spec_execution.specs.Configuration.{Setting, Deployed, Contract, Function, Defined, function_at, Seq, State, Config, Running, Trap}
-use Rattle.spec_execution.specs.Reduction.{Wish, Of, Ask, Answer, Next, Goes, Traps, Asks, Ended, same_function_type}
+use Rattle.spec_execution.specs.Reduction.{HostEffect, Of, Ask, Answer, Next, Goes, Traps, Asks, Ended, same_function_type}
 use Rattle.spec_execution.specs.Run.{next, IsReply, result_of, ContractCall, Opening, Refused, Opens, opening, first}
 
 -- ---- what an `ask` leads to
@@ -129,7 +129,7 @@ entering l outer s go x (Refused status) = On 0 [] (record { inner = told l s (g
 
 module _ (setting : Setting) where
   -- a wish: `ask` and `answer` go on by themselves
-  abbrev pub wished : Level → List Level → State → Wish → (Reply → Seq) → Move
+  abbrev pub wished : Level → List Level → State → HostEffect → (Reply → Seq) → Move
   wished l outer s (Of op) go = Host op (λ r. record { inner = running l s (go r); outer = outer })
   wished l outer s (Ask n e x) go = entering l outer s go x (asked setting (length outer) n e)
   wished l outer s Answer go = On 0 [] (record { inner = running l s (go (reply.I64 l.answer)); outer = outer })

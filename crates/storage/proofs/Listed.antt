@@ -10,7 +10,7 @@ use Rattle.std.specs.FinMap.{get, insert, remove, empty, entries, entries_sorted
 use Rattle.std.specs.FinMap.Entries.{below_all}
 use Rattle.spec_ledger.specs.declared.Kind.TheVariants.{Counter}
 use Rattle.spec_ledger.specs.declared.Lock.{Lock}
-use Rattle.spec_ledger.specs.declared.Place.{Place}
+use Rattle.spec_ledger.specs.declared.CellKey.{CellKey}
 use Rattle.spec_ledger.specs.Cells.{Cells, lock_cmp, set_at, counter_at, AreCells, IsCounter}
 use Rattle.spec_ledger.proofs.Maps.{key_itself, lock_cmp_total, lock_cmp-IsAntisymmetric}
 use Rattle.storage.specs.declared.Slot.{Slot}
@@ -118,7 +118,7 @@ module _ (m : Cells) (xs : List (Lock × ℕ)) (k : Lock) (v : ℕ) (ys : List (
 
   pub copied_condition : AreCells m → k.kind ≡ Counter → 0 < v
   copied_condition are e =
-      let place : Place = record { contract = k.contract; key = k.key } in
+      let place : CellKey = record { contract = k.contract; key = k.key } in
       let same : k ≡ counter_at place = λ i. record { contract = k.contract; kind = e i; key = k.key } in
       above_zero v (subst (λ (x : Option ℕ). IsCounter x) (ap (get m) (sym same) ∙ held_there) (are.counters place)).not_zero
 

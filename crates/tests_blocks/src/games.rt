@@ -3,7 +3,7 @@ ghost use Rattle.std.specs.Prelude.{IfSome, length, ◌<◌, ◌^◌};
 
 use crate::assertions::{equal, holds};
 use lock_profile::{Held, Touched, turns};
-use ration::Ration;
+use test_support::Ration;
 use schedule::{Board, EndRefusal, Graph, turns_agree};
 use spec_ledger::Kind::{self, Counter, Map};
 use spec_ledger::Lock;

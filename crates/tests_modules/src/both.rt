@@ -7,7 +7,7 @@ use linked_list_allocator::LocalHeap;
 use loader::{LoadRefusal, load};
 use module_tree::limit::Limit;
 use module_tree::module::Module;
-use samples::EXAMPLE;
+use test_support::EXAMPLE;
 use std::alloc::{Allocator, Global};
 use std::process::Abort;
 use std::test::Fail;

@@ -4,7 +4,7 @@ use crate::assertions::{equal, holds};
 use crate::blocks::{BACK, ELEVEN, FOUR, NO_CALLS};
 use crate::orders::{crowd, positions};
 use block::{Block, read_block};
-use block_picture::draw_block;
+use wblock_picture::draw_block;
 use spec_ledger::Version;
 use std::alloc::Global;
 

@@ -3,8 +3,8 @@
 use crate::assertions::holds;
 use crate::blocks::FOUR;
 use block::read_block;
-use calls_text::read_calls;
-use show_json::block_json;
+use wblock_calls::read_calls;
+use wblock_json::block_json;
 use std::alloc::Global;
 
 /// The first call of `FOUR` alone.

@@ -4,7 +4,7 @@ ghost use Rattle.std.specs.Prelude.{IfSome, length, ◌<◌, ◌^◌};
 
 use crate::assertions::holds;
 use block::Position;
-use block_picture::{Edge, edges_of};
+use wblock_picture::{Edge, edges_of};
 use lock_profile::{Held, Touched, turns};
 use schedule::{Graph, turns_agree};
 use spec_ledger::Kind::{Counter, Map};

@@ -2,9 +2,9 @@
 use boost::book::{
     BeginRefusal, Closed, CommitRefusal, EnterRefusal, LeaveRefusal, OpRefusal, Run,
 };
-use shard_parts::CloseRefusal;
+use sharding::CloseRefusal;
 use shards::{NoGate, Shards, Ticket};
-use spec_ledger::{Kind, Lock, Op, Outcome, Place, Reply, Step};
+use spec_ledger::{Kind, Lock, Op, Outcome, CellKey, Reply, Step};
 use std::alloc::Allocator;
 use std::sync::Wait;
 use storage::{Cells, NoMemory};
@@ -18,8 +18,8 @@ pub(crate) const RETURNED: Outcome = Outcome::Returned(None);
 pub(crate) const TRAPPED: Outcome = Outcome::Trapped(TrapCode::Unreachable);
 
 /// A place of contract 0.
-pub(crate) fn at(key: u64) -> Place {
-    Place { contract: 0, key }
+pub(crate) fn at(key: u64) -> CellKey {
+    CellKey { contract: 0, key }
 }
 
 /// A cell of contract 0.

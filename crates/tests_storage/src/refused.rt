@@ -2,7 +2,7 @@
 use crate::assertions::holds;
 use crate::books::{COUNTS, Came, played};
 use crate::scripts::GROWTHS;
-use ration::Ration;
+use test_support::Ration;
 use std::alloc::Global;
 use std::sync::Wait;
 use std::test::Fail;

@@ -3,38 +3,38 @@ use crate::assertions::equal;
 use crate::books::{Act, Answer, COUNTS, Came, RETURNED, Script, TRAPPED};
 use crate::whole::played;
 use boost::book::{BeginRefusal, CommitRefusal, LeaveRefusal, OpRefusal};
-use spec_ledger::{Kind, Op, Place, Reply, Step};
+use spec_ledger::{Kind, Op, CellKey, Reply, Step};
 use std::alloc::Global;
 use std::process::Abort;
 use std::sync::Wait;
 use std::test::Fail;
 
-const ONE: Place = Place {
+const ONE: CellKey = CellKey {
     contract: 0,
     key: 1,
 };
 
-const TWO: Place = Place {
+const TWO: CellKey = CellKey {
     contract: 0,
     key: 2,
 };
 
-const THREE: Place = Place {
+const THREE: CellKey = CellKey {
     contract: 0,
     key: 3,
 };
 
-const FOUR: Place = Place {
+const FOUR: CellKey = CellKey {
     contract: 0,
     key: 4,
 };
 
-const SEVEN: Place = Place {
+const SEVEN: CellKey = CellKey {
     contract: 0,
     key: 7,
 };
 
-const EIGHT: Place = Place {
+const EIGHT: CellKey = CellKey {
     contract: 0,
     key: 8,
 };

@@ -7,7 +7,7 @@ use assembler::{AsmRefusal, assemble};
 use block::{Block, BlockRefusal, read_block, write_block};
 use body_typing::scope::TypeRefusal;
 use call::Call;
-use codec::{Failures, MemorySink};
+use byte_sinks::{Failures, MemorySink};
 use debugger::session::{Refusal, Session};
 use encoder::encode;
 use interp::start::StartRefusal;
@@ -16,9 +16,8 @@ use link::deploy::deploy;
 use link::refusal::LinkRefusal;
 use loader::{LoadRefusal, load};
 use module_tree::module::Module;
-use ration::Ration;
-use samples::{EXAMPLE, PROBING, typed};
-use serial_block::run;
+use test_support::{EXAMPLE, PROBING, Ration, typed};
+use serial::run;
 use spec_ledger::Kind::{self, Counter, Map};
 use spec_ledger::{Lock, Version};
 use std::alloc::{Allocator, Global};
@@ -27,8 +26,7 @@ use std::test::Fail;
 use storage::Cells;
 use typing::check::check;
 use typing::valid::Valid;
-use world::{World, encode_world};
-use world_reader::{ReadRefusal, read_world};
+use world::{ReadRefusal, World, encode_world, read_world};
 use wtypes::Value::{self, I64};
 
 /// The example contract as text.
@@ -107,7 +105,7 @@ fn world_of<A: Allocator + Copy>(
     rows: &[CellRow],
 ) -> Result<World<A>, Fail> {
     let mut contracts = Vec::new(alloc);
-    contracts.push(samples::deployed(alloc, module)?)?;
+    contracts.push(test_support::deployed(alloc, module)?)?;
     let mut cells = Cells::new(alloc);
     for (kind, key, number) in rows {
         if *number == 0 {
@@ -139,7 +137,7 @@ fn calling(alloc: Global, entry: Entry) -> Result<Call, Fail>
     ensures { IfOk result (λ made. made.fuel ≡ 100) }
 {
     let (name, args) = entry;
-    match samples::call(alloc, 0, name, args, 100) {
+    match test_support::call(alloc, 0, name, args, 100) {
         Ok(call) => Ok(call),
         Err(_) => Err(Fail::from("no call")),
     }

@@ -4,8 +4,8 @@ use crate::waiting::{LOOKS, hold};
 use boost::book::{
     BeginRefusal, Book, Closed, CommitRefusal, EnterRefusal, LeaveRefusal, OpRefusal, Run, Ticket,
 };
-use shared_book::SharedBook;
-use spec_ledger::{Kind, Lock, Mode, Op, Outcome, Place, Reply, Step};
+use shards::SharedBook;
+use spec_ledger::{Kind, Lock, Mode, Op, Outcome, CellKey, Reply, Step};
 use std::alloc::Global;
 use std::process::Abort;
 use std::sync::Wait;
@@ -24,29 +24,29 @@ const CALLS: u32 = 160;
 const TRAPPED: Outcome = Outcome::Trapped(TrapCode::Unreachable);
 
 /// A map cell that many calls read and put.
-const HOT: Place = Place {
+const HOT: CellKey = CellKey {
     contract: 0,
     key: 1_000,
 };
 
 /// A map cell of call 0 alone, and one of call 1.
-const OWN_0: Place = Place {
+const OWN_0: CellKey = CellKey {
     contract: 0,
     key: 0,
 };
 
-const OWN_1: Place = Place {
+const OWN_1: CellKey = CellKey {
     contract: 0,
     key: 1,
 };
 
 /// A counter that all calls add to.
-const SUM: Place = Place {
+const SUM: CellKey = CellKey {
     contract: 0,
     key: 7,
 };
 
-fn cell(kind: Kind, place: Place) -> Lock {
+fn cell(kind: Kind, place: CellKey) -> Lock {
     Lock {
         contract: place.contract,
         kind,
@@ -531,7 +531,7 @@ struct Done {
 /// What a call does: a cell of its own and the common counter, and of every third call also the hot cell.
 fn ops(call: u32) -> [Op; 4] {
     let number = u64::from(call);
-    let own = Place {
+    let own = CellKey {
         contract: 0,
         key: number,
     };

@@ -3,7 +3,7 @@
 use crate::assertions::holds;
 use crate::given::{Calls, CellRow, Given, block_of, give, judged};
 use crate::meetings::{LOOKS, Meet, Meeting};
-use samples::EXAMPLE;
+use test_support::EXAMPLE;
 use spec_ledger::Kind::Map;
 use spec_ledger::Version;
 use std::alloc::Global;

@@ -12,7 +12,7 @@ use call::Call;
 use pace::NoPace;
 use rand::RngExt;
 use rand_pcg::Pcg32;
-use samples::{EXAMPLE, PROBING, call};
+use test_support::{EXAMPLE, PROBING, call};
 use spec_ledger::Kind::{Counter, Map};
 use spec_ledger::Version;
 use std::alloc::Global;

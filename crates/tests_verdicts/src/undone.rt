@@ -2,10 +2,9 @@
 use crate::assertions::equal;
 use crate::given::{Calls, give, order_of, world_of};
 use crate::meetings::LOOKS;
-use mining::{Mined, mine_in};
+use miner::{Mined, mine_in};
 use pace::{Pace, Step};
-use ration::Ration;
-use samples::EXAMPLE;
+use test_support::{EXAMPLE, Ration};
 use std::alloc::Global;
 use std::process::Abort;
 use std::sync::Wait;

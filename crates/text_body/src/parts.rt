@@ -2,7 +2,7 @@
 //! how many words were left.
 ghost use Rattle.std.specs.Prelude.{◌≡◌, ◌≤◌, ◌<◌, ◌+◌, length, map, IfOk, IfSome, IfNone, Option, option_map, true, false};
 ghost use Rattle.spec_text.specs.Grammar.{are_unnamed, is_simple, is_indexed};
-ghost use Rattle.text_words.specs.Views.{view, views};
+ghost use Rattle.lexer.specs.WordsViews.{view, views};
 ghost use Rattle.text_body.specs.Places.{text_of, index_of, binding_of, use_of, flat_of};
 ghost use Rattle.text_body.specs.Outcome.{Gives};
 ghost use Rattle.text_body.specs.Reading.{moved, id_at, offset_at, align_at, index_of_word, index_at, next_index_at, next_at, indices_at, is_key, behind_bracket, ahead, close_at, valued_at, binding_at, bindings_at, results_at, result_at, header_at, types_at, closed_index_at, use_at, const_at, table_at, indirect_at, argument_at, other_at, plain_at};
@@ -11,7 +11,7 @@ use crate::flat::{Binding, Flat, Index, TypeUse};
 use crate::unread::Unread;
 use spec_text::{KeyWord, Operator};
 use std::alloc::Allocator;
-use text_words::{Piece, Word};
+use lexer::{Piece, Word};
 use wtypes::ValType;
 
 /// The words that begin a part in brackets.

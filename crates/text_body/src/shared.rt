@@ -3,7 +3,7 @@
 ghost use Rattle.std.specs.Prelude.{◌≡◌, ◌≤◌, ◌<◌, ◌∷◌, length, map, IfOk, IfErr, true, false};
 ghost use Rattle.spec_text.specs.Words.{RightBracket};
 ghost use Rattle.spec_text.specs.Grammar.{OptionalId, Indices, Bindings, Results, TypeUses};
-ghost use Rattle.text_words.specs.Views.{views};
+ghost use Rattle.lexer.specs.WordsViews.{views};
 ghost use Rattle.text_body.specs.Places.{text_of, index_of, binding_of, use_of};
 ghost use Rattle.text_body.specs.Outcome.{Unless, Gives};
 ghost use Rattle.text_body.specs.Reading.{key_of, moved, ahead, id_at, index_at, indices_at, bindings_at, results_at, use_at, close_at};
@@ -14,7 +14,7 @@ use crate::parts;
 pub use crate::parts::Part;
 use crate::unread::Unread;
 use std::alloc::Allocator;
-use text_words::{Piece, Word};
+use lexer::{Piece, Word};
 use wtypes::ValType;
 
 /// A name, if there is one.

@@ -1,6 +1,6 @@
 //! Whole bodies.
 ghost use Rattle.std.specs.Prelude.{◌≡◌, ◌<◌, length, option_map, IfOk, IfErr};
-ghost use Rattle.text_words.specs.Views.{views};
+ghost use Rattle.lexer.specs.WordsViews.{views};
 ghost use Rattle.text_body.specs.Places.{flat_of, flats_of};
 ghost use Rattle.text_body.specs.Outcome.{Unless};
 ghost use Rattle.text_body.specs.Turns.{seen_top, top_of, state_of, move_of, is_end, completed, left_behind, step_of, applied};
@@ -8,10 +8,10 @@ ghost use Rattle.text_body.specs.Bodies.{IsBody, NoBody, BodiesAreOne};
 ghost use Rattle.text_body.specs.declared.unread.Unread.TheVariants.{NoMemory};
 
 use crate::flat::Flat;
-use crate::turns::{Open, Top, Turn, next_turn};
+use crate::turns::{Open, Top, ParserStep, next_turn};
 use crate::unread::Unread;
 use std::alloc::Allocator;
-use text_words::Word;
+use lexer::Word;
 
 /// What is open innermost.
 fn innermost<'a, A: Allocator>(stack: &Vec<Open<'a, A>, A>) -> Top<'a>
@@ -44,15 +44,15 @@ fn leave<'a, A: Allocator>(stack: &mut Vec<Open<'a, A>, A>) -> bool
 }
 
 /// Whether the turn ends the body.
-fn ends<A: Allocator>(turn: &Turn<'_, A>) -> bool
+fn ends<A: Allocator>(turn: &ParserStep<'_, A>) -> bool
     ensures { result ≡ is_end (move_of turn.now) }
 {
-    matches!(turn, Turn::Ends)
+    matches!(turn, ParserStep::Ends)
 }
 
 /// Does a turn, if what is open allows it.
 fn apply<'a, A: Allocator>(
-    turn: Turn<'a, A>,
+    turn: ParserStep<'a, A>,
     stack: &mut Vec<Open<'a, A>, A>,
     flats: &mut Vec<Flat<'a, A>, A>,
 ) -> Result<bool, Unread>
@@ -60,34 +60,34 @@ fn apply<'a, A: Allocator>(
     ensures refused { IfErr result (λ refusal. refusal ≡ NoMemory) }
 {
     match turn {
-        Turn::Emits(flat) => {
+        ParserStep::Emits(flat) => {
             flats.push(flat)?;
             Ok(true)
         }
-        Turn::Opens(flat, form) => {
+        ParserStep::Opens(flat, form) => {
             flats.push(flat)?;
             stack.push(Open::Inside(form))?;
             Ok(true)
         }
-        Turn::Begins(open) => {
+        ParserStep::Begins(open) => {
             stack.push(open)?;
             Ok(true)
         }
-        Turn::Completes => {
+        ParserStep::Completes => {
             let Some(flat) = operator(stack) else {
                 return Ok(false);
             };
             flats.push(flat)?;
             Ok(true)
         }
-        Turn::Closes(flat) => {
+        ParserStep::Closes(flat) => {
             if !leave(stack) {
                 return Ok(false);
             }
             flats.push(flat)?;
             Ok(true)
         }
-        Turn::Turns(flat, form) => {
+        ParserStep::Turns(flat, form) => {
             if !leave(stack) {
                 return Ok(false);
             }
@@ -95,7 +95,7 @@ fn apply<'a, A: Allocator>(
             stack.push(Open::Inside(form))?;
             Ok(true)
         }
-        Turn::Ends => Ok(false),
+        ParserStep::Ends => Ok(false),
     }
 }
 

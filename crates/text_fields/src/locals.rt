@@ -11,7 +11,7 @@ ghost use Rattle.text_fields.specs.Parts.{none_of, unnamed, names_at, distinct_a
 use std::alloc::Allocator;
 use text_body::{Binding, TypeUse};
 use text_resolve::{Space, Unresolved};
-use text_words::Piece;
+use lexer::Piece;
 use wtypes::{FuncType, ValType};
 
 // The name of a local, if it has one.

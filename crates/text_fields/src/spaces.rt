@@ -15,7 +15,7 @@ use crate::types_of_text;
 use std::alloc::Allocator;
 use text_resolve::{Space, Spaces, Unresolved};
 use text_tree::{Desc, Field, Text};
-use text_words::Piece;
+use lexer::Piece;
 
 // What has an index space of its own.
 #[derive(Clone, Copy)]

@@ -11,8 +11,8 @@ use Rattle.spec_syntax.specs.Limits.{both}
 use Rattle.std.proofs.lemmas.Option.{none-some, same_Some}
 use Rattle.spec_text.specs.Spaces.{Names, FirstAt, here, later, AreDistinct, no_names, unnamed, a_name}
 use Rattle.spec_text.specs.Numbers.{IsU32}
-use Rattle.text_words.specs.Values.{magnitude_at}
-use Rattle.text_words.proofs.Amounts.{capped_read, magnitude_is_read, found_u32}
+use Rattle.lexer.specs.Values.{magnitude_at}
+use Rattle.lexer.proofs.Amounts.{capped_read, magnitude_is_read, found_u32}
 use Rattle.spec_text.specs.Named as N
 use Rattle.text_resolve.specs.declared.refusal.Unresolved.{Unresolved}
 use Rattle.text_resolve.specs.declared.refusal.Unresolved.TheVariants.{UnknownName, RepeatedName, NumberRange, TooLarge, Broken, NoMemory}

@@ -17,7 +17,7 @@ use crate::{Labels, Limit, Space, Unresolved};
 use module_tree::instr::Instr;
 use std::alloc::Allocator;
 use text_body::{Flat, Opener};
-use text_words::Piece;
+use lexer::Piece;
 use wtypes::ValType;
 
 // The levels of an expression, its own among them.

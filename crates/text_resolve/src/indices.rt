@@ -11,7 +11,7 @@ ghost use Rattle.text_resolve.specs.Lookup.{find, u32_at, stands_at, all_stand_a
 use crate::refusal::Unresolved;
 use std::alloc::Allocator;
 use text_body::Index;
-use text_words::{Piece, unsigned_32};
+use lexer::{Piece, unsigned_32};
 
 /// Names, of which each stands for the index of its first place.
 pub trait Finds {

@@ -1,13 +1,13 @@
 //! What instructions need beside indices.
 ghost use Rattle.std.specs.Prelude.{◌≡◌, ◌≢◌, Err};
 ghost use Rattle.text_body.specs.Views.{text_of};
-ghost use Rattle.text_words.specs.Values.{bits_at};
+ghost use Rattle.lexer.specs.Values.{bits_at};
 ghost use Rattle.text_resolve.specs.declared.refusal.Unresolved.TheVariants.{NoMemory};
 ghost use Rattle.text_resolve.specs.Outcome.{Gives};
 ghost use Rattle.text_resolve.specs.Plain.{exponent_at, offset_at, align_at, constant_at};
 
 use crate::{Unresolved, number};
-use text_words::{Piece, bits_32, bits_64};
+use lexer::{Piece, bits_32, bits_64};
 use wtypes::{ValType, Value};
 
 // The exponent of a power of two.

@@ -13,7 +13,7 @@ use crate::refusal::Unresolved;
 use std::alloc::Allocator;
 use std::collections::HashMap;
 use std::hash::{BuildHasherDefault, FoldHasher};
-use text_words::Piece;
+use lexer::Piece;
 
 /// The first index of each name.
 type Firsts<'a, A> = HashMap<&'a [u8], u32, BuildHasherDefault<FoldHasher>, A>;

@@ -2,7 +2,7 @@
 use module_tree::module::GlobalType;
 use std::alloc::Allocator;
 use text_body::{Binding, Flat, Index, TypeUse};
-use text_words::Piece;
+use lexer::Piece;
 use wtypes::ValType;
 
 /// The integers of a table's or a memory's limits.

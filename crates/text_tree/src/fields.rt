@@ -1,6 +1,6 @@
 //! Fields, one after another, and whole modules. Where a reader refuses, it says how many words were left.
 ghost use Rattle.std.specs.Prelude.{◌≡◌, ◌≤◌, ◌<◌, length, map, IfOk, IfErr};
-ghost use Rattle.text_words.specs.Views.{views};
+ghost use Rattle.lexer.specs.WordsViews.{views};
 ghost use Rattle.text_body.specs.Outcome.{Unless};
 ghost use Rattle.text_body.specs.Shared.{NoneOf};
 ghost use Rattle.spec_text.specs.declared.KeyWord.TheVariants.{Func, Global, Elem, Data};
@@ -17,7 +17,7 @@ use spec_text::KeyWord;
 use std::alloc::Allocator;
 use text_body::shared::optional_id;
 use text_body::{Unread, body};
-use text_words::Word;
+use lexer::Word;
 
 /// A function, behind its word.
 fn func_field<'w, 'a, A: Allocator + Clone>(

@@ -3,8 +3,8 @@
 ghost use Rattle.std.specs.Prelude.{◌≡◌, ◌≤◌, ◌<◌, ◌++◌, length, map, IfOk, IfErr, IfSome, option_map, string_bytes};
 ghost use Rattle.spec_text.specs.declared.KeyWord.{KeyWord};
 ghost use Rattle.module_tree.specs.ModuleView.{global_type_view};
-ghost use Rattle.text_words.specs.Strings.{decoded};
-ghost use Rattle.text_words.specs.Views.{placed, view, views};
+ghost use Rattle.lexer.specs.Strings.{decoded};
+ghost use Rattle.lexer.specs.WordsViews.{placed, view, views};
 ghost use Rattle.text_body.specs.declared.unread.Unread.TheVariants.{NoMemory};
 ghost use Rattle.text_body.specs.Places.{text_of, index_of, binding_of, use_of};
 ghost use Rattle.text_body.specs.Outcome.{Gives};
@@ -25,7 +25,7 @@ use text_body::shared::{
     type_use,
 };
 use text_body::{Binding, Index, TypeUse, Unread};
-use text_words::{Piece, Word, put_string};
+use lexer::{Piece, Word, put_string};
 use wtypes::ValType;
 
 /// The words that stand within fields.

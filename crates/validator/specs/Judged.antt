@@ -3,7 +3,7 @@ use Rattle.std.specs.Prelude.{◌≡◌, ◌↔◌, ℕ, List, IfNone, IfSome, I
 use Rattle.spec_ledger.specs.declared.Receipt.{Receipt}
 use Rattle.spec_ledger.specs.Modes.{Modes}
 use Rattle.serial.specs.Positions.{positions as ran_of}
-use Rattle.serial_block.specs.Ordered.{used_by}
+use Rattle.serial.specs.Ordered.{used_by}
 use Rattle.spec_block.specs.Worlds.{Block}
 use Rattle.spec_block.specs.Verdicts.{IsLeast, IsOther, Verdict, Accept}
 use Rattle.block_judge.specs.declared.reason.Unfit.{Unfit}

@@ -3,7 +3,7 @@
 ghost use Rattle.std.specs.Prelude.{◌≡◌, ◌<◌, ◌^◌, ◌↔◌, ℕ, IfNone, IfSome, IsTrue, length};
 ghost use Rattle.lock_profile.specs.Groups.{pairs};
 ghost use Rattle.serial.specs.Positions.{positions as ran_of};
-ghost use Rattle.serial_block.specs.Ordered.{used_by};
+ghost use Rattle.serial.specs.Ordered.{used_by};
 ghost use Rattle.spec_block.specs.Worlds.{held_in};
 ghost use Rattle.spec_block.specs.Verdicts.{Agrees, IsLeast, IsOther};
 ghost use Rattle.validator.specs.Judged.{IsCompared};

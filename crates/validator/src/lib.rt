@@ -227,7 +227,7 @@ pub fn find_verdict<R: Threads + Wait + Sync, A: Allocator + Copy + Send + Sync,
         Ok(block) => block,
         Err(unfit) => return verdict_on(unfit),
     };
-    block.hold();
+    block.use_invariant();
     let order = numbers_of(alloc, &block)?;
     let trial = Trial {
         world,

@@ -1,7 +1,7 @@
 // What the workers share beside the job.
 
 use ahead::Ahead;
-use brief_lock::acquire;
+use pace::acquire;
 use lanes::Lane;
 use schedule::{Board, EndRefusal};
 use spec_ledger::NoMemory;

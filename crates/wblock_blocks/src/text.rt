@@ -4,7 +4,7 @@ ghost use Rattle.std.specs.Prelude.{◌≡◌, ◌≤◌, IfOk, length, string_b
 ghost use Rattle.wblock_blocks.specs.Texts.{position_lines, left_lines, fuel_line, digest_line, end_lines, block_text};
 
 use block::{Block, Position};
-use calls_text::PositionLine;
+use wblock_calls::PositionLine;
 use std::alloc::{AllocError, Global};
 
 /// A line for each position.
@@ -75,7 +75,7 @@ pub(crate) fn block_text_of(
 ) -> Result<String, AllocError>
     ensures { IfOk result (λ text. string_bytes text ≡ block_text block.now left.now) }
 {
-    block.hold();
+    block.use_invariant();
     let positions = position_lines_of(alloc, block.positions())?;
     let left = left_lines_of(alloc, left)?;
     let end = end_lines_of(alloc, block)?;

@@ -9,7 +9,7 @@ use Rattle.wblock_commands.specs.Stored.{ShowsStored}
 use Rattle.wblock_modules.specs.Assembles.{Assembles}
 use Rattle.wblock_modules.specs.Checks.{Checks}
 use Rattle.wblock_modules.specs.Texts.{WritesText}
-use Rattle.wblock_inputs.specs.Inputs.{IsNextInput}
+use Rattle.wblock_line.specs.Inputs.{IsNextInput}
 use Rattle.wblock_blocks.specs.Mines.{Mines}
 use Rattle.wblock_blocks.specs.Notes.{EndsLine, Notes}
 use Rattle.wblock_blocks.specs.Validates.{Validates, IsNextFile}

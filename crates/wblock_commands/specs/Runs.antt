@@ -7,7 +7,7 @@ use Rattle.spec_ledger.specs.Cells.{Cells}
 use Rattle.spec_execution.specs.Configuration.{Deployed as Contract}
 use Rattle.spec_execution.specs.Run.{ContractCall}
 use Rattle.spec_execution.specs.Serial.{Ran, Serial}
-use Rattle.calls_text.specs.Receipts.{position_text}
+use Rattle.wblock_calls.specs.Receipts.{position_text}
 
 -- the numbers of the calls, the first of them n
 abbrev pub numbers_from : ℕ → List ContractCall → List ℕ

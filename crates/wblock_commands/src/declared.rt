@@ -1,6 +1,6 @@
 //! The options, each declared once: the reader of words and the text of the help both go by this.
 
-use wblock_progress::QUIET_NAME;
+use wblock_line::QUIET_NAME;
 
 /// The value that an option has where it is not given.
 #[derive(Clone, Copy, Debug, PartialEq, Eq)]

@@ -10,7 +10,7 @@ use crate::command::{Command, command_of, told_of};
 use crate::deploy::deploy_apart;
 use crate::usage::{tell_help, tell_version};
 use crate::{show_stored, usage_text};
-use codec::{Sink, put_all};
+use byte_sinks::{Sink, put_all};
 use pace::Pace;
 use std::alloc::{AllocError, Global};
 use std::sync::Wait;

@@ -6,8 +6,8 @@ use Rattle.spec_ledger.specs.declared.Outcome.{Outcome}
 use Rattle.debugger.specs.Sight.{Sight, ending_at, place_at, contract_at, level_at, asks_at}
 use Rattle.debugger.specs.declared.session.Refusal.{Refusal}
 use Rattle.debugger.specs.Commands.{code_of}
-use Rattle.calls_text.specs.Texts.{value_text}
-use Rattle.calls_text.specs.Receipts.{receipt_text}
+use Rattle.wblock_calls.specs.Texts.{value_text}
+use Rattle.wblock_calls.specs.Receipts.{receipt_text}
 
 -- ` in C level L`, where a level is inside the outer one
 abbrev pub level_text : (contract level : ℕ) → List ℕ

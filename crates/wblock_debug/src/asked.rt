@@ -8,7 +8,7 @@ ghost use Rattle.wblock_debug.specs.Asks.{AreBlockWithFuel, AreBlockWithFuelInAn
 ghost use Rattle.wblock_debug.specs.declared.asked.Debugging.{Debugging as TheDebugging};
 
 use crate::{Command, commands_of};
-use calls_text::number_of;
+use wblock_calls::number_of;
 use std::alloc::{AllocError, Global};
 use wblock_line::Line;
 

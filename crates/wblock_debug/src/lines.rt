@@ -3,7 +3,7 @@
 ghost use Rattle.std.specs.Prelude.{◌≡◌, Some, IfOk, string_bytes};
 ghost use Rattle.wblock_debug.specs.Lines.{level_text, state_line, values_text, values_line, bytes_line};
 
-use calls_text::{ReceiptText, ValueText};
+use wblock_calls::{ReceiptText, ValueText};
 use debugger::session::Session;
 use spec_ledger::Receipt;
 use std::alloc::{AllocError, Allocator};

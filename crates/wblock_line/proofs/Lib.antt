@@ -1,3 +1,4 @@
 mod Beginning
 mod Saying
 mod Splitting
+

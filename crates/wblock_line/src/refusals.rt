@@ -11,7 +11,7 @@ use body_typing::rule::Rule;
 use loader::load;
 use module_tree::limit::Limit;
 use module_tree::module::{Export, ExportDesc, Module};
-use rule_sites::{item_text, site_text};
+use typing_errors::{item_text, site_text};
 use std::alloc::{AllocError, Allocator, Global};
 use std::fmt;
 use wblock_words::{

@@ -1,7 +1,7 @@
 //! What an import of a module is.
 
 use module_tree::module::{Import, ImportDesc, Module};
-use rule_sites::function_text;
+use typing_errors::function_text;
 use std::alloc::{AllocError, Allocator, Global};
 
 /// What an import of a module is: its kind and, of a function, its type.

@@ -7,7 +7,7 @@ ghost use Rattle.wblock_show.specs.Draws.{Draws, DrawsFile, HasNoPicture, IsDone
 
 use crate::show::judge_bytes;
 use block::Block;
-use block_picture::draw_block;
+use wblock_picture::draw_block;
 use std::alloc::{AllocError, Global};
 use wblock_contents::{Contents, Kind, show_bytes};
 use wblock_io::Files;

@@ -7,7 +7,7 @@ use crate::files::kind_of;
 use crate::places::told;
 use records::{read_u32, read_u64};
 use std::alloc::{AllocError, Global};
-use world_reader::ReadRefusal;
+use world::ReadRefusal;
 
 /// A field of a world.
 #[derive(Clone, Copy, Debug, PartialEq, Eq)]

@@ -1,2 +1,7 @@
 mod Contracts
 mod Cells
+mod Exact
+mod Judging
+mod Parts
+mod Storing
+mod Worlds

@@ -1,4 +1,4 @@
 use Rattle.in_order.proofs.footprints.follow.Goals as goal
 
-pub enact-requires-clause-leaves : goal.enact-requires-clause-leaves
-enact-requires-clause-leaves g c = c.requires.prepared.footprint.is.cells
+pub write_back-requires-clause-leaves : goal.write_back-requires-clause-leaves
+write_back-requires-clause-leaves g c = c.requires.prepared.read_write_set.is.cells

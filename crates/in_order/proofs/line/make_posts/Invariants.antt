@@ -1,5 +1,5 @@
 use Rattle.std.proofs.Common.{All}
-use Rattle.handover.specs.Passes.{IsPassOf}
+use Rattle.typed_queue.specs.Passes.{IsPassOf}
 use Rattle.in_order.specs.Handed.{IsPostOf}
 use Rattle.in_order.proofs.line.make_posts.Given as goal
 

@@ -4,11 +4,11 @@ use Rattle.std.proofs.lemmas.Int.{to_z-of_z}
 use Rattle.wtypes.specs.declared.Value.TheVariants.{I32}
 use Rattle.spec_ledger.specs.declared.Step.{Step}
 use Rattle.spec_execution.specs.Levels.{asks_in}
-use Rattle.operands.specs.Lent.{contract_of, base_of}
-use Rattle.frames.specs.Steps.{IsCounted, IsOrderedParts}
-use Rattle.frames.specs.Views.{view}
-use Rattle.frames.specs.ViewLaws.{items_nil, last_of, ordered_any}
-use Rattle.frames.specs.Waiting.{tail_of, HasEach, AllCome}
+use Rattle.interp_state.specs.Callee.{contract_of, base_of}
+use Rattle.interp_state.specs.Steps.{IsCounted, IsOrderedParts}
+use Rattle.interp_state.specs.Views.{view}
+use Rattle.interp_state.specs.ViewLaws.{items_nil, last_of, ordered_any}
+use Rattle.interp_state.specs.Waiting.{tail_of, HasEach, AllCome}
 use Rattle.interp.specs.declared.run.Run.{Run}
 use Rattle.interp.specs.declared.turns.Status.TheVariants as status
 use Rattle.interp.specs.Progress.{mark_of, HasLeft}

@@ -1,16 +1,16 @@
 use Rattle.std.proofs.Common.{ap, ◌∙◌, sym, subst, true≢false, length, Ok}
 use Rattle.std.specs.Prelude.{◌==◌}
-use Rattle.operands.specs.declared.plain.After.{After}
-use Rattle.operands.specs.Lent.{base_of}
-use Rattle.frames.specs.Views.{view}
-use Rattle.frames.specs.Waiting.{tail_of}
-use Rattle.execute.specs.Steps.{Led, Wants}
+use Rattle.interp_state.specs.declared.plain.After.{After}
+use Rattle.interp_state.specs.Callee.{base_of}
+use Rattle.interp_state.specs.Views.{view}
+use Rattle.interp_state.specs.Waiting.{tail_of}
+use Rattle.interp_steps.specs.Steps.{Led, Wants}
 use Rattle.interp.specs.Run.{seen, args_of}
 use Rattle.interp.proofs.Copying.{room_kept}
-use Rattle.frames.specs.ViewLaws.{items_nil, ordered_any, last_of}
+use Rattle.interp_state.specs.ViewLaws.{items_nil, ordered_any, last_of}
 use Rattle.interp.proofs.Turning.{live_of, safe_at, machine_stepped, has_stepped, machine_fell, has_fallen}
-use Rattle.sequences.specs.Rest.{Frees_join}
-use Rattle.sequences.specs.Joining.{frees_joined}
+use Rattle.laws_reduction.specs.Rest.{Frees_join}
+use Rattle.laws_reduction.specs.Joining.{frees_joined}
 use Rattle.interp.proofs.Wanting.{may_take}
 use Rattle.interp.proofs.Asking.{calling_of, asked_turn, started_turn}
 use Rattle.interp.proofs.running.make_turn.Goals as goal

@@ -1,16 +1,16 @@
 use Rattle.std.proofs.Common.{◌≡◌, ◌+◌, ◌≤◌, ap, ◌∙◌, sym, subst, true≢false, length, Ok, Fits, w64, arith, rules}
 use Rattle.std.specs.Prelude.{◌==◌}
-use Rattle.operands.specs.declared.plain.After.{After}
-use Rattle.operands.specs.Lent.{base_of}
-use Rattle.frames.specs.Views.{view}
-use Rattle.frames.specs.Waiting.{tail_of}
-use Rattle.execute.specs.Steps.{Led, Wants}
+use Rattle.interp_state.specs.declared.plain.After.{After}
+use Rattle.interp_state.specs.Callee.{base_of}
+use Rattle.interp_state.specs.Views.{view}
+use Rattle.interp_state.specs.Waiting.{tail_of}
+use Rattle.interp_steps.specs.Steps.{Led, Wants}
 use Rattle.interp.specs.declared.turns.Turn.{Turn}
 use Rattle.interp.specs.declared.turns.Turn.TheVariants as turn
 use Rattle.interp.specs.Progress.{NextIs, HasStepped}
 use Rattle.interp.specs.Run.{seen, args_of}
 use Rattle.interp.proofs.Copying.{room_kept}
-use Rattle.frames.specs.ViewLaws.{items_nil, ordered_any, last_of}
+use Rattle.interp_state.specs.ViewLaws.{items_nil, ordered_any, last_of}
 use Rattle.interp.proofs.Turning.{live_of, below, safe_at, machine_fell, has_fallen}
 use Rattle.interp.specs.Machine.{progress}
 use Rattle.interp.specs.Going.{none, one_more}

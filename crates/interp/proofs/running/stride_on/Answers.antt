@@ -1,10 +1,10 @@
 use Rattle.std.proofs.Common.{◌+◌, ◌-◌, ◌≤◌, ap, ◌∙◌, refl, sym, subst, arith, ℕ}
-use Rattle.operands.specs.Lent.{contract_of, base_of}
-use Rattle.sequences.specs.Meaning.{View}
-use Rattle.frames.specs.Views.{view, items_of}
-use Rattle.frames.specs.Waiting.{tail_of}
-use Rattle.frames.specs.ViewLaws.{items_nil, last_of}
-use Rattle.execute.specs.Strides.{IsSafeFor}
+use Rattle.interp_state.specs.Callee.{contract_of, base_of}
+use Rattle.laws_reduction.specs.Meaning.{View}
+use Rattle.interp_state.specs.Views.{view, items_of}
+use Rattle.interp_state.specs.Waiting.{tail_of}
+use Rattle.interp_state.specs.ViewLaws.{items_nil, last_of}
+use Rattle.interp_steps.specs.Strides.{IsSafeFor}
 use Rattle.interp.specs.Machine.{progress}
 use Rattle.interp.specs.Run.{seen, args_of, IsKept}
 use Rattle.interp.specs.Going.{AreSteps, none}

@@ -28,7 +28,7 @@ leave-requires-in-Dropped g c = let l = c.loop-step in may_be_left c.args.cells.
 pub loop-step-init : goal.loop-step-init
 loop-step-init g c =
     same_in_levels c.args.cells.now c.args.cells.now _ [] _ [] _ [] _ (search rules) (search rules) (search rules) (search rules)
-    (none_in_levels c.args.cells.now c.requires.settled c.hold.ensures.cells)
+    (none_in_levels c.args.cells.now c.requires.settled c.use_invariant.ensures.cells)
 
 pub loop-step-preserved : goal.loop-step-preserved
 loop-step-preserved g c =

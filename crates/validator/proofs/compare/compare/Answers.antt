@@ -2,7 +2,7 @@ use Rattle.std.proofs.Common.{ℕ, List, IfNone, IfSome, ap, ◌∙◌, sym}
 use Rattle.spec_execution.specs.Serial.{Ran}
 use Rattle.spec_block.specs.Worlds.{Position}
 use Rattle.spec_block.specs.Verdicts.{IsLeast, IsOther}
-use Rattle.serial_block.specs.Ordered.{used_by}
+use Rattle.serial.specs.Ordered.{used_by}
 use Rattle.validator.proofs.Ends.{shown}
 use Rattle.validator.proofs.compare.compare.Goals as goal
 

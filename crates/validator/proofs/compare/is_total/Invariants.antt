@@ -1,5 +1,5 @@
 use Rattle.std.proofs.Common.{◌≡◌, ◌+◌, take}
-use Rattle.serial_block.specs.Ordered.{used_by}
+use Rattle.serial.specs.Ordered.{used_by}
 use Rattle.validator.proofs.compare.is_total.Given as goal
 
 abbrev pub invariant-loop-receipt : goal.invariant-loop-receipt

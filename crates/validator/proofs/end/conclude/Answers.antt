@@ -1,7 +1,7 @@
 use Rattle.std.proofs.Common.{ℕ, IfNone, IfSome, inl, inr, ap, sym, ◌∙◌, subst}
 use Rattle.sha2.specs.Sha256.{sha256}
 use Rattle.serial.specs.Positions.{positions as ran_of}
-use Rattle.serial_block.proofs.Limits.{fuel_is}
+use Rattle.serial.proofs.BlocksLimits.{fuel_is}
 use Rattle.spec_block.specs.Worlds.{World}
 use Rattle.spec_block.specs.Bytes.{world_bytes}
 use Rattle.spec_block.specs.Verdicts.{IsLeast, IsOther}

@@ -2,7 +2,7 @@ use Rattle.std.proofs.Common.{◌≡◌, IsTrue, Some, inl, inr, subst}
 use Rattle.std.proofs.lemmas.Result.{err_from_is_err_and}
 use Rattle.spec_block.specs.Verdicts.{IsVerdictOf}
 use Rattle.validator.specs.Judged.{told_by}
-use Rattle.wblock_inputs.specs.Inputs.{HoldsWorld, HoldsCalls, Gives, IsNextInput}
+use Rattle.wblock_line.specs.Inputs.{HoldsWorld, HoldsCalls, Gives, IsNextInput}
 use Rattle.wblock_blocks.specs.Validates.{IsNextFile}
 use Rattle.wblock_line.specs.FaultLaws.{of_file_weaker}
 use Rattle.world.specs.Views.{world_view}

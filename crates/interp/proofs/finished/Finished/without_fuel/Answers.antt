@@ -2,7 +2,7 @@ use Rattle.std.proofs.Common.{◌≡◌, ◌∙◌, List, true≢false, sym, ap,
 use Rattle.spec_ledger.specs.declared.Step.{Step}
 use Rattle.spec_ledger.specs.declared.Outcome.TheVariants.{OutOfFuel}
 use Rattle.spec_execution.specs.Levels.{RunsWith}
-use Rattle.interp.specs.Lent.{setting_view}
+use Rattle.interp.specs.Callee.{setting_view}
 use Rattle.interp.specs.Played.{Played}
 use Rattle.interp.specs.Starting.{HasCode}
 use Rattle.interp.proofs.Beginning.{safe_of, all_linked}

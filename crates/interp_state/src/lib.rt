@@ -1,0 +1,17 @@
+// The parts of a machine: the code that is left, with the blocks, loops and calls round it, and how these are opened and left.
+#![tactic(auto)]
+
+pub mod blocks;
+pub mod branches;
+pub mod calls;
+pub mod copies;
+pub mod elements;
+pub mod held;
+pub mod lent;
+pub mod memories;
+pub mod parts;
+pub mod places;
+pub mod plain;
+pub mod values;
+pub mod waiting;
+
