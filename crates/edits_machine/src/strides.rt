@@ -7,7 +7,7 @@ ghost use Rattle.interp_state.specs.Views.{view};
 ghost use Rattle.interp_steps.specs.Strides.{Walks, IsSafeFor, PushesNext};
 
 use interp_state::parts::Parts;
-use interp_state::lent::Callee;
+use interp_state::callee::Callee;
 use std::alloc::Allocator;
 
 /// As [`interp_steps::strides::stride`].

@@ -19,7 +19,7 @@ use interp_state::parts::Parts;
 use interp_state::waiting::{prepare, settle_all};
 use instance::{Instance, asked_entry, open_instance};
 use link::deployed::Deployed;
-use interp_state::lent::Callee;
+use interp_state::callee::Callee;
 use spec_ledger::{NoMemory, Step, Version};
 use std::alloc::{AllocError, Allocator};
 use std::mem;

@@ -22,7 +22,7 @@ use call::Call;
 use interp_state::waiting::prepare;
 use instance::open_instance;
 use link::deployed::Deployed;
-use interp_state::lent::Callee;
+use interp_state::callee::Callee;
 use laws_soundness::deployed_calls_are_safe;
 use spec_ledger::{NoMemory, Outcome, Reply, Version};
 use std::alloc::Allocator;

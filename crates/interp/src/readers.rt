@@ -13,7 +13,7 @@ use interp_state::copies::{copy_parts, copy_waiting};
 use interp_state::places::{height_of_call, place_in_code};
 use instance::Instance;
 use module_tree::module::Module;
-use interp_state::lent::Callee;
+use interp_state::callee::Callee;
 use spec_ledger::{NoMemory, Outcome, Step};
 use std::alloc::Allocator;
 use thiserror::Error;

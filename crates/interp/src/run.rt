@@ -5,7 +5,7 @@ use call::Call;
 use interp_state::parts::Parts;
 use interp_state::waiting::Waiting;
 use link::deployed::Deployed;
-use interp_state::lent::Callee;
+use interp_state::callee::Callee;
 use spec_ledger::{Step, Version};
 use std::alloc::Allocator;
 

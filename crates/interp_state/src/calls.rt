@@ -5,7 +5,7 @@ ghost use Rattle.interp_state.specs.Steps.{IsOrderedParts, IsCounted};
 ghost use Rattle.interp_state.specs.Calls.{CanEnter, Enters};
 
 use crate::parts::{Entry, Kind, Parts};
-use crate::lent::Callee;
+use crate::callee::Callee;
 use std::alloc::{AllocError, Allocator};
 use std::mem;
 use wtypes::{ValType, Value};

@@ -7,7 +7,7 @@ pub mod calls;
 pub mod copies;
 pub mod elements;
 pub mod held;
-pub mod lent;
+pub mod callee;
 pub mod memories;
 pub mod parts;
 pub mod places;

@@ -9,7 +9,7 @@ use crate::blocks::settle;
 use crate::calls::new_locals;
 use crate::parts::{Entry, Kind, Parts};
 use module_tree::instr::Instr;
-use crate::lent::Callee;
+use crate::callee::Callee;
 use std::alloc::{AllocError, Allocator};
 use std::mem;
 use wtypes::Value;

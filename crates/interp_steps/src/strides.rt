@@ -14,7 +14,7 @@ use interp_state::branches::{branch, repeat};
 use interp_state::parts::{Kind, Parts};
 use module_tree::instr::Instr;
 use interp_state::held::{changed, joined, pushed, takes_two, write_local};
-use interp_state::lent::Callee;
+use interp_state::callee::Callee;
 use interp_state::memories::{loaded, stored};
 use interp_state::values::{bits, pop_top, put_back, top};
 use std::alloc::Allocator;
