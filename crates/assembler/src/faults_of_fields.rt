@@ -4,13 +4,13 @@ ghost use Rattle.assembler.specs.OfFields.{IsOfFields};
 use crate::bodies::{Known, body_faults, use_faults};
 use crate::faults::Faults;
 use crate::names::space_of;
+use lexer::Piece;
 use module_tree::limit::{FUNCTION_LIMIT, LOCAL_LIMIT};
 use std::alloc::Allocator;
 use text_body::{Flat, Index};
 use text_fields::types_of_text;
 use text_resolve::{AsmRefusal, Limit, Space, Spaces, index_in, number};
 use text_tree::{Bounds, Desc, ElemField, ExportField, Field, FuncField, ImportField, Kind, Text};
-use lexer::Piece;
 use wtypes::NoMemory;
 
 // The names of one sort, first to last.

@@ -2,11 +2,11 @@
 
 use crate::faults::Faults;
 use crate::names::{Counts, count_of};
+use lexer::Piece;
 use std::alloc::Allocator;
 use std::collections::HashMap;
 use text_body::Index;
 use text_resolve::{Unresolved, number};
-use lexer::Piece;
 use wtypes::NoMemory;
 
 /// The labels of the blocks that are open, the innermost last, and how many there are of each name.

@@ -1,11 +1,11 @@
 //! Index spaces in which a name may stand twice.
 
 use crate::faults::Faults;
+use lexer::Piece;
 use std::alloc::Allocator;
 use std::collections::HashMap;
 use std::hash::{BuildHasherDefault, FoldHasher};
 use text_resolve::{Space, Unresolved};
-use lexer::Piece;
 use wtypes::NoMemory;
 
 /// How often each name stands somewhere.

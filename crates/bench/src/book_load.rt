@@ -4,7 +4,7 @@ ghost use Rattle.std.specs.Prelude.{◌≡◌, ◌<◌, IfOk, [], replicate};
 use boost::book::Book;
 use rand::RngExt;
 use rand_pcg::Pcg32;
-use spec_ledger::{Kind, Lock, Op, CellKey};
+use spec_ledger::{CellKey, Kind, Lock, Op};
 use std::alloc::Global;
 use storage::{Cells, NoMemory};
 

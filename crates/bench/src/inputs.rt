@@ -4,9 +4,9 @@ ghost use Rattle.std.specs.Prelude.{◌≤◌, vec_len};
 use crate::files::read_file;
 use crate::refusals::refused;
 use call::Call;
-use wblock_calls::read_calls;
 use std::alloc::Global;
 use std::io;
+use wblock_calls::read_calls;
 use world::{World, read_world};
 
 /// A world, and calls over it.

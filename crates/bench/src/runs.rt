@@ -1,11 +1,11 @@
 //! Runs of the machine to their end.
 ghost use Rattle.std.specs.Prelude.{◌≡◌, IfSome};
-ghost use Rattle.interp.specs.Progress.{IsFree};
+ghost use Rattle.interp_run.specs.Progress.{IsFree};
 
 use interp::finished::Finished;
 use interp::machine::Machine;
-use std::alloc::Allocator;
 use serial::next_request;
+use std::alloc::Allocator;
 
 /// Makes the turns of a run up to its end, as who executes calls does. `None` where the run asked for something, or where memory was refused.
 pub fn run_to_end<'a, A: Allocator + Copy>(mut machine: Machine<'a, A>) -> Option<Finished<'a, A>>

@@ -7,8 +7,8 @@ ghost use Rattle.spec_block.specs.Bytes.{counted, value_bytes, call_bytes, calls
 
 use crate::refusal::WriteRefusal;
 use crate::write::put_made;
-use call::Call;
 use byte_sinks::Sink;
+use call::Call;
 use records::{append_u32, append_u64, append_value};
 use sha2::{Digest, Sha256};
 use std::alloc::{AllocError, Allocator};

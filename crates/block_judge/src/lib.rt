@@ -20,8 +20,6 @@ ghost use Rattle.spec_block.specs.Verdicts.{HoldsOf, IsVerdictOf};
 ghost use Rattle.world.specs.Views.{world_view};
 ghost use Rattle.block_judge.specs.Judging.{IfRejected, IsFirstFrom, NoneFrom, Passes};
 
-use block::{Block, BlockRefusal, read_block};
-use call::Call;
 pub use crate::digests::judge_digests;
 pub use crate::laws::first_is_verdict;
 pub use crate::order::{judge_order, numbers_of};
@@ -29,6 +27,8 @@ pub use crate::prefix::{Met, met_by};
 pub use crate::prefix_laws::tells_of_the_run;
 pub use crate::reason::{Reason, Unfit};
 pub use crate::turns::judge_turns;
+use block::{Block, BlockRefusal, read_block};
+use call::Call;
 use std::alloc::{Allocator, Global};
 use world::World;
 

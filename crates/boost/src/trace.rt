@@ -1,7 +1,7 @@
 // Whether two traces are the same.
 ghost use Rattle.std.specs.Prelude.{◌≡◌, IsTrue, ◌↔◌};
 
-use spec_ledger::{Op, CellKey, Reply, Step};
+use spec_ledger::{CellKey, Op, Reply, Step};
 
 fn same_place(a: &CellKey, b: &CellKey) -> bool
     ensures { IsTrue result ↔ (a.now ≡ b.now) }

@@ -14,4 +14,3 @@ pub mod strides;
 pub mod texts;
 pub mod tokens;
 pub mod types;
-

@@ -6,8 +6,8 @@ ghost use Rattle.interp_state.specs.Steps.{IsOrderedParts, IsCounted};
 ghost use Rattle.interp_state.specs.Views.{view};
 ghost use Rattle.interp_steps.specs.Strides.{Walks, IsSafeFor, PushesNext};
 
+use interp_state::callee::Callee;
 use interp_state::parts::Parts;
-use interp_state::lent::Callee;
 use std::alloc::Allocator;
 
 /// As [`interp_steps::strides::stride`].

@@ -3,8 +3,8 @@
 ghost use Rattle.std.specs.Prelude.{◌≡◌, ◌<◌, IfErr, IfOk, IfSome};
 ghost use Rattle.typed_queue.specs.Passes.{IsPassOf};
 
-use typed_queue::{ItemFact, TypedQueue, QueuePass};
 use std::alloc::Allocator;
+use typed_queue::{ItemFact, QueuePass, TypedQueue};
 use wtypes::NoMemory;
 
 /// That a number lies below the bound.

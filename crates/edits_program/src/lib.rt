@@ -26,4 +26,3 @@ pub mod untold;
 pub mod values;
 pub mod verdicts;
 pub mod worlds_read;
-

@@ -5,15 +5,15 @@ ghost use Rattle.std.specs.FinMap as finite;
 ghost use Rattle.spec_execution.specs.Exec.{Executes};
 ghost use Rattle.spec_execution.specs.Run.{ContractCall};
 ghost use Rattle.spec_execution.specs.ReadWriteSets.{Agrees};
-ghost use Rattle.interp.specs.Callee.{setting_view};
+ghost use Rattle.interp_run.specs.Callee.{setting_view};
 ghost use Rattle.in_order.specs.Shares.{IsPrepared, IsShareOf, footprint_of};
 
 use crate::Task;
-use speculation::{Reads, write_back, run_over};
 use link::deployed::Deployed as Contract;
 use serial::Executed;
 use spec_execution::Access;
 use spec_ledger::NoMemory;
+use speculation::{Reads, run_over, write_back};
 use std::alloc::Allocator;
 use storage::Cells;
 

@@ -8,11 +8,11 @@ ghost use Rattle.in_order.specs.Shares.{IsShareOf};
 use crate::footprints::Share;
 use crate::post::Post;
 use crate::{InOrder, Task};
-use typed_queue::{ItemFact, TypedQueue, QueuePass};
 use pace::Pace;
 use spec_ledger::NoMemory;
 use std::alloc::Allocator;
 use std::hint::spin_loop;
+use typed_queue::{ItemFact, QueuePass, TypedQueue};
 
 /// How often a thread tries to hand a batch over while another is in the way.
 const TRIES: u32 = 10_000;

@@ -1,14 +1,7 @@
-// A machine that runs calls of contracts.
+//! A machine that runs calls of contracts.
 #![tactic(auto)]
 
 pub mod finished;
-mod functions;
-mod imports;
-mod levels;
 pub mod machine;
 pub mod readers;
-mod replies;
-mod run;
-mod running;
 pub mod start;
-pub mod turns;

@@ -7,8 +7,8 @@ ghost use Rattle.interp_state.specs.Steps.{AreNumbered, HasOpened, IsOrderedPart
 
 use crate::calls::keep_room;
 use crate::parts::{Entry, Kind, Parts};
-use module_tree::instr::Instr;
 use crate::plain::After;
+use module_tree::instr::Instr;
 use std::alloc::{AllocError, Allocator};
 use std::mem;
 

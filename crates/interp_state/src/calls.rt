@@ -4,8 +4,8 @@ ghost use Rattle.spec_execution.specs.Reduction.{zero_of};
 ghost use Rattle.interp_state.specs.Steps.{IsOrderedParts, IsCounted};
 ghost use Rattle.interp_state.specs.Calls.{CanEnter, Enters};
 
+use crate::callee::Callee;
 use crate::parts::{Entry, Kind, Parts};
-use crate::lent::Callee;
 use std::alloc::{AllocError, Allocator};
 use std::mem;
 use wtypes::{ValType, Value};

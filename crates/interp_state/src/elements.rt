@@ -8,7 +8,7 @@ ghost use Rattle.spec_execution.specs.Reduction.{same_function_type};
 ghost use Rattle.interp_state.specs.Callee.{contract_of};
 ghost use Rattle.interp_state.specs.Elements.{element_called};
 
-use crate::lent::Callee;
+use crate::callee::Callee;
 use std::alloc::Allocator;
 use wtypes::{FuncType, HostCall, TrapCode, ValType};
 

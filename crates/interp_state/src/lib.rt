@@ -3,15 +3,14 @@
 
 pub mod blocks;
 pub mod branches;
+pub mod callee;
 pub mod calls;
 pub mod copies;
 pub mod elements;
 pub mod held;
-pub mod lent;
 pub mod memories;
 pub mod parts;
 pub mod places;
 pub mod plain;
 pub mod values;
 pub mod waiting;
-

@@ -6,10 +6,10 @@ ghost use Rattle.interp_state.specs.Steps.{IsOrderedParts, IsCounted, IsReadyPar
 ghost use Rattle.interp_state.specs.Waiting.{IsEntry, IsPrepared, HasPlace, HasEach, AllCome, HasBeenEntered};
 
 use crate::blocks::settle;
+use crate::callee::Callee;
 use crate::calls::new_locals;
 use crate::parts::{Entry, Kind, Parts};
 use module_tree::instr::Instr;
-use crate::lent::Callee;
 use std::alloc::{AllocError, Allocator};
 use std::mem;
 use wtypes::Value;

@@ -11,13 +11,13 @@ ghost use Rattle.interp_state.specs.Views.{items_of};
 
 use interp_state::blocks::open;
 use interp_state::branches::{branch, leave_call};
-use interp_state::parts::{Kind, Parts};
-use module_tree::instr::Instr;
+use interp_state::callee::Callee;
 use interp_state::elements::function_of_element;
-use interp_state::lent::Callee;
 use interp_state::memories::{execute_grow, execute_load, execute_store, memory_size};
+use interp_state::parts::{Kind, Parts};
 use interp_state::plain::{After, execute_plain};
 use interp_state::values::{bits, pop_top, push};
+use module_tree::instr::Instr;
 use std::alloc::{AllocError, Allocator};
 use wtypes::{PlainInstr, ValType, Value};
 

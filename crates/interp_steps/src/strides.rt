@@ -11,12 +11,12 @@ ghost use Rattle.interp_steps.specs.Strides.{Walks, IsSafeFor, Branched, IsFirst
 use crate::steps::{arity, first};
 use interp_state::blocks::{open_in_room, settle};
 use interp_state::branches::{branch, repeat};
-use interp_state::parts::{Kind, Parts};
-use module_tree::instr::Instr;
+use interp_state::callee::Callee;
 use interp_state::held::{changed, joined, pushed, takes_two, write_local};
-use interp_state::lent::Callee;
 use interp_state::memories::{loaded, stored};
+use interp_state::parts::{Kind, Parts};
 use interp_state::values::{bits, pop_top, put_back, top};
+use module_tree::instr::Instr;
 use std::alloc::Allocator;
 use wtypes::{PlainInstr, Value};
 

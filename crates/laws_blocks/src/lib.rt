@@ -18,8 +18,13 @@ ghost use Rattle.figures.specs.declared.figures.Chains.{Chains};
 ghost use Rattle.figures.specs.declared.figures.Figures.{Figures};
 ghost use Rattle.laws_blocks.specs.Timetables.{CanEnd, IsTimetable, adds_then_reads, at_once, one_by_one};
 
-pub use crate::calls::{a_call_that_adds, a_call_that_asks, a_call_that_is_refused, a_call_that_keeps, a_call_that_traps, a_text_that_names_nothing, calls_one_after_another, states_of_calls};
-pub use crate::worked::{a_reader_behind_an_adder, a_shared_counter, calls_of_a_block, outcomes_counted};
+pub use crate::calls::{
+    a_call_that_adds, a_call_that_asks, a_call_that_is_refused, a_call_that_keeps,
+    a_call_that_traps, a_text_that_names_nothing, calls_one_after_another, states_of_calls,
+};
+pub use crate::worked::{
+    a_reader_behind_an_adder, a_shared_counter, calls_of_a_block, outcomes_counted,
+};
 
 /// A world, calls and an order have one block of a version, and one world after it: whoever mined it, and in whatever schedule.
 pub fn one_block()

@@ -13,7 +13,7 @@ ghost use Rattle.spec_ledger.specs.Book.{GetsReplies, IsDefined, settled};
 ghost use Rattle.spec_ledger.specs.Order.{IsAdmissible};
 ghost use Rattle.spec_execution.specs.Serial.{Serial};
 ghost use Rattle.spec_ledger.specs.declared.Version.TheVariants.{Two};
-ghost use Rattle.interp.specs.Callee.{setting_view};
+ghost use Rattle.interp_run.specs.Callee.{setting_view};
 ghost use Rattle.serial.specs.Positions.{positions};
 ghost use Rattle.publish.specs.Publication.{IsSerialOrder, MayFollow, HasTaken, IsSameJob, HasGoneOn, Sweep, AreLeft, limits, fuel_used};
 ghost use Rattle.speculation.specs.Calls.{IsFootprintOf};
@@ -26,13 +26,13 @@ pub use crate::laws::one_sweep;
 use crate::so_far::{SoFar, unmarked};
 use boost::book::Closed;
 use call::Call;
-use speculation::write_back;
 use interp::finished::Finished;
 use link::deployed::Deployed as Contract;
 use lock_profile::Touched;
 use serial::{Executed, execute, replay};
 use spec_execution::Access;
 use spec_ledger::{NoMemory, Receipt, Version};
+use speculation::write_back;
 use std::alloc::{Allocator, Global};
 use std::marker::Model;
 use storage::Cells;
@@ -52,7 +52,7 @@ pub struct Publishing<'a, A: Allocator + Copy> {
 
 impl<'a, A: Allocator + Copy> Model for Publishing<'a, A> {
     ghost use Rattle.spec_ledger.specs.declared.Version.TheVariants.{Two};
-    ghost use Rattle.interp.specs.Callee.{setting_view};
+    ghost use Rattle.interp_run.specs.Callee.{setting_view};
     ghost use Rattle.serial.specs.Positions.{positions};
     ghost use Rattle.publish.specs.Publication.{Publication, coded_publication, IsKept};
 

@@ -2,18 +2,18 @@
 
 ghost use Rattle.std.specs.Prelude.{◌≡◌, ◌<◌, ◌^◌, IfSome, Some, length, slice_get};
 ghost use Rattle.spec_ledger.specs.declared.Version.TheVariants.{Two};
-ghost use Rattle.interp.specs.Callee.{setting_view};
+ghost use Rattle.interp_run.specs.Callee.{setting_view};
 ghost use Rattle.publish.specs.Adoption.{AreMade, IsMade};
 
 use crate::publishing::put_published;
 use boost::book::{Book, Run};
 use call::Call;
-use rows_files::Refused;
-use rows_files::scene::{Made, Scene, scene_of};
 use interp::finished::Finished;
 use link::deployed::Deployed;
 use lock_profile::Touched;
 use publish::{CallRun, Published, Publishing};
+use rows_files::Refused;
+use rows_files::scene::{Made, Scene, scene_of};
 use serial::{run_alone, touched_by};
 use spec_ledger::{Step, Version};
 use std::alloc::Global;

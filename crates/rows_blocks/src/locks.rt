@@ -2,11 +2,11 @@
 
 ghost use Rattle.std.specs.Prelude.{IfOk, length, ◌<◌, ◌^◌};
 
+use lock_profile::{Profile, Touched, turns};
 use rows_books::words::{cut, text_of};
 use rows_files::Refused;
 use rows_files::put::put_entries;
 use rows_files::words::{entry_of, held_of};
-use lock_profile::{Profile, Touched, turns};
 use schedule::{Graph, turns_agree, waves_of};
 use std::alloc::Global;
 

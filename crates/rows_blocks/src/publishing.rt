@@ -2,15 +2,15 @@
 
 ghost use Rattle.std.specs.Prelude.{◌≡◌, ◌<◌, ◌^◌, length};
 ghost use Rattle.spec_ledger.specs.declared.Version.TheVariants.{Two};
-ghost use Rattle.interp.specs.Callee.{setting_view};
+ghost use Rattle.interp_run.specs.Callee.{setting_view};
 ghost use Rattle.publish.specs.Publication.{IsSameJob};
 
 use crate::runs::put_core;
 use call::Call;
-use rows_files::Refused;
-use rows_files::scene::{Act, Scene, scene_of};
 use link::deployed::Deployed;
 use publish::{Published, Publishing};
+use rows_files::Refused;
+use rows_files::scene::{Act, Scene, scene_of};
 use serial::run_alone;
 use spec_ledger::Version;
 use std::alloc::Global;

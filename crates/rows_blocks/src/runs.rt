@@ -6,14 +6,14 @@ ghost use Rattle.spec_block.specs.Worlds.{limits};
 ghost use Rattle.std.specs.FinMap as finite;
 
 use block::Block;
-use rows_books::words::{cut, long, place_of, text_of};
 use call::Call;
+use interp::finished::Finished;
+use lock_profile::Touched;
+use rows_books::words::{cut, long, place_of, text_of};
 use rows_files::Refused;
 use rows_files::files::put_block_bytes;
 use rows_files::put::{put_cells, put_locks, put_receipt};
 use rows_files::scene::{Scene, scene_of, world_of};
-use interp::finished::Finished;
-use lock_profile::Touched;
 use serial::{execute, replay, run_alone, run_as, serial_core, touched_by};
 use spec_ledger::{Op, Receipt, Reply, Step, Version};
 use std::alloc::{AllocError, Global};

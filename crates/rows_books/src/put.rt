@@ -3,7 +3,7 @@
 use crate::refused::Refused;
 use boost::attempt::Entry;
 use boost::book::Closed;
-use spec_ledger::{Lock, Op, CellKey, Reply, Step};
+use spec_ledger::{CellKey, Lock, Op, Reply, Step};
 use std::alloc::AllocError;
 use storage::Cells;
 

@@ -1,7 +1,7 @@
 //! Words of lines.
 
 use crate::refused::Refused;
-use spec_ledger::{Kind, Lock, Mode, Op, Outcome, CellKey, Reply, Step};
+use spec_ledger::{CellKey, Kind, Lock, Mode, Op, Outcome, Reply, Step};
 use std::alloc::Global;
 use std::str::from_utf8;
 use wtypes::TrapCode;

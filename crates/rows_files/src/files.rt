@@ -5,14 +5,14 @@ use crate::refused::Refused;
 use crate::scene::{Scene, scene_of, world_of};
 use crate::words::{first_line, version_of};
 use block::{Block, Position, WriteRefusal, digest_calls, read_block, write_block, write_calls};
-use rows_books::words::{cut, long, short, text_of};
-use wblock_calls::read_calls;
 use byte_sinks::{Failures, MemorySink};
 use hex::encode;
 use lock_profile::Profile;
+use rows_books::words::{cut, long, short, text_of};
 use sha2::{Digest, Sha256};
 use spec_ledger::{Outcome, Receipt, Version};
 use std::alloc::Global;
+use wblock_calls::read_calls;
 use world::{digest_world, encode_world, read_cells, read_world, write_world};
 use wtypes::TrapCode;
 

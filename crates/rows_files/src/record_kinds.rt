@@ -3,16 +3,16 @@
 use crate::put::{put_entries, put_entry, put_hex, put_position, put_receipt, put_written};
 use crate::refused::Refused;
 use crate::words::{entry_of, first_line, version_of};
-use rows_books::words::{cut, long, short, text_of};
-use wblock_calls::{PositionLine, ReceiptText, ValueText};
 use lock_profile::Profile;
 use records::{
     Position, append_entry, append_position, append_profile, append_receipt, append_u32,
     append_u64, append_value, read_byte, read_entry, read_front, read_position, read_profile,
     read_receipt, read_tag, read_u32, read_u64, read_value,
 };
+use rows_books::words::{cut, long, short, text_of};
 use spec_ledger::{Outcome, Receipt};
 use std::alloc::Global;
+use wblock_calls::{PositionLine, ReceiptText, ValueText};
 
 /// A number and what stands behind it.
 fn number_text(alloc: Global, number: u64, rest: &[u8]) -> Result<String, Refused> {

@@ -2,9 +2,9 @@
 
 use block::BlockRefusal;
 use block_judge::{Reason, Unfit};
-use wblock_calls::CallsRefusal;
 use records::Fault;
 use std::alloc::{AllocError, AllocFailed};
+use wblock_calls::CallsRefusal;
 use world::ReadRefusal;
 use wtypes::NoMemory;
 

@@ -2,15 +2,15 @@
 
 use crate::refused::Refused;
 use crate::words::version_of;
-use rows_books::words::{cut, lock_of, long, short, text_of};
 use call::Call;
-use wblock_calls::read_calls;
 use hex::decode;
 use link::deployed::Deployed;
-use test_support::{ASKING, EXAMPLE, FIRST_MODULE, PROBING, deployed};
+use rows_books::words::{cut, lock_of, long, short, text_of};
 use spec_ledger::{Kind, Version};
 use std::alloc::Global;
 use storage::Cells;
+use test_support::{ASKING, EXAMPLE, FIRST_MODULE, PROBING, deployed};
+use wblock_calls::read_calls;
 use world::World;
 
 /// What is done to an order that is being published.

@@ -1,8 +1,8 @@
 //! Words of lines.
 
 use crate::refused::Refused;
-use rows_books::words::{cut, lock_of, mode_of, short, text_of};
 use lock_profile::Held;
+use rows_books::words::{cut, lock_of, mode_of, short, text_of};
 use spec_ledger::{Entry, Version};
 
 /// The first line of bytes, and what stands behind it.

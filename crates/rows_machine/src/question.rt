@@ -3,10 +3,10 @@
 use crate::refused::Refused;
 use call::Call;
 use link::deployed::Deployed;
-use test_support::deployed;
 use spec_ledger::Version;
 use std::alloc::Global;
 use std::str::from_utf8;
+use test_support::deployed;
 use wtypes::Value;
 
 /// What a module begins with.

@@ -1,12 +1,12 @@
 //! What bytes spell.
 
 use crate::modules_of_refused::Refused;
+use crate::put_instrs;
 use encoder::encode;
 use expr_reader::read_expr;
 use loader::load;
 use module_text::text_of;
 use std::alloc::Global;
-use crate::put_instrs;
 
 /// How many functions the module of these bytes has, or why they spell none.
 pub(crate) fn loaded(alloc: Global, bytes: &[u8]) -> Result<String, Refused> {

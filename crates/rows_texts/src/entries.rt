@@ -1,12 +1,12 @@
 //! Which function a call starts with.
 
-use crate::numbers::first_line;
 use crate::modules_of_refused::Refused;
+use crate::numbers::first_line;
 use call::Call;
 use instance::{asked_entry, entry_of};
-use test_support::{EXAMPLE, FIRST_MODULE, deployed};
 use std::alloc::Global;
 use std::str::from_utf8;
+use test_support::{EXAMPLE, FIRST_MODULE, deployed};
 use wtypes::Value;
 
 /// The value of a word.

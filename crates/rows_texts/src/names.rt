@@ -1,12 +1,12 @@
 //! Names, and what they stand for in spaces and among labels.
 
 use crate::refused::Refused;
+use lexer::Piece;
 use std::alloc::{AllocError, Global};
 use text_body::Index;
 use text_fields::{spaces_of_text, types_of_text};
 use text_resolve::{Finds, Labels, Space, Spaces, index_in, number};
 use text_tree::{Text, parse};
-use lexer::Piece;
 
 /// The fields of a text.
 pub(crate) fn tree_of<'t>(alloc: Global, text: &'t str) -> Result<Text<'t, Global>, Refused> {

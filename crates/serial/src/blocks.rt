@@ -11,15 +11,15 @@ ghost use Rattle.serial.specs.Positions.{positions as ran_of};
 ghost use Rattle.world.specs.Views.{world_view};
 ghost use Rattle.serial.specs.Ordered.{ArePossible, IsOutcomeOf, used_by};
 
+use crate::contracts::copied;
 use crate::positions::{fuel_of, positions_of};
+use crate::{Core, serial_core};
 use block::{Block, digest_calls};
 use call::Call;
-use crate::{Core, serial_core};
 use spec_ledger::Version;
 use std::alloc::Allocator;
 use world::{World, digest_world};
 use wtypes::NoMemory;
-use crate::contracts::copied;
 
 /// The block of this version of calls that ran in this order in a world and came to `core`, and the world after them: the
 /// same contracts with the cells that the calls left. The block has SHA-256 of the world before, of the calls and of the world after; for

@@ -3,13 +3,14 @@ ghost use Rattle.std.specs.Prelude.{◌≡◌, [], Ok, true, false, IfOk, OnOk, 
 ghost use Rattle.std.specs.FinMap as finite;
 ghost use Rattle.spec_execution.specs.Run.{opening};
 ghost use Rattle.storage.specs.Counts.{Store};
-ghost use Rattle.interp.specs.Callee.{setting_view};
+ghost use Rattle.interp_run.specs.Callee.{setting_view};
 ghost use Rattle.interp.specs.Starting.{IsOpened, IsRejection};
-ghost use Rattle.interp.specs.Progress.{IsFree, IsSameCall};
+ghost use Rattle.interp_run.specs.Progress.{IsFree, IsSameCall};
 ghost use Rattle.serial.specs.Going.{MayGoOn, IsEnded};
 ghost use Rattle.serial.specs.Playing.{IsOnItsWay, IsPlayedOver, AreDone, AreSomeDone, MayBeLeft};
 
 use crate::steps::{act, leave};
+use crate::{HostRequest, next_request};
 use call::Call;
 use interp::finished::Finished;
 use interp::machine::Machine;
@@ -18,7 +19,6 @@ use link::deployed::Deployed as Contract;
 use spec_ledger::{Inverse, NoMemory, Version};
 use std::alloc::Allocator;
 use storage::{Cells, end_all};
-use crate::{HostRequest, next_request};
 
 /// Goes on to the next operation, or to the next level that is entered or left, and does it. Answers whether there was one. How many inverses there were
 /// where each open level was entered is noted by the marks, the innermost last.

@@ -10,8 +10,8 @@ mod journal;
 mod parts;
 mod shard;
 
+pub use crate::journal::{CallState, Journal};
 pub use closing::{CloseRefusal, close};
-pub use crate::journal::{Journal, CallState};
 pub use homes::{home, is_part};
 pub use parts::Part;
 pub use shard::{EndRefusal, Shard};

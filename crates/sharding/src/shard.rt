@@ -10,10 +10,10 @@ ghost use Rattle.spec_ledger.specs.Shards.{part, shard_of};
 ghost use Rattle.sharding.specs.Shard.{HasToWait, IsNext, IsOver, IsReady, IsShard};
 
 use crate::first::first_op;
+use crate::{Part, is_part};
 use boost::book::{
     BeginAsRefusal, Book, CommitRefusal, EnterRefusal, LeaveRefusal, OpRefusal, Ticket,
 };
-use crate::{Part, is_part};
 use spec_ledger::{Op, Outcome, Reply, Step};
 use std::alloc::{Allocator, Global};
 use std::marker::Model;

@@ -13,7 +13,7 @@ ghost use Rattle.spec_execution.specs.Run.{ContractCall};
 ghost use Rattle.spec_execution.specs.Exec.{Executes};
 ghost use Rattle.spec_execution.specs.ReadWriteSets.{Agrees, IsReadWriteSet, access_at, all_left};
 
-use spec_ledger::{Lock, CellKey};
+use spec_ledger::{CellKey, Lock};
 
 /// What a call did with the cell at one lock that it asked for.
 #[derive(Clone, Copy, Debug, PartialEq, Eq)]

@@ -3,24 +3,24 @@
 //! runs calls speculatively).
 #![tactic(auto)]
 
-mod read_write_set;
 mod listing;
 mod playing;
+mod read_write_set;
 mod touches;
 
 ghost use Rattle.std.specs.Prelude.{◌≡◌, ◌++◌, ℕ, All, IfOk, OnOk, Option};
 ghost use Rattle.std.specs.FinMap.{get};
 ghost use Rattle.spec_ledger.specs.declared.Lock.{Lock};
 ghost use Rattle.spec_execution.specs.ReadWriteSets.{IsReadWriteSet};
-ghost use Rattle.interp.specs.Callee.{setting_view};
+ghost use Rattle.interp_run.specs.Callee.{setting_view};
 ghost use Rattle.speculation.specs.Behind.{behind};
 ghost use Rattle.speculation.specs.Found.{IsFoundBy};
 ghost use Rattle.speculation.specs.Touches.{AreAccessesAt, IsCellAt};
 
-use call::Call;
-pub use crate::read_write_set::write_back;
 use crate::listing::list;
 use crate::playing::play;
+pub use crate::read_write_set::write_back;
+use call::Call;
 use link::deployed::Deployed as Contract;
 use serial::Executed;
 use spec_execution::{Access, an_execution_has_a_read_write_set};

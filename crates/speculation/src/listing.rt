@@ -8,7 +8,7 @@ ghost use Rattle.speculation.specs.Touches.{access_of, found_in, later_in, modes
 use crate::touches::Touch;
 use lock_profile::{Held, Touched};
 use spec_execution::Access;
-use spec_ledger::{Kind, Lock, Mode, NoMemory, CellKey};
+use spec_ledger::{CellKey, Kind, Lock, Mode, NoMemory};
 use std::alloc::Allocator;
 use std::collections::BTreeMap;
 

@@ -1,9 +1,9 @@
 // A call that runs, and touches cells.
 ghost use Rattle.std.specs.Prelude.{◌≡◌, [], Ok, true, false, IfOk, OnOk};
 ghost use Rattle.spec_execution.specs.Run.{opening};
-ghost use Rattle.interp.specs.Callee.{setting_view};
+ghost use Rattle.interp_run.specs.Callee.{setting_view};
 ghost use Rattle.interp.specs.Starting.{IsOpened, IsRejection};
-ghost use Rattle.interp.specs.Progress.{IsFree, IsSameCall};
+ghost use Rattle.interp_run.specs.Progress.{IsFree, IsSameCall};
 ghost use Rattle.serial.specs.Going.{MayGoOn, IsEnded};
 ghost use Rattle.speculation.specs.Touches.{AreFoundBy, AreTouches, AreTouchesOf, IsPlayedBeside, WereTouchedBy};
 
@@ -14,10 +14,10 @@ use interp::finished::Finished;
 use interp::machine::Machine;
 use interp::start::StartRefusal;
 use link::deployed::Deployed as Contract;
+use serial::{HostRequest, next_request};
 use spec_ledger::{Inverse, Lock, NoMemory, Version};
 use std::alloc::Allocator;
 use std::collections::BTreeMap;
-use serial::{HostRequest, next_request};
 
 /// Goes on to the next operation, or to the next level that is entered or left, and does it. Answers whether there was one. How many inverses there were
 /// where each open level was entered is noted by the marks, the innermost last.

@@ -4,7 +4,7 @@ ghost use Rattle.spec_ledger.specs.Cells.{cell_after, counter, counter_at, inver
 ghost use Rattle.spec_ledger.specs.Modes.{mode_of};
 ghost use Rattle.storage.specs.Slots.{cell_back};
 
-use spec_ledger::{Inverse, Kind, Lock, Mode, Op, CellKey, Reply};
+use spec_ledger::{CellKey, Inverse, Kind, Lock, Mode, Op, Reply};
 
 /// The lock of the map cell at a place.
 pub fn map_lock(place: CellKey) -> Lock

@@ -7,6 +7,6 @@ mod ration;
 #[cfg(test)]
 mod tests;
 
-pub use contracts::{Unfit, call, deployed, example, first, typed};
 pub use crate::ration::Ration;
+pub use contracts::{Unfit, call, deployed, example, first, typed};
 pub use modules::{ASKING, EXAMPLE, FIRST_MODULE, PROBING};

@@ -7,10 +7,10 @@ use linked_list_allocator::LocalHeap;
 use loader::{LoadRefusal, load};
 use module_tree::limit::Limit;
 use module_tree::module::Module;
-use test_support::EXAMPLE;
 use std::alloc::{Allocator, Global};
 use std::process::Abort;
 use std::test::Fail;
+use test_support::EXAMPLE;
 
 /// The shortest spelling of a module.
 pub(crate) fn encoded<A: Allocator>(

@@ -4,7 +4,7 @@ use boost::book::{
 };
 use sharding::CloseRefusal;
 use shards::{NoGate, Shards, Ticket};
-use spec_ledger::{Kind, Lock, Op, Outcome, CellKey, Reply, Step};
+use spec_ledger::{CellKey, Kind, Lock, Op, Outcome, Reply, Step};
 use std::alloc::Allocator;
 use std::sync::Wait;
 use storage::{Cells, NoMemory};

@@ -1,10 +1,10 @@
 // Leaving a level takes no memory. Here an allocator gives so many blocks and refuses all after them, for each number of blocks until none is
 // refused: operations in a level, and levels in it, are done as far as there is memory, and each level that was entered is left.
 use boost::book::{Book, EnterRefusal, LeaveRefusal, OpRefusal, Ticket};
-use test_support::Ration;
-use spec_ledger::{Kind, Lock, Op, CellKey};
+use spec_ledger::{CellKey, Kind, Lock, Op};
 use std::alloc::{Allocator, Global};
 use storage::Cells;
+use test_support::Ration;
 
 /// More blocks than anything here takes.
 const AMPLE: u64 = 1_000;

@@ -3,7 +3,7 @@ use crate::assertions::equal;
 use crate::books::{Act, Answer, COUNTS, Came, RETURNED, Script, TRAPPED};
 use crate::whole::played;
 use boost::book::{BeginRefusal, CommitRefusal, LeaveRefusal, OpRefusal};
-use spec_ledger::{Kind, Op, CellKey, Reply, Step};
+use spec_ledger::{CellKey, Kind, Op, Reply, Step};
 use std::alloc::Global;
 use std::process::Abort;
 use std::sync::Wait;

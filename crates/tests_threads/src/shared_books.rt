@@ -5,7 +5,7 @@ use boost::book::{
     BeginRefusal, Book, Closed, CommitRefusal, EnterRefusal, LeaveRefusal, OpRefusal, Run, Ticket,
 };
 use shards::SharedBook;
-use spec_ledger::{Kind, Lock, Mode, Op, Outcome, CellKey, Reply, Step};
+use spec_ledger::{CellKey, Kind, Lock, Mode, Op, Outcome, Reply, Step};
 use std::alloc::Global;
 use std::process::Abort;
 use std::sync::Wait;

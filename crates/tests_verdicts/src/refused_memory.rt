@@ -10,7 +10,6 @@ use crate::road::SPIN;
 use block_judge::Reason;
 use miner::{Mined, mine_in};
 use pace::{NoPace, Pace};
-use test_support::{EXAMPLE, PROBING, Ration};
 use spec_ledger::Kind::{Counter, Map};
 use spec_ledger::Version;
 use std::alloc::Global;
@@ -18,6 +17,7 @@ use std::process::Abort;
 use std::sync::Wait;
 use std::test::Fail;
 use std::thread::Threads;
+use test_support::{EXAMPLE, PROBING, Ration};
 use validator::{Verdict, validate_in};
 use world::World;
 

@@ -9,9 +9,9 @@ ghost use Rattle.text_body.specs.Reading.{moved, id_at, offset_at, align_at, ind
 
 use crate::flat::{Binding, Flat, Index, TypeUse};
 use crate::unread::Unread;
+use lexer::{Piece, Word};
 use spec_text::{KeyWord, Operator};
 use std::alloc::Allocator;
-use lexer::{Piece, Word};
 use wtypes::ValType;
 
 /// The words that begin a part in brackets.

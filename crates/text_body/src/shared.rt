@@ -13,8 +13,8 @@ use crate::flat::{Binding, Index, TypeUse};
 use crate::parts;
 pub use crate::parts::Part;
 use crate::unread::Unread;
-use std::alloc::Allocator;
 use lexer::{Piece, Word};
+use std::alloc::Allocator;
 use wtypes::ValType;
 
 /// A name, if there is one.

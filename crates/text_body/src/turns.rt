@@ -8,9 +8,9 @@ ghost use Rattle.text_body.specs.Turns.{seen_top, move_of, move_at, left_at, fol
 use crate::flat::{Flat, Opener};
 use crate::parts::{Part, closes, enters, header, left_behind_parts, optional_id, plain};
 use crate::unread::Unread;
+use lexer::{Piece, Word};
 use spec_text::KeyWord;
 use std::alloc::Allocator;
-use lexer::{Piece, Word};
 use wtypes::ValType;
 
 /// What is open, if not the operands of an instruction.
@@ -95,8 +95,14 @@ fn folded_block<'w, 'a, A: Allocator>(
     let (label, found) = header(rest)?;
     match opener {
         Opener::If => Ok(ParserStep::Begins(Open::Inside(Form::Condition(label, found)))),
-        Opener::Block => Ok(ParserStep::Opens(Flat::Opens(Opener::Block, label, found), Form::Folded)),
-        Opener::Loop => Ok(ParserStep::Opens(Flat::Opens(Opener::Loop, label, found), Form::Folded)),
+        Opener::Block => Ok(ParserStep::Opens(
+            Flat::Opens(Opener::Block, label, found),
+            Form::Folded,
+        )),
+        Opener::Loop => Ok(ParserStep::Opens(
+            Flat::Opens(Opener::Loop, label, found),
+            Form::Folded,
+        )),
     }
 }
 
@@ -114,8 +120,14 @@ fn flat_block<'w, 'a, A: Allocator>(
     let (label, found) = header(rest)?;
     match opener {
         Opener::If => Ok(ParserStep::Opens(Flat::Opens(Opener::If, label, found), Form::FlatIf)),
-        Opener::Block => Ok(ParserStep::Opens(Flat::Opens(Opener::Block, label, found), Form::Flatly)),
-        Opener::Loop => Ok(ParserStep::Opens(Flat::Opens(Opener::Loop, label, found), Form::Flatly)),
+        Opener::Block => Ok(ParserStep::Opens(
+            Flat::Opens(Opener::Block, label, found),
+            Form::Flatly,
+        )),
+        Opener::Loop => Ok(ParserStep::Opens(
+            Flat::Opens(Opener::Loop, label, found),
+            Form::Flatly,
+        )),
     }
 }
 
@@ -216,7 +228,10 @@ fn right<'w, 'a, A: Allocator>(
 }
 
 /// `end`, behind itself.
-fn end<'w, 'a, A: Allocator>(top: Top<'a>, rest: &mut &'w [Word<'a>]) -> Result<ParserStep<'a, A>, Unread>
+fn end<'w, 'a, A: Allocator>(
+    top: Top<'a>,
+    rest: &mut &'w [Word<'a>],
+) -> Result<ParserStep<'a, A>, Unread>
     ensures value { Gives (λ t. (move_of t, views rest.new.now)) result (end_at (seen_top top.entry) (views rest.old.now)) }
     ensures shorter { IfOk result (λ _. length rest.new.now ≤ length rest.old.now) }
 {

@@ -8,10 +8,10 @@ ghost use Rattle.text_body.specs.Bodies.{IsBody, NoBody, BodiesAreOne};
 ghost use Rattle.text_body.specs.declared.unread.Unread.TheVariants.{NoMemory};
 
 use crate::flat::Flat;
-use crate::turns::{Open, Top, ParserStep, next_turn};
+use crate::turns::{Open, ParserStep, Top, next_turn};
 use crate::unread::Unread;
-use std::alloc::Allocator;
 use lexer::Word;
+use std::alloc::Allocator;
 
 /// What is open innermost.
 fn innermost<'a, A: Allocator>(stack: &Vec<Open<'a, A>, A>) -> Top<'a>

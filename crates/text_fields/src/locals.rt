@@ -8,10 +8,10 @@ ghost use Rattle.text_resolve.specs.declared.refusal.Unresolved.TheVariants.{NoM
 ghost use Rattle.text_resolve.specs.Types.{is_bare};
 ghost use Rattle.text_fields.specs.Parts.{none_of, unnamed, names_at, distinct_at};
 
+use lexer::Piece;
 use std::alloc::Allocator;
 use text_body::{Binding, TypeUse};
 use text_resolve::{Space, Unresolved};
-use lexer::Piece;
 use wtypes::{FuncType, ValType};
 
 // The name of a local, if it has one.

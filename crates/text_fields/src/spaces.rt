@@ -12,10 +12,10 @@ ghost use Rattle.text_resolve.specs.Views.{spaces_of};
 ghost use Rattle.text_fields.specs.Listed.{listed, names_in, NoSpaces, SpacesAreOne};
 
 use crate::types_of_text;
+use lexer::Piece;
 use std::alloc::Allocator;
 use text_resolve::{Space, Spaces, Unresolved};
 use text_tree::{Desc, Field, Text};
-use lexer::Piece;
 
 // What has an index space of its own.
 #[derive(Clone, Copy)]

@@ -14,10 +14,10 @@ ghost use Rattle.text_resolve.specs.Bodies.{closes, behind_end, behind_else, sto
 use crate::instrs::plain;
 use crate::spaces::Spaces;
 use crate::{Labels, Limit, Space, Unresolved};
+use lexer::Piece;
 use module_tree::instr::Instr;
 use std::alloc::Allocator;
 use text_body::{Flat, Opener};
-use lexer::Piece;
 use wtypes::ValType;
 
 // The levels of an expression, its own among them.

@@ -9,9 +9,9 @@ ghost use Rattle.text_resolve.specs.Outcome.{Gives};
 ghost use Rattle.text_resolve.specs.Lookup.{find, u32_at, stands_at, all_stand_at};
 
 use crate::refusal::Unresolved;
+use lexer::{Piece, unsigned_32};
 use std::alloc::Allocator;
 use text_body::Index;
-use lexer::{Piece, unsigned_32};
 
 /// Names, of which each stands for the index of its first place.
 pub trait Finds {

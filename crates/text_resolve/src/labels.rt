@@ -7,8 +7,8 @@ ghost use Rattle.text_resolve.specs.Lookup.{is_name, find};
 
 use crate::indices::Finds;
 use crate::refusal::Unresolved;
-use std::alloc::Allocator;
 use lexer::Piece;
+use std::alloc::Allocator;
 
 /// The labels of the blocks that are open, the innermost first. One hides an outer one of its name.
 #[derive(Drop)]

@@ -10,10 +10,10 @@ ghost use Rattle.text_resolve.specs.Firsts.{first_of};
 
 use crate::indices::Finds;
 use crate::refusal::Unresolved;
+use lexer::Piece;
 use std::alloc::Allocator;
 use std::collections::HashMap;
 use std::hash::{BuildHasherDefault, FoldHasher};
-use lexer::Piece;
 
 /// The first index of each name.
 type Firsts<'a, A> = HashMap<&'a [u8], u32, BuildHasherDefault<FoldHasher>, A>;

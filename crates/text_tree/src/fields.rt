@@ -13,11 +13,11 @@ use crate::parts::{
     Head, Inner, data_tail, elem_tail, func_head, global_head, next_key, opened, plain_field,
     segment_head,
 };
+use lexer::Word;
 use spec_text::KeyWord;
 use std::alloc::Allocator;
 use text_body::shared::optional_id;
 use text_body::{Unread, body};
-use lexer::Word;
 
 /// A function, behind its word.
 fn func_field<'w, 'a, A: Allocator + Clone>(

@@ -17,6 +17,7 @@ ghost use Rattle.text_tree.specs.Reading.{import_field_at, exported_at, export_f
 ghost use Rattle.text_tree.specs.Reading.{global_head_at, segment_head_at, elem_tail_at, data_tail_at, next_key_at};
 
 use crate::field::{BoundedField, Bounds, Desc, ExportField, Field, ImportField, Kind, TypeField};
+use lexer::{Piece, Word, put_string};
 use module_tree::module::GlobalType;
 use spec_text::KeyWord;
 use std::alloc::Allocator;
@@ -25,7 +26,6 @@ use text_body::shared::{
     type_use,
 };
 use text_body::{Binding, Index, TypeUse, Unread};
-use lexer::{Piece, Word, put_string};
 use wtypes::ValType;
 
 /// The words that stand within fields.

@@ -10,7 +10,9 @@ ghost use Rattle.text_tree.specs.Texts.{IsTree, NoTree, IsText, NoText, TextsAre
 
 use crate::field::Text;
 use crate::fields::module;
-use lexer::{LexRefusal, TextRefusal, Token, Tokens, Word, no_tokens_are_two_lists_of_words, tokens, words};
+use lexer::{
+    LexRefusal, TextRefusal, Token, Tokens, Word, no_tokens_are_two_lists_of_words, tokens, words,
+};
 use std::alloc::Allocator;
 use std::str::from_utf8;
 use text_body::Unread;

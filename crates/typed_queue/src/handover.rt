@@ -4,7 +4,7 @@ ghost use Rattle.typed_queue.specs.Passes.{IsPassOf};
 
 use crate::parcel::Parcel;
 use crate::pass::QueuePass;
-use crate::rule::{Agreeing, ItemFact, Found, Given, Taken, Twins};
+use crate::rule::{Agreeing, Found, Given, ItemFact, Taken, Twins};
 use crossbeam_queue::RuledArrayQueue;
 use std::alloc::Allocator;
 use wtypes::NoMemory;

@@ -3,7 +3,7 @@ ghost use Rattle.std.specs.Prelude.{◌≡◌, ◌+◌, ◌<◌, ◌≤◌, leng
 ghost use Rattle.std.specs.List.{All};
 ghost use Rattle.typed_queue.specs.Passes.{IsPassOf};
 
-use super::{ItemFact, TypedQueue, QueuePass};
+use super::{ItemFact, QueuePass, TypedQueue};
 use std::alloc::Global;
 use std::sync::Wait;
 use std::test::Fail;

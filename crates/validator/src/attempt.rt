@@ -2,9 +2,9 @@
 
 ghost use Rattle.std.specs.Prelude.{◌≡◌, ◌<◌, ◌≤◌, ◌^◌, Ok, true, false, IfOk, IfSome, OnOk, length};
 ghost use Rattle.spec_execution.specs.Run.{IsReply, opening};
-ghost use Rattle.interp.specs.Callee.{setting_view};
+ghost use Rattle.interp_run.specs.Callee.{setting_view};
 ghost use Rattle.interp.specs.Starting.{IsOpened, IsRejection};
-ghost use Rattle.interp.specs.Progress.{IsFree, IsSameCall};
+ghost use Rattle.interp_run.specs.Progress.{IsFree, IsSameCall};
 ghost use Rattle.serial.specs.Going.{MayGoOn, IsEnded};
 ghost use Rattle.validator.specs.Handed.{IsMade, IsRunIn};
 ghost use Rattle.validator.specs.Jobs.{IsJob};
@@ -12,7 +12,6 @@ ghost use Rattle.validator.specs.Jobs.{IsJob};
 use crate::job::{Came, Job, Made};
 use crate::profile::allows;
 use ahead::Ahead;
-use pace::{Pace, Step, acquire};
 use call::Call;
 use in_order::Task;
 use interp::finished::Finished;
@@ -20,11 +19,12 @@ use interp::machine::Machine;
 use interp::start::StartRefusal;
 use link::deployed::Deployed as Contract;
 use lock_profile::Profile;
+use pace::{Pace, Step, acquire};
+use serial::{HostRequest, next_request};
 use spec_ledger::{NoMemory, Op, Reply, Version};
 use std::alloc::Allocator;
 use std::sync::{Mutex, Wait};
 use storage::returned;
-use serial::{HostRequest, next_request};
 
 /// Why a run is not made.
 #[derive(Drop)]

@@ -1,8 +1,8 @@
 // What the workers share beside the job.
 
 use ahead::Ahead;
-use pace::acquire;
 use lanes::Lane;
+use pace::acquire;
 use schedule::{Board, EndRefusal};
 use spec_ledger::NoMemory;
 use std::alloc::Allocator;

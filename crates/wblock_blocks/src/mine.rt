@@ -16,15 +16,15 @@ ghost use Rattle.wblock_blocks.specs.Notes.{IsNoteOf, Notes};
 use crate::note::{Noted, note_of};
 use crate::text::block_text_of;
 use block::{Block, write_block};
-use call::Call;
 use byte_sinks::{Failures, MemorySink};
+use call::Call;
 use miner::{Mined, mine};
 use pace::{Pace, Watched};
 use std::alloc::Global;
 use std::sync::Wait;
 use std::thread::Threads;
-use wblock_line::{Answer, Fault, Inputs, Write, read_inputs};
 use wblock_io::Files;
+use wblock_line::{Answer, Fault, Inputs, Write, read_inputs};
 use world::{World, encode_world};
 use wtypes::NoMemory;
 

@@ -4,8 +4,8 @@ ghost use Rattle.std.specs.Prelude.{◌≡◌, ◌≤◌, IfOk, length, string_b
 ghost use Rattle.wblock_blocks.specs.Texts.{position_lines, left_lines, fuel_line, digest_line, end_lines, block_text};
 
 use block::{Block, Position};
-use wblock_calls::PositionLine;
 use std::alloc::{AllocError, Global};
+use wblock_calls::PositionLine;
 
 /// A line for each position.
 fn position_lines_of(alloc: Global, positions: &[Position]) -> Result<String, AllocError>

@@ -14,8 +14,10 @@ use std::alloc::Global;
 use std::sync::Wait;
 use std::thread::Threads;
 use validator::{Verdict, validate};
-use wblock_line::{Answer, Fault, Inputs, Write, read_file, read_inputs, reason_words, reject_line_of};
 use wblock_io::Files;
+use wblock_line::{
+    Answer, Fault, Inputs, Write, read_file, read_inputs, reason_words, reject_line_of,
+};
 use world::{World, digest_world, encode_world};
 use wtypes::NoMemory;
 

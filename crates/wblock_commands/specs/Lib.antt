@@ -1,7 +1,5 @@
 pub mod Answers
 pub mod Deploying
 pub mod Does
-pub mod Options
 pub mod Runs
 pub mod Stored
-pub mod Words

@@ -2,14 +2,13 @@
 
 ghost use Rattle.std.specs.Prelude.{◌≡◌, ◌≢◌, ◌≤◌, ◌⊎◌, ◌++◌, ℕ, List, [], IsTrue, IfOk, IfErr, OnOk, MatchOption, map, string_bytes};
 ghost use Rattle.wblock_line.specs.Answers.{CountsFault, IsFailing, IsOfFile, IsSaid, SaysFile, Wrote, memory_line, status_of, text_of, why_line, writes_of};
-ghost use Rattle.wblock_commands.specs.Words.{Says, HasFew};
+ghost use Rattle.wblock_arguments.specs.Words.{Says, HasFew};
 ghost use Rattle.wblock_commands.specs.Does.{Answers, IsMine, IsNote, MayMiss, Misses, Does, Reads, Fails, IsKept, SaysNote, SaysText};
-ghost use Rattle.wblock_commands.specs.declared.command.Command.{Command as Asked};
+ghost use Rattle.wblock_arguments.specs.declared.command.Command.{Command as Asked};
 
-use crate::command::{Command, command_of, told_of};
+use wblock_arguments::{Command, command_of, tell_help, tell_version, told_of, usage_text};
 use crate::deploy::deploy_apart;
-use crate::usage::{tell_help, tell_version};
-use crate::{show_stored, usage_text};
+use crate::show_stored;
 use byte_sinks::{Sink, put_all};
 use pace::Pace;
 use std::alloc::{AllocError, Global};

@@ -15,8 +15,8 @@ use pace::Pace;
 use spec_ledger::Version;
 use std::alloc::{AllocError, Global};
 use storage::Cells;
-use wblock_line::{Answer, Fault, Inputs, read_file, read_inputs, reason_words, reject_line_of};
 use wblock_io::Files;
+use wblock_line::{Answer, Fault, Inputs, read_file, read_inputs, reason_words, reject_line_of};
 use world::World;
 use wtypes::NoMemory;
 

@@ -8,11 +8,11 @@ ghost use Rattle.wblock_json.specs.Blocks.{block_data, call_data, called_data, c
 
 use crate::values::{digest_of, large_of, null, text_of, with_member, word_of};
 use block::{Block, Position};
+use call::Call;
 use figures::{
     Chains, Figures, OutcomeCount, OutcomeKind, SharedLock, figures_of, hundredth_of,
     number_of_version, word_of_kind, word_of_mode,
 };
-use call::Call;
 use serde_json::{Map, Value as Json, json};
 use spec_ledger::{Entry, Outcome};
 use std::alloc::{AllocError, Global};

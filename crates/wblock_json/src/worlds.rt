@@ -11,8 +11,8 @@ ghost use Rattle.wblock_json.specs.Worlds.{cell_data, cells_data, cells_of as ce
 
 use crate::modules::put_module;
 use crate::values::{digest_of, large_of, text_of, with_member, word_of};
-use link::deployed::Deployed;
 use figures::shortest_size;
+use link::deployed::Deployed;
 use serde_json::{Map, Value as Json, json, put};
 use std::alloc::{AllocError, Global};
 use storage::{Cells, Kind, Lock};

@@ -1,4 +1,3 @@
 mod Beginning
 mod Saying
 mod Splitting
-

@@ -5,11 +5,11 @@ ghost use Rattle.wblock_calls.specs.Texts.{SpellsCalls};
 ghost use Rattle.wblock_line.specs.Answers.{CountsFault, IsOfFile};
 ghost use Rattle.wblock_line.specs.Inputs.{TellsNoCalls, HasFew, Gives, IsNextInput};
 
-use call::Call;
-use wblock_calls::{calls_words, read_calls, refusal_line};
-use std::alloc::{AllocError, Global};
-use wblock_io::Files;
 use crate::{Fault, judge_world, read_file};
+use call::Call;
+use std::alloc::{AllocError, Global};
+use wblock_calls::{calls_words, read_calls, refusal_line};
+use wblock_io::Files;
 use world::World;
 
 /// What the files of a world and of calls give.

@@ -11,9 +11,9 @@ use body_typing::rule::Rule;
 use loader::load;
 use module_tree::limit::Limit;
 use module_tree::module::{Export, ExportDesc, Module};
-use typing_errors::{item_text, site_text};
 use std::alloc::{AllocError, Allocator, Global};
 use std::fmt;
+use typing_errors::{item_text, site_text};
 use wblock_words::{
     form_words, import_words, limit_words, room_words, rule_words, segment_words, shown,
 };

@@ -6,8 +6,8 @@ ghost use Rattle.wblock_picture.specs.Boxes.{title, wave_text, box_front, box_in
 use crate::seat::{COLUMN, ROW, Seat};
 use crate::words::{letter_of, locks_text_of};
 use block::Position;
-use wblock_calls::PositionLine;
 use std::alloc::{AllocError, Global};
+use wblock_calls::PositionLine;
 
 /// What is told of a position: its line, its wave and its locks.
 fn title_of(

@@ -10,8 +10,8 @@ ghost use Rattle.wblock_show.specs.Shows.{numbers_of, other_line, AreItsCalls, A
 
 use crate::lines::block_text_of;
 use block::{Block, BlockRefusal, Position, digest_calls, read_block};
-use figures::figures_of;
 use call::Call;
+use figures::figures_of;
 use std::alloc::{AllocError, Global};
 use wblock_line::Answer;
 use wblock_words::{advice_on, block_words};

@@ -2,7 +2,7 @@ use Rattle.std.proofs.Common.{◌≡◌, ◌≤◌, false, length, refl, subst}
 use Rattle.std.specs.Prelude.{◌↔◌, IsTrue}
 use Rattle.std.proofs.lemmas.Option.{slice_get_read}
 use Rattle.spec_ledger.specs.declared.Version.TheVariants.{Two}
-use Rattle.interp.specs.Callee.{setting_view}
+use Rattle.interp_run.specs.Callee.{setting_view}
 use Rattle.serial.specs.Positions.{positions}
 use Rattle.publish.specs.Publication.{Publication, MayFollow, is_marked}
 use Rattle.publish.proofs.Keeping.{Beside, may_follow}

@@ -1,0 +1,4 @@
+pub mod Asked
+pub mod Lines
+pub mod Next
+pub mod Showing
