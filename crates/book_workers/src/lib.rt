@@ -4,9 +4,9 @@
 #![tactic(auto)]
 
 mod attempt;
-mod brake;
+mod admission;
 mod worker;
 
-pub use crate::attempt::{Committed, Job, must_stop_at};
-pub use crate::brake::Brake;
-pub use crate::worker::{Worked, work};
+pub use crate::attempt::{CommittedRun, Job, must_stop_at};
+pub use crate::admission::AdmissionLimit;
+pub use crate::worker::{WorkerResult, work};

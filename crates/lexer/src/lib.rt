@@ -8,7 +8,7 @@ mod states;
 mod strings;
 mod tables;
 mod word;
-mod words;
+mod refusal;
 mod words_reading;
 
 ghost use Rattle.std.specs.Prelude.{◌≡◌, List, ⊤, IfOk, IfErr, length};
@@ -18,7 +18,7 @@ ghost use Rattle.lexer.specs.declared.LexRefusal.TheVariants.{NoMemory};
 ghost use Rattle.lexer.specs.Refused.{IsRightly};
 ghost use Rattle.lexer.specs.Reading.{IntegerIsTested};
 
-pub use crate::words::TextRefusal;
+pub use refusal::TextRefusal;
 pub use list::{Token, Tokens};
 pub use numbers::{bits_32, bits_64, unsigned_32};
 pub use reading::is_integer;

@@ -9,7 +9,7 @@ ghost use Rattle.lexer.specs.WordsRefused.{IsRightly};
 
 use crate::tables::{key_word, operator};
 use crate::word::{Piece, Word};
-use crate::words::TextRefusal;
+use crate::refusal::TextRefusal;
 use crate::{Token, integers_are_tested, is_integer};
 use spec_text::TokenKind;
 use std::alloc::Allocator;

@@ -3,10 +3,10 @@
 
 mod contracts;
 mod modules;
-mod ration;
+mod failing_allocator;
 #[cfg(test)]
 mod tests;
 
-pub use crate::ration::Ration;
-pub use contracts::{Unfit, call, deployed, example, first, typed};
+pub use crate::failing_allocator::Ration;
+pub use contracts::{SampleRefusal, call, deployed, example, first, typed};
 pub use modules::{ASKING, EXAMPLE, FIRST_MODULE, PROBING};
