@@ -13,7 +13,7 @@ ghost use Rattle.assembler.specs.Counted.{defined_funcs, has_func, count_funcs};
 use crate::parts::{Parts, put};
 use std::alloc::Allocator;
 use text_fields::part_of;
-use text_resolve::{Spaces, ResolveFault};
+use text_resolve::{ResolveFault, Spaces};
 use text_tree::{Desc, Field, Text};
 
 // No parts.

@@ -5,7 +5,7 @@ use lexer::Piece;
 use std::alloc::Allocator;
 use std::collections::HashMap;
 use std::hash::{BuildHasherDefault, FoldHasher};
-use text_resolve::{Space, ResolveFault};
+use text_resolve::{ResolveFault, Space};
 use wtypes::NoMemory;
 
 /// How often each name stands somewhere.

@@ -8,7 +8,7 @@ ghost use Rattle.text_tree.specs.Views.{fields_of};
 ghost use Rattle.assembler.specs.Named.{ResolveToNothing};
 
 use crate::lists::lists_of;
-use crate::{BuildFault, parts_of_text, reading_of_fields_is_exact, build_module};
+use crate::{BuildFault, build_module, parts_of_text, reading_of_fields_is_exact};
 use module_tree::module::Module;
 use std::alloc::Allocator;
 use text_fields::{no_text_has_two_lists_of_spaces, spaces_of_text};

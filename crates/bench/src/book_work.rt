@@ -39,7 +39,9 @@ fn operate(book: &mut Book, live: &mut Live, load: Load) -> Result<(), NoMemory>
     let Ok(reply) = book.op(&live.ticket, op) else {
         return Err(NoMemory);
     };
-    live.trace.push(TraceStep::Did(op, reply)).map_err(|_| NoMemory)
+    live.trace
+        .push(TraceStep::Did(op, reply))
+        .map_err(|_| NoMemory)
 }
 
 /// Commits a call.

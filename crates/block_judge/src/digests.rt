@@ -5,7 +5,7 @@ ghost use Rattle.spec_block.specs.Verdicts.{HoldsOf};
 ghost use Rattle.world.specs.Views.{world_view};
 ghost use Rattle.block_judge.specs.Judging.{IfRejected, IsFirstFrom, NoneFrom};
 
-use crate::reason::{Reason, JudgeRefusal};
+use crate::reason::{JudgeRefusal, Reason};
 use block::{Block, digest_calls};
 use call::Call;
 use std::alloc::Allocator;

@@ -25,7 +25,7 @@ pub use crate::laws::first_is_verdict;
 pub use crate::order::{judge_order, numbers_of};
 pub use crate::prefix::{Met, met_by};
 pub use crate::prefix_laws::tells_of_the_run;
-pub use crate::reason::{Reason, JudgeRefusal};
+pub use crate::reason::{JudgeRefusal, Reason};
 pub use crate::turns::judge_turns;
 use block::{Block, BlockRefusal, read_block};
 use call::Call;

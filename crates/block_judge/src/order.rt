@@ -7,7 +7,7 @@ ghost use Rattle.spec_block.specs.Verdicts.{HasRoom, IsBadNumber, IsLeast};
 ghost use Rattle.block_judge.specs.Judging.{IfRejected, IsReasonOf};
 ghost use Rattle.block_judge.specs.Marks.{AreMarked};
 
-use crate::reason::{Reason, JudgeRefusal};
+use crate::reason::{JudgeRefusal, Reason};
 use block::Block;
 use call::Call;
 use std::alloc::Allocator;

@@ -13,7 +13,7 @@ ghost use Rattle.spec_block.specs.Verdicts.{HasOtherTurns, HoldsOf, IsLeast};
 ghost use Rattle.block_judge.specs.Judging.{IfRejected, IsFirstFrom, NoneFrom};
 ghost use Rattle.block_judge.specs.Turned.{lists_of};
 
-use crate::reason::{Reason, JudgeRefusal};
+use crate::reason::{JudgeRefusal, Reason};
 use block::{Block, Position};
 use lock_profile::Group;
 use spec_ledger::{Entry, Lock, Mode};

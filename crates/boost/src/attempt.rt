@@ -338,7 +338,12 @@ impl<A: Allocator + Copy> Attempt<A> {
     }
 
     /// An attempt that has made these marks of levels and done nothing else, with room for those that close its open levels.
-    pub(crate) fn marked(alloc: A, call: u32, number: u64, marks: &[TraceStep]) -> Result<Self, NoMemory>
+    pub(crate) fn marked(
+        alloc: A,
+        call: u32,
+        number: u64,
+        marks: &[TraceStep],
+    ) -> Result<Self, NoMemory>
         requires { ops_of marks.now ≡ [] }
         ensures { IfOk result (λ attempt. attempt ≡ marked_of call number marks.now) }
     {

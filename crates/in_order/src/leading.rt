@@ -9,8 +9,8 @@ use crate::ahead_of_turn::{BatchRun, batch_of, draw, run_batch};
 use crate::footprints::SpeculativeRuns;
 use crate::line::{BatchQueue, make_queue_ends};
 use crate::post::QueueEnd;
-use crate::straight::{StraightRun, run_straight, run_to};
 use crate::reorder_buffer::{ReorderBuffer, keep, open_reorder_buffer, place, take_in, take_out};
+use crate::straight::{StraightRun, run_straight, run_to};
 use crate::turns::do_next;
 use crate::working::{work, work_all};
 use crate::{InOrder, OrderProgress};
@@ -336,7 +336,8 @@ pub(crate) fn run_over<
     ensures ran { IfOk result.1 (IsProgressOf job.now) }
 {
     let size = batch_of(job.order.len());
-    let Ok((line, mut pass)) = BatchQueue::open(job.alloc, job.order.len() / size + 2, job.task) else {
+    let Ok((line, mut pass)) = BatchQueue::open(job.alloc, job.order.len() / size + 2, job.task)
+    else {
         return (errand(), Err(NoMemory));
     };
     let line = &line;

@@ -9,8 +9,8 @@ mod footprints;
 mod leading;
 mod line;
 mod post;
-mod straight;
 mod reorder_buffer;
+mod straight;
 mod turns;
 mod working;
 
@@ -124,7 +124,9 @@ pub struct OrderProgress<A: Allocator> {
 /// # Errors
 ///
 /// Memory was refused.
-pub fn begin<A: Allocator + Copy, P: Pace>(job: &InOrder<'_, '_, A, P>) -> Result<OrderProgress<A>, NoMemory>
+pub fn begin<A: Allocator + Copy, P: Pace>(
+    job: &InOrder<'_, '_, A, P>,
+) -> Result<OrderProgress<A>, NoMemory>
     ensures ran { IfOk result (IsProgressOf job.now) }
     ensures none { IfOk result (λ ran. ran.receipts.items ≡ []) }
 {

@@ -2,7 +2,7 @@
 
 ghost use Rattle.typed_queue.specs.Passes.{IsPassOf};
 
-use crate::line::{BatchQueue, BatchPass};
+use crate::line::{BatchPass, BatchQueue};
 use std::alloc::Allocator;
 
 /// By what a thread hands over the batches that it ran, or takes what others did.

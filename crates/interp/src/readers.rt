@@ -7,9 +7,9 @@ ghost use Rattle.interp_run.specs.Progress.{GoesOn, IsLeftNext};
 ghost use Rattle.interp.specs.Shown.{is_out, leaves_stack, ending, stack_shown, locals_shown, place_shown, outermost, IsShown, AreReadOf, IsReadOf, is_fallen};
 
 use crate::machine::Machine;
+use instance::Instance;
 use interp_run::run::{Level, Run};
 use interp_run::turns::Status;
-use instance::Instance;
 use interp_state::callee::Callee;
 use interp_state::copies::{copy_parts, copy_waiting};
 use interp_state::places::{height_of_call, place_in_code};

@@ -227,7 +227,11 @@ fn restore<'a, A: Allocator + Copy>(run: &mut Run<'a, A>, level: Level<'a, A>)
 fn mark(keep: bool) -> TraceStep
     ensures { result ≡ mark_of keep }
 {
-    if keep { TraceStep::Kept } else { TraceStep::Dropped }
+    if keep {
+        TraceStep::Kept
+    } else {
+        TraceStep::Dropped
+    }
 }
 
 // What an `ask` gives where the level that it entered traps.

@@ -140,7 +140,11 @@ impl<A: Allocator + Clone> Reader<A> for Entries<'_> {
     ghost is_numbered = { λ v. list_all (λ f. counts_from 0 (func_ordinals f)) v.items };
 
     #[tactic(auto, unfolding(laws_modules::specs::ReadingModules::entries_at))]
-    fn read<'b>(&self, alloc: &A, bytes: &'b [u8]) -> Result<(Vec<Func<A>, A>, &'b [u8]), DecodeFault> {
+    fn read<'b>(
+        &self,
+        alloc: &A,
+        bytes: &'b [u8],
+    ) -> Result<(Vec<Func<A>, A>, &'b [u8]), DecodeFault> {
         let (count, rest) = u32_of(bytes)?;
         if count as usize != self.indices.len() {
             return Err(DecodeFault::Malformed(bytes.len()));

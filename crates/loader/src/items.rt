@@ -251,7 +251,11 @@ impl<A: Allocator + Clone> Reader<A> for Datas {
     ghost is_numbered = { λ d. counts_from 0 (data_ordinals d) };
 
     #[tactic(auto, unfolding(laws_modules::specs::ReadingModules::data_at))]
-    fn read<'b>(&self, alloc: &A, bytes: &'b [u8]) -> Result<(DataSegment<A>, &'b [u8]), DecodeFault> {
+    fn read<'b>(
+        &self,
+        alloc: &A,
+        bytes: &'b [u8],
+    ) -> Result<(DataSegment<A>, &'b [u8]), DecodeFault> {
         let (memory, rest) = u32_of(bytes)?;
         let (offset, rest) = expression_of(alloc, rest)?;
         let (content, rest) = content_of(rest)?;
@@ -303,7 +307,11 @@ impl<A: Allocator + Clone> Reader<A> for Start {
 
     ghost is_numbered = { λ _. true };
 
-    fn read<'b>(&self, _alloc: &A, bytes: &'b [u8]) -> Result<(Option<u32>, &'b [u8]), DecodeFault> {
+    fn read<'b>(
+        &self,
+        _alloc: &A,
+        bytes: &'b [u8],
+    ) -> Result<(Option<u32>, &'b [u8]), DecodeFault> {
         let (start, rest) = u32_of(bytes)?;
         Ok((Some(start), rest))
     }

@@ -18,7 +18,7 @@ use crate::items::{
     Datas, Elements, Exports, FuncTypes, Globals, Imports, Memories, Start, Tables, TypeIndices,
 };
 use crate::sections::{list_of, skip_customs, slot_of};
-use expr_reader::{LoadRefusal, DecodeFault};
+use expr_reader::{DecodeFault, LoadRefusal};
 use module_tree::limit::{BYTE_LIMIT, Limit};
 use module_tree::module::{DataSegment, Func, Module};
 use std::alloc::Allocator;

@@ -84,7 +84,11 @@ impl<A: Allocator + Clone, R: Reader<A>> Reader<A> for VectorOf<'_, R> {
 
     ghost is_numbered = { λ v. list_all R.is_numbered v.items };
 
-    fn read<'b>(&self, alloc: &A, bytes: &'b [u8]) -> Result<(Vec<R::Item, A>, &'b [u8]), DecodeFault> {
+    fn read<'b>(
+        &self,
+        alloc: &A,
+        bytes: &'b [u8],
+    ) -> Result<(Vec<R::Item, A>, &'b [u8]), DecodeFault> {
         vector_of(alloc, self.0, bytes)
     }
 }

@@ -134,7 +134,9 @@ fn adopt_closed_book<'a>(
     if !closed.opening.has_cells_of(cells) {
         return None;
     }
-    match Publishing::adopt_closed_book(alloc, contracts, calls, cells, fuel, closed, runs, touched) {
+    match Publishing::adopt_closed_book(
+        alloc, contracts, calls, cells, fuel, closed, runs, touched,
+    ) {
         Ok(Some(publishing)) => Some(Some(publishing.close().ok()?)),
         Ok(None) => Some(None),
         Err(_) => None,

@@ -50,7 +50,11 @@ fn put_step(out: &mut String, step: TraceStep) -> Result<(), AllocError> {
 }
 
 /// Puts steps, with what stands before the first one and before each other one.
-pub(crate) fn put_steps(out: &mut String, first: &str, steps: &[TraceStep]) -> Result<(), AllocError> {
+pub(crate) fn put_steps(
+    out: &mut String,
+    first: &str,
+    steps: &[TraceStep],
+) -> Result<(), AllocError> {
     let mut before = first;
     for step in steps {
         write!(out, "{before}")?;

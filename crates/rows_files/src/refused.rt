@@ -1,7 +1,7 @@
 //! Why nothing is found.
 
 use block::BlockRefusal;
-use block_judge::{Reason, JudgeRefusal};
+use block_judge::{JudgeRefusal, Reason};
 use records::Fault;
 use std::alloc::{AllocError, AllocFailed};
 use wblock_calls::CallsRefusal;

@@ -57,7 +57,10 @@ fn listed<A: Allocator + Copy>(
 /// # Errors
 ///
 /// Memory was refused.
-pub fn touched_by<A: Allocator + Copy>(alloc: A, trace: &[TraceStep]) -> Result<Touched<A>, NoMemory>
+pub fn touched_by<A: Allocator + Copy>(
+    alloc: A,
+    trace: &[TraceStep],
+) -> Result<Touched<A>, NoMemory>
     ensures { IfOk result (λ locks. locks ≡ touched trace.now) }
 {
     let mut held = BTreeMap::new(alloc);

@@ -35,7 +35,11 @@ impl<A: Allocator> Model for Marks<A> {
 fn closing_mark(keep: bool) -> TraceStep
     ensures { result ≡ closing keep }
 {
-    if keep { TraceStep::Kept } else { TraceStep::Dropped }
+    if keep {
+        TraceStep::Kept
+    } else {
+        TraceStep::Dropped
+    }
 }
 
 impl<A: Allocator + Copy> Marks<A> {

@@ -433,7 +433,12 @@ impl<'g, G: Gate, A: Allocator + Copy> Shards<'g, G, A> {
 
     /// Looks at each shard that an attempt has touched, in rising number: that it lives there with the shard's part of the run's trace; and that the trace
     /// has no operation in another shard, and the marks of the ticket.
-    fn look(&self, rt: &impl Wait, ticket: &Ticket<A>, trace: &[TraceStep]) -> Result<(), CommitRefusal>
+    fn look(
+        &self,
+        rt: &impl Wait,
+        ticket: &Ticket<A>,
+        trace: &[TraceStep],
+    ) -> Result<(), CommitRefusal>
         ensures stale { result ≡ Err CommitRefusal.Stale → HoldsOfAShard (λ old. IsStale old.book ticket.now.call ticket.now.number) }
         ensures differs { result ≡ Err CommitRefusal.Differs → HasOtherSteps self.now.shards ticket.now.call ticket.now.number ticket.now.touched ticket.now.marks trace.now }
         ensures marks { OnOk result (ticket.now.marks ≡ marks_of trace.now) }

@@ -2,8 +2,8 @@
 #![tactic(auto)]
 
 mod contracts;
-mod modules;
 mod failing_allocator;
+mod modules;
 #[cfg(test)]
 mod tests;
 

@@ -4,7 +4,7 @@ ghost use Rattle.module_tree.specs.View.{ordinals};
 ghost use Rattle.module_tree.specs.ModuleView.{all_numbered, func_ordinals, data_ordinals};
 
 use crate::assertions::equal;
-use assembler::{Lists, BuildFault, build_module};
+use assembler::{BuildFault, Lists, build_module};
 use module_tree::instr::Instr;
 use module_tree::module::{DataSegment, Func};
 use std::alloc::Global;

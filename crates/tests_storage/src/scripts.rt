@@ -393,12 +393,21 @@ const MARKS_ALONE: Script = Script {
         (
             0,
             Act::Commit(
-                &[TraceStep::Opened, TraceStep::Kept, TraceStep::Opened, TraceStep::Kept],
+                &[
+                    TraceStep::Opened,
+                    TraceStep::Kept,
+                    TraceStep::Opened,
+                    TraceStep::Kept,
+                ],
                 RETURNED,
             ),
             DIFFERS,
         ),
-        (0, Act::Commit(&[TraceStep::Opened, TraceStep::Kept], RETURNED), FIRST),
+        (
+            0,
+            Act::Commit(&[TraceStep::Opened, TraceStep::Kept], RETURNED),
+            FIRST,
+        ),
     ],
     cells: &[(Kind::Map, 1, Some(10))],
     entries: 1,

@@ -21,7 +21,8 @@ use module_tree::module::{
 use std::alloc::Allocator;
 use text_body::{Flat, Index};
 use text_resolve::{
-    Space, Spaces, ResolveFault, are_in_range, expression, index_in, indices_in, number, type_number,
+    ResolveFault, Space, Spaces, are_in_range, expression, index_in, indices_in, number,
+    type_number,
 };
 use text_tree::{
     Bounds, DataField, Desc, ElemField, ExportField, Field, FuncField, GlobalField, ImportField,

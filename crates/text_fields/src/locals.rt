@@ -11,7 +11,7 @@ ghost use Rattle.text_fields.specs.Parts.{none_of, unnamed, names_at, distinct_a
 use lexer::Piece;
 use std::alloc::Allocator;
 use text_body::{Binding, TypeUse};
-use text_resolve::{Space, ResolveFault};
+use text_resolve::{ResolveFault, Space};
 use wtypes::{FuncType, ValType};
 
 // The name of a local, if it has one.

@@ -14,7 +14,7 @@ ghost use Rattle.text_fields.specs.Listed.{listed, names_in, NoSpaces, SpacesAre
 use crate::types_of_text;
 use lexer::Piece;
 use std::alloc::Allocator;
-use text_resolve::{Space, Spaces, ResolveFault};
+use text_resolve::{ResolveFault, Space, Spaces};
 use text_tree::{Desc, Field, Text};
 
 // What has an index space of its own.

@@ -13,7 +13,7 @@ ghost use Rattle.text_resolve.specs.Bodies.{closes, behind_end, behind_else, sto
 
 use crate::instrs::plain;
 use crate::spaces::Spaces;
-use crate::{Labels, Limit, Space, ResolveFault};
+use crate::{Labels, Limit, ResolveFault, Space};
 use lexer::Piece;
 use module_tree::instr::Instr;
 use std::alloc::Allocator;

@@ -10,7 +10,7 @@ ghost use Rattle.text_resolve.specs.Plain.{indexed_at, operator_at, plain_at, ta
 
 use crate::spaces::Spaces;
 use crate::types::type_number;
-use crate::{Labels, Limit, Space, ResolveFault, are_in_range, index_in, indices_in, operators};
+use crate::{Labels, Limit, ResolveFault, Space, are_in_range, index_in, indices_in, operators};
 use module_tree::instr::Instr;
 use module_tree::limit::LABEL_LIMIT;
 use module_tree::width::{load_width, store_width};

@@ -8,7 +8,7 @@ ghost use Rattle.text_resolve.specs.Outcome.{Gives};
 ghost use Rattle.text_resolve.specs.declared.refusal.ResolveFault.TheVariants.{NoMemory};
 ghost use Rattle.text_resolve.specs.Types.{same_types, same_func, first_type, given, is_bare, use_at};
 
-use crate::{Space, ResolveFault, index_in};
+use crate::{ResolveFault, Space, index_in};
 use std::alloc::Allocator;
 use text_body::{Binding, Index, TypeUse};
 use wtypes::{FuncType, ValType};

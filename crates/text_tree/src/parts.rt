@@ -25,7 +25,7 @@ use text_body::shared::{
     Part, bindings, close, close_behind_parts, enters, index, indices, optional_id, results,
     type_use,
 };
-use text_body::{Binding, Index, TypeUse, ParseFault};
+use text_body::{Binding, Index, ParseFault, TypeUse};
 use wtypes::ValType;
 
 /// The words that stand within fields.

@@ -9,7 +9,7 @@ ghost use Rattle.serial.specs.Going.{MayGoOn, IsEnded};
 ghost use Rattle.validator.specs.Handed.{IsMade, IsRunIn};
 ghost use Rattle.validator.specs.Jobs.{IsJob};
 
-use crate::job::{PositionResult, Job, PositionRun};
+use crate::job::{Job, PositionResult, PositionRun};
 use crate::profile::allows;
 use ahead::Ahead;
 use call::Call;

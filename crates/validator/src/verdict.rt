@@ -3,7 +3,7 @@
 ghost use Rattle.std.specs.Prelude.{IfOk};
 ghost use Rattle.validator.specs.Judged.{IsToldBy, verdict_view};
 
-use block_judge::{Reason, JudgeRefusal};
+use block_judge::{JudgeRefusal, Reason};
 use std::alloc::{Allocator, Global};
 use world::World;
 use wtypes::NoMemory;

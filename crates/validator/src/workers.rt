@@ -7,7 +7,7 @@ ghost use Rattle.validator.specs.Jobs.{IsJob};
 ghost use Rattle.validator.specs.Tried.{IsFit};
 
 use crate::attempt::attempt;
-use crate::job::{PositionResult, Job, PositionRun, WorkerRuns};
+use crate::job::{Job, PositionResult, PositionRun, WorkerRuns};
 use crate::profile::profiles_of;
 use crate::shared::Shared;
 use ahead::Ahead;

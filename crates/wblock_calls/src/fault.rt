@@ -8,7 +8,7 @@ use crate::words::{is_plain, number_of, values_of};
 use call::Call;
 use std::alloc::{AllocError, Global};
 use std::str::from_utf8;
-use wblock_words::{shown, place_line};
+use wblock_words::{place_line, shown};
 
 /// What is wrong with a word of a line that spells no call.
 #[derive(Clone, Copy, Debug, PartialEq, Eq)]

@@ -6,7 +6,6 @@ ghost use Rattle.wblock_arguments.specs.Words.{Says, HasFew};
 ghost use Rattle.wblock_commands.specs.Does.{Answers, IsMine, IsNote, MayMiss, Misses, Does, Reads, Fails, IsKept, SaysNote, SaysText};
 ghost use Rattle.wblock_arguments.specs.declared.command.Command.{Command as Asked};
 
-use wblock_arguments::{Command, command_of, tell_help, tell_version, watched_command, usage_text};
 use crate::deploy::deploy_apart;
 use crate::show_stored;
 use byte_sinks::{Sink, put_all};
@@ -14,6 +13,7 @@ use pace::Pace;
 use std::alloc::{AllocError, Global};
 use std::sync::Wait;
 use std::thread::Threads;
+use wblock_arguments::{Command, command_of, tell_help, tell_version, usage_text, watched_command};
 use wblock_blocks::{Noted, mine_block, validate_block};
 use wblock_debug::debug_world;
 use wblock_io::Files;

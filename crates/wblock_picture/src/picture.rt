@@ -7,7 +7,7 @@ use crate::boxes::boxes_of;
 use crate::head::head_of;
 use crate::lines::lines_of;
 use crate::scene::Scene;
-use crate::shown::{edges_shown, hot_shown, positions_shown, seats_shown, print_scene};
+use crate::shown::{edges_shown, hot_shown, positions_shown, print_scene, seats_shown};
 use std::alloc::{AllocError, Global};
 use wtypes::NoMemory;
 

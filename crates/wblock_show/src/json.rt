@@ -48,7 +48,11 @@ fn block_line_of(alloc: Global, block: &Block, calls: Option<&[Call]>) -> Result
 }
 
 /// The answer that tells a block, with its calls where they are known.
-fn block_answer<'a>(alloc: Global, block: &Block, calls: Option<&[Call]>) -> Result<Answer<'a>, NoMemory>
+fn block_answer<'a>(
+    alloc: Global,
+    block: &Block,
+    calls: Option<&[Call]>,
+) -> Result<Answer<'a>, NoMemory>
     ensures { IfOk result (IsJsonOf block.now (calls_of calls.entry)) }
 {
     let text = block_line_of(alloc, block, calls)?;

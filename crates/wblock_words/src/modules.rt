@@ -3,7 +3,7 @@
 ghost use Rattle.std.specs.Prelude.{◌++◌, IfOk, codes, decimal, string_bytes};
 ghost use Rattle.wblock_words.specs.Sentences.{Begins, broken_place};
 
-use crate::places::{shown, place_line};
+use crate::places::{place_line, shown};
 use body_typing::rule::Rule;
 use module_tree::limit::Limit;
 use std::alloc::{AllocError, Global};
