@@ -1,7 +1,7 @@
 //! Faults of a text.
 ghost use Rattle.assembler.specs.OfFields.{IsOfFields};
 
-use text_resolve::{AsmRefusal, Limit, Unresolved};
+use text_resolve::{AsmRefusal, Limit, ResolveFault};
 use wtypes::NoMemory;
 
 // A fault of a name or a number.
@@ -51,21 +51,21 @@ impl Faults {
     }
 
     /// A fault is met.
-    pub fn note(&mut self, fault: Unresolved) -> Result<(), NoMemory> {
+    pub fn note(&mut self, fault: ResolveFault) -> Result<(), NoMemory> {
         match fault {
-            Unresolved::UnknownName(at) => self.put(at, Fault::UnknownName),
-            Unresolved::RepeatedName(at) => self.put(at, Fault::RepeatedName),
-            Unresolved::NumberRange(at) => self.put(at, Fault::NumberRange),
-            Unresolved::TooLarge(limit) => self.pass(limit),
+            ResolveFault::UnknownName(at) => self.put(at, Fault::UnknownName),
+            ResolveFault::RepeatedName(at) => self.put(at, Fault::RepeatedName),
+            ResolveFault::NumberRange(at) => self.put(at, Fault::NumberRange),
+            ResolveFault::TooLarge(limit) => self.pass(limit),
             // No place is at fault by itself.
-            Unresolved::Broken => {}
-            Unresolved::NoMemory => return Err(NoMemory),
+            ResolveFault::Broken => {}
+            ResolveFault::NoMemory => return Err(NoMemory),
         }
         Ok(())
     }
 
     /// Notes the fault of an outcome, if it is one.
-    pub fn take<T: Drop>(&mut self, outcome: Result<T, Unresolved>) -> Result<(), NoMemory> {
+    pub fn take<T: Drop>(&mut self, outcome: Result<T, ResolveFault>) -> Result<(), NoMemory> {
         match outcome {
             Ok(_) => Ok(()),
             Err(fault) => self.note(fault),

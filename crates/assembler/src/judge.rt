@@ -7,7 +7,7 @@ ghost use Rattle.spec_binary.specs.Shortest.{shortest};
 ghost use Rattle.module_tree.specs.ModuleView.{are_numbered, func_view};
 ghost use Rattle.module_tree.specs.Modules.{module_view};
 ghost use Rattle.assembler.specs.ListsView.{lists_view, IsTooLarge};
-ghost use Rattle.assembler.specs.declared.judge.Unsealed.TheVariants as unsealed;
+ghost use Rattle.assembler.specs.declared.judge.BuildFault.TheVariants as unsealed;
 
 use crate::builder_lists::Lists;
 use crate::builder_parts::all_within;
@@ -21,7 +21,7 @@ use wtypes::NoMemory;
 
 /// Why lists are no `Module`.
 #[derive(Clone, Copy, Debug, PartialEq, Eq, Error)]
-pub enum Unsealed {
+pub enum BuildFault {
     /// They do not keep the limits of this profile.
     #[error("the module does not keep the limits of this profile")]
     TooLarge,
@@ -30,19 +30,19 @@ pub enum Unsealed {
     NoMemory,
 }
 
-impl From<AllocError> for Unsealed {
+impl From<AllocError> for BuildFault {
     ghost from_gives = { λ _ e. e ≡ unsealed.NoMemory };
 
-    fn from(_refused: AllocError) -> Unsealed {
-        Unsealed::NoMemory
+    fn from(_refused: AllocError) -> BuildFault {
+        BuildFault::NoMemory
     }
 }
 
-impl From<NoMemory> for Unsealed {
+impl From<NoMemory> for BuildFault {
     ghost from_gives = { λ _ e. e ≡ unsealed.NoMemory };
 
-    fn from(_refused: NoMemory) -> Unsealed {
-        Unsealed::NoMemory
+    fn from(_refused: NoMemory) -> BuildFault {
+        BuildFault::NoMemory
     }
 }
 
@@ -72,7 +72,7 @@ fn lists_fit<A: Allocator>(lists: &Lists<A>) -> bool
 }
 
 // Whether the shortest spelling keeps the limit on bytes.
-fn is_short<A: Allocator + Clone>(lists: &Lists<A>) -> Result<bool, Unsealed>
+fn is_short<A: Allocator + Clone>(lists: &Lists<A>) -> Result<bool, BuildFault>
     ensures short { IfOk result (λ b. b ≡ nat_le (length (shortest (lists_view lists.now))) byte_limit) }
     ensures refused { IfErr result (λ e. e ≡ unsealed.NoMemory) }
 {
@@ -98,16 +98,16 @@ fn is_short<A: Allocator + Clone>(lists: &Lists<A>) -> Result<bool, Unsealed>
 /// # Errors
 ///
 /// `TooLarge` where the lists do not keep the limits of a `Module`, and `NoMemory`.
-pub fn seal<A: Allocator + Clone>(lists: Lists<A>) -> Result<Module<A>, Unsealed>
+pub fn build_module<A: Allocator + Clone>(lists: Lists<A>) -> Result<Module<A>, BuildFault>
     requires numbered { are_numbered lists.funcs.items lists.globals.items lists.elements.items lists.datas.items ≡ true }
     ensures same { IfOk result (λ m. module_view m ≡ lists_view lists) }
     ensures refused { IfErr result (λ e. e ≡ unsealed.TooLarge → IsTooLarge (lists_view lists)) }
 {
     if !lists_fit(&lists) {
-        return Err(Unsealed::TooLarge);
+        return Err(BuildFault::TooLarge);
     }
     if !is_short(&lists)? {
-        return Err(Unsealed::TooLarge);
+        return Err(BuildFault::TooLarge);
     }
     Ok(Module {
         types: lists.types,

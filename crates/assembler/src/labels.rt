@@ -6,7 +6,7 @@ use lexer::Piece;
 use std::alloc::Allocator;
 use std::collections::HashMap;
 use text_body::Index;
-use text_resolve::{Unresolved, number};
+use text_resolve::{ResolveFault, number};
 use wtypes::NoMemory;
 
 /// The labels of the blocks that are open, the innermost last, and how many there are of each name.
@@ -63,7 +63,7 @@ impl<'a, A: Allocator + Clone> OpenLabels<'a, A> {
                 return Ok(());
             }
         }
-        faults.note(Unresolved::UnknownName(written.at))
+        faults.note(ResolveFault::UnknownName(written.at))
     }
 
     /// An index of a branch has to be a number or the name of an open block.
@@ -74,7 +74,7 @@ impl<'a, A: Allocator + Clone> OpenLabels<'a, A> {
                 if count_of(&self.counts, piece.text) > 0 {
                     return Ok(());
                 }
-                faults.note(Unresolved::UnknownName(piece.at))
+                faults.note(ResolveFault::UnknownName(piece.at))
             }
         }
     }

@@ -5,7 +5,7 @@ use lexer::Piece;
 use std::alloc::Allocator;
 use std::collections::HashMap;
 use std::hash::{BuildHasherDefault, FoldHasher};
-use text_resolve::{Space, Unresolved};
+use text_resolve::{ResolveFault, Space};
 use wtypes::NoMemory;
 
 /// How often each name stands somewhere.
@@ -29,7 +29,7 @@ fn first_use<'a, A: Allocator + Clone>(
         return Ok(None);
     };
     if count_of(counts, piece.text) > 0 {
-        faults.note(Unresolved::RepeatedName(piece.at))?;
+        faults.note(ResolveFault::RepeatedName(piece.at))?;
         return Ok(None);
     }
     counts.insert(piece.text, 1)?;

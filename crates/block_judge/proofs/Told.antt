@@ -10,7 +10,7 @@ use Rattle.spec_ledger.specs.Cells.{Cells}
 use Rattle.spec_ledger.specs.Modes.{Modes}
 use Rattle.spec_ledger.specs.Order.{turn_at}
 use Rattle.spec_execution.specs.Exec.{Executes}
-use Rattle.spec_execution.specs.Serial.{Ran}
+use Rattle.spec_execution.specs.Serial.{CallResult}
 use Rattle.spec_block.specs.Worlds.{Call, World, Position, Block, order_of, held_in}
 use Rattle.spec_block.specs.Serial.{Serial, setting_of}
 use Rattle.spec_block.specs.Bytes.{SpellsBlock}
@@ -20,11 +20,11 @@ use Rattle.block_judge.specs.Meeting.{TellsOfTheRun}
 
 -- ---- a serial run is cut at a position
 
-record IsCut (version : Version) (world : World) (calls : List Call) (order : List ℕ) (cells : Cells) (rs : List Ran) (p n : ℕ) : Type 0 where
-  before : List Ran
+record IsCut (version : Version) (world : World) (calls : List Call) (order : List ℕ) (cells : Cells) (rs : List CallResult) (p n : ℕ) : Type 0 where
+  before : List CallResult
   mid : Cells
   front : Serial version world calls (take p order) cells before mid
-  ran : Ran
+  ran : CallResult
   at : slice_get rs p ≡ Some ran
   call : Call
   listed : slice_get calls n ≡ Some call
@@ -34,7 +34,7 @@ record IsCut (version : Version) (world : World) (calls : List Call) (order : Li
 some_is : {A : Type 0} (x y : A) → Some x ≡ Some y → x ≡ y
 some_is x y e = cc e
 
-cut : (version : Version) (world : World) (calls : List Call) (order : List ℕ) (cells : Cells) (rs : List Ran) (last : Cells) (p n : ℕ)
+cut : (version : Version) (world : World) (calls : List Call) (order : List ℕ) (cells : Cells) (rs : List CallResult) (last : Cells) (p n : ℕ)
     → Serial version world calls order cells rs last → slice_get order p ≡ Some n → IsCut version world calls order cells rs p n
 cut version world calls [] cells rs last p n s e = absurd cc
 cut version world calls (m ∷ order) cells [] last p n s e = absurd s
@@ -71,14 +71,14 @@ held_again all k [] = refl
 held_again all k (e ∷ es) = ap (λ (xs : List (Lock × Mode)). e ∷ xs) (held_again all k es)
 
 -- the position of a call that came to this
-record IsSaid (ps : List Position) (p n : ℕ) (r : Ran) : Type 0 where
+record IsSaid (ps : List Position) (p n : ℕ) (r : CallResult) : Type 0 where
   position : Position
   at : slice_get ps p ≡ Some position
   number_is : position.call ≡ n
   receipt_is : position.receipt ≡ r.receipt
   held : held_in position.profile ≡ entries r.touched
 
-said : (all : List Modes) (k : ℕ) (order : List ℕ) (rs : List Ran) (p n : ℕ) (r : Ran) → slice_get order p ≡ Some n → slice_get rs p ≡ Some r → IsSaid (positions_from all k order rs) p n r
+said : (all : List Modes) (k : ℕ) (order : List ℕ) (rs : List CallResult) (p n : ℕ) (r : CallResult) → slice_get order p ≡ Some n → slice_get rs p ≡ Some r → IsSaid (positions_from all k order rs) p n r
 said all k [] rs p n r e f = absurd cc
 said all k (m ∷ order) [] p n r e f = absurd cc
 said all k (m ∷ order) (s ∷ rs) zero n r e f =
@@ -86,14 +86,14 @@ said all k (m ∷ order) (s ∷ rs) zero n r e f =
       position = record { call = m; receipt = s.receipt; profile = profile_at all k s.touched };
       at = refl;
       number_is = some_is m n e;
-      receipt_is = ap (λ (x : Ran). x.receipt) (some_is s r f);
-      held = held_again all k (entries s.touched) ∙ ap (λ (x : Ran). entries x.touched) (some_is s r f);
+      receipt_is = ap (λ (x : CallResult). x.receipt) (some_is s r f);
+      held = held_again all k (entries s.touched) ∙ ap (λ (x : CallResult). entries x.touched) (some_is s r f);
     }
 said all k (m ∷ order) (s ∷ rs) (suc p) n r e f =
     let rest : IsSaid (positions_from all (k + 1) order rs) p n r = said all (k + 1) order rs p n r e f in
     record { position = rest.position; at = rest.at; number_is = rest.number_is; receipt_is = rest.receipt_is; held = rest.held }
 
-order_again : (version : Version) (world : World) (calls : List Call) (all : List Modes) (k : ℕ) (order : List ℕ) (cells : Cells) (rs : List Ran) (last : Cells)
+order_again : (version : Version) (world : World) (calls : List Call) (all : List Modes) (k : ℕ) (order : List ℕ) (cells : Cells) (rs : List CallResult) (last : Cells)
     → Serial version world calls order cells rs last → map (λ (p : Position). p.call) (positions_from all k order rs) ≡ order
 order_again version world calls all k [] cells rs last s = refl
 order_again version world calls all k (m ∷ order) cells [] last s = absurd s
@@ -106,7 +106,7 @@ abbrev pub OneBlock : Type 0
 OneBlock = (bytes : List ℕ) (b c : Block) → SpellsBlock bytes b → SpellsBlock bytes c → b ≡ c
 
 abbrev pub OneRun : Type 0
-OneRun = (version : Version) (world : World) (calls : List Call) (order : List ℕ) (cells : Cells) (rs ss : List Ran) (l m : Cells) →
+OneRun = (version : Version) (world : World) (calls : List Call) (order : List ℕ) (cells : Cells) (rs ss : List CallResult) (l m : Cells) →
     Serial version world calls order cells rs l → Serial version world calls order cells ss m → (rs ≡ ss) × (l ≡ m)
 
 abbrev pub Exactly : Type 0

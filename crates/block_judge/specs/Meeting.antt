@@ -6,7 +6,7 @@ use Rattle.spec_ledger.specs.Cells.{Cells}
 use Rattle.spec_ledger.specs.Modes.{Modes}
 use Rattle.spec_ledger.specs.Order.{limits_of}
 use Rattle.spec_execution.specs.Exec.{Executes}
-use Rattle.spec_execution.specs.Serial.{Ran}
+use Rattle.spec_execution.specs.Serial.{CallResult}
 use Rattle.spec_block.specs.Worlds.{Call, World, Position, Block, order_of, limits, held_in}
 use Rattle.spec_block.specs.Serial.{Serial, setting_of}
 use Rattle.spec_block.specs.Bytes.{SpellsBlock}
@@ -44,7 +44,7 @@ pub record Meets (world : World) (calls : List Call) (given : Option ℕ) (bytes
   pub version_is : version ≡ block.version
   pub position : ℕ
   pub stands : slice_get (order_of block) position ≡ Some number
-  pub ran : List Ran
+  pub ran : List CallResult
   pub serial : Serial block.version world calls (take position (order_of block)) world.cells ran cells
 
 -- the call of this number does not stand in the block

@@ -25,7 +25,7 @@ pub use crate::laws::first_is_verdict;
 pub use crate::order::{judge_order, numbers_of};
 pub use crate::prefix::{Met, met_by};
 pub use crate::prefix_laws::tells_of_the_run;
-pub use crate::reason::{Reason, Unfit};
+pub use crate::reason::{JudgeRefusal, Reason};
 pub use crate::turns::judge_turns;
 use block::{Block, BlockRefusal, read_block};
 use call::Call;
@@ -46,15 +46,15 @@ pub struct Fit<A: Allocator = Global> {
 /// # Errors
 ///
 /// The bytes spell no block; or memory was refused.
-pub fn spelled_by<A: Allocator + Copy>(alloc: A, bytes: &[u8]) -> Result<Block<A>, Unfit>
+pub fn spelled_by<A: Allocator + Copy>(alloc: A, bytes: &[u8]) -> Result<Block<A>, JudgeRefusal>
     ensures spelled { IfOk result (SpellsBlock bytes.now) }
     ensures rejected { IfErr result (λ unfit. (world : TheWorld) (calls : List TheCall) (fuel : ℕ) → IfRejected unfit (IsVerdictOf world calls fuel bytes.now)) }
 {
     match read_block(alloc, bytes) {
         Ok(block) => Ok(block),
-        Err(BlockRefusal::NoMemory) => Err(Unfit::NoMemory),
+        Err(BlockRefusal::NoMemory) => Err(JudgeRefusal::NoMemory),
         Err(BlockRefusal::Malformed(_) | BlockRefusal::TooLarge) => {
-            Err(Unfit::Rejected(Reason::Malformed))
+            Err(JudgeRefusal::Rejected(Reason::Malformed))
         }
     }
 }
@@ -71,7 +71,7 @@ pub fn judge_block<A: Allocator + Copy>(
     fuel: u64,
     block: &Block<A>,
     order: &[u32],
-) -> Result<(), Unfit>
+) -> Result<(), JudgeRefusal>
     requires calls { length calls.now ≤ 65535 }
     requires order { order.now ≡ order_of block.now }
     requires few { length (order_of block.now) ≤ 65535 }
@@ -97,7 +97,7 @@ pub fn judge<A: Allocator + Copy>(
     calls: &[Call],
     fuel: u64,
     bytes: &[u8],
-) -> Result<Fit<A>, Unfit>
+) -> Result<Fit<A>, JudgeRefusal>
     requires { length calls.now ≤ 65535 }
     ensures rejected { IfErr result (λ unfit. IfRejected unfit (IsVerdictOf (world_view world.now) calls.now fuel bytes.now)) }
     ensures passed { IfOk result (λ fit. Passes (world_view world.now) calls.now fuel bytes.now fit.block) }

@@ -8,7 +8,7 @@ ghost use Rattle.block_judge.specs.Meeting.{IsVerdictWith, Meets, IsAbsent};
 
 use crate::fuel::{fuel_for, limits_in};
 use crate::place::place_of;
-use crate::{Unfit, judge};
+use crate::{JudgeRefusal, judge};
 use call::Call;
 use pace::Pace;
 use serial::serial_core;
@@ -42,7 +42,7 @@ pub fn met_by<A: Allocator + Copy, P: Pace>(
     bytes: &[u8],
     number: u32,
     pace: &P,
-) -> Result<Option<Met<A>>, Unfit>
+) -> Result<Option<Met<A>>, JudgeRefusal>
     requires { length calls.now ≤ 65535 }
     ensures rejected { IfErr result (λ unfit. IfRejected unfit (IsVerdictWith (world_view world.now) calls.now given bytes.now)) }
     ensures met { IfOk result (λ found. MatchOption found (IsAbsent (world_view world.now) calls.now given bytes.now number) (λ met. Meets (world_view world.now) calls.now given bytes.now number met.version met.cells.cells)) }

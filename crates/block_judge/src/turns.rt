@@ -13,7 +13,7 @@ ghost use Rattle.spec_block.specs.Verdicts.{HasOtherTurns, HoldsOf, IsLeast};
 ghost use Rattle.block_judge.specs.Judging.{IfRejected, IsFirstFrom, NoneFrom};
 ghost use Rattle.block_judge.specs.Turned.{lists_of};
 
-use crate::reason::{Reason, Unfit};
+use crate::reason::{JudgeRefusal, Reason};
 use block::{Block, Position};
 use lock_profile::Group;
 use spec_ledger::{Entry, Lock, Mode};
@@ -99,14 +99,14 @@ fn first_other<A: Allocator + Copy>(
 /// # Errors
 ///
 /// The turns are others (reason 7); or memory was refused.
-pub fn judge_turns<A: Allocator + Copy>(alloc: A, block: &Block<A>) -> Result<(), Unfit>
+pub fn judge_turns<A: Allocator + Copy>(alloc: A, block: &Block<A>) -> Result<(), JudgeRefusal>
     requires { length (profiles_of block.now) ≤ 65535 }
     ensures rejected { (world : TheWorld) (calls : List TheCall) (fuel : ℕ) → NoneFrom (HoldsOf world calls fuel block.now) 1 7 → IfErr result (λ unfit. IfRejected unfit (IsFirstFrom (HoldsOf world calls fuel block.now) 1)) }
     ensures passed { OnOk result ((world : TheWorld) (calls : List TheCall) (fuel : ℕ) → NoneFrom (HoldsOf world calls fuel block.now) 1 7 → NoneFrom (HoldsOf world calls fuel block.now) 1 8) }
     ensures turns { OnOk result (HaveTurns (profiles_of block.now)) }
 {
     match first_other(alloc, block.positions())? {
-        Some(position) => Err(Unfit::Rejected(Reason::BadTurns(position))),
+        Some(position) => Err(JudgeRefusal::Rejected(Reason::BadTurns(position))),
         None => Ok(()),
     }
 }

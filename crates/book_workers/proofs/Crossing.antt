@@ -17,10 +17,10 @@ use Rattle.shards.specs.contracts.sharded.Shards as book_row
 use Rattle.shards.proofs.gate.NoGate.TheSendSync as gate
 use Rattle.shards.proofs.Crossing as book
 use Rattle.serial.proofs.Crossing.{crosses, vec_send, contract_sync, cells_sync, finished_send}
-use Rattle.book_workers.proofs.brake.Brake.TheSendSync as brake
-use Rattle.book_workers.specs.contracts.attempt.Committed as committed_row
+use Rattle.book_workers.proofs.admission.AdmissionLimit.TheSendSync as admission
+use Rattle.book_workers.specs.contracts.attempt.CommittedRun as committed_row
 use Rattle.book_workers.specs.contracts.attempt.Job as job_row
-use Rattle.book_workers.specs.contracts.worker.Worked as worked_row
+use Rattle.book_workers.specs.contracts.worker.WorkerResult as worked_row
 
 module _ (B : RattleType) (g : Ghosts B.Denot) (send : IsSend B) (sync : IsSync B) (frees : Frees g g.dealloc_token) where
   touched_send : IsSend (touched_row.the_row B g)
@@ -56,7 +56,7 @@ module _ (B : RattleType) (g : Ghosts B.Denot) (send : IsSend B) (sync : IsSync 
               search (crosses, book_sync) depth 60 fits 100000,
               (
                 search (crosses, intake_sync) depth 60 fits 100000,
-                (as_row_sync (row_field (ShrRef a.mir a.lft P)) (shr_sync a.mir a.lft P pace), (search crosses depth 60 fits 100000, (search (crosses, brake.the_sync) depth 60 fits 100000, tt))),
+                (as_row_sync (row_field (ShrRef a.mir a.lft P)) (shr_sync a.mir a.lft P pace), (search crosses depth 60 fits 100000, (search (crosses, admission.the_sync) depth 60 fits 100000, tt))),
               ),
             ),
           ),

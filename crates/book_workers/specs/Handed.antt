@@ -4,8 +4,8 @@ use Rattle.spec_ledger.specs.Modes.{touched}
 use Rattle.spec_execution.specs.Configuration.{Setting}
 use Rattle.spec_execution.specs.Run.{ContractCall}
 use Rattle.interp_run.specs.Played.{Played}
-use Rattle.book_workers.specs.declared.attempt.Committed.{Committed}
-use Rattle.book_workers.specs.declared.worker.Worked.{Worked}
+use Rattle.book_workers.specs.declared.attempt.CommittedRun.{CommittedRun}
+use Rattle.book_workers.specs.declared.worker.WorkerResult.{WorkerResult}
 
 -- a run of the call of this number over these contracts
 pub record IsRunOf (setting : Setting) (calls : List ContractCall) (number : ℕ) (f : Played) : Type 0 where
@@ -13,12 +13,12 @@ pub record IsRunOf (setting : Setting) (calls : List ContractCall) (number : ℕ
   pub call_is : slice_get calls number ≡ Some f.call
 
 -- a run of a call, with the locks that it asked for
-pub record IsCommitted {A : Type 0} (setting : Setting) (calls : List ContractCall) (c : Committed A) : Type 0 where
+pub record IsCommitted {A : Type 0} (setting : Setting) (calls : List ContractCall) (c : CommittedRun A) : Type 0 where
   pub run : IsRunOf setting calls c.call c.finished
   pub locks : c.touched ≡ touched c.finished.trace
 
-abbrev pub AreAllRuns : {A : Type 0} → Setting → List ContractCall → List (Committed A) → Type 0
+abbrev pub AreAllRuns : {A : Type 0} → Setting → List ContractCall → List (CommittedRun A) → Type 0
 AreAllRuns setting calls cs = All (IsCommitted setting calls) cs
 
-abbrev pub AreRuns : {A : Type 0} → Setting → List ContractCall → Worked A → Type 0
+abbrev pub AreRuns : {A : Type 0} → Setting → List ContractCall → WorkerResult A → Type 0
 AreRuns setting calls w = AreAllRuns setting calls w.committed.items

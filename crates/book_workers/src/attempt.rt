@@ -9,7 +9,7 @@ ghost use Rattle.interp_run.specs.Progress.{IsFree, IsSameCall};
 ghost use Rattle.serial.specs.Going.{MayGoOn, IsEnded};
 ghost use Rattle.book_workers.specs.Handed.{IsRunOf, IsCommitted};
 
-use crate::brake::Brake;
+use crate::admission::AdmissionLimit;
 use boost::book::{BeginRefusal, CommitRefusal, EnterRefusal, OpRefusal, Run};
 use call::Call;
 use intake::Intake;
@@ -43,12 +43,12 @@ pub struct Job<'s, 'a, A: Allocator, P: Pace> {
     /// How often a call is tried.
     pub tries: u32,
     /// How many attempts may run at once.
-    pub brake: &'s Brake,
+    pub admission: &'s AdmissionLimit,
 }
 
 /// A run that was committed.
 #[derive(Drop)]
-pub struct Committed<'a, A: Allocator> {
+pub struct CommittedRun<'a, A: Allocator> {
     /// The position that the book answered.
     pub position: u32,
     /// The number of the call.
@@ -61,9 +61,9 @@ pub struct Committed<'a, A: Allocator> {
 
 /// What a call came to.
 #[derive(Drop)]
-pub(crate) struct Came<'a, A: Allocator> {
+pub(crate) struct CallResult<'a, A: Allocator> {
     /// Its run, where it was committed.
-    pub(crate) run: Option<Committed<'a, A>>,
+    pub(crate) run: Option<CommittedRun<'a, A>>,
     /// Whether the pace stopped the worker.
     pub(crate) stops: bool,
 }
@@ -84,7 +84,7 @@ pub fn must_stop_at<P: Pace>(pace: &P, step: Step) -> bool {
     pace.stops(step)
 }
 
-/// Why an attempt stops at an operation that was refused, where the pace stops the worker or does not. Want of memory is told
+/// Why an attempt stops at an operation that was refused, where the pace stops the worker or does not. Out of memory is told
 /// in either case.
 fn stop_at(refusal: OpRefusal, stops: bool) -> Stop
     ensures memory { (result ≡ Stop.NoMemory) ↔ (refusal ≡ OpRefusal.NoMemory) }
@@ -250,7 +250,7 @@ fn commit<'a, A: Allocator + Copy, R: Wait, P: Pace>(
     ticket: Ticket<A>,
     call: u32,
     finished: Finished<'a, A>,
-) -> Result<Came<'a, A>, Stop>
+) -> Result<CallResult<'a, A>, Stop>
     requires { IsRunOf (setting_view Two job.now.contracts.now) job.now.calls.now call finished }
     ensures { IfOk result (λ came. IfSome came.run (IsCommitted (setting_view Two job.now.contracts.now) job.now.calls.now)) }
 {
@@ -268,8 +268,8 @@ fn commit<'a, A: Allocator + Copy, R: Wait, P: Pace>(
             let Ok(touched) = touched_by(job.alloc, finished.trace()) else {
                 return Err(Stop::NoMemory);
             };
-            Ok(Came {
-                run: Some(Committed {
+            Ok(CallResult {
+                run: Some(CommittedRun {
                     position,
                     call,
                     finished,
@@ -294,7 +294,7 @@ fn attempt<'a, A: Allocator + Copy, R: Wait, P: Pace>(
     job: &Job<'_, 'a, A, P>,
     call: u32,
     nth: u32,
-) -> Result<Came<'a, A>, Stop>
+) -> Result<CallResult<'a, A>, Stop>
     requires { call < length job.now.calls.now }
     ensures { IfOk result (λ came. IfSome came.run (IsCommitted (setting_view Two job.now.contracts.now) job.now.calls.now)) }
 {
@@ -321,32 +321,32 @@ pub(crate) fn try_call<'a, A: Allocator + Copy, R: Wait, P: Pace>(
     rt: &R,
     job: &Job<'_, 'a, A, P>,
     call: u32,
-) -> Result<Came<'a, A>, NoMemory>
+) -> Result<CallResult<'a, A>, NoMemory>
     requires { call < length job.now.calls.now }
     ensures { IfOk result (λ came. IfSome came.run (IsCommitted (setting_view Two job.now.contracts.now) job.now.calls.now)) }
 {
     for nth in 0..job.tries {
-        job.brake.begin();
+        job.admission.begin();
         match attempt(rt, job, call, nth) {
             Ok(came) => {
-                job.brake.commit();
+                job.admission.commit();
                 return Ok(came);
             }
             Err(Stop::NoMemory) => {
-                job.brake.undo();
+                job.admission.undo();
                 return Err(NoMemory);
             }
             Err(Stop::Stopped) => {
-                job.brake.undo();
-                return Ok(Came {
+                job.admission.undo();
+                return Ok(CallResult {
                     run: None,
                     stops: true,
                 });
             }
-            Err(Stop::Refused) => job.brake.undo(),
+            Err(Stop::Refused) => job.admission.undo(),
         }
     }
-    Ok(Came {
+    Ok(CallResult {
         run: None,
         stops: false,
     })

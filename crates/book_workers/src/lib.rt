@@ -3,10 +3,10 @@
 //! a call is a speculative atomic action, which commits or aborts).
 #![tactic(auto)]
 
+mod admission;
 mod attempt;
-mod brake;
 mod worker;
 
-pub use crate::attempt::{Committed, Job, must_stop_at};
-pub use crate::brake::Brake;
-pub use crate::worker::{Worked, work};
+pub use crate::admission::AdmissionLimit;
+pub use crate::attempt::{CommittedRun, Job, must_stop_at};
+pub use crate::worker::{WorkerResult, work};

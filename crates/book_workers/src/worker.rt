@@ -5,7 +5,7 @@ ghost use Rattle.interp_run.specs.Callee.{setting_view};
 ghost use Rattle.intake.specs.Intakes.{IsSeatOf};
 ghost use Rattle.book_workers.specs.Handed.{AreRuns};
 
-use crate::attempt::{Came, Committed, Job, try_call};
+use crate::attempt::{CallResult, CommittedRun, Job, try_call};
 use call::Call;
 use intake::Seat;
 use pace::Pace;
@@ -15,9 +15,9 @@ use std::sync::Wait;
 
 /// What a worker hands back.
 #[derive(Drop)]
-pub struct Worked<'a, A: Allocator> {
+pub struct WorkerResult<'a, A: Allocator> {
     /// The runs that it committed.
-    pub committed: Vec<Committed<'a, A>, A>,
+    pub committed: Vec<CommittedRun<'a, A>, A>,
     /// The calls whose tries were all refused, or were stopped.
     pub set_aside: Vec<u32, A>,
 }
@@ -28,13 +28,13 @@ fn work_on<'a, A: Allocator + Copy, R: Wait, P: Pace>(
     rt: &R,
     job: &Job<'_, 'a, A, P>,
     call: u32,
-    worked: &mut Worked<'a, A>,
+    worked: &mut WorkerResult<'a, A>,
 ) -> Result<bool, NoMemory>
     requires call { call < length job.now.calls.now }
     requires runs { AreRuns (setting_view Two job.now.contracts.now) job.now.calls.now worked.old }
     ensures { OnOk result (AreRuns (setting_view Two job.now.contracts.now) job.now.calls.now worked.new) }
 {
-    let Came { run, stops } = try_call(rt, job, call)?;
+    let CallResult { run, stops } = try_call(rt, job, call)?;
     match run {
         Some(committed) => worked.committed.push(committed)?,
         None => worked.set_aside.push(call)?,
@@ -51,12 +51,12 @@ pub fn work<'a, A: Allocator + Copy, R: Wait, P: Pace>(
     rt: &R,
     job: &Job<'_, 'a, A, P>,
     mut seat: Seat,
-) -> Result<Worked<'a, A>, NoMemory>
+) -> Result<WorkerResult<'a, A>, NoMemory>
     requires calls { job.now.intake.now.limits.calls ≡ length job.now.calls.now }
     requires seat { IsSeatOf job.now.intake.now seat }
     ensures { IfOk result (AreRuns (setting_view Two job.now.contracts.now) job.now.calls.now) }
 {
-    let mut worked = Worked {
+    let mut worked = WorkerResult {
         committed: Vec::new(job.alloc),
         set_aside: Vec::new(job.alloc),
     };

@@ -14,11 +14,11 @@ use Rattle.spec_ledger.specs.Modes.{Modes, mode_of, touched}
 use Rattle.abstract_locks.specs.Table.{AllShare, asked, others}
 use Rattle.spec_ledger.specs.declared.Op.{Op}
 use Rattle.spec_ledger.specs.declared.Reply.{Reply}
-use Rattle.spec_ledger.specs.declared.Step.{Step}
+use Rattle.spec_ledger.specs.declared.TraceStep.{TraceStep}
 use Rattle.spec_ledger.specs.declared.Outcome.{Outcome}
 use Rattle.spec_ledger.specs.declared.Inverse.{Inverse}
 use Rattle.spec_ledger.specs.Cells.{Cells, lock_of, cells_after, reply_to, inverse_to}
-use Rattle.spec_ledger.specs.Book.{Attempt, Entry, Content, settled, IsLive, IsKept, IsEntry, AreDistinct, call_is_new, IsGranted, extended, after_op, after_undo, after_commit, entry_of, has_returned, back_all, fresh, after_begin, AreSideBySide, AreAllSideBySide}
+use Rattle.spec_ledger.specs.Book.{Attempt, CommittedCall, Content, settled, IsLive, IsKept, IsEntry, AreDistinct, call_is_new, IsGranted, extended, after_op, after_undo, after_commit, entry_of, has_returned, back_all, fresh, after_begin, AreSideBySide, AreAllSideBySide}
 use Rattle.spec_ledger.specs.Events.{HasNoAttempt, IsStale, BeginDone, IsFound, OpDone, IsConflict, UndoDone, CommitDone, IsOther, IsUndoneLast}
 use Rattle.spec_ledger.proofs.Kept.{All-at, All-left, All-right, live_here, live_others, beside, others_apart, IsKept-op, IsKept-undo, IsKept-commit, IsKept-begin}
 use Rattle.spec_ledger.proofs.Traces.{All-weaken}
@@ -205,12 +205,12 @@ module _ (b : Content) (counts : Counts) (rows : List Modes) (standings : List C
       let P : Attempt × List Attempt → Type 0 = λ (a, xs). IsGranted a op xs in
       conflict.refused (subst P path granted)
 
-  pub not_other : (z : Attempt) → z ≡ get_or b.attempts i z → (trace : List Step) → z.trace ≡ trace → ¬ (IsOther b call number trace)
+  pub not_other : (z : Attempt) → z ≡ get_or b.attempts i z → (trace : List TraceStep) → z.trace ≡ trace → ¬ (IsOther b call number trace)
   not_other z z_is trace e other =
       let h = only_here other.before other.attempt other.later other.found in
       other.other_trace (ap (λ (a : Attempt). a.trace) (sym h.1 ∙ at_split b.attempts i place.attempt z below_here z_is split) ∙ e)
 
-  pub trace_at : (z : Attempt) → z ≡ get_or b.attempts i z → (t : List Step) → t ≡ z.trace → HasTrace b call number t
+  pub trace_at : (z : Attempt) → z ≡ get_or b.attempts i z → (t : List TraceStep) → t ≡ z.trace → HasTrace b call number t
   trace_at z z_is t e = record {
     before = take i b.attempts;
     attempt = place.attempt;
@@ -219,7 +219,7 @@ module _ (b : Content) (counts : Counts) (rows : List Modes) (standings : List C
     trace_is = ap (λ (a : Attempt). a.trace) (at_split b.attempts i place.attempt z below_here z_is split) ∙ sym e;
   }
 
-  pub kept_trace : (z : Attempt) → z ≡ get_or b.attempts i z → (trace : List Step) → HasTrace b call number trace → z.trace ≡ trace
+  pub kept_trace : (z : Attempt) → z ≡ get_or b.attempts i z → (trace : List TraceStep) → HasTrace b call number trace → z.trace ≡ trace
   kept_trace z z_is trace h =
       ap (λ (a : Attempt). a.trace) (sym (at_split b.attempts i place.attempt z below_here z_is split) ∙ (only_here h.before h.attempt h.later h.found).1) ∙ h.trace_is
 
@@ -309,7 +309,7 @@ module _ (b : Content) (counts : Counts) (rows : List Modes) (standings : List C
         pub UndoDone-undo : UndoDone b (record b { now = now; attempts = rest }) call number
         UndoDone-undo = record { before = take i b.attempts; attempt = place.attempt; later = drop (i + 1) b.attempts; found = found_here; new_is = undone }
 
-      module _ (outcome : Outcome) (e : Entry) (e_is : e ≡ entry_of z outcome) (entries : List Entry) (entries_is : entries ≡ b.entries ++ e ∷ []) (now : Cells) (now_is : now ≡ cond (has_returned outcome) b.now (back_all is b.now)) where
+      module _ (outcome : Outcome) (e : CommittedCall) (e_is : e ≡ entry_of z outcome) (entries : List CommittedCall) (entries_is : entries ≡ b.entries ++ e ∷ []) (now : Cells) (now_is : now ≡ cond (has_returned outcome) b.now (back_all is b.now)) where
         committed : ◌≡◌ {A = Content} (record b { now = now; entries = entries; attempts = rest }) (after_commit b (take i b.attempts) place.attempt (drop (i + 1) b.attempts) outcome)
         committed = λ k. record b {
           now = (now_is ∙ ap (λ x. cond (has_returned outcome) b.now (back_all x b.now)) inverses_here) k;
@@ -318,7 +318,7 @@ module _ (b : Content) (counts : Counts) (rows : List Modes) (standings : List C
         }
 
         call_there : call ≡ e.call
-        call_there = sym (ap (λ (x : Entry). x.call) e_is ∙ ap (λ (x : Attempt). x.call) (sym same_here) ∙ place.call_is)
+        call_there = sym (ap (λ (x : CommittedCall). x.call) e_is ∙ ap (λ (x : Attempt). x.call) (sym same_here) ∙ place.call_is)
 
         pub IsBook-commit : v ≡ Committed → IsBook (record b { now = now; entries = entries; attempts = rest }) counts' rows' standings'
         IsBook-commit done = record {
@@ -334,7 +334,7 @@ module _ (b : Content) (counts : Counts) (rows : List Modes) (standings : List C
               ∙ sym (λ k. live_with 0 (rest_is k) (committed_with (entries_is k) (replicate (length b.begun) Idle)));
         }
 
-        pub CommitDone-commit : (trace : List Step) → z.trace ≡ trace → (position : ℕ) → position ≡ length b.entries → CommitDone b (record b { now = now; entries = entries; attempts = rest }) call number trace outcome position
+        pub CommitDone-commit : (trace : List TraceStep) → z.trace ≡ trace → (position : ℕ) → position ≡ length b.entries → CommitDone b (record b { now = now; entries = entries; attempts = rest }) call number trace outcome position
         CommitDone-commit trace t position p = record {
           before = take i b.attempts;
           attempt = place.attempt;
@@ -345,7 +345,7 @@ module _ (b : Content) (counts : Counts) (rows : List Modes) (standings : List C
           new_is = committed;
         }
 
-    pub other_here : (trace : List Step) → ¬ (z.trace ≡ trace) → IsOther b call number trace
+    pub other_here : (trace : List TraceStep) → ¬ (z.trace ≡ trace) → IsOther b call number trace
     other_here trace other = record {
       before = take i b.attempts;
       attempt = place.attempt;
@@ -354,16 +354,16 @@ module _ (b : Content) (counts : Counts) (rows : List Modes) (standings : List C
       other_trace = λ e. other (ap (λ (a : Attempt). a.trace) (sym same_here) ∙ e);
     }
 
-  pub trace_here : (y z : Attempt) → y ≡ get_or b.attempts i y → z ≡ get_or b.attempts i z → (t u : List Step) → y.trace ≡ t → t ≡ u → z.trace ≡ u
+  pub trace_here : (y z : Attempt) → y ≡ get_or b.attempts i y → z ≡ get_or b.attempts i z → (t u : List TraceStep) → y.trace ≡ t → t ≡ u → z.trace ≡ u
   trace_here y z e f t u is also =
       ap (λ (a : Attempt). a.trace) (sym (at_split b.attempts i place.attempt z below_here f split) ∙ at_split b.attempts i place.attempt y below_here e split) ∙ is ∙ also
 
 -- ---- how many entries there are
 
-call_below : (q : ℕ) (es : List Entry) (begun : List ℕ) → AllByRecursion (IsEntry begun) es → list_any (eqb q) (map (λ (e : Entry). e.call) es) ≡ true → q < length begun
+call_below : (q : ℕ) (es : List CommittedCall) (begun : List ℕ) → AllByRecursion (IsEntry begun) es → list_any (eqb q) (map (λ (e : CommittedCall). e.call) es) ≡ true → q < length begun
 call_below q [] begun h e = absurd (false≢true e)
 call_below q (x ∷ es) begun h e =
-    elim (eqb q x.call) as (λ b. eqb q x.call ≡ b → (b || list_any (eqb q) (map (λ (e : Entry). e.call) es)) ≡ true → q < length begun) [
+    elim (eqb q x.call) as (λ b. eqb q x.call ≡ b → (b || list_any (eqb q) (map (λ (e : CommittedCall). e.call) es)) ≡ true → q < length begun) [
       | true ↦ λ t _. subst (λ y. y < length begun) (sym (eqb-true q x.call t)) h.0.known
       | false ↦ λ _ r. call_below q es begun h.1 r
     ] refl e
@@ -371,11 +371,11 @@ call_below q (x ∷ es) begun h e =
 apart_tells : (x y : ℕ) → y ≢ x → eqb x y ≡ false
 apart_tells x y ne = ⊎_elim (λ h. absurd (ne (sym h.1))) (λ h. h.0) (eqb_tells x y)
 
-calls_apart : (x : ℕ) (es : List Entry) → call_is_new x es → AllByRecursion (λ y. eqb x y ≡ false) (map (λ (e : Entry). e.call) es)
+calls_apart : (x : ℕ) (es : List CommittedCall) → call_is_new x es → AllByRecursion (λ y. eqb x y ≡ false) (map (λ (e : CommittedCall). e.call) es)
 calls_apart x [] h = tt
 calls_apart x (e ∷ es) h = (apart_tells x e.call h.0, calls_apart x es h.1)
 
-distinct_calls : (es : List Entry) → AreDistinct es → IsDistinct eqb (map (λ (e : Entry). e.call) es)
+distinct_calls : (es : List CommittedCall) → AreDistinct es → IsDistinct eqb (map (λ (e : CommittedCall). e.call) es)
 unfolding IsDistinct
 distinct_calls [] h = tt
 distinct_calls (e ∷ es) h = (calls_apart e.call es h.0, distinct_calls es h.1)
@@ -383,8 +383,8 @@ distinct_calls (e ∷ es) h = (calls_apart e.call es h.0, distinct_calls es h.1)
 -- a position fits 32 bits
 pub few_entries : (b : Content) → IsKept b → length b.entries < 2 ^ 32
 few_entries b kept =
-    let most = length-le_from_distinct_below (map (λ (e : Entry). e.call) b.entries) (length b.begun) (distinct_calls b.entries kept.distinct) (λ q e. call_below q b.entries b.begun kept.each_entry e) in
-    let same : length (map (λ (e : Entry). e.call) b.entries) ≡ length b.entries = simp length-map in
+    let most = length-le_from_distinct_below (map (λ (e : CommittedCall). e.call) b.entries) (length b.begun) (distinct_calls b.entries kept.distinct) (λ q e. call_below q b.entries b.begun kept.each_entry e) in
+    let same : length (map (λ (e : CommittedCall). e.call) b.entries) ≡ length b.entries = simp length-map in
     let calls : length b.begun < 2 ^ 32 = kept.calls in
     omega (arith, most, same, calls)
 

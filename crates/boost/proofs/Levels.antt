@@ -4,7 +4,7 @@ use Rattle.std.proofs.lemmas.List.{take-append-drop, set-get_or}
 use Rattle.std.specs.FinMap.{empty}
 use Rattle.spec_ledger.specs.declared.Inverse.{Inverse}
 use Rattle.spec_ledger.specs.declared.Op.{Op}
-use Rattle.spec_ledger.specs.declared.Step.TheVariants.{Opened}
+use Rattle.spec_ledger.specs.declared.TraceStep.TheVariants.{Opened}
 use Rattle.spec_ledger.specs.Cells.{Cells}
 use Rattle.spec_ledger.specs.Modes.{Modes}
 use Rattle.spec_ledger.specs.Book.{Attempt, Content, IsKept, after_leave, back_all, standing_at, with_step}

@@ -4,7 +4,7 @@ use Rattle.std.proofs.lemmas.List.{append-nil, append_cancel_right, get_or-set_o
 use Rattle.std.proofs.lemmas.Option.{slice_get_within, get_or_from_slice_get}
 use Rattle.std.specs.FinMap.{empty}
 use Rattle.spec_ledger.specs.declared.Inverse.{Inverse}
-use Rattle.spec_ledger.specs.declared.Step.{Step}
+use Rattle.spec_ledger.specs.declared.TraceStep.{TraceStep}
 use Rattle.spec_ledger.specs.Cells.{Cells}
 use Rattle.spec_ledger.specs.Modes.{Modes}
 use Rattle.spec_ledger.specs.Book.{Attempt, Content, settled, IsLive, IsKept, IsEntry, call_is_new, fresh}
@@ -156,8 +156,8 @@ not_none f b call number h e =
 
 -- ---- the trace of a live attempt
 
-pub trace_not_stale : (b : Content) (call number : ℕ) (trace : List Step) → HasTrace b call number trace → ¬ (IsStale b call number)
+pub trace_not_stale : (b : Content) (call number : ℕ) (trace : List TraceStep) → HasTrace b call number trace → ¬ (IsStale b call number)
 trace_not_stale b call number trace h = found_not_stale b call number h.before h.attempt h.later h.found
 
-pub other_trace : (b : Content) (call number : ℕ) (kept trace : List Step) → HasTrace b call number kept → ¬ (kept ≡ trace) → IsOther b call number trace
+pub other_trace : (b : Content) (call number : ℕ) (kept trace : List TraceStep) → HasTrace b call number kept → ¬ (kept ≡ trace) → IsOther b call number trace
 other_trace b call number kept trace h ne = record { before = h.before; attempt = h.attempt; later = h.later; found = h.found; other_trace = λ e. ne (sym h.trace_is ∙ e) }

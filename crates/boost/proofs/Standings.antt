@@ -3,7 +3,7 @@ use Rattle.std.proofs.Common.{◌≡◌, ◌≢◌, ℕ, zero, suc, ◌+◌, ◌
 use Rattle.std.proofs.lemmas.List.{set-set, set_comm, set-get_or, get_or-set_same, get_or-set_other, get_or-replicate, length-set, length-replicate}
 use Rattle.std.proofs.lemmas.Option.{slice_get-get_or, slice_get_within, get_or_from_slice_get}
 use Rattle.std.specs.List.{AllByRecursion}
-use Rattle.spec_ledger.specs.Book.{Attempt, Entry, AreAllSideBySide, call_is_new}
+use Rattle.spec_ledger.specs.Book.{Attempt, CommittedCall, AreAllSideBySide, call_is_new}
 use Rattle.spec_ledger.specs.Events.{HasNoAttempt}
 use Rattle.boost.specs.declared.standing.CallState.{CallState}
 use Rattle.boost.specs.declared.standing.CallState.TheVariants.{Idle, Live, Committed}
@@ -12,15 +12,15 @@ use Rattle.boost.proofs.Held.{AreBelow, no_other}
 
 -- ---- committed calls
 
-pub committed_with-append : (es fs : List Entry) (s : List CallState) → committed_with (es ++ fs) s ≡ committed_with fs (committed_with es s)
+pub committed_with-append : (es fs : List CommittedCall) (s : List CallState) → committed_with (es ++ fs) s ≡ committed_with fs (committed_with es s)
 committed_with-append [] fs s = refl
 committed_with-append (e ∷ es) fs s = committed_with-append es fs (set s e.call Committed)
 
-pub length-committed_with : (es : List Entry) (s : List CallState) → length (committed_with es s) ≡ length s
+pub length-committed_with : (es : List CommittedCall) (s : List CallState) → length (committed_with es s) ≡ length s
 length-committed_with [] s = refl
 length-committed_with (e ∷ es) s = length-committed_with es (set s e.call Committed) ∙ length-set s e.call Committed
 
-uncommitted : (k : ℕ) (es : List Entry) (s : List CallState) (d : CallState) → call_is_new k es → get_or (committed_with es s) k d ≡ get_or s k d
+uncommitted : (k : ℕ) (es : List CommittedCall) (s : List CallState) (d : CallState) → call_is_new k es → get_or (committed_with es s) k d ≡ get_or s k d
 uncommitted k [] s d h = refl
 uncommitted k (e ∷ es) s d h = uncommitted k es (set s e.call Committed) d h.1 ∙ get_or-set_other s e.call k Committed d (λ p. h.0 (sym p))
 
@@ -31,11 +31,11 @@ set_committed (x ∷ s) zero (suc i) d h = h
 set_committed (x ∷ s) (suc k) zero d h = h
 set_committed (x ∷ s) (suc k) (suc i) d h = set_committed s k i d h
 
-stays_committed : (k : ℕ) (es : List Entry) (s : List CallState) (d : CallState) → get_or s k d ≡ Committed → get_or (committed_with es s) k d ≡ Committed
+stays_committed : (k : ℕ) (es : List CommittedCall) (s : List CallState) (d : CallState) → get_or s k d ≡ Committed → get_or (committed_with es s) k d ≡ Committed
 stays_committed k [] s d h = h
 stays_committed k (e ∷ es) s d h = stays_committed k es (set s e.call Committed) d (set_committed s k e.call d h)
 
-new_idle : (k : ℕ) (es : List Entry) (s : List CallState) (d : CallState) → AllByRecursion (λ e. e.call < length s) es → get_or (committed_with es s) k d ≡ Idle → call_is_new k es
+new_idle : (k : ℕ) (es : List CommittedCall) (s : List CallState) (d : CallState) → AllByRecursion (λ e. e.call < length s) es → get_or (committed_with es s) k d ≡ Idle → call_is_new k es
 new_idle k [] s d known h = tt
 new_idle k (e ∷ es) s d known h = (
   λ same.
@@ -53,7 +53,7 @@ unset_live (x ∷ s) (suc k) zero j d h = h
 unset_live (x ∷ s) (suc k) (suc i) j d h = unset_live s k i j d h
 
 -- an entry makes no call live
-never_live : (k j : ℕ) (es : List Entry) (s : List CallState) (d : CallState) → get_or (committed_with es s) k d ≡ Live j → get_or s k d ≡ Live j
+never_live : (k j : ℕ) (es : List CommittedCall) (s : List CallState) (d : CallState) → get_or (committed_with es s) k d ≡ Live j → get_or s k d ≡ Live j
 never_live k j [] s d h = h
 never_live k j (e ∷ es) s d h = unset_live s k e.call j d (never_live k j es (set s e.call Committed) d h)
 
@@ -160,7 +160,7 @@ only_live k j n (x ∷ xs) s d h =
     (only_live k j (n + 1) xs (set s x.call (Live n)) d h)
 
 -- the standing of a new call written idle
-pub still_idle : (k n : ℕ) (es : List Entry) → k < n → call_is_new k es → set (committed_with es (replicate n Idle)) k Idle ≡ committed_with es (replicate n Idle)
+pub still_idle : (k n : ℕ) (es : List CommittedCall) → k < n → call_is_new k es → set (committed_with es (replicate n Idle)) k Idle ≡ committed_with es (replicate n Idle)
 still_idle k n es below new =
     let idle : get_or (committed_with es (replicate n Idle)) k Idle ≡ Idle = uncommitted k es (replicate n Idle) Idle new ∙ get_or-replicate n k Idle Idle below in
     ap (set (committed_with es (replicate n Idle)) k) (sym idle) ∙ set-get_or (committed_with es (replicate n Idle)) k Idle
@@ -171,7 +171,7 @@ apart_right (a ∷ p) q h = apart_right p q h.1
 
 -- ---- one call of a book
 
-module _ (n : ℕ) (xs : List Attempt) (es : List Entry) (s : List CallState) (s_is : s ≡ live_with 0 xs (committed_with es (replicate n Idle))) where
+module _ (n : ℕ) (xs : List Attempt) (es : List CommittedCall) (s : List CallState) (s_is : s ≡ live_with 0 xs (committed_with es (replicate n Idle))) where
   wide_before : length (committed_with es (replicate n Idle)) ≡ n
   wide_before = length-committed_with es (replicate n Idle) ∙ length-replicate n Idle
 

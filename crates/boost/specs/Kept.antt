@@ -1,7 +1,7 @@
 -- What the type of a book keeps.
 use Rattle.std.specs.Prelude.{◌≡◌, ℕ, ◌+◌, ◌<◌, Some, List, [], ◌∷◌, ◌++◌, length, take, drop, replicate, slice_get, slice_set}
 use Rattle.std.specs.FinMap.{empty}
-use Rattle.spec_ledger.specs.Book.{Attempt, Entry, Content, IsKept}
+use Rattle.spec_ledger.specs.Book.{Attempt, CommittedCall, Content, IsKept}
 use Rattle.spec_ledger.specs.Modes.{Modes}
 use Rattle.storage.specs.Counts.{Counts}
 use Rattle.boost.specs.Counted.{live_counts}
@@ -14,7 +14,7 @@ rows_with [] rows = rows
 rows_with (a ∷ rest) rows = rows_with rest (slice_set rows a.call a.modes)
 
 -- standings of calls, where the call of each of these entries is committed
-abbrev pub committed_with : List Entry → List CallState → List CallState
+abbrev pub committed_with : List CommittedCall → List CallState → List CallState
 committed_with [] standings = standings
 committed_with (e ∷ es) standings = committed_with es (slice_set standings e.call Committed)
 

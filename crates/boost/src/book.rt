@@ -9,11 +9,11 @@ ghost use Rattle.boost.specs.Numbered.{BegunAs, BegunWith, HasTrace, IsPassed};
 ghost use Rattle.spec_ledger.specs.Modes.{ops_of};
 ghost use Rattle.std.specs.FinMap as finite;
 
-use crate::attempt::{Attempt, Entry, mode};
+use crate::attempt::{Attempt, CommittedCall, mode};
 use crate::standing::{CallState, note_places, place_of};
 use crate::trace::same_trace;
 use abstract_locks::Table;
-use spec_ledger::{Lock, Op, Outcome, Reply, Step};
+use spec_ledger::{Lock, Op, Outcome, Reply, TraceStep};
 use std::alloc::{Allocator, Global};
 use std::marker::Model;
 use storage::{Cells, NoMemory, end_all, lock, returned, take_all_back};
@@ -39,7 +39,7 @@ impl Ticket {
 #[derive(Clone, Copy)]
 pub struct Run<'a> {
     /// The operations with their replies, in order.
-    pub trace: &'a [Step],
+    pub trace: &'a [TraceStep],
     /// How it ended.
     pub outcome: Outcome,
 }
@@ -139,7 +139,7 @@ pub struct Closed<A: Allocator = Global> {
     /// The cells after every live call is undone, in which nothing is unsettled.
     pub cells: Cells<A>,
     /// The committed calls in their order.
-    pub entries: Vec<Entry<A>, A>,
+    pub entries: Vec<CommittedCall<A>, A>,
 }
 
 /// The committed calls, which are a serial run from the opening cells, and the live attempts, whose operations go together (Dickerson, Gazzillo, Herlihy, Koskinen, "Adding Concurrency to Smart Contracts", PODC 2017, sections 3 and 4). There is room for the entry of each live attempt, so that a commit takes no memory.
@@ -147,7 +147,7 @@ pub struct Book<A: Allocator = Global> {
     alloc: A,
     opening: Cells<A>,
     cells: Cells<A>,
-    entries: Vec<Entry<A>, A>,
+    entries: Vec<CommittedCall<A>, A>,
     attempts: Vec<Attempt<A>, A>,
     begun: Vec<u64, A>,
     locks: Table<A>,
@@ -269,7 +269,7 @@ impl<A: Allocator + Copy> Book<A> {
     }
 
     /// The operations that a live attempt did, with their replies, in order. None where the ticket is stale.
-    pub fn trace_of(&self, ticket: &Ticket) -> Option<&[Step]>
+    pub fn trace_of(&self, ticket: &Ticket) -> Option<&[TraceStep]>
         ensures found { IfSome result (λ trace. HasTrace self.now ticket.now.call ticket.now.number trace.now) }
         ensures stale { IfNone result (IsStale self.now ticket.now.call ticket.now.number) }
     {
@@ -281,8 +281,8 @@ impl<A: Allocator + Copy> Book<A> {
 
     /// Commits a live attempt with the trace that the book kept, for which it takes no memory, and answers its position. A stale ticket changes nothing.
     pub fn end(&mut self, ticket: Ticket, outcome: Outcome) -> Result<u32, Ticket>
-        ensures ok { IfOk result (λ position. (trace : List Step) × CommitDone self.old self.new ticket.call ticket.number trace outcome position) }
-        ensures kept { IfOk result (λ position. (trace : List Step) → HasTrace self.old ticket.call ticket.number trace → CommitDone self.old self.new ticket.call ticket.number trace outcome position) }
+        ensures ok { IfOk result (λ position. (trace : List TraceStep) × CommitDone self.old self.new ticket.call ticket.number trace outcome position) }
+        ensures kept { IfOk result (λ position. (trace : List TraceStep) → HasTrace self.old ticket.call ticket.number trace → CommitDone self.old self.new ticket.call ticket.number trace outcome position) }
         ensures stale { (result ≡ Err ticket) ↔ IsStale self.old ticket.call ticket.number }
         ensures ticket { IfErr result (λ back. back ≡ ticket) }
         ensures err { OnErr result (self.new ≡ self.old) }
@@ -492,7 +492,7 @@ impl<A: Allocator + Copy> Book<A> {
     }
 
     /// Makes these marks of levels in the attempt that was begun last and has done nothing, as one that begins in the midst of a call. The room for the marks that close its open levels is made with them. Where memory is refused, all is as it was.
-    pub fn mark(&mut self, ticket: &Ticket, marks: &[Step]) -> Result<(), NoMemory>
+    pub fn mark(&mut self, ticket: &Ticket, marks: &[TraceStep]) -> Result<(), NoMemory>
         requires newest { (former : Content) × BegunAs former self.old ticket.now.call ticket.now.number }
         requires marks { ops_of marks.now ≡ [] }
         ensures ok { OnOk result ((former : Content) → BegunAs former self.old ticket.now.call ticket.now.number → BegunWith former self.new ticket.now.call ticket.now.number marks.now) }
@@ -508,8 +508,8 @@ impl<A: Allocator + Copy> Book<A> {
 
     /// Takes the marks back that the attempt which was begun last has made, and that are all that it has done.
     pub fn unmark(&mut self, ticket: &Ticket)
-        requires { (former : Content) × (marks : List Step) × BegunWith former self.old ticket.now.call ticket.now.number marks }
-        ensures { (former : Content) → (marks : List Step) → BegunWith former self.old ticket.now.call ticket.now.number marks → BegunAs former self.new ticket.now.call ticket.now.number }
+        requires { (former : Content) × (marks : List TraceStep) × BegunWith former self.old ticket.now.call ticket.now.number marks }
+        ensures { (former : Content) → (marks : List TraceStep) → BegunWith former self.old ticket.now.call ticket.now.number marks → BegunAs former self.new ticket.now.call ticket.now.number }
     {
         let attempt = Attempt::fresh(self.alloc, ticket.call, ticket.number);
         let last = self.attempts.len() - 1;

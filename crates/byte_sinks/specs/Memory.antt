@@ -2,5 +2,5 @@
 use Rattle.std.specs.Prelude.{ℕ, List}
 use Rattle.byte_sinks.specs.declared.memory.MemorySink.{MemorySink}
 
-abbrev pub told_by : MemorySink → List ℕ
-told_by s = s.bytes.items
+abbrev pub bytes_of : MemorySink → List ℕ
+bytes_of s = s.bytes.items

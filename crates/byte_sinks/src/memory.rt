@@ -16,11 +16,11 @@ pub struct MemorySink {
 }
 
 impl MemorySink {
-    ghost use Rattle.byte_sinks.specs.Memory.{told_by};
+    ghost use Rattle.byte_sinks.specs.Memory.{bytes_of};
 
     /// An empty sink that takes at most `piece` bytes at a time, or one where that is 0.
     pub fn new(alloc: Global, piece: usize, failures: Failures) -> MemorySink
-        ensures { told_by result ≡ [] }
+        ensures { bytes_of result ≡ [] }
     {
         MemorySink {
             bytes: Vec::new(alloc),
@@ -31,7 +31,7 @@ impl MemorySink {
 
     /// The bytes put so far.
     pub fn bytes(&self) -> &[u8]
-        ensures { result.now ≡ told_by self.now }
+        ensures { result.now ≡ bytes_of self.now }
     {
         self.bytes.as_slice()
     }

@@ -10,7 +10,7 @@ use Rattle.spec_ledger.specs.declared.Op.{Op}
 use Rattle.spec_ledger.specs.declared.Op.TheVariants.{Add}
 use Rattle.spec_ledger.specs.declared.CellKey.{CellKey}
 use Rattle.spec_ledger.specs.declared.Reply.{Reply}
-use Rattle.spec_ledger.specs.declared.Step.TheVariants.{Did, Opened}
+use Rattle.spec_ledger.specs.declared.TraceStep.TheVariants.{Did, Opened}
 use Rattle.spec_ledger.specs.Cells.{Cells, AreCells, cells_after, inverse_to, back, set_at, counter, counter_at, number}
 use Rattle.spec_ledger.specs.Book.{Marked, kept_at, dropped_at, stepped, back_all}
 use Rattle.spec_ledger.proofs.Ops.{back-inverse}

@@ -10,7 +10,7 @@ pub mod memories;
 pub mod numbers;
 pub mod runs;
 pub mod sessions;
-pub mod strides;
+pub mod straight_line;
 pub mod texts;
 pub mod tokens;
 pub mod types;

@@ -5,7 +5,7 @@ ghost use Rattle.sharding.specs.Journals.{Commits, IsLive};
 
 use boost::book::CommitRefusal;
 use sharding::Journal;
-use spec_ledger::{Outcome, Step};
+use spec_ledger::{Outcome, TraceStep};
 use std::alloc::Allocator;
 
 /// As [`Journal::commit`].
@@ -13,7 +13,7 @@ pub fn commit<A: Allocator + Copy>(
     journal: &mut Journal<A>,
     call: u32,
     number: u64,
-    trace: Vec<Step, A>,
+    trace: Vec<TraceStep, A>,
     outcome: Outcome,
 ) -> Result<u32, CommitRefusal>
     ensures ok { IfOk result (λ position. Commits journal.old journal.new call number trace.items outcome position) }

@@ -8,7 +8,7 @@ ghost use Rattle.world.specs.Views.{world_view};
 ghost use Rattle.block_judge.specs.Judging.{IfRejected, IsFirstFrom, NoneFrom};
 
 use block::Block;
-use block_judge::Unfit;
+use block_judge::JudgeRefusal;
 use call::Call;
 use std::alloc::Allocator;
 use world::World;
@@ -21,7 +21,7 @@ pub fn judge_block<A: Allocator + Copy>(
     fuel: u64,
     block: &Block<A>,
     order: &[u32],
-) -> Result<(), Unfit>
+) -> Result<(), JudgeRefusal>
     requires calls { length calls.now ≤ 65535 }
     requires order { order.now ≡ order_of block.now }
     requires few { length (order_of block.now) ≤ 65535 }

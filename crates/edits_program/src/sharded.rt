@@ -1,12 +1,12 @@
 //! A shard of the book.
 
 ghost use Rattle.std.specs.Prelude.{◌≡◌, ◌↔◌, ◌++◌, ◌∷◌, [], OnOk, OnErr, Err, List, length, ◌<◌};
-ghost use Rattle.spec_ledger.specs.declared.Step.{Step};
+ghost use Rattle.spec_ledger.specs.declared.TraceStep.{TraceStep};
 ghost use Rattle.spec_ledger.specs.Events.{CommitDone, IsStale};
 ghost use Rattle.sharding.specs.Shard.{IsNext};
 
 use sharding::{EndRefusal, Shard};
-use spec_ledger::{Outcome, Step};
+use spec_ledger::{Outcome, TraceStep};
 use std::alloc::Allocator;
 
 /// As [`Shard::end`].
@@ -17,7 +17,7 @@ pub fn end<A: Allocator + Copy>(
     outcome: Outcome,
     position: u32,
 ) -> Result<(), EndRefusal>
-    ensures ok { OnOk result ((trace : List Step) × CommitDone shard.old.book shard.new.book call number trace outcome (length shard.old.book.entries)) }
+    ensures ok { OnOk result ((trace : List TraceStep) × CommitDone shard.old.book shard.new.book call number trace outcome (length shard.old.book.entries)) }
     ensures positions { OnOk result (shard.new.positions ≡ shard.old.positions ++ position ∷ []) }
     ensures stale { (result ≡ Err EndRefusal.Stale) ↔ IsStale shard.old.book call number }
     ensures position { (result ≡ Err EndRefusal.Position) ↔ (¬ (IsStale shard.old.book call number) × ¬ (IsNext shard.old.positions position)) }

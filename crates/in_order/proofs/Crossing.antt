@@ -19,9 +19,9 @@ use Rattle.typed_queue.proofs.handover.TypedQueue.TheSendSync as line
 use Rattle.typed_queue.proofs.pass.QueuePass.TheSendSync as pass
 use Rattle.in_order.specs.contracts.InOrder as job_row
 use Rattle.in_order.specs.contracts.Task as task_row
-use Rattle.in_order.specs.contracts.footprints.Share as share_row
+use Rattle.in_order.specs.contracts.footprints.SpeculativeRuns as share_row
 use Rattle.in_order.specs.contracts.line.Batch as batch_row
-use Rattle.in_order.specs.contracts.post.Post as post_row
+use Rattle.in_order.specs.contracts.post.QueueEnd as post_row
 
 module _ (B : RattleType) (g : Ghosts B.Denot) (send : IsSend B) (sync : IsSync B) (frees : Frees g g.dealloc_token) where
   touched_send : IsSend (touched_row.the_row B g)

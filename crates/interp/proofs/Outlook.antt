@@ -5,8 +5,8 @@ use Rattle.std.proofs.lemmas.Bool.{ne_eqb, eq-eqb}
 use Rattle.wtypes.specs.declared.Value.{Value}
 use Rattle.spec_ledger.specs.declared.Op.{Op}
 use Rattle.spec_ledger.specs.declared.Reply.{Reply}
-use Rattle.spec_ledger.specs.declared.Step.{Step}
-use Rattle.spec_ledger.specs.declared.Step.TheVariants.{Kept, Dropped}
+use Rattle.spec_ledger.specs.declared.TraceStep.{TraceStep}
+use Rattle.spec_ledger.specs.declared.TraceStep.TheVariants.{Kept, Dropped}
 use Rattle.wtypes.specs.declared.TrapCode.{TrapCode}
 use Rattle.spec_ledger.specs.declared.Outcome.{Outcome}
 use Rattle.spec_ledger.specs.declared.Outcome.TheVariants.{Returned, Trapped, OutOfFuel, Rejected}
@@ -68,7 +68,7 @@ and_false true = refl
 and_false false = refl
 
 -- a level that is left is no end
-back_by_in : (b : Bool) (l : Level) (outer : List Level) (st : State) (status : ℕ) (answer : ℤ) (mark : Step) (n : Next) → ending_by b (back_by l outer st status answer mark n) ≡ None
+back_by_in : (b : Bool) (l : Level) (outer : List Level) (st : State) (status : ℕ) (answer : ℤ) (mark : TraceStep) (n : Next) → ending_by b (back_by l outer st status answer mark n) ≡ None
 back_by_in b l outer st status answer mark (Asks (Ask n e v) go) = ap (λ (t : Bool). if t then Some OutOfFuel else None) (and_false b)
 back_by_in b l outer st status answer mark (Asks (Of op) go) = refl
 back_by_in b l outer st status answer mark (Asks Answer go) = refl
@@ -79,7 +79,7 @@ back_by_in b l outer st status answer mark (Returns charge vs) = refl
 back_by_in b l outer st status answer mark (Ended vs) = refl
 back_by_in b l outer st status answer mark Stuck = refl
 
-back_to_in : (b : Bool) (l : Level) (outer : List Level) (status : ℕ) (answer : ℤ) (mark : Step) (x : Config) → ending_by b (back_to l outer status answer mark x) ≡ None
+back_to_in : (b : Bool) (l : Level) (outer : List Level) (status : ℕ) (answer : ℤ) (mark : TraceStep) (x : Config) → ending_by b (back_to l outer status answer mark x) ≡ None
 back_to_in b l outer status answer mark (Running s q) = back_by_in b l outer s status answer mark (next l.contract s q)
 back_to_in b l outer status answer mark (c.Trap s t) = refl
 
@@ -212,7 +212,7 @@ falls_on s t e around = subst (λ (x : Status). ending (progress (on s x)) ≡ N
 
 -- a run never ends as a call that is refused
 module _ (n : ℕ) where
-  not_back_by : (l : Level) (outer : List Level) (st : State) (status : ℕ) (answer : ℤ) (mark : Step) (x : Next) → back_by l outer st status answer mark x ≡ Over (Rejected n) → ⊥
+  not_back_by : (l : Level) (outer : List Level) (st : State) (status : ℕ) (answer : ℤ) (mark : TraceStep) (x : Next) → back_by l outer st status answer mark x ≡ Over (Rejected n) → ⊥
   not_back_by l outer st status answer mark (Asks (Ask k e v) go) h = cc
   not_back_by l outer st status answer mark (Asks (Of op) go) h = cc
   not_back_by l outer st status answer mark (Asks Answer go) h = cc
@@ -223,7 +223,7 @@ module _ (n : ℕ) where
   not_back_by l outer st status answer mark (Ended vs) h = cc
   not_back_by l outer st status answer mark Stuck h = cc
 
-  not_back_to : (l : Level) (outer : List Level) (status : ℕ) (answer : ℤ) (mark : Step) (x : Config) → back_to l outer status answer mark x ≡ Over (Rejected n) → ⊥
+  not_back_to : (l : Level) (outer : List Level) (status : ℕ) (answer : ℤ) (mark : TraceStep) (x : Config) → back_to l outer status answer mark x ≡ Over (Rejected n) → ⊥
   not_back_to l outer status answer mark (Running s q) h = not_back_by l outer s status answer mark (next l.contract s q) h
   not_back_to l outer status answer mark (c.Trap s t) h = cc
 
@@ -260,7 +260,7 @@ module _ (n : ℕ) where
 no_rejection : (s : Seen) → IsMachine s → (n : ℕ) → s.status ≡ status.Ended (Rejected n) → ⊥
 no_rejection s m n e = by_run (over_of s m (Rejected n) e).run
   where
-    no_end : (setting : Setting) (limit used : ℕ) (a : Levels) (o : Outcome) (marks : List Step) → o ≡ Rejected n → Ends setting limit used a o marks → ⊥
+    no_end : (setting : Setting) (limit used : ℕ) (a : Levels) (o : Outcome) (marks : List TraceStep) → o ≡ Rejected n → Ends setting limit used a o marks → ⊥
     no_end setting limit used a o marks is (over u x out h) = not_config n setting x.inner x.outer x.inner.config (h ∙ ap Over is)
     no_end setting limit used a o marks is (exhausted x h) = let no : OutOfFuel ≡ Rejected n = is in cc
 

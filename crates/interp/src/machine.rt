@@ -11,15 +11,15 @@ ghost use Rattle.spec_ledger.specs.declared.Version.TheVariants.{Two};
 ghost use Rattle.interp_run.specs.Callee.{setting_view};
 
 use crate::finished::Finished;
+use crate::start::{Opened, StartRefusal, open_call, refusal_of};
+use call::Call;
+use instance::open_instance;
 use interp_run::functions::start_run;
 use interp_run::levels::no_parts;
 use interp_run::replies::take_answer;
 use interp_run::run::Run;
 use interp_run::running::{next_turn, turn_on};
-use crate::start::{Opened, StartRefusal, open_call, refusal_of};
 use interp_run::turns::{Status, Turn};
-use call::Call;
-use instance::open_instance;
 use interp_state::callee::Callee;
 use interp_state::waiting::prepare;
 use laws_soundness::deployed_calls_are_safe;

@@ -7,14 +7,14 @@ ghost use Rattle.interp_run.specs.Progress.{GoesOn, IsLeftNext};
 ghost use Rattle.interp.specs.Shown.{is_out, leaves_stack, ending, stack_shown, locals_shown, place_shown, outermost, IsShown, AreReadOf, IsReadOf, is_fallen};
 
 use crate::machine::Machine;
+use instance::Instance;
 use interp_run::run::{Level, Run};
 use interp_run::turns::Status;
-use instance::Instance;
 use interp_state::callee::Callee;
 use interp_state::copies::{copy_parts, copy_waiting};
 use interp_state::places::{height_of_call, place_in_code};
 use module_tree::module::Module;
-use spec_ledger::{NoMemory, Outcome, Step};
+use spec_ledger::{NoMemory, Outcome, TraceStep};
 use std::alloc::Allocator;
 use thiserror::Error;
 use wtypes::Value;
@@ -223,9 +223,9 @@ fn bytes_of_run<'a, A: Allocator + Copy>(
 // The same steps, with room for so many more.
 fn copy_trace<A: Allocator + Copy>(
     alloc: A,
-    trace: &[Step],
+    trace: &[TraceStep],
     more: usize,
-) -> Result<Vec<Step, A>, NoMemory>
+) -> Result<Vec<TraceStep, A>, NoMemory>
     ensures same { IfOk result (λ copy. copy.items ≡ trace.now) }
     ensures room { IfOk result (λ copy. vec_len copy + more ≤ vec_capacity copy) }
 {

@@ -8,8 +8,8 @@ use Rattle.wtypes.specs.declared.TrapCode.{TrapCode}
 use Rattle.spec_ledger.specs.declared.Op.{Op}
 use Rattle.spec_ledger.specs.declared.Reply.{Reply}
 use Rattle.spec_ledger.specs.declared.Reply.TheVariants as reply
-use Rattle.spec_ledger.specs.declared.Step.{Step}
-use Rattle.spec_ledger.specs.declared.Step.TheVariants.{Did, Opened}
+use Rattle.spec_ledger.specs.declared.TraceStep.{TraceStep}
+use Rattle.spec_ledger.specs.declared.TraceStep.TheVariants.{Did, Opened}
 use Rattle.spec_execution.specs.Configuration.{Setting, Contract, Seq, End, State, Config, Running, Trap}
 use Rattle.spec_execution.specs.Reduction.{HostEffect, Of, Asks, reduce, effect_of, replied}
 use Rattle.spec_execution.specs.Run.{Reduces, next, IsReply}
@@ -85,7 +85,7 @@ call_asked s f w op t running charge asked = subst (λ (x : Status). HasAsked (p
 })
 
 -- a turn of a charged call of `ask` or `answer`
-pub call_gone : (s : Seen) (f : ℕ) (w : View) (marks : List Step) (t : Seen) → ChargedCall s.contract s.view f w → HasGoneOn (record s { used = s.used + 1; view = w }) f marks t → HasMoved s.setting (levels s (with_tail s.tail (config s.view))) marks (progress t).config
+pub call_gone : (s : Seen) (f : ℕ) (w : View) (marks : List TraceStep) (t : Seen) → ChargedCall s.contract s.view f w → HasGoneOn (record s { used = s.used + 1; view = w }) f marks t → HasMoved s.setting (levels s (with_tail s.tail (config s.view))) marks (progress t).config
 call_gone s f w marks t charge gone = record { charged = levels s (with_tail s.tail (calling w f)); one = charged_call s f w charge; free = gone.free; pauses = gone.pauses }
 
 module _ (s : Seen) (f : ℕ) (calls : IsCalling s f) where
@@ -220,12 +220,12 @@ module _ (s : Seen) (op : Op) (r : Reply) (m : IsMachine s) (waits : s.status �
   joined_asks : next s.contract (state s.view) (joined (invoking s.view s.asked) s.tail) ≡ Asks (Of op) (λ x. joined (going_on s.view op x) s.tail)
   joined_asks = reduce_joined s.tail s.contract 0 (state s.view) [] (invoking s.view s.asked) ∙ ap (joined_next s.tail (λ ws. reduce s.contract 0 (state s.view) ws s.tail)) waiting.asks
 
-  module _ (w : View) (tail : Seq) (frees : Frees s.contract (with_tail s.tail (config (record s.view { stack = stack }))) (with_tail tail (config w))) (ordered : IsOrdered w) (ready : IsReady w) (last : w.code ≡ [] → tail ≡ End) (trace : List Step) (recorded : trace ≡ s.trace ++ Did op r ∷ []) where
+  module _ (w : View) (tail : Seq) (frees : Frees s.contract (with_tail s.tail (config (record s.view { stack = stack }))) (with_tail tail (config w))) (ordered : IsOrdered w) (ready : IsReady w) (last : w.code ≡ [] → tail ≡ End) (trace : List TraceStep) (recorded : trace ≡ s.trace ++ Did op r ∷ []) where
     freed : Frees s.contract (Running (state s.view) (joined (going_on s.view op r) s.tail)) (with_tail tail (config w))
     freed = subst (λ (x : Config). Frees s.contract (with_tail s.tail x) (with_tail tail (config w))) same_config frees
 
     come_back : Reached s.setting (first_of s) s.call.fuel trace s.used (levels s (with_tail tail (config w)))
-    come_back = subst (λ (t : List Step). Reached s.setting (first_of s) s.call.fuel t s.used (levels s (with_tail tail (config w)))) (sym recorded)
+    come_back = subst (λ (t : List TraceStep). Reached s.setting (first_of s) s.call.fuel t s.used (levels s (with_tail tail (config w)))) (sym recorded)
         (by_frees s _ s.used _ _ (reached_replied s.setting (innermost s) s.outer (first_of s) s.call.fuel s.trace s.used _ _ op _ r waiting.reached joined_asks fit) waiting.within freed)
 
     abbrev answered_seen : Seen

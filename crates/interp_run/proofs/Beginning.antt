@@ -8,7 +8,7 @@ use Rattle.wtypes.specs.declared.Value.{Value}
 use Rattle.wtypes.specs.declared.HostCall.{HostCall}
 use Rattle.wtypes.specs.declared.HostCall.TheVariants as host
 use Rattle.spec_ledger.specs.declared.Version.{Version}
-use Rattle.spec_ledger.specs.declared.Step.{Step}
+use Rattle.spec_ledger.specs.declared.TraceStep.{TraceStep}
 use Rattle.spec_ledger.specs.declared.Outcome.TheVariants.{Returned, Trapped}
 use Rattle.spec_syntax.specs.Syntax.{FuncType, Module}
 use Rattle.spec_syntax.specs.Profile.{host_type}
@@ -228,6 +228,6 @@ firsts_same s contract tail answer outermost =
 
 pub reached_at_first : (s : Seen) → s.trace ≡ [] → s.used ≡ 0 → levels s (first_config s) ≡ first_of s → Reached s.setting (first_of s) s.call.fuel s.trace s.used (levels s (first_config s))
 reached_at_first s trace used firsts =
-    subst (λ (t : List Step). Reached s.setting (first_of s) s.call.fuel t s.used (levels s (first_config s))) (sym trace)
+    subst (λ (t : List TraceStep). Reached s.setting (first_of s) s.call.fuel t s.used (levels s (first_config s))) (sym trace)
     (subst (λ (n : ℕ). Reached s.setting (first_of s) s.call.fuel [] n (levels s (first_config s))) (sym used)
     (subst (λ (a : Levels). Reached s.setting (first_of s) s.call.fuel [] 0 a) (sym firsts) at_first))

@@ -3,7 +3,7 @@ use Rattle.std.proofs.Common.{◌≡◌, ℕ, ℤ, ◌+◌, ◌≤◌, List, [],
 use Rattle.std.specs.Prelude.{◌<◌, reverse, Vec, vec_len, vec_capacity}
 use Rattle.std.proofs.lemmas.List.{reverse-append, map-append, take_more}
 use Rattle.wtypes.specs.declared.Value.{Value}
-use Rattle.spec_ledger.specs.declared.Step.{Step}
+use Rattle.spec_ledger.specs.declared.TraceStep.{TraceStep}
 use Rattle.spec_execution.specs.Configuration.{Contract, Seq}
 use Rattle.spec_execution.specs.Reduction.{Ask, Asks, most_pages}
 use Rattle.spec_execution.specs.Run.{next}
@@ -26,7 +26,7 @@ map-reverse f [] = refl
 map-reverse f (x ∷ xs) = ap (map f) (reverse-append (x ∷ []) xs) ∙ map-append f (reverse xs) (x ∷ []) ∙ ap (λ ys. ys ++ f x ∷ []) (map-reverse f xs) ∙ sym (reverse-append (f x ∷ []) (map f xs))
 
 -- room for one more and the open marks is room at each status
-pub room_for : {A : Type 0} (x : Status) (depth : ℕ) (v : Vec Step A) → vec_len v + depth < vec_capacity v → HasRoom x depth v
+pub room_for : {A : Type 0} (x : Status) (depth : ℕ) (v : Vec TraceStep A) → vec_len v + depth < vec_capacity v → HasRoom x depth v
 room_for status.Running depth v h = omega (arith, h)
 room_for (status.Fallen t) depth v h = omega (arith, h)
 room_for (status.Asking op) depth v h = h
@@ -34,7 +34,7 @@ room_for status.Closing depth v h = omega (arith, h)
 room_for (status.Ended o) depth v h = omega (arith, h)
 room_for status.NoMemory depth v h = tt
 
-pub room_kept : {A : Type 0} (x : Status) (depth : ℕ) (v : Vec Step A) → x ≡ status.Running → HasRoom x depth v → HasRoom status.Running depth v
+pub room_kept : {A : Type 0} (x : Status) (depth : ℕ) (v : Vec TraceStep A) → x ≡ status.Running → HasRoom x depth v → HasRoom status.Running depth v
 room_kept x depth v e h = subst (λ (y : Status). HasRoom y depth v) e h
 
 module _ {A : Type 0} (l c : Level A) (k : IsCopyOf l c) where

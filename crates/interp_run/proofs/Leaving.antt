@@ -4,8 +4,8 @@ use Rattle.wtypes.specs.declared.Value.{Value}
 use Rattle.wtypes.specs.declared.Value.TheVariants as value
 use Rattle.spec_ledger.specs.declared.Reply.{Reply}
 use Rattle.spec_ledger.specs.declared.Reply.TheVariants as reply
-use Rattle.spec_ledger.specs.declared.Step.{Step}
-use Rattle.spec_ledger.specs.declared.Step.TheVariants.{Opened, Kept, Dropped}
+use Rattle.spec_ledger.specs.declared.TraceStep.{TraceStep}
+use Rattle.spec_ledger.specs.declared.TraceStep.TheVariants.{Opened, Kept, Dropped}
 use Rattle.wtypes.specs.declared.TrapCode.{TrapCode}
 use Rattle.spec_execution.specs.Configuration.{Setting, Contract, Seq, End, Invoke, Config, Running, Trap, arguments, fresh}
 use Rattle.spec_execution.specs.Reduction.{HostEffect, Ask, Asks, reduce, replied}
@@ -38,14 +38,14 @@ pub asks_move : (s : Seen) (f : ℕ) (w : HostEffect) (go : Reply → Seq) → n
 asks_move s f w go e = ap (by_next s.setting (levels s (with_tail s.tail (calling s.view f))).inner s.outer (state s.view)) (joined_asks s f w go e)
 
 -- one free move with these marks, and free reductions of the level that it leads to
-module _ (s t : Seen) (a : Levels) (marks : List Step) (x : Config)
+module _ (s t : Seen) (a : Levels) (marks : List TraceStep) (x : Config)
     (first : move s.setting a ≡ On 0 marks (levels t x)) (frees : Frees t.contract x (config_of t)) where
   pub free_then : FreeMoves s.setting a marks (progress t).config
-  free_then = subst (λ (m : List Step). FreeMoves s.setting a m (progress t).config) (append-nil marks)
+  free_then = subst (λ (m : List TraceStep). FreeMoves s.setting a m (progress t).config) (append-nil marks)
       (one_more a (levels t x) (progress t).config marks [] first (frees_lifted s.setting (innermost t) t.outer x (config_of t) frees))
 
 -- the same parts of a call
-pub record IsBeside (s t : Seen) (marks : List Step) : Type 0 where
+pub record IsBeside (s t : Seen) (marks : List TraceStep) : Type 0 where
   pub setting : t.setting ≡ s.setting
   pub call : t.call ≡ s.call
   pub first : t.first ≡ s.first
@@ -54,7 +54,7 @@ pub record IsBeside (s t : Seen) (marks : List Step) : Type 0 where
   pub used : t.used ≡ s.used
 
 -- A run that has come to a configuration whose next move is free comes by it, with these marks, to the innermost level of another state of the machine.
-module _ (s t : Seen) (a : Levels) (marks : List Step) (x : Config) (beside : IsBeside s t marks)
+module _ (s t : Seen) (a : Levels) (marks : List TraceStep) (x : Config) (beside : IsBeside s t marks)
     (reached : Reached s.setting (first_of s) s.call.fuel s.trace s.used a) (within : s.used ≤ s.call.fuel) (first : move s.setting a ≡ On 0 marks (levels t x)) where
   pub within_beside : t.used ≤ t.call.fuel
   within_beside = subst (λ n. n ≤ t.call.fuel) (sym beside.used) (subst (λ (k : ContractCall). s.used ≤ k.fuel) (sym beside.call) within)
@@ -62,7 +62,7 @@ module _ (s t : Seen) (a : Levels) (marks : List Step) (x : Config) (beside : Is
   pub reached_beside : Reached t.setting (first_of t) t.call.fuel t.trace t.used (levels t x)
   reached_beside =
       subst (λ n. Reached t.setting (first_of t) t.call.fuel t.trace n (levels t x)) (sym beside.used)
-      (subst (λ (u : List Step). Reached t.setting (first_of t) t.call.fuel u s.used (levels t x)) (sym beside.trace)
+      (subst (λ (u : List TraceStep). Reached t.setting (first_of t) t.call.fuel u s.used (levels t x)) (sym beside.trace)
       (subst (λ f. Reached t.setting (first_level t.first f t.call.args) t.call.fuel (s.trace ++ marks) s.used (levels t x)) (sym beside.func)
       (subst (λ (c : Contract). Reached t.setting (first_level c s.func t.call.args) t.call.fuel (s.trace ++ marks) s.used (levels t x)) (sym beside.first)
       (subst (λ (k : ContractCall). Reached t.setting (first_level s.first s.func k.args) k.fuel (s.trace ++ marks) s.used (levels t x)) (sym beside.call)
@@ -74,7 +74,7 @@ module _ (s t : Seen) (a : Levels) (marks : List Step) (x : Config) (beside : Is
     pub live_then : IsLive t
     live_then = record { reached = by_frees t t.trace t.used x (with_tail t.tail (config t.view)) reached_beside within_beside frees; ordered = ordered; ready = ready; last = last; within = within_beside }
 
-pub same_call : (s t : Seen) (marks : List Step) → IsBeside s t marks → IsSameCall (progress s) (progress t)
+pub same_call : (s t : Seen) (marks : List TraceStep) → IsBeside s t marks → IsSameCall (progress s) (progress t)
 same_call s t marks b = record { setting = b.setting; call = b.call; contract = b.first; func = b.func }
 
 -- ---- an import that asks for no cell
@@ -164,7 +164,7 @@ leaving_dropped s m code fallen some =
     }
 
 -- what a level does that is left, by those around it
-abbrev left_to : (status : ℕ) (answer : ℤ) (mark : Step) → List Level → Move
+abbrev left_to : (status : ℕ) (answer : ℤ) (mark : TraceStep) → List Level → Move
 left_to status answer mark [] = Nowhere
 left_to status answer mark (l ∷ ls) = back_to l ls status answer mark l.config
 
@@ -178,7 +178,7 @@ module _ (s : Seen) (status_is : ℕ) (answer : ℤ) (keep : Bool) (leaving : Is
   ordered_back = ordered_with v 3 (reply.I32 (pos status_is)) room ordered stack taken
 
   module _ (w : View) (rest : Seq) (frees : Frees c (with_tail tail (config (record v { stack = stack }))) (with_tail rest (config w))) (ordered_w : IsOrdered w) (ready : IsReady w) (last : w.code ≡ [] → rest ≡ End)
-      (trace : List Step) (recorded : trace ≡ s.trace ++ mark_of keep ∷ []) (asked : ℕ) where
+      (trace : List TraceStep) (recorded : trace ≡ s.trace ++ mark_of keep ∷ []) (asked : ℕ) where
     abbrev back_seen : Seen
     back_seen = record s { trace = trace; contract = c; view = w; tail = rest; answer = answer; outer = others; status = status.Running; asked = asked }
 
@@ -218,7 +218,7 @@ module _ (s : Seen) (status_is : ℕ) (answer : ℤ) (keep : Bool) (leaving : Is
 -- the innermost level is left without what it did, and the one around it is the innermost
 module _ (s : Seen) (closes : IsToClose s) (opens : opening s.setting s.call ≡ Opens s.first s.func) (safe : IsSafe s.setting (first_of s) s.call.fuel)
     (c : Contract) (v : View) (tail : Seq) (f : ℕ) (before : ℤ) (others : List Level) (outer_is : s.outer ≡ record { contract = c; config = with_tail tail (calling v f); answer = before } ∷ others)
-    (trace : List Step) (recorded : trace ≡ s.trace ++ Dropped ∷ []) where
+    (trace : List TraceStep) (recorded : trace ≡ s.trace ++ Dropped ∷ []) where
   abbrev closed_seen : Seen
   closed_seen = record s { trace = trace; contract = c; view = v; tail = tail; answer = before; outer = others; status = status.Closing; asked = f }
 

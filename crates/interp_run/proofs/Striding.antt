@@ -8,8 +8,8 @@ use Rattle.laws_reduction.specs.Meaning.{View, config, IsOrdered, IsReady, Charg
 use Rattle.laws_reduction.specs.Tails.{with_tail}
 use Rattle.laws_reduction.specs.Rest.{Frees_join}
 use Rattle.laws_reduction.specs.Joining.{frees_joined}
-use Rattle.interp_steps.specs.Strides.{Walks, IsSafeFor}
-use Rattle.interp_steps.specs.Strides as walk
+use Rattle.interp_steps.specs.StraightLine.{Walks, IsSafeFor}
+use Rattle.interp_steps.specs.StraightLine as walk
 use Rattle.interp_run.specs.declared.turns.Status.TheVariants as status
 use Rattle.interp_run.specs.Machine.{Seen, progress, IsMachine}
 use Rattle.interp_run.specs.Going.{AreSteps}

@@ -11,8 +11,8 @@ use Rattle.link.specs.declared.deployed.Deployed.{Deployed}
 use Rattle.laws_reduction.specs.Meaning.{View, height, whole, listed, calling, invoking, state, IsOrdered}
 use Rattle.laws_reduction.specs.Tails.{with_tail}
 use Rattle.spec_ledger.specs.declared.Reply.{Reply}
-use Rattle.spec_ledger.specs.declared.Step.{Step}
-use Rattle.spec_ledger.specs.declared.Step.TheVariants.{Opened}
+use Rattle.spec_ledger.specs.declared.TraceStep.{TraceStep}
+use Rattle.spec_ledger.specs.declared.TraceStep.TheVariants.{Opened}
 use Rattle.spec_ledger.specs.declared.Version.{Version}
 use Rattle.spec_execution.specs.Reduction.{HostEffect, Ask, Asks, replied}
 use Rattle.interp_run.specs.Asked.{args_taken}
@@ -117,7 +117,7 @@ abbrev pub waiting_level : {A : Type 0} → Run A → Level A
 waiting_level r = record { lent = r.lent; argument = r.argument; parts = r.parts; waiting = r.waiting; asked = r.asked; answer = r.answer }
 
 -- another level is the innermost, with this trace, and with these levels around
-abbrev pub pushed_run : {A : Type 0} → Run A → Level A → Vec Step A → Vec (Level A) A → Run A
+abbrev pub pushed_run : {A : Type 0} → Run A → Level A → Vec TraceStep A → Vec (Level A) A → Run A
 pushed_run r l trace outer = record r { trace = trace; entered = r.entered + 1; status = status.Running; lent = l.lent; argument = l.argument; parts = l.parts; waiting = l.waiting; answer = l.answer; outer = outer }
 
 -- a level that has waited is the innermost one again

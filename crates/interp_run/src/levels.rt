@@ -20,7 +20,7 @@ use interp_state::callee::Callee;
 use interp_state::parts::Parts;
 use interp_state::waiting::{prepare, settle_all};
 use link::deployed::Deployed;
-use spec_ledger::{NoMemory, Step, Version};
+use spec_ledger::{NoMemory, TraceStep, Version};
 use std::alloc::{AllocError, Allocator};
 use std::mem;
 use wtypes::{TrapCode, Value};
@@ -91,7 +91,7 @@ fn push_level<'a, A: Allocator + Copy>(run: &mut Run<'a, A>, fresh: Level<'a, A>
     requires place { vec_len run.old.outer < vec_capacity run.old.outer }
     ensures { HasPushed run.old fresh.entry run.new }
 {
-    record_step(&mut run.trace, Step::Opened);
+    record_step(&mut run.trace, TraceStep::Opened);
     run.entered += 1;
     run.outer.push_reserved(Level {
         lent: mem::replace(&mut run.lent, fresh.lent),
@@ -106,7 +106,7 @@ fn push_level<'a, A: Allocator + Copy>(run: &mut Run<'a, A>, fresh: Level<'a, A>
 
 // Room for a level more: for what is kept of it, for its mark and the one that leaves it, and for those of the others.
 fn make_room<'a, A: Allocator + Copy>(
-    trace: &mut Vec<Step, A>,
+    trace: &mut Vec<TraceStep, A>,
     outer: &mut Vec<Level<'a, A>, A>,
 ) -> Result<(), AllocError>
     ensures trace { trace.new.items ≡ trace.old.items }
@@ -205,7 +205,7 @@ pub fn close<'a, A: Allocator + Copy>(run: &mut Run<'a, A>) -> Turn
     ensures turn { HasLeft (progress (seen run.old)) false (progress (seen run.new)) }
 {
     let level = run.outer.take_last();
-    record_step(&mut run.trace, Step::Dropped);
+    record_step(&mut run.trace, TraceStep::Dropped);
     restore(run, level);
     run.status = Status::Closing;
     Turn::Leave(false)
@@ -224,10 +224,14 @@ fn restore<'a, A: Allocator + Copy>(run: &mut Run<'a, A>, level: Level<'a, A>)
 }
 
 // How a level is left, in a trace.
-fn mark(keep: bool) -> Step
+fn mark(keep: bool) -> TraceStep
     ensures { result ≡ mark_of keep }
 {
-    if keep { Step::Kept } else { Step::Dropped }
+    if keep {
+        TraceStep::Kept
+    } else {
+        TraceStep::Dropped
+    }
 }
 
 // What an `ask` gives where the level that it entered traps.

@@ -13,7 +13,7 @@ use crate::run::Run;
 use crate::turns::Status;
 use interp_state::values::bits;
 use interp_state::waiting::settle_all;
-use spec_ledger::{CellKey, Op, Reply, Step};
+use spec_ledger::{CellKey, Op, Reply, TraceStep};
 use std::alloc::Allocator;
 use wtypes::{HostCall, Value};
 
@@ -93,7 +93,7 @@ pub fn take_answer<'a, A: Allocator + Copy>(run: &mut Run<'a, A>, reply: Reply)
 {
     if let Status::Asking(op) = run.status {
         take_reply(&mut run.parts.stack, op, reply);
-        record_step(&mut run.trace, Step::Did(op, reply));
+        record_step(&mut run.trace, TraceStep::Did(op, reply));
         run.status = Status::Running;
         settle_all(&mut run.parts, &mut run.waiting);
     }
@@ -130,7 +130,7 @@ fn replace_at<A: Allocator + Copy>(stack: &mut Vec<Value, A>, at: usize, value: 
 }
 
 // Puts a step where there is room.
-pub fn record_step<A: Allocator + Copy>(trace: &mut Vec<Step, A>, step: Step)
+pub fn record_step<A: Allocator + Copy>(trace: &mut Vec<TraceStep, A>, step: TraceStep)
     requires { vec_len trace.old < vec_capacity trace.old }
     ensures items { trace.new.items ≡ trace.old.items ++ step ∷ [] }
     ensures capacity { vec_capacity trace.new ≡ vec_capacity trace.old }

@@ -6,7 +6,7 @@ use interp_state::callee::Callee;
 use interp_state::parts::Parts;
 use interp_state::waiting::Waiting;
 use link::deployed::Deployed;
-use spec_ledger::{Step, Version};
+use spec_ledger::{TraceStep, Version};
 use std::alloc::Allocator;
 
 // A level that waits for the one that it has asked for.
@@ -32,7 +32,7 @@ pub struct Run<'a, A: Allocator + Copy> {
     pub call: &'a Call,
     pub deployed: &'a Deployed<A>,
     pub func: u32,
-    pub trace: Vec<Step, A>,
+    pub trace: Vec<TraceStep, A>,
     pub used: u64,
     pub entered: u32,
     pub status: Status,

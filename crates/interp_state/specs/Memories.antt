@@ -56,7 +56,7 @@ pub record HasPlace (o : StoreOp) (stack : List Value) : Type 0 where
   pub address_type : type_of address ≡ I32
   pub value_type : type_of value ≡ store_type o
 
--- The value was written at the address, or nothing was. A refusal for want of memory comes only in range.
+-- The value was written at the address, or nothing was. A refusal for lack of memory comes only in range.
 abbrev pub StoredAt : {U : Type 0} → StoreOp → ℕ → Memory → Value → Value → Result U StoreRefusal → Memory → Type 0
 StoredAt o offset old address value (Ok u) new =
     (bits_of address + offset + store_width o ≤ length old.bytes) × (new ≡ record old { bytes = written (bits_of address + offset) (bytes_of_number (store_width o) (bits_of value)) old.bytes })

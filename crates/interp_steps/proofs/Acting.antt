@@ -24,13 +24,13 @@ use Rattle.spec_execution.specs.Turns.{Frees, none}
 use Rattle.instance.specs.declared.Instance.{Instance}
 use Rattle.instance.specs.States.{based}
 use Rattle.interp_state.specs.Views.{items_of, opens_of, view}
-use Rattle.interp_steps.specs.Steps.{IsReadyToRun, Led, LedView, Wants}
+use Rattle.interp_steps.specs.Steps.{IsReadyToRun, LeadsTo, ViewLeadsTo, Wants}
 use Rattle.interp_state.specs.Steps.{IsOrderedParts, IsCounted, AreNumbered, EachNumbered}
 use Rattle.laws_reduction.specs.Context.{values_onto}
 use Rattle.laws_reduction.specs.Charging.{mk, local, fine_at, fine_after_at, charged_ran, charged_fell, charged_teed, between, Stands_at}
 
 module _ (c : Contract) (b : State) (es : List Open) (stack locals : List Value) (n : ℕ) (op : PlainInstr) (is : List Item) (there : height es + operands op ≤ length stack) (o : IsOrdered (mk b es stack locals (record { ordinal = n; instr = Plain op } ∷ is))) where
-  pub led : (a : After) (stack' locals' : List Value) → Did op stack locals a stack' locals' → LedView c (mk b es stack locals (record { ordinal = n; instr = Plain op } ∷ is)) a (mk b es stack' locals' is)
+  pub led : (a : After) (stack' locals' : List Value) → Did op stack locals a stack' locals' → ViewLeadsTo c (mk b es stack locals (record { ordinal = n; instr = Plain op } ∷ is)) a (mk b es stack' locals' is)
   unfolding reduce execute execute_plain
   led after.Ran stack' locals' (at_once d) =
       let r = charged_ran c b es stack locals n op is there o.stands stack' locals' d in
@@ -63,15 +63,15 @@ if_ok (Ok x) P Q f h = f x h
 if_ok (Err e) P Q f h = h
 
 pub led_parts : {A : Type 0} (l : Callee A) (p q : Parts A) (n : ℕ) (op : PlainInstr) (a : After) → IsOrderedParts p → items_of p.code.now ≡ record { ordinal = n; instr = Plain op } ∷ items_of q.code.now → q.entries ≡ p.entries → q.instance ≡ p.instance →
-    height (opens_of p.entries.items) + operands op ≤ length p.stack.items → Did op p.stack.items p.locals.items a q.stack.items q.locals.items → Led l p a q
+    height (opens_of p.entries.items) + operands op ≤ length p.stack.items → Did op p.stack.items p.locals.items a q.stack.items q.locals.items → LeadsTo l p a q
 led_parts {A} l p q n op a o here same untouched there d b safe suits =
     let c : Contract = contract_of l in
     let u : State = based b p.instance in
     let es : opens_of q.entries.items ≡ opens_of p.entries.items = ap (λ (v : Vec (Entry A) A). opens_of v.items) same in
     let oo : IsOrdered (mk u (opens_of p.entries.items) p.stack.items p.locals.items (record { ordinal = n; instr = Plain op } ∷ items_of q.code.now)) = subst (λ (x : List Item). IsOrdered (mk u (opens_of p.entries.items) p.stack.items p.locals.items x)) here (o b) in
-    subst (λ (i : Instance A). LedView c (view b p) a (mk (based b i) (opens_of q.entries.items) q.stack.items q.locals.items (items_of q.code.now))) (sym untouched)
-    (subst (λ (x : List Open). LedView c (view b p) a (mk u x q.stack.items q.locals.items (items_of q.code.now))) (sym es)
-    (subst (λ (x : List Item). LedView c (mk u (opens_of p.entries.items) p.stack.items p.locals.items x) a (mk u (opens_of p.entries.items) q.stack.items q.locals.items (items_of q.code.now))) (sym here)
+    subst (λ (i : Instance A). ViewLeadsTo c (view b p) a (mk (based b i) (opens_of q.entries.items) q.stack.items q.locals.items (items_of q.code.now))) (sym untouched)
+    (subst (λ (x : List Open). ViewLeadsTo c (view b p) a (mk u x q.stack.items q.locals.items (items_of q.code.now))) (sym es)
+    (subst (λ (x : List Item). ViewLeadsTo c (mk u (opens_of p.entries.items) p.stack.items p.locals.items x) a (mk u (opens_of p.entries.items) q.stack.items q.locals.items (items_of q.code.now))) (sym here)
     (led c u (opens_of p.entries.items) p.stack.items p.locals.items n op (items_of q.code.now) there oo a q.stack.items q.locals.items d)))
 
 -- the instruction to come finds what it takes, where it is not stuck
@@ -98,7 +98,7 @@ module _ {A : Type 0} (l : Callee A) (p q : Parts A) (rest : List (Instr A)) (r 
     pub ready_plain : (height es + operands op ≤ length p.stack.items) × IsReadyFor op p.stack.items p.locals.items
     ready_plain = place (contract_of l) (based r.base p.instance) es p.stack.items p.locals.items (items_of p.code.now) r.safe (r.ordered r.base) n op (items_of rest) is on
 
-    pub led_first : q.code.now ≡ rest → q.entries ≡ p.entries → q.instance ≡ p.instance → (a : After) → Did op p.stack.items p.locals.items a q.stack.items q.locals.items → Led l p a q
+    pub led_first : q.code.now ≡ rest → q.entries ≡ p.entries → q.instance ≡ p.instance → (a : After) → Did op p.stack.items p.locals.items a q.stack.items q.locals.items → LeadsTo l p a q
     led_first after same untouched a did = led_parts l p q n op a r.ordered (is ∙ ap (λ js. record { ordinal = n; instr = Plain op } ∷ items_of js) (sym after)) same untouched ready_plain.0 did
 
 pub counted_rest : {A : Type 0} (p q : Parts A) → q.entries ≡ p.entries → q.depth ≡ p.depth → AreNumbered q.code.now → IsCounted p → IsCounted q

@@ -19,7 +19,7 @@ use Rattle.interp_state.specs.Held.{Pushes, IsReadyToPush, IsReadyToJoin, IsRead
 use Rattle.interp_state.specs.declared.parts.Parts.{Parts}
 use Rattle.interp_state.specs.Views.{items_of, opens_of}
 use Rattle.interp_state.specs.ViewLaws.{items_nil}
-use Rattle.interp_steps.specs.Strides.{IsFirst, with_top}
+use Rattle.interp_steps.specs.StraightLine.{IsFirst, with_top}
 use Rattle.interp_steps.proofs.Acting.{place, charged_done}
 
 push_by : (locals stack : List Value) (o : PlainInstr) → (runs_on o ≡ true → IsReadyFor o stack locals) → IsReadyToPush o locals

@@ -23,7 +23,7 @@ use Rattle.laws_reduction.specs.Meaning.{Item, View, listed, put, height, frames
 use Rattle.interp_state.specs.Memories.{IsLoaded, IsNotLoaded, DidLoad, HasPlace, DidStore, DidGrow, grows, stays}
 use Rattle.spec_syntax.specs.Profile.{page_size}
 use Rattle.memory.specs.Linear.{Memory}
-use Rattle.interp_steps.specs.Steps.{LedView}
+use Rattle.interp_steps.specs.Steps.{ViewLeadsTo}
 use Rattle.interp_state.specs.declared.plain.After.{After}
 use Rattle.interp_state.specs.declared.plain.After.TheVariants as after
 use Rattle.laws_reduction.specs.Plain.{onto}
@@ -125,7 +125,7 @@ module _ (c : Contract) (v : View) (safe : IsSafeAt c v) (ordered : IsOrdered v)
     pub load_fell : (t : TrapCode) → IsNotLoaded o offset v.base.memory v.stack t → (w : View) → w.base ≡ v.base → w.entries ≡ v.entries → w.locals ≡ v.locals → ChargedTrap c v t w
     load_fell t d w = fallen t (load_is d.kept d.address d.before ∙ loaded_err s (load_type o) (load_width o) (extended o) (bits_of d.address + offset) (under d.kept) (listed is End) t d.out) w
 
-    pub load_led : (a : After) (stack : List Value) → DidLoad o offset v.base.memory v.stack a stack → (w : View) → w.base ≡ v.base → w.entries ≡ v.entries → w.stack ≡ stack → w.locals ≡ v.locals → w.code ≡ is → LedView c v a w
+    pub load_led : (a : After) (stack : List Value) → DidLoad o offset v.base.memory v.stack a stack → (w : View) → w.base ≡ v.base → w.entries ≡ v.entries → w.stack ≡ stack → w.locals ≡ v.locals → w.code ≡ is → ViewLeadsTo c v a w
     load_led after.Ran stack d w eb ee est el ec = load_charged stack d w eb ee est el ec
     load_led (after.Fell t) stack d w eb ee est el ec = load_fell t d w eb ee el
     load_led (after.Calls f) stack d w eb ee est el ec = absurd d
@@ -180,7 +180,7 @@ module _ (c : Contract) (v : View) (safe : IsSafeAt c v) (ordered : IsOrdered v)
     store_fell kept a x before lt w = fallen MemoryOutOfBounds (store_is kept a x before ∙ stored_out s (store_width o) (bits_of a + offset) (bits_of x) (under kept) (listed is End) lt) w
 
     pub store_led : (old new : Memory) → v.base.memory ≡ old.bytes → (a : After) (stack : List Value) → DidStore o offset old new v.stack a stack → (w : View) →
-        w.base ≡ record v.base { memory = new.bytes } → w.entries ≡ v.entries → w.stack ≡ stack → w.locals ≡ v.locals → w.code ≡ is → LedView c v a w
+        w.base ≡ record v.base { memory = new.bytes } → w.entries ≡ v.entries → w.stack ≡ stack → w.locals ≡ v.locals → w.code ≡ is → ViewLeadsTo c v a w
     store_led old new e after.Ran stack d w eb ee est el ec =
         store_charged stack d.address d.value d.before (subst (λ m. bits_of d.address + offset + store_width o ≤ length m) (sym e) d.fits) w
         (eb ∙ ap (λ (m : Memory). record v.base { memory = m.bytes }) d.after ∙ ap (λ m. record v.base { memory = written (bits_of d.address + offset) (bytes_of_number (store_width o) (bits_of d.value)) m }) (sym e)) ee est el ec

@@ -10,7 +10,7 @@ use Rattle.interp_state.specs.Views.{view, items_of, opens_of}
 use Rattle.laws_reduction.specs.Meaning.{Item, Scope, Loop, Open, View, outer, Begins, EachBegins, Charged}
 use Rattle.laws_reduction.specs.Branches.{IsTarget, IsJump}
 use Rattle.laws_reduction.specs.Charging.{mk}
-use Rattle.interp_steps.specs.Strides.{Walks, one_more, IsSafeFor, Branched, alone, with_loop}
+use Rattle.interp_steps.specs.StraightLine.{Walks, one_more, IsSafeFor, Branched, alone, with_loop}
 use Rattle.interp_steps.proofs.Walking.{walks_once}
 use Rattle.interp_steps.proofs.Controlling.{loop_one, opened}
 

@@ -5,7 +5,7 @@ use Rattle.std.proofs.lemmas.Bool.{eqb-true}
 use Rattle.spec_execution.specs.Configuration.{Contract}
 use Rattle.laws_reduction.specs.Meaning.{View, IsOrdered, IsSafeAt, Charged, Settles}
 use Rattle.laws_reduction.specs.Rest.{Frees_join}
-use Rattle.interp_steps.specs.Strides.{Walks, none, one_more, IsSafeFor}
+use Rattle.interp_steps.specs.StraightLine.{Walks, none, one_more, IsSafeFor}
 
 pub walks_join : (c : Contract) (u v w : View) (m n : ℕ) → Walks c u m v → Walks c v n w → Walks c u (m + n) w
 walks_join c u v w m n f (none x) = subst (λ (k : ℕ). Walks c u k v) (omega arith) f

@@ -22,18 +22,18 @@ pub record IsReadyToRun {A : Type 0} (l : Callee A) (p : Parts A) : Type 0 where
   pub ordered : IsOrderedParts p
   pub safe : IsSafeAt (contract_of l) (view base p)
 
-abbrev pub LedView : Contract → View → After → View → Type 0
-LedView c v after.Ran w = Charged c v w
-LedView c v (after.Fell t) w = ChargedTrap c v t w
-LedView c v (after.Calls f) w = ChargedCall c v f w
+abbrev pub ViewLeadsTo : Contract → View → After → View → Type 0
+ViewLeadsTo c v after.Ran w = Charged c v w
+ViewLeadsTo c v (after.Fell t) w = ChargedTrap c v t w
+ViewLeadsTo c v (after.Calls f) w = ChargedCall c v f w
 
 -- the memory may grow as far as the contract's may
 abbrev pub Suits : {A : Type 0} → Contract → Parts A → Type 0
 Suits c p = p.instance.memory.max ≡ most_pages c.version c.deployed.tree.memories
 
 -- the same for the lent contract and each state, where nothing is stuck
-abbrev pub Led : {A : Type 0} → Callee A → Parts A → After → Parts A → Type 0
-Led l p a q = (b : State) → IsSafeAt (contract_of l) (view b p) → Suits (contract_of l) p → LedView (contract_of l) (view b p) a (view b q)
+abbrev pub LeadsTo : {A : Type 0} → Callee A → Parts A → After → Parts A → Type 0
+LeadsTo l p a q = (b : State) → IsSafeAt (contract_of l) (view b p) → Suits (contract_of l) p → ViewLeadsTo (contract_of l) (view b p) a (view b q)
 
 -- an operator is to come
 pub record IsOperator {A : Type 0} (p : Parts A) (op : PlainInstr) (rest : List (Instr A)) : Type 0 where

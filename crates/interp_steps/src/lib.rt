@@ -2,4 +2,4 @@
 #![tactic(auto)]
 
 pub mod steps;
-pub mod strides;
+pub mod straight_line;

@@ -4,7 +4,7 @@ ghost use Rattle.wtypes.specs.declared.PlainInstr.TheVariants.{CallIndirect};
 ghost use Rattle.spec_numeric.specs.Operators.{bits_of};
 ghost use Rattle.spec_execution.specs.Reduction.{arity as arity_of};
 ghost use Rattle.laws_reduction.specs.Forms.{runs_on, runs_on_instance};
-ghost use Rattle.interp_steps.specs.Steps.{IsOperator, IsReadyToRun, Led, MayTake, Wants};
+ghost use Rattle.interp_steps.specs.Steps.{IsOperator, IsReadyToRun, LeadsTo, MayTake, Wants};
 ghost use Rattle.interp_state.specs.Taking.{plain_takes_memory};
 ghost use Rattle.interp_state.specs.Steps.{IsCounted};
 ghost use Rattle.interp_state.specs.Views.{items_of};
@@ -29,7 +29,7 @@ pub fn execute<'a, A: Allocator + Copy>(
 ) -> Result<After, AllocError>
     requires ready { IsReadyToRun lent.now parts.old }
     requires counted { IsCounted parts.old }
-    ensures led { IfOk result (λ a. Led lent.now parts.old a parts.new) }
+    ensures led { IfOk result (λ a. LeadsTo lent.now parts.old a parts.new) }
     ensures counted { IfOk result (λ a. IsCounted parts.new) }
     ensures max { parts.new.instance.memory.max ≡ parts.old.instance.memory.max }
     ensures takes { Wants result → MayTake (items_of parts.old.code.now) }
@@ -69,7 +69,7 @@ fn execute_operator<'a, A: Allocator + Copy>(
     requires ready { IsReadyToRun lent.now parts.old }
     requires counted { IsCounted parts.old }
     requires here { IsOperator parts.old op.now rest.now }
-    ensures led { IfOk result (λ a. Led lent.now parts.old a parts.new) }
+    ensures led { IfOk result (λ a. LeadsTo lent.now parts.old a parts.new) }
     ensures counted { IfOk result (λ a. IsCounted parts.new) }
     ensures max { parts.new.instance.memory.max ≡ parts.old.instance.memory.max }
     ensures takes { Wants result → plain_takes_memory op.now ≡ true }
@@ -128,7 +128,7 @@ fn execute_on_values<'a, A: Allocator + Copy>(
     requires counted { IsCounted parts.old }
     requires here { IsOperator parts.old op.now rest.now }
     requires on_values { runs_on op.now ≡ true }
-    ensures led { IfOk result (λ a. Led lent.now parts.old a parts.new) }
+    ensures led { IfOk result (λ a. LeadsTo lent.now parts.old a parts.new) }
     ensures counted { IfOk result (λ a. IsCounted parts.new) }
     ensures max { parts.new.instance.memory.max ≡ parts.old.instance.memory.max }
     ensures takes { Wants result → plain_takes_memory op.now ≡ true }
@@ -150,7 +150,7 @@ fn execute_on_instance<'a, A: Allocator + Copy>(
     requires counted { IsCounted parts.old }
     requires here { IsOperator parts.old op.now rest.now }
     requires on_instance { runs_on_instance op.now ≡ true }
-    ensures led { IfOk result (λ a. Led lent.now parts.old a parts.new) }
+    ensures led { IfOk result (λ a. LeadsTo lent.now parts.old a parts.new) }
     ensures counted { IfOk result (λ a. IsCounted parts.new) }
     ensures max { parts.new.instance.memory.max ≡ parts.old.instance.memory.max }
     ensures takes { Wants result → plain_takes_memory op.now ≡ true }
@@ -208,7 +208,7 @@ fn call_element<'a, A: Allocator + Copy>(
     requires ready { IsReadyToRun lent.now parts.old }
     requires counted { IsCounted parts.old }
     requires here { IsOperator parts.old (CallIndirect type_index) rest.now }
-    ensures led { Led lent.now parts.old result parts.new }
+    ensures led { LeadsTo lent.now parts.old result parts.new }
     ensures counted { IsCounted parts.new }
     ensures instance { parts.new.instance ≡ parts.old.instance }
 {

@@ -1,7 +1,7 @@
 -- Worked rows of calls between contracts.
 use Rattle.std.proofs.Common.{◌≡◌, ℕ, ◌+◌, List, [], ◌∷◌, refl, ap, arith}
-use Rattle.spec_ledger.specs.declared.Step.{Step}
-use Rattle.spec_ledger.specs.declared.Step.TheVariants.{Kept, Dropped}
+use Rattle.spec_ledger.specs.declared.TraceStep.{TraceStep}
+use Rattle.spec_ledger.specs.declared.TraceStep.TheVariants.{Kept, Dropped}
 use Rattle.spec_ledger.specs.declared.Outcome.{Outcome}
 use Rattle.spec_ledger.specs.declared.Outcome.TheVariants.{OutOfFuel}
 use Rattle.spec_ledger.specs.Cells.{Cells}
@@ -58,14 +58,14 @@ pub executes : (cells : Cells) → Executes (only asking) (tries 1) cells (after
 executes cells = record { trace = adds_in_a_level Dropped; run = level_traps; asks = refl; replies = dropped_replies cells; later_is = refl; locks_are = refl }
 
 -- how many levels were kept
-abbrev kept_in : List Step → ℕ
+abbrev kept_in : List TraceStep → ℕ
 kept_in [] = 0
 kept_in (Kept ∷ t) = 1 + kept_in t
 kept_in (_ ∷ t) = kept_in t
 
 module _ (unique : CallsAreUnique) where
   -- two runs over the cells without an entry are one
-  one : (call : ContractCall) (t u : List Step) (o p : Outcome) (m n : ℕ) → GetsReplies t empty → GetsReplies u empty → RunsWith (only asking) call t o m → RunsWith (only asking) call u p n → (t ≡ u) × (o ≡ p) × (m ≡ n)
+  one : (call : ContractCall) (t u : List TraceStep) (o p : Outcome) (m n : ℕ) → GetsReplies t empty → GetsReplies u empty → RunsWith (only asking) call t o m → RunsWith (only asking) call u p n → (t ≡ u) × (o ≡ p) × (m ≡ n)
   one call t u o p m n g h a b = unique (only asking) call (over empty) t u o p m n (answered t empty g) (answered u empty h) a b
 
   pub not_kept : RunsWith (only asking) (tries 1) (adds_in_a_level Kept) (returned 0) 13 → ⊥

@@ -3,8 +3,8 @@ use Rattle.std.proofs.Common.{◌≡◌, ℕ, zero, suc, ◌+◌, ◌≤◌, Boo
 use Rattle.std.proofs.lemmas.Bool.Decides.{nat_tests}
 use Rattle.spec_ledger.specs.declared.Op.{Op}
 use Rattle.spec_ledger.specs.declared.Reply.{Reply}
-use Rattle.spec_ledger.specs.declared.Step.{Step}
-use Rattle.spec_ledger.specs.declared.Step.TheVariants.{Did}
+use Rattle.spec_ledger.specs.declared.TraceStep.{TraceStep}
+use Rattle.spec_ledger.specs.declared.TraceStep.TheVariants.{Did}
 use Rattle.spec_ledger.specs.declared.Outcome.{Outcome}
 use Rattle.spec_ledger.specs.declared.Outcome.TheVariants.{OutOfFuel, Rejected}
 use Rattle.spec_execution.specs.Configuration.{Setting}
@@ -14,12 +14,12 @@ use Rattle.spec_execution.specs.Walk.{Point, went, advance, go_on, walk, start_a
 
 -- what a run has come to at its end
 pub record Came : Type 0 where
-  pub trace : List Step
+  pub trace : List TraceStep
   pub outcome : Outcome
   pub fuel : ℕ
 
 -- the end by what comes next, if it is one
-abbrev end_by : (limit : ℕ) → List Step → ℕ → Levels → Move → Option Came
+abbrev end_by : (limit : ℕ) → List TraceStep → ℕ → Levels → Move → Option Came
 end_by limit trace used c (Over o) = Some (record { trace = trace; outcome = o; fuel = used })
 end_by limit trace used c (On charge marks d) = cond ((charge == 1) && (used == limit)) (Some (record { trace = trace ++ closing c; outcome = OutOfFuel; fuel = used })) None
 end_by limit trace used c _ = None
@@ -27,12 +27,12 @@ end_by limit trace used c _ = None
 abbrev end_of : Setting → (limit : ℕ) → Point → Option Came
 end_of setting limit p = end_by limit p.trace p.used p.config (move setting p.config)
 
-abbrev computed_from : Setting → ℕ → (List Step → Op → Reply) → ContractCall → Opening → Option Came
+abbrev computed_from : Setting → ℕ → (List TraceStep → Op → Reply) → ContractCall → Opening → Option Came
 computed_from setting n host call (Refused code) = Some (record { trace = []; outcome = Rejected code; fuel = 0 })
 computed_from setting n host call (Opens c func) = end_of setting call.fuel (walk setting call.fuel host n (start_at (first_level c func call.args)))
 
 -- the run of a call, by so many moves
-abbrev pub computed : ℕ → Setting → (List Step → Op → Reply) → ContractCall → Option Came
+abbrev pub computed : ℕ → Setting → (List TraceStep → Op → Reply) → ContractCall → Option Came
 computed n setting host call = computed_from setting n host call (opening setting call)
 
 both : (a b : Bool) → (a && b) ≡ true → (a ≡ true) × (b ≡ true)
@@ -40,7 +40,7 @@ both true true e = (refl, refl)
 both true false e = absurd (cc)
 both false b e = absurd (cc)
 
-module _ (host : List Step → Op → Reply) (fit : (trace : List Step) (op : Op) → IsReply op (host trace op)) where
+module _ (host : List TraceStep → Op → Reply) (fit : (trace : List TraceStep) (op : Op) → IsReply op (host trace op)) where
   module _ (setting : Setting) (start : Levels) (limit : ℕ) where
     abbrev At : Point → Type 0
     At p = Reached setting start limit p.trace p.used p.config
@@ -49,7 +49,7 @@ module _ (host : List Step → Op → Reply) (fit : (trace : List Step) (op : Op
     within a b true x y e g = (grind (arith, nat_tests), cc)
     within a b false x y e g = absurd (cc)
 
-    by_move : (trace : List Step) (used : ℕ) (a : Levels) (m : Move) (p : Point) → Reached setting start limit trace used a → move setting a ≡ m → went setting limit host trace used m ≡ Some p → At p
+    by_move : (trace : List TraceStep) (used : ℕ) (a : Levels) (m : Move) (p : Point) → Reached setting start limit trace used a → move setting a ≡ m → went setting limit host trace used m ≡ Some p → At p
     by_move trace used a (On charge marks b) p r e g =
         let w = within (used + charge) limit (nat_le (used + charge) limit) _ p refl g in
         subst At w.1 (moved trace used a charge marks b r e w.0)
@@ -68,7 +68,7 @@ module _ (host : List Step → Op → Reply) (fit : (trace : List Step) (op : Op
     walked zero p r = r
     walked (suc n) p r = going_on n p (advance setting limit host p) r refl (walked n)
 
-    exhausts : (trace : List Step) (used : ℕ) (a : Levels) (charge : ℕ) (marks : List Step) (b : Levels) (t : Bool) (r : Came) → move setting a ≡ On charge marks b → ((charge == 1) && (used == limit)) ≡ t → Reached setting start limit trace used a →
+    exhausts : (trace : List TraceStep) (used : ℕ) (a : Levels) (charge : ℕ) (marks : List TraceStep) (b : Levels) (t : Bool) (r : Came) → move setting a ≡ On charge marks b → ((charge == 1) && (used == limit)) ≡ t → Reached setting start limit trace used a →
         cond t (Some (record { trace = trace ++ closing a; outcome = OutOfFuel; fuel = used })) None ≡ Some r → IsRun setting start limit r.trace r.outcome r.fuel
     exhausts trace used a charge marks b false r e test reach g = absurd (cc)
     exhausts trace used a charge marks b true r e test reach g =
@@ -85,7 +85,7 @@ module _ (host : List Step → Op → Reply) (fit : (trace : List Step) (op : Op
           trace_is = refl;
         })
 
-    ended_by : (trace : List Step) (used : ℕ) (a : Levels) (m : Move) (r : Came) → Reached setting start limit trace used a → move setting a ≡ m → end_by limit trace used a m ≡ Some r → IsRun setting start limit r.trace r.outcome r.fuel
+    ended_by : (trace : List TraceStep) (used : ℕ) (a : Levels) (m : Move) (r : Came) → Reached setting start limit trace used a → move setting a ≡ m → end_by limit trace used a m ≡ Some r → IsRun setting start limit r.trace r.outcome r.fuel
     ended_by trace used a (Over o) r reach e g =
         let same : record { trace = trace; outcome = o; fuel = used } ≡ r = cc in
         subst (λ (r : Came). IsRun setting start limit r.trace r.outcome r.fuel) same (record { before = trace; last = a; marks = []; reached = reach; ends = over used a o e; trace_is = sym (append-nil trace) })

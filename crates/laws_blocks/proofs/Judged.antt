@@ -13,7 +13,7 @@ use Rattle.spec_ledger.specs.Cells.{Cells}
 use Rattle.spec_ledger.specs.Modes.{touched}
 use Rattle.spec_ledger.specs.Order.{limits_of}
 use Rattle.spec_execution.specs.Exec.{Executes}
-use Rattle.spec_execution.specs.Serial.{Ran}
+use Rattle.spec_execution.specs.Serial.{CallResult}
 use Rattle.spec_block.specs.Worlds.{Block, Call, Position, World, limits, order_of, profiles_of}
 use Rattle.spec_block.specs.Serial.{Serial}
 use Rattle.spec_block.specs.Bytes.{IsPosition, SpellsBlock, block_bytes}
@@ -176,7 +176,7 @@ abbrev pub OneBlock : Type 0
 OneBlock = (bytes : List ℕ) (b c : Block) → SpellsBlock bytes b → SpellsBlock bytes c → b ≡ c
 
 abbrev pub OneRun : Type 0
-OneRun = (version : Version) (world : World) (calls : List Call) (order : List ℕ) (cells : Cells) (rs ss : List Ran) (l m : Cells) →
+OneRun = (version : Version) (world : World) (calls : List Call) (order : List ℕ) (cells : Cells) (rs ss : List CallResult) (l m : Cells) →
     Serial version world calls order cells rs l → Serial version world calls order cells ss m → (rs ≡ ss) × (l ≡ m)
 
 at_one : (p : ℕ) → slice_get in_order p ≡ Some 1 → p ≡ 1

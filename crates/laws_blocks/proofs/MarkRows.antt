@@ -6,8 +6,8 @@ use Rattle.spec_ledger.specs.declared.Op.TheVariants.{Get, Put}
 use Rattle.spec_ledger.specs.declared.Reply.{Reply}
 use Rattle.spec_ledger.specs.declared.Reply.TheVariants.{Nothing}
 use Rattle.spec_ledger.specs.declared.Mode.TheVariants.{Excl}
-use Rattle.spec_ledger.specs.declared.Step.{Step}
-use Rattle.spec_ledger.specs.declared.Step.TheVariants.{Did, Opened, Kept, Dropped}
+use Rattle.spec_ledger.specs.declared.TraceStep.{TraceStep}
+use Rattle.spec_ledger.specs.declared.TraceStep.TheVariants.{Did, Opened, Kept, Dropped}
 use Rattle.spec_ledger.specs.Cells.{Cells, map_at, cells_after, reply_to}
 use Rattle.spec_ledger.specs.Modes.{mode_at, ops_of}
 use Rattle.spec_ledger.specs.Book.{after, ops_after, standing, standing_at, GetsReplies}
@@ -19,7 +19,7 @@ abbrev none : Cells
 none = empty
 
 -- 1 is put; in a level of its own 2 is put, which is undone; what is there then is got
-abbrev dropped_then : Reply → List Step
+abbrev dropped_then : Reply → List TraceStep
 dropped_then got = Did (Put place 1) Nothing ∷ (Opened ∷ (Did (Put place 2) Nothing ∷ (Dropped ∷ (Did (Get place) got ∷ []))))
 
 -- what stands is the rest, what was asked for is all

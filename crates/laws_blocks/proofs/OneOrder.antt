@@ -2,7 +2,7 @@
 use Rattle.std.proofs.Common.{◌≡◌, ℕ, List, sym, ap, subst, ◌∙◌}
 use Rattle.spec_ledger.specs.declared.Version.{Version}
 use Rattle.spec_ledger.specs.Cells.{Cells}
-use Rattle.spec_execution.specs.Serial.{Ran}
+use Rattle.spec_execution.specs.Serial.{CallResult}
 use Rattle.spec_block.specs.Worlds.{Block, Call, World, order_of}
 use Rattle.spec_block.specs.Serial.{Serial}
 use Rattle.spec_block.specs.Blocks.{IsBlockOf, all_touched, block_of, world_after}
@@ -11,7 +11,7 @@ use Rattle.spec_block.proofs.Positions.{order_again}
 use Rattle.spec_block.proofs.Runs.{as_many}
 
 abbrev pub OneRun : Type 0
-OneRun = (version : Version) (world : World) (calls : List Call) (order : List ℕ) (cells : Cells) (rs ss : List Ran) (l m : Cells)
+OneRun = (version : Version) (world : World) (calls : List Call) (order : List ℕ) (cells : Cells) (rs ss : List CallResult) (l m : Cells)
     → Serial version world calls order cells rs l → Serial version world calls order cells ss m → (rs ≡ ss) × (l ≡ m)
 
 module _ (world : World) (calls : List Call) where

@@ -13,7 +13,7 @@ use Rattle.spec_ledger.specs.declared.Op.{Op}
 use Rattle.spec_ledger.specs.declared.Op.TheVariants.{Get, Has, Put, Del, Add, Total}
 use Rattle.spec_ledger.specs.declared.Reply.{Reply}
 use Rattle.spec_ledger.specs.declared.Reply.TheVariants as reply
-use Rattle.spec_ledger.specs.declared.Step.{Step}
+use Rattle.spec_ledger.specs.declared.TraceStep.{TraceStep}
 use Rattle.spec_ledger.specs.declared.Outcome.{Outcome}
 use Rattle.spec_ledger.specs.declared.Receipt.{Receipt}
 use Rattle.spec_ledger.specs.declared.Outcome.TheVariants.{Returned, Trapped, OutOfFuel, Rejected}
@@ -33,7 +33,7 @@ use Rattle.laws_blocks.proofs.Computing.{is_run}
 
 -- ---- a host of fixed replies
 
-abbrev pub says : ℕ → List Step → Op → Reply
+abbrev pub says : ℕ → List TraceStep → Op → Reply
 says n trace (Get p) = reply.I64 (pos 5)
 says n trace (Has p) = reply.I32 (pos 1)
 says n trace (Put p v) = reply.Nothing
@@ -41,7 +41,7 @@ says n trace (Del p) = reply.I32 (pos 1)
 says n trace (Add p v) = reply.Nothing
 says n trace (Total p) = reply.I64 (pos n)
 
-pub says_fit : (n : ℕ) → FitsSigned w64 (pos n) → (trace : List Step) (op : Op) → IsReply op (says n trace op)
+pub says_fit : (n : ℕ) → FitsSigned w64 (pos n) → (trace : List TraceStep) (op : Op) → IsReply op (says n trace op)
 says_fit n fit trace (Get p) = to_get p (pos 5) (omega (arith, ints))
 says_fit n fit trace (Has p) = to_has p (pos 1) (omega (arith, ints))
 says_fit n fit trace (Put p v) = to_put p v
@@ -161,7 +161,7 @@ number_got _ = 0
 
 module _ (one_way : ExecutesOneWay) where
   -- another run with the same trace has the same end
-  same_end : (setting : Setting) (call : ContractCall) (cells later : Cells) (r : Receipt) (o' : Outcome) (f' : ℕ) (m : Modes) (trace : List Step) → GetsReplies trace cells → Executes setting call cells later r m → RunsWith setting call trace o' f' → (r.outcome ≡ o') × (r.used ≡ f')
+  same_end : (setting : Setting) (call : ContractCall) (cells later : Cells) (r : Receipt) (o' : Outcome) (f' : ℕ) (m : Modes) (trace : List TraceStep) → GetsReplies trace cells → Executes setting call cells later r m → RunsWith setting call trace o' f' → (r.outcome ≡ o') × (r.used ≡ f')
   same_end setting call cells later r o' f' m trace replies e run =
       let other : Receipt = record { outcome = o'; used = f'; asks = asks_in trace } in
       let same = one_way setting call cells later (cond (has_returned o') (after trace cells) cells) r other m (touched trace) e (record { trace = trace; run = run; asks = refl; replies = replies; later_is = refl; locks_are = refl }) in

@@ -8,8 +8,8 @@ use Rattle.wtypes.specs.declared.PlainInstr.TheVariants.{Unreachable, LocalGet, 
 use Rattle.spec_syntax.specs.Syntax.{Plain, nothing}
 use Rattle.spec_ledger.specs.declared.Op.TheVariants as op
 use Rattle.spec_ledger.specs.declared.Reply.TheVariants as reply
-use Rattle.spec_ledger.specs.declared.Step.{Step}
-use Rattle.spec_ledger.specs.declared.Step.TheVariants.{Did}
+use Rattle.spec_ledger.specs.declared.TraceStep.{TraceStep}
+use Rattle.spec_ledger.specs.declared.TraceStep.TheVariants.{Did}
 use Rattle.spec_ledger.specs.declared.Outcome.TheVariants.{Returned, Trapped}
 use Rattle.spec_ledger.specs.Cells.{Cells}
 use Rattle.spec_execution.specs.Configuration.{Setting, Seq, End, Val, Code, Label, Frame, Invoke, Running, Trap}
@@ -110,7 +110,7 @@ count_start = first_level (at_0 counts) 2 (I64 (pos 9) ∷ [])
 abbrev total_to_come : Levels
 total_to_come = alone (at_0 counts) before_the_total
 
-abbrev added : List Step
+abbrev added : List TraceStep
 added = Did (op.Add nine 5) reply.Nothing ∷ []
 
 count_three : Turned (only counts) count_start 5 3 added total_to_come
@@ -161,7 +161,7 @@ after_a_trap cells = record { contract = at_0 gives_up; func = 0; starts = refl;
 -- ---- what is no state
 
 -- every turn is below the limit
-below : (setting : Setting) (start : Levels) (limit k : ℕ) (trace : List Step) (a : Levels) → Turned setting start limit (suc k) trace a → k < limit
+below : (setting : Setting) (start : Levels) (limit k : ℕ) (trace : List TraceStep) (a : Levels) → Turned setting start limit (suc k) trace a → k < limit
 below setting start limit k trace a (turned n t steps x y before lt turn) = lt
 
 pub no_fourth : (cells : Cells) (config : Levels) → IsState (only adds_seven) (on_five 3) cells 4 config → ⊥

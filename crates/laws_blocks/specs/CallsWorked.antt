@@ -17,12 +17,12 @@ use Rattle.spec_ledger.specs.declared.Outcome.{Outcome}
 use Rattle.spec_ledger.specs.declared.Outcome.TheVariants.{Returned}
 use Rattle.spec_ledger.specs.declared.Receipt.{Receipt}
 use Rattle.spec_ledger.specs.declared.Reply.TheVariants as reply
-use Rattle.spec_ledger.specs.declared.Step.{Step}
-use Rattle.spec_ledger.specs.declared.Step.TheVariants.{Did, Opened, Kept, Dropped}
+use Rattle.spec_ledger.specs.declared.TraceStep.{TraceStep}
+use Rattle.spec_ledger.specs.declared.TraceStep.TheVariants.{Did, Opened, Kept, Dropped}
 use Rattle.spec_ledger.specs.Modes.{touched}
 use Rattle.spec_execution.specs.Configuration.{Setting, Deployed, Contract, Seq, End, Val, Code, Label, Frame, State, Config, Running}
 use Rattle.spec_execution.specs.Run.{ContractCall}
-use Rattle.spec_execution.specs.Serial.{Ran}
+use Rattle.spec_execution.specs.Serial.{CallResult}
 
 -- an import of this type's number
 abbrev import_of : ℕ → HostCall → Import
@@ -133,17 +133,17 @@ abbrev pub alone_with : Outcome → (fuel : ℕ) → Receipt
 alone_with outcome fuel = record { outcome = outcome; used = fuel; asks = 0 }
 
 -- what `counts` asks, where it comes to this total
-abbrev pub adds_and_reads : (total : ℕ) → List Step
+abbrev pub adds_and_reads : (total : ℕ) → List TraceStep
 adds_and_reads total = Did (op.Add nine 5) reply.Nothing ∷ Did (op.Total nine) (reply.I64 (pos total)) ∷ []
 
 -- what `keeps` asks, where it gets this
-abbrev pub puts_and_deletes : (got : ℕ) → List Step
+abbrev pub puts_and_deletes : (got : ℕ) → List TraceStep
 puts_and_deletes got =
     Did (op.Put nine 5) reply.Nothing ∷ Did (op.Has nine) (reply.I32 (pos 1)) ∷ Did (op.Get nine) (reply.I64 (pos got))
     ∷ Did (op.Del nine) (reply.I32 (pos 1)) ∷ []
 
 -- what a call of `counts` comes to, with this total
-abbrev pub counted : (total : ℕ) → Ran
+abbrev pub counted : (total : ℕ) → CallResult
 counted total = record { receipt = alone_with (returned total) 5; touched = touched (adds_and_reads total) }
 
 -- ---- levels
@@ -156,20 +156,20 @@ abbrev pub goes_deep : (fuel : ℕ) → ContractCall
 goes_deep fuel = record { contract = 0; entry = codes "deep"; args = I64 (pos 7) ∷ []; fuel = fuel }
 
 -- so much added to the counter 7
-abbrev pub added : ℕ → Step
+abbrev pub added : ℕ → TraceStep
 added n = Did (op.Add (record { contract = 0; key = 7 }) n) reply.Nothing
 
 -- 10 are added, and 1 in a level that is left so
-abbrev pub adds_in_a_level : (mark : Step) → List Step
+abbrev pub adds_in_a_level : (mark : TraceStep) → List TraceStep
 adds_in_a_level mark = added 10 ∷ Opened ∷ added 1 ∷ mark ∷ []
 
-abbrev pub adds_ten : List Step
+abbrev pub adds_ten : List TraceStep
 adds_ten = added 10 ∷ []
 
-abbrev pub four_levels : List Step
+abbrev pub four_levels : List TraceStep
 four_levels = Opened ∷ Opened ∷ Opened ∷ Opened ∷ Kept ∷ Kept ∷ Kept ∷ Kept ∷ []
 
-abbrev pub two_levels : List Step
+abbrev pub two_levels : List TraceStep
 two_levels = Opened ∷ Opened ∷ Dropped ∷ Dropped ∷ []
 
 -- ---- states

@@ -9,8 +9,8 @@ use Rattle.spec_syntax.specs.Shape.{instr_preorder, instr_at}
 use Rattle.spec_syntax.specs.Profile.{frame_limit}
 use Rattle.spec_ledger.specs.declared.Reply.{Reply}
 use Rattle.spec_ledger.specs.declared.Reply.TheVariants as reply
-use Rattle.spec_ledger.specs.declared.Step.{Step}
-use Rattle.spec_ledger.specs.declared.Step.TheVariants.{Kept, Dropped}
+use Rattle.spec_ledger.specs.declared.TraceStep.{TraceStep}
+use Rattle.spec_ledger.specs.declared.TraceStep.TheVariants.{Kept, Dropped}
 use Rattle.spec_execution.specs.Configuration.{Setting, Contract, Function, Hosted, Defined, function_at, function_type, Seq, End, Val, Code, Free, Label, Frame, Invoke, code, values, arguments, State, Config, Running, Trap}
 use Rattle.spec_execution.specs.Reduction.{Of, Ask, Answer, Next, Goes, Traps, Asks, Branches, Returns, Ended, Stuck, with_values, found, zero_of, invoke, execute, in_label, in_frame, reduce}
 use Rattle.spec_execution.specs.Run.{next, IsCharged, Opening, Refused, Opens, after_start}
@@ -176,7 +176,7 @@ MoveGood (Over o) = Unit {0}
 MoveGood Nowhere = Unit {0}
 
 module _ (setting : Setting) (kept : PlacesAreKept) where
-  back_by_good : (l : Level) (outer : List Level) (s : State) (status : ℕ) (answer : ℤ) (mark : Step) (x : Next) → IsPlacedNext l.contract nothing x → AllGood outer → MoveGood (back_by l outer s status answer mark x)
+  back_by_good : (l : Level) (outer : List Level) (s : State) (status : ℕ) (answer : ℤ) (mark : TraceStep) (x : Next) → IsPlacedNext l.contract nothing x → AllGood outer → MoveGood (back_by l outer s status answer mark x)
   back_by_good l outer s status answer mark (Asks (Ask n e v) go) g rest = (g (reply.I32 (pos status)), rest)
   back_by_good l outer s status answer mark (Asks (Of op) go) g rest = tt
   back_by_good l outer s status answer mark (Asks Answer go) g rest = tt
@@ -187,7 +187,7 @@ module _ (setting : Setting) (kept : PlacesAreKept) where
   back_by_good l outer s status answer mark (Ended vs) g rest = tt
   back_by_good l outer s status answer mark Stuck g rest = tt
 
-  back_good : (l : Level) (outer : List Level) (status : ℕ) (answer : ℤ) (mark : Step) (x : Config) → Good l.contract x → AllGood outer → MoveGood (back_to l outer status answer mark x)
+  back_good : (l : Level) (outer : List Level) (status : ℕ) (answer : ℤ) (mark : TraceStep) (x : Config) → Good l.contract x → AllGood outer → MoveGood (back_to l outer status answer mark x)
   back_good l outer status answer mark (Running s q) h rest = back_by_good l outer s status answer mark (next l.contract s q) (kept l.contract nothing 0 s [] q h) rest
   back_good l outer status answer mark (Trap s t) h rest = tt
 
@@ -223,7 +223,7 @@ module _ (setting : Setting) (kept : PlacesAreKept) where
   move_good : (a : Levels) → AreGood a → MoveGood (move setting a)
   move_good a h = by_config_good a.inner a.outer a.inner.config h.0 h.0 h.1
 
-  reached_good : (start : Levels) (limit : ℕ) (trace : List Step) (used : ℕ) (a : Levels) → AreGood start → Reached setting start limit trace used a → AreGood a
+  reached_good : (start : Levels) (limit : ℕ) (trace : List TraceStep) (used : ℕ) (a : Levels) → AreGood start → Reached setting start limit trace used a → AreGood a
   reached_good start limit trace used a h at_first = h
   reached_good start limit trace used a h (moved t u b n marks x r e le) = subst MoveGood e (move_good b (reached_good start limit t u b h r))
   reached_good start limit trace used a h (replied t u b op go r before e is) = subst MoveGood e (move_good b (reached_good start limit t u b h before)) r

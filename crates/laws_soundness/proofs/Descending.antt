@@ -7,8 +7,8 @@ use Rattle.wtypes.specs.declared.TrapCode.{TrapCode}
 use Rattle.spec_ledger.specs.declared.Op.{Op}
 use Rattle.spec_ledger.specs.declared.Reply.{Reply}
 use Rattle.spec_ledger.specs.declared.Reply.TheVariants as reply
-use Rattle.spec_ledger.specs.declared.Step.{Step}
-use Rattle.spec_ledger.specs.declared.Step.TheVariants.{Opened, Kept, Dropped}
+use Rattle.spec_ledger.specs.declared.TraceStep.{TraceStep}
+use Rattle.spec_ledger.specs.declared.TraceStep.TheVariants.{Opened, Kept, Dropped}
 use Rattle.spec_ledger.specs.declared.Outcome.{Outcome}
 use Rattle.spec_ledger.proofs.Traces.{IsMark}
 use Rattle.spec_execution.specs.Configuration.{Setting, Contract, Seq, End, Invoke, arguments, State, Config, Running, Trap}
@@ -95,7 +95,7 @@ lighter_back l outer y x lt =
     let one = unit_counts (room (l ∷ outer)) in
     omega (arith, less, one, units_step (config_weight x) (unit (room (l ∷ outer))))
 
-back_by_lighter : (l : Level) (outer : List Level) (s : State) (q : Seq) (status : ℕ) (answer : ℤ) (mark : Step) (x : Config) (n : Next) → IsMark mark → l.config ≡ Running s q → Ending (weight q) n →
+back_by_lighter : (l : Level) (outer : List Level) (s : State) (q : Seq) (status : ℕ) (answer : ℤ) (mark : TraceStep) (x : Config) (n : Next) → IsMark mark → l.config ≡ Running s q → Ending (weight q) n →
     Lighter (weight_with x (l ∷ outer)) (back_by l outer s status answer mark n)
 back_by_lighter l outer s q status answer mark x (Asks (Ask c e v) go) is here g =
     let r = reply.I32 (pos status) in
@@ -111,7 +111,7 @@ back_by_lighter l outer s q status answer mark x (Returns charge vs) is here g =
 back_by_lighter l outer s q status answer mark x (Ended vs) is here g = tt
 back_by_lighter l outer s q status answer mark x Stuck is here g = tt
 
-back_lighter : (l : Level) (outer : List Level) (status : ℕ) (answer : ℤ) (mark : Step) (x y : Config) → IsMark mark → l.config ≡ y → Lighter (weight_with x (l ∷ outer)) (back_to l outer status answer mark y)
+back_lighter : (l : Level) (outer : List Level) (status : ℕ) (answer : ℤ) (mark : TraceStep) (x y : Config) → IsMark mark → l.config ≡ y → Lighter (weight_with x (l ∷ outer)) (back_to l outer status answer mark y)
 back_lighter l outer status answer mark x (Running s q) is here = back_by_lighter l outer s q status answer mark x (next l.contract s q) is here (weighed l.contract 0 s [] q)
 back_lighter l outer status answer mark x (Trap s t) is here = tt
 

@@ -9,8 +9,8 @@ use Rattle.spec_syntax.specs.Syntax.{FuncType, Func, ExportDesc, ExportFunc, Exp
 use Rattle.spec_ledger.specs.declared.Op.{Op}
 use Rattle.spec_ledger.specs.declared.Reply.{Reply}
 use Rattle.spec_ledger.specs.declared.Reply.TheVariants as reply
-use Rattle.spec_ledger.specs.declared.Step.{Step}
-use Rattle.spec_ledger.specs.declared.Step.TheVariants.{Kept, Dropped}
+use Rattle.spec_ledger.specs.declared.TraceStep.{TraceStep}
+use Rattle.spec_ledger.specs.declared.TraceStep.TheVariants.{Kept, Dropped}
 use Rattle.spec_numeric.specs.Operators.{same_type}
 use Rattle.spec_typing.specs.Linking.{IsLinked}
 use Rattle.spec_execution.specs.Configuration.{Setting, Deployed, Contract, Function, Hosted, Defined, function_at, function_type, Seq, End, Invoke, arguments, State, Config, Running, Trap}
@@ -101,7 +101,7 @@ module _ (setting : Setting) (all : AreLinked setting.contracts) where
   -- ---- what a level does
 
   module _ (to : List ValType) where
-    back_typed : (o : Level) (os : List Level) (status : ℕ) (answer : ℤ) (mark : Step) → LevelTyped o (leaves os to) → IsWaiting o → AllWait os to → MoveTyped to (back_to o os status answer mark o.config)
+    back_typed : (o : Level) (os : List Level) (status : ℕ) (answer : ℤ) (mark : TraceStep) → LevelTyped o (leaves os to) → IsWaiting o → AllWait os to → MoveTyped to (back_to o os status answer mark o.config)
     back_typed o os status answer mark h w rest =
         let n = level_next o (leaves os to) w.state w.seq h w.config_is in
         subst (λ (x : Config). MoveTyped to (back_to o os status answer mark x)) (sym w.config_is)
@@ -158,7 +158,7 @@ module _ (setting : Setting) (call : ContractCall) (c : Contract) (func : ℕ) (
   start_typed : LevelsTyped (reverse is_open.type.results) (first_level c func call.args)
   start_typed = (record { linked = linked; config = (fresh_typed c.deployed linked, first_typed c.deployed linked call.args func is_open) }, tt)
 
-  reached : (trace : List Step) (used : ℕ) (a : Levels) → Reached setting (first_level c func call.args) call.fuel trace used a → LevelsTyped (reverse is_open.type.results) a
+  reached : (trace : List TraceStep) (used : ℕ) (a : Levels) → Reached setting (first_level c func call.args) call.fuel trace used a → LevelsTyped (reverse is_open.type.results) a
   reached trace used a at_first = start_typed
   reached trace used a (moved t u b n marks x r e le) = subst (MoveTyped (reverse is_open.type.results)) e (move_typed setting all (reverse is_open.type.results) b (reached t u b r))
   reached trace used a (replied t u b op go r before e is) = subst (MoveTyped (reverse is_open.type.results)) e (move_typed setting all (reverse is_open.type.results) b (reached t u b before)) r is

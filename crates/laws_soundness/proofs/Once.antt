@@ -9,7 +9,7 @@ use Rattle.spec_execution.specs.Configuration.{Setting}
 use Rattle.spec_execution.specs.Run.{ContractCall, Opening, Refused, Opens, opening}
 use Rattle.spec_execution.specs.Levels.{first_level, refused, ran, asks_in}
 use Rattle.spec_execution.specs.Exec.{Executes}
-use Rattle.spec_execution.specs.Serial.{Ran, Serial}
+use Rattle.spec_execution.specs.Serial.{CallResult, Serial}
 use Rattle.spec_execution.specs.Unique.{ExecutesOneWay}
 use Rattle.laws_soundness.specs.Laws.{AreLinked, DeployedCallsAreSafe}
 use Rattle.laws_soundness.specs.Once.{AreNumbersOf, ExecutesOnce, RunsSerially}
@@ -49,7 +49,7 @@ module _ (safe : DeployedCallsAreSafe) (one_way : ExecutesOneWay) (setting : Set
       only = alone;
     }
       where
-        alone : (rs : List Ran) (last : Cells) → Serial setting calls (n ∷ order) cells rs last → (rs ≡ record { receipt = e.receipt; touched = e.locks } ∷ rest.ran) × (last ≡ rest.last)
+        alone : (rs : List CallResult) (last : Cells) → Serial setting calls (n ∷ order) cells rs last → (rs ≡ record { receipt = e.receipt; touched = e.locks } ∷ rest.ran) × (last ≡ rest.last)
         alone [] last h = absurd h
         alone (r ∷ rs) last h =
             let same : h.0 ≡ call = (let both : Some (h.0) ≡ Some call = sym h.2 ∙ at in cc) in
@@ -57,7 +57,7 @@ module _ (safe : DeployedCallsAreSafe) (one_way : ExecutesOneWay) (setting : Set
             let others = rest.only rs last (subst (λ (x : Cells). Serial setting calls order x rs last) here.0 h.4) in
             (λ i. record { receipt = here.1 i; touched = here.2 i } ∷ others.0 i, others.1)
 
-    nothing_runs : (cells : Cells) (rs : List Ran) (last : Cells) → Serial setting calls [] cells rs last → (rs ≡ []) × (last ≡ cells)
+    nothing_runs : (cells : Cells) (rs : List CallResult) (last : Cells) → Serial setting calls [] cells rs last → (rs ≡ []) × (last ≡ cells)
     nothing_runs cells [] last h = (refl, h)
     nothing_runs cells (r ∷ rs) last h = absurd h
 

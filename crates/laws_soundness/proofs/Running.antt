@@ -8,8 +8,8 @@ use Rattle.std.specs.FinMap.{get}
 use Rattle.spec_ledger.specs.declared.Op.{Op}
 use Rattle.spec_ledger.specs.declared.Op.TheVariants.{Get, Has, Put, Del, Add, Total}
 use Rattle.spec_ledger.specs.declared.Reply.{Reply}
-use Rattle.spec_ledger.specs.declared.Step.{Step}
-use Rattle.spec_ledger.specs.declared.Step.TheVariants.{Did, Dropped}
+use Rattle.spec_ledger.specs.declared.TraceStep.{TraceStep}
+use Rattle.spec_ledger.specs.declared.TraceStep.TheVariants.{Did, Dropped}
 use Rattle.spec_ledger.specs.declared.Outcome.{Outcome}
 use Rattle.spec_ledger.specs.declared.Outcome.TheVariants.{OutOfFuel}
 use Rattle.spec_ledger.specs.Cells.{Cells, number, reply_to, map_at, counter_at}
@@ -39,49 +39,49 @@ reply_fits (Add p v) cells = to_add p v
 reply_fits (Total p) cells = to_total p _ (fits (number (get cells (counter_at p))))
 
 -- one reply more
-push : (trace : List Step) (op : Op) (cells : Cells) → GetsReplies trace cells → GetsReplies (trace ++ Did op (reply_to op (after trace cells)) ∷ []) cells
+push : (trace : List TraceStep) (op : Op) (cells : Cells) → GetsReplies trace cells → GetsReplies (trace ++ Did op (reply_to op (after trace cells)) ∷ []) cells
 push trace op cells g = GetsReplies-push trace op (reply_to op (after trace cells)) cells g refl
 
 -- the levels that are left at the end
-dropped : (trace : List Step) (n : ℕ) (cells : Cells) → GetsReplies trace cells → GetsReplies (trace ++ replicate n Dropped) cells
-dropped trace zero cells g = subst (λ (t : List Step). GetsReplies t cells) (sym (append-nil trace)) g
+dropped : (trace : List TraceStep) (n : ℕ) (cells : Cells) → GetsReplies trace cells → GetsReplies (trace ++ replicate n Dropped) cells
+dropped trace zero cells g = subst (λ (t : List TraceStep). GetsReplies t cells) (sym (append-nil trace)) g
 dropped trace (suc n) cells g =
-    subst (λ (t : List Step). GetsReplies t cells) (append_assoc trace (Dropped ∷ []) (replicate n Dropped)) (dropped (trace ++ Dropped ∷ []) n cells (GetsReplies-mark trace Dropped cells tt g))
+    subst (λ (t : List TraceStep). GetsReplies t cells) (append_assoc trace (Dropped ∷ []) (replicate n Dropped)) (dropped (trace ++ Dropped ∷ []) n cells (GetsReplies-mark trace Dropped cells tt g))
 
 -- ---- the run
 
 module _ (setting : Setting) (start : Levels) (limit : ℕ) (cells : Cells) (safe : IsSafe setting start limit) where
   -- a run whose replies are those of the cells
   pub record Found : Type 0 where
-    pub trace : List Step
+    pub trace : List TraceStep
     pub outcome : Outcome
     pub fuel : ℕ
     pub run : IsRun setting start limit trace outcome fuel
     pub replies : GetsReplies trace cells
 
   -- a run has come to here
-  record Here (trace : List Step) (used : ℕ) (a : Levels) : Type 0 where
+  record Here (trace : List TraceStep) (used : ℕ) (a : Levels) : Type 0 where
     reached : Reached setting start limit trace used a
     replies : GetsReplies trace cells
     within : used ≤ limit
 
   -- with less than so much fuel left, it goes on to its end
   abbrev Later : ℕ → Type 0
-  Later left = (trace : List Step) (used : ℕ) (a : Levels) → Here trace used a → limit < used + left → Found
+  Later left = (trace : List TraceStep) (used : ℕ) (a : Levels) → Here trace used a → limit < used + left → Found
 
   -- with no more than so much, from levels lighter than m
   abbrev Again : ℕ → ℕ → Type 0
-  Again left m = (trace : List Step) (used : ℕ) (a : Levels) → Here trace used a → limit < used + suc left → levels_weight a < m → Found
+  Again left m = (trace : List TraceStep) (used : ℕ) (a : Levels) → Here trace used a → limit < used + suc left → levels_weight a < m → Found
 
   by_test : (a b : ℕ) (t : Bool) → nat_le a b ≡ t → (a ≤ b → Found) → (b < a → Found) → Found
   by_test a b true e within beyond = within (grind (arith, nat_tests))
   by_test a b false e within beyond = beyond (grind (arith, nat_tests))
 
-  module _ (left m : ℕ) (later : Later left) (again : Again left m) (trace : List Step) (used : ℕ) (a : Levels) (h : Here trace used a) (lt : limit < used + suc left) (w : levels_weight a < suc m) where
+  module _ (left m : ℕ) (later : Later left) (again : Again left m) (trace : List TraceStep) (used : ℕ) (a : Levels) (h : Here trace used a) (lt : limit < used + suc left) (w : levels_weight a < suc m) where
     -- a move more, without marks
     step : (charge : ℕ) (b : Levels) → move setting a ≡ On charge [] b → used + charge ≤ limit → Here trace (used + charge) b
     step charge b e le = record {
-      reached = subst (λ (t : List Step). Reached setting start limit t (used + charge) b) (append-nil trace) (moved trace used a charge [] b h.reached e le);
+      reached = subst (λ (t : List TraceStep). Reached setting start limit t (used + charge) b) (append-nil trace) (moved trace used a charge [] b h.reached e le);
       replies = h.replies;
       within = le;
     }

@@ -3,7 +3,7 @@ use Rattle.std.specs.Prelude.{◌≡◌, ℕ, List, [], ◌∷◌, Option, Some,
 use Rattle.wtypes.specs.declared.Value.{Value}
 use Rattle.spec_syntax.specs.Syntax.{Instr, Instrs}
 use Rattle.spec_syntax.specs.Shape.{instr_at}
-use Rattle.spec_ledger.specs.declared.Step.{Step}
+use Rattle.spec_ledger.specs.declared.TraceStep.{TraceStep}
 use Rattle.spec_execution.specs.Configuration.{Setting, Contract, Seq, Val, Code, Label, Frame, State, Running}
 use Rattle.spec_execution.specs.Reduction.{Next, execute, in_label, in_frame}
 use Rattle.spec_execution.specs.Run.{next, IsCharged}
@@ -32,5 +32,5 @@ pub record PlaceIsRight (c : Contract) (s : State) (seq : Seq) : Type 0 where
 
 -- In each configuration that a call reaches and in which an instruction is to come at the innermost level, its place is right.
 abbrev pub PlacesAreOfWhatComes : Type 0
-PlacesAreOfWhatComes = (setting : Setting) (c : Contract) (func : ℕ) (args : List Value) (limit : ℕ) (trace : List Step) (used : ℕ) (a : Levels) (s : State) (seq : Seq) →
+PlacesAreOfWhatComes = (setting : Setting) (c : Contract) (func : ℕ) (args : List Value) (limit : ℕ) (trace : List TraceStep) (used : ℕ) (a : Levels) (s : State) (seq : Seq) →
     Reached setting (first_level c func args) limit trace used a → a.inner.config ≡ Running s seq → IsCharged (next a.inner.contract s seq) → PlaceIsRight a.inner.contract s seq

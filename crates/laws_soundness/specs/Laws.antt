@@ -2,7 +2,7 @@
 use Rattle.std.specs.Prelude.{◌≡◌, ℕ, List, [], reverse, Some, All}
 use Rattle.wtypes.specs.declared.ValType.{ValType}
 use Rattle.wtypes.specs.declared.Value.{Value}
-use Rattle.spec_ledger.specs.declared.Step.{Step}
+use Rattle.spec_ledger.specs.declared.TraceStep.{TraceStep}
 use Rattle.spec_typing.specs.Linking.{IsLinked}
 use Rattle.spec_execution.specs.Configuration.{Setting, Deployed, Contract, Function, function_at, function_type, Seq, State, Running}
 use Rattle.spec_execution.specs.Reduction.{Ended, reduce}
@@ -26,12 +26,12 @@ DeployedCallsAreSafe = (setting : Setting) (call : ContractCall) (c : Contract) 
 
 -- each one is typed, by the results of the function that was called,
 abbrev pub DeployedCallsAreTyped : Type 0
-DeployedCallsAreTyped = (setting : Setting) (call : ContractCall) (c : Contract) (func : ℕ) (f : Function) (trace : List Step) (used : ℕ) (a : Levels) →
+DeployedCallsAreTyped = (setting : Setting) (call : ContractCall) (c : Contract) (func : ℕ) (f : Function) (trace : List TraceStep) (used : ℕ) (a : Levels) →
     AreLinked setting.contracts → opening setting call ≡ Opens c func → function_at c.deployed func ≡ Some f →
     Reached setting (first_level c func call.args) call.fuel trace used a → LevelsTyped (reverse (function_type f).results) a
 
 -- and where its last level ends, it gives these.
 abbrev pub ResultsAreTyped : Type 0
-ResultsAreTyped = (setting : Setting) (call : ContractCall) (c : Contract) (func : ℕ) (f : Function) (trace : List Step) (used : ℕ) (l : Level) (state : State) (seq : Seq) (vs : List Value) →
+ResultsAreTyped = (setting : Setting) (call : ContractCall) (c : Contract) (func : ℕ) (f : Function) (trace : List TraceStep) (used : ℕ) (l : Level) (state : State) (seq : Seq) (vs : List Value) →
     AreLinked setting.contracts → opening setting call ≡ Opens c func → function_at c.deployed func ≡ Some f →
     Reached setting (first_level c func call.args) call.fuel trace used (record { inner = l; outer = [] }) → l.config ≡ Running state seq → next l.contract state seq ≡ Ended vs → types vs ≡ reverse (function_type f).results

@@ -6,7 +6,7 @@ use Rattle.spec_ledger.specs.Modes.{Modes}
 use Rattle.spec_execution.specs.Configuration.{Setting}
 use Rattle.spec_execution.specs.Run.{ContractCall}
 use Rattle.spec_execution.specs.Exec.{Executes}
-use Rattle.spec_execution.specs.Serial.{Ran, Serial}
+use Rattle.spec_execution.specs.Serial.{CallResult, Serial}
 
 -- each number is that of a call
 abbrev pub AreNumbersOf : List ContractCall → List ℕ → Type 0
@@ -22,7 +22,7 @@ pub record ExecutesOnce (setting : Setting) (call : ContractCall) (cells : Cells
 
 -- the order has a serial execution from these cells, and no other
 pub record RunsSerially (setting : Setting) (calls : List ContractCall) (order : List ℕ) (cells : Cells) : Type 0 where
-  pub ran : List Ran
+  pub ran : List CallResult
   pub last : Cells
   pub serial : Serial setting calls order cells ran last
-  pub only : (ran' : List Ran) (last' : Cells) → Serial setting calls order cells ran' last' → (ran' ≡ ran) × (last' ≡ last)
+  pub only : (ran' : List CallResult) (last' : Cells) → Serial setting calls order cells ran' last' → (ran' ≡ ran) × (last' ≡ last)

@@ -1,6 +1,6 @@
 pub mod Comments
 pub mod Runs
-pub mod Strings
+pub mod StringReading
 pub mod RunKinds
 pub mod Pieces
 pub mod Lists

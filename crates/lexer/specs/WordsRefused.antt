@@ -2,8 +2,8 @@
 use Rattle.std.specs.Prelude.{List, ⊤}
 use Rattle.spec_text.specs.Lexical.{Token}
 use Rattle.spec_text.specs.Words.{Word, AreWords}
-use Rattle.lexer.specs.declared.words.TextRefusal.{TextRefusal}
-use Rattle.lexer.specs.declared.words.TextRefusal.TheVariants.{Unexpected, NoMemory}
+use Rattle.lexer.specs.declared.refusal.TextRefusal.{TextRefusal}
+use Rattle.lexer.specs.declared.refusal.TextRefusal.TheVariants.{Unexpected, NoMemory}
 
 -- what every refusal but that of memory says
 abbrev pub Unless : Type 0 → TextRefusal → Type 0

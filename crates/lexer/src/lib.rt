@@ -4,11 +4,11 @@
 mod list;
 mod numbers;
 mod reading;
+mod refusal;
 mod states;
 mod strings;
 mod tables;
 mod word;
-mod words;
 mod words_reading;
 
 ghost use Rattle.std.specs.Prelude.{◌≡◌, List, ⊤, IfOk, IfErr, length};
@@ -18,11 +18,11 @@ ghost use Rattle.lexer.specs.declared.LexRefusal.TheVariants.{NoMemory};
 ghost use Rattle.lexer.specs.Refused.{IsRightly};
 ghost use Rattle.lexer.specs.Reading.{IntegerIsTested};
 
-pub use crate::words::TextRefusal;
 pub use list::{Token, Tokens};
 pub use numbers::{bits_32, bits_64, unsigned_32};
 pub use reading::is_integer;
 use reading::read_piece;
+pub use refusal::TextRefusal;
 use states::Fault;
 use std::alloc::{AllocFailed, Allocator};
 pub use strings::put_string;

@@ -7,9 +7,9 @@ ghost use Rattle.lexer.specs.WordsViews.{view, views};
 ghost use Rattle.lexer.specs.WordsReading.{seen, left, behind, memarg_at, keyword_at, string_at, word_at, WordsAreOne};
 ghost use Rattle.lexer.specs.WordsRefused.{IsRightly};
 
+use crate::refusal::TextRefusal;
 use crate::tables::{key_word, operator};
 use crate::word::{Piece, Word};
-use crate::words::TextRefusal;
 use crate::{Token, integers_are_tested, is_integer};
 use spec_text::TokenKind;
 use std::alloc::Allocator;

@@ -7,14 +7,14 @@ use Rattle.spec_ledger.specs.Order.{IsAdmissible}
 use Rattle.spec_execution.specs.Run.{ContractCall}
 use Rattle.spec_execution.specs.Serial.{Serial}
 use Rattle.interp_run.specs.Callee.{setting_view}
-use Rattle.serial.specs.Positions.{positions}
-use Rattle.serial.specs.Ordered.{used_by}
+use Rattle.serial.specs.Positions.{results_of}
+use Rattle.serial.specs.Ordered.{fuel_of_receipts}
 use Rattle.serial.proofs.BlocksLimits.{used_within, fuel_is}
-use Rattle.publish.specs.Publication.{limits, fuel_used}
+use Rattle.publish.specs.Publication.{limits, fuel_of_results}
 use Rattle.in_order.specs.declared.InOrder.{InOrder}
-use Rattle.in_order.specs.declared.Ran.{Ran}
+use Rattle.in_order.specs.declared.OrderProgress.{OrderProgress}
 use Rattle.in_order.specs.declared.Task.{Task}
-use Rattle.in_order.specs.Ran.{AreKnown, IsKnown, IsRan, IsRanOf}
+use Rattle.in_order.specs.Progress.{AreKnown, IsKnown, IsRan, IsProgressOf}
 use Rattle.miner.proofs.Orders.{few}
 
 module _ {A P : Type 0} (job : InOrder A P) (task : Task A) (order : List ℕ) (cells : Cells) (task_is : job.task ≡ task) (order_is : job.order.now ≡ order) (cells_is : job.cells.now.cells ≡ cells)
@@ -31,20 +31,20 @@ module _ {A P : Type 0} (job : InOrder A P) (task : Task A) (order : List ℕ) (
   pub known : length task.calls.now ≤ 65535 → IsKnown job
   known short = subst (λ (p : Task A × List ℕ). AreKnown p.0.calls.now p.1) (λ k. (sym task_is k, sym order_is k)) (are_known short)
 
-  module _ (r : Ran A) (ran : IsRanOf job r) (whole : length r.receipts.items ≡ length job.order.now) where
+  module _ (r : OrderProgress A) (ran : IsProgressOf job r) (whole : length r.receipts.items ≡ length job.order.now) where
     of_task : IsRan (setting_view task.version task.contracts.now) task.calls.now order cells r
     of_task = subst (λ (p : Task A × (List ℕ × Cells)). IsRan (setting_view p.0.version p.0.contracts.now) p.0.calls.now p.1.0 p.1.1 r) (λ k. (task_is k, (order_is k, cells_is k))) ran
 
-    pub serial : Serial (setting_view task.version task.contracts.now) task.calls.now order cells (positions r.receipts.items r.touched.items) r.cells.cells
+    pub serial : Serial (setting_view task.version task.contracts.now) task.calls.now order cells (results_of r.receipts.items r.touched.items) r.cells.cells
     serial =
-        subst (λ (o : List ℕ). Serial (setting_view task.version task.contracts.now) task.calls.now o cells (positions r.receipts.items r.touched.items) r.cells.cells)
+        subst (λ (o : List ℕ). Serial (setting_view task.version task.contracts.now) task.calls.now o cells (results_of r.receipts.items r.touched.items) r.cells.cells)
         (take_all (length r.receipts.items) order (omega (arith, whole, ap length order_is))) of_task.serial
 
-    pub used : used_by r.receipts.items ≤ fuel
+    pub used : fuel_of_receipts r.receipts.items ≤ fuel
     used =
         let within = used_within (setting_view task.version task.contracts.now) task.calls.now order cells r.receipts.items r.touched.items r.cells.cells (sym ran.touched) serial in
         let all = admissible.within in
         omega (arith, within, all)
 
-    pub used_is : used_by r.receipts.items ≡ fuel_used (positions r.receipts.items r.touched.items)
+    pub used_is : fuel_of_receipts r.receipts.items ≡ fuel_of_results (results_of r.receipts.items r.touched.items)
     used_is = fuel_is r.receipts.items r.touched.items (sym ran.touched)

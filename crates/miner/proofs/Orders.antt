@@ -16,18 +16,18 @@ use Rattle.spec_ledger.specs.Order.{IsAdmissible}
 use Rattle.spec_block.specs.Worlds.{Call, World, Position, order_of}
 use Rattle.spec_block.specs.Blocks.{all_touched, block_of, positions_from}
 use Rattle.spec_block.specs.Headline.{IsLeft}
-use Rattle.serial.specs.Positions.{positions as ran_of}
+use Rattle.serial.specs.Positions.{results_of}
 use Rattle.publish.specs.Publication.{AreLeft}
 
-order_from : (all : List Modes) (place : ℕ) (order : List ℕ) (rs : List Receipt) (ms : List Modes) → length rs ≡ length order → length ms ≡ length order → map (λ (p : Position). p.call) (positions_from all place order (ran_of rs ms)) ≡ order
+order_from : (all : List Modes) (place : ℕ) (order : List ℕ) (rs : List Receipt) (ms : List Modes) → length rs ≡ length order → length ms ≡ length order → map (λ (p : Position). p.call) (positions_from all place order (results_of rs ms)) ≡ order
 order_from all place [] rs ms a b = refl
 order_from all place (n ∷ order) [] ms a b = absurd (omega (arith, a))
 order_from all place (n ∷ order) (r ∷ rs) [] a b = absurd (omega (arith, b))
 order_from all place (n ∷ order) (r ∷ rs) (m ∷ ms) a b = ap (λ ns. n ∷ ns) (order_from all (place + 1) order rs ms (omega (arith, a)) (omega (arith, b)))
 
 pub order_again : (version : Version) (world : World) (calls : List Call) (order : List ℕ) (rs : List Receipt) (ms : List Modes) (last : Cells)
-    → length rs ≡ length order → length ms ≡ length order → order_of (block_of version world calls order (ran_of rs ms) last) ≡ order
-order_again version world calls order rs ms last = order_from (all_touched (ran_of rs ms)) 0 order rs ms
+    → length rs ≡ length order → length ms ≡ length order → order_of (block_of version world calls order (results_of rs ms) last) ≡ order
+order_again version world calls order rs ms last = order_from (all_touched (results_of rs ms)) 0 order rs ms
 
 pub left_is : (calls : List Call) (order left : List ℕ) → AreLeft order (length calls) left → IsLeft calls order left
 left_is calls order left l = record {

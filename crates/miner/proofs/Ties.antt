@@ -4,7 +4,7 @@ use Rattle.std.specs.Prelude.{slice_set}
 use Rattle.std.specs.List.{AllByRecursion}
 use Rattle.std.proofs.lemmas.List.Elements.{All-from_recursion, All-pop, All-push, All-set}
 use Rattle.std.proofs.lemmas.List.{length-map}
-use Rattle.spec_ledger.specs.Book.{Entry}
+use Rattle.spec_ledger.specs.Book.{CommittedCall}
 use Rattle.spec_ledger.specs.Modes.{Modes, touched}
 use Rattle.spec_execution.specs.Configuration.{Setting}
 use Rattle.spec_execution.specs.Run.{ContractCall}
@@ -12,7 +12,7 @@ use Rattle.interp_run.specs.Played.{Played}
 use Rattle.publish.specs.Publication.{Publication}
 use Rattle.publish.specs.declared.adopting.CallRun.{CallRun}
 use Rattle.publish.specs.Adoption.{IsMade, AreMade}
-use Rattle.book_workers.specs.declared.attempt.Committed.{Committed}
+use Rattle.book_workers.specs.declared.attempt.CommittedRun.{CommittedRun}
 use Rattle.book_workers.specs.Handed.{IsCommitted, AreAllRuns}
 use Rattle.miner.specs.Handed.{IsMadeRun}
 
@@ -36,7 +36,7 @@ pub made_more : {A : Type 0} (setting : Setting) (calls : List ContractCall) (rs
 made_more setting calls rs rs' ms ms' r m rs_are ms_are made one =
     subst (λ xs. AreMade setting calls xs ms') (sym rs_are) (subst (λ xs. AreMade setting calls (rs ++ r ∷ []) xs) (sym ms_are) (made_push setting calls rs ms r m made one))
 
-pub committed_made : {A : Type 0} (setting : Setting) (calls : List ContractCall) (c : Committed A) (r : CallRun A) (m : Modes) → IsCommitted setting calls c → r.call ≡ c.call → r.finished ≡ c.finished → m ≡ c.touched → IsMade setting calls r m
+pub committed_made : {A : Type 0} (setting : Setting) (calls : List ContractCall) (c : CommittedRun A) (r : CallRun A) (m : Modes) → IsCommitted setting calls c → r.call ≡ c.call → r.finished ≡ c.finished → m ≡ c.touched → IsMade setting calls r m
 committed_made setting calls c r m is call finished locks = record {
   lent = ap (λ (f : Played). f.setting) finished ∙ is.run.lent;
   call_is = ap (slice_get calls) call ∙ is.run.call_is ∙ ap (λ (f : Played). Some f.call) (sym finished);
@@ -46,25 +46,25 @@ committed_made setting calls c r m is call finished locks = record {
 -- ---- runs at their places
 
 module _ {A : Type 0} (setting : Setting) (calls : List ContractCall) where
-  abbrev pub IsPlace : Option (Committed A) → Type 0
+  abbrev pub IsPlace : Option (CommittedRun A) → Type 0
   IsPlace place = IfSome place (IsCommitted setting calls)
 
-  pub no_run_more : (xs zs : List (Option (Committed A))) → zs ≡ xs ++ None ∷ [] → All IsPlace xs → All IsPlace zs
+  pub no_run_more : (xs zs : List (Option (CommittedRun A))) → zs ≡ xs ++ None ∷ [] → All IsPlace xs → All IsPlace zs
   no_run_more xs zs is all = subst (All IsPlace) (sym is) (All-push IsPlace xs None all tt)
 
-  pub runs_left : (xs ys : List (Committed A)) (run : Committed A) → xs ≡ ys ++ run ∷ [] → AreAllRuns setting calls xs → AreAllRuns setting calls ys
+  pub runs_left : (xs ys : List (CommittedRun A)) (run : CommittedRun A) → xs ≡ ys ++ run ∷ [] → AreAllRuns setting calls xs → AreAllRuns setting calls ys
   runs_left xs ys run is all = (All-pop (IsCommitted setting calls) xs ys (Some run) is all).0
 
-  pub run_placed : (xs ys : List (Committed A)) (run : Committed A) (places : List (Option (Committed A))) (i : ℕ) → xs ≡ ys ++ run ∷ [] → AreAllRuns setting calls xs → All IsPlace places → All IsPlace (slice_set places i (Some run))
+  pub run_placed : (xs ys : List (CommittedRun A)) (run : CommittedRun A) (places : List (Option (CommittedRun A))) (i : ℕ) → xs ≡ ys ++ run ∷ [] → AreAllRuns setting calls xs → All IsPlace places → All IsPlace (slice_set places i (Some run))
   run_placed xs ys run places i is all placed = All-set IsPlace places i (Some run) (All-pop (IsCommitted setting calls) xs ys (Some run) is all).1 placed
 
-  pub places_left : (xs ys : List (Option (Committed A))) (place : Option (Committed A)) → xs ≡ ys ++ place ∷ [] → All IsPlace xs → All IsPlace ys
+  pub places_left : (xs ys : List (Option (CommittedRun A))) (place : Option (CommittedRun A)) → xs ≡ ys ++ place ∷ [] → All IsPlace xs → All IsPlace ys
   places_left xs ys place is all = (All-pop IsPlace xs ys (Some place) is all).0
 
-  pub run_at : (xs ys : List (Option (Committed A))) (place : Option (Committed A)) (run : Committed A) → xs ≡ ys ++ place ∷ [] → place ≡ Some run → All IsPlace xs → IsCommitted setting calls run
+  pub run_at : (xs ys : List (Option (CommittedRun A))) (place : Option (CommittedRun A)) (run : CommittedRun A) → xs ≡ ys ++ place ∷ [] → place ≡ Some run → All IsPlace xs → IsCommitted setting calls run
   run_at xs ys place run is there all = subst IsPlace there (All-pop IsPlace xs ys (Some place) is all).1
 
 -- ---- what is adopted
 
-pub adopted_length : (es : List Entry) (o : Option Publication) (q p : Publication) → IfSome o (λ x. x ≡ q) → o ≡ Some p → q.order ≡ map (λ (e : Entry). e.call) es → length p.order ≡ length es
-adopted_length es o q p told is order = ap (λ (x : Publication). length x.order) (subst (λ x. IfSome x (λ y. y ≡ q)) is told) ∙ ap (λ xs. length xs) order ∙ length-map es (λ (e : Entry). e.call)
+pub adopted_length : (es : List CommittedCall) (o : Option Publication) (q p : Publication) → IfSome o (λ x. x ≡ q) → o ≡ Some p → q.order ≡ map (λ (e : CommittedCall). e.call) es → length p.order ≡ length es
+adopted_length es o q p told is order = ap (λ (x : Publication). length x.order) (subst (λ x. IfSome x (λ y. y ≡ q)) is told) ∙ ap (λ xs. length xs) order ∙ length-map es (λ (e : CommittedCall). e.call)

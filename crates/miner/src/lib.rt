@@ -83,7 +83,7 @@ pub fn mine<R: Threads + Wait + Sync, P: Pace>(
     mine_in(rt, alloc, world, calls, block_fuel, workers, tries, pace)
 }
 
-/// As [`mine`], with all memory from this allocator. Want of memory of one worker is that of the whole call.
+/// As [`mine`], with all memory from this allocator. Out of memory of one worker is that of the whole call.
 ///
 /// # Errors
 ///

@@ -5,13 +5,13 @@ ghost use Rattle.spec_ledger.specs.Order.{IsAdmissible, first_fit};
 ghost use Rattle.spec_execution.specs.Serial.{Serial};
 ghost use Rattle.spec_ledger.specs.declared.Version.TheVariants.{Two};
 ghost use Rattle.interp_run.specs.Callee.{setting_view};
-ghost use Rattle.serial.specs.Positions.{positions};
-ghost use Rattle.serial.specs.Ordered.{used_by};
-ghost use Rattle.publish.specs.Publication.{AreLeft, limits, fuel_used};
+ghost use Rattle.serial.specs.Positions.{results_of};
+ghost use Rattle.serial.specs.Ordered.{fuel_of_receipts};
+ghost use Rattle.publish.specs.Publication.{AreLeft, limits, fuel_of_results};
 
 use crate::mined_core::MinedCore;
 use call::Call;
-use in_order::{InOrder, Ran, Task, begin, complete, run_with};
+use in_order::{InOrder, OrderProgress, Task, begin, complete, run_with};
 use link::deployed::Deployed as Contract;
 use pace::Pace;
 use spec_ledger::laws::first_fit_is_admissible;
@@ -58,8 +58,8 @@ fn first_fit<A: Allocator + Copy>(
 
 /// The fuel that calls with these receipts used together.
 fn fuel_of(receipts: &[Receipt]) -> u64
-    requires { used_by receipts.now < 2 ^ 64 }
-    ensures { result ≡ used_by receipts.now }
+    requires { fuel_of_receipts receipts.now < 2 ^ 64 }
+    ensures { result ≡ fuel_of_receipts receipts.now }
 {
     let mut fuel = 0u64;
     for receipt in receipts {
@@ -86,19 +86,19 @@ pub(crate) fn mine_in_order<
 ) -> Result<MinedCore<A>, NoMemory>
     requires calls { length calls.now ≤ 65535 }
     requires workers { 1 ≤ workers }
-    ensures serial { IfOk result (λ core. Serial (setting_view Two contracts.now) calls.now core.order.items cells.now.cells (positions core.receipts.items core.touched.items) core.cells.cells) }
+    ensures serial { IfOk result (λ core. Serial (setting_view Two contracts.now) calls.now core.order.items cells.now.cells (results_of core.receipts.items core.touched.items) core.cells.cells) }
     ensures admissible { IfOk result (λ core. IsAdmissible (limits calls.now) core.order.items block_fuel) }
     ensures order { IfOk result (λ core. core.order.items ≡ first_fit (limits calls.now) block_fuel) }
     ensures receipts { IfOk result (λ core. length core.receipts.items ≡ length core.order.items) }
     ensures touched { IfOk result (λ core. length core.touched.items ≡ length core.order.items) }
     ensures settled { IfOk result (λ core. core.cells.unsettled ≡ finite.empty) }
-    ensures fuel { IfOk result (λ core. core.fuel ≡ fuel_used (positions core.receipts.items core.touched.items)) }
+    ensures fuel { IfOk result (λ core. core.fuel ≡ fuel_of_results (results_of core.receipts.items core.touched.items)) }
     ensures left { IfOk result (λ core. AreLeft core.order.items (length calls.now) core.left.items) }
     ensures by_workers { IfOk result (λ core. core.by_workers ≤ length core.order.items) }
 {
     let FirstFit { order, left } = first_fit(alloc, calls, block_fuel)?;
     first_fit_is_admissible();
-    let Ran {
+    let OrderProgress {
         receipts,
         touched,
         cells: last,

@@ -5,16 +5,16 @@ ghost use Rattle.spec_ledger.specs.Order.{IsAdmissible, first_fit};
 ghost use Rattle.spec_execution.specs.Serial.{Serial};
 ghost use Rattle.spec_ledger.specs.declared.Version.TheVariants.{Two};
 ghost use Rattle.interp_run.specs.Callee.{setting_view};
-ghost use Rattle.serial.specs.Positions.{positions};
+ghost use Rattle.serial.specs.Positions.{results_of};
 ghost use Rattle.intake.specs.Intakes.{IsSeatOf};
-ghost use Rattle.publish.specs.Publication.{AreLeft, limits, fuel_used};
+ghost use Rattle.publish.specs.Publication.{AreLeft, limits, fuel_of_results};
 ghost use Rattle.book_workers.specs.Handed.{AreRuns};
 ghost use Rattle.miner.specs.Handed.{IsSerialBook};
 
 use crate::list_order::mine_in_order;
 use crate::outcome::publish;
 use crate::rest::{draw_rest, make_room};
-use book_workers::{Brake, Job, Worked, work};
+use book_workers::{AdmissionLimit, Job, WorkerResult, work};
 use boost::book::Closed;
 use call::Call;
 use intake::{Intake, Seat};
@@ -82,13 +82,13 @@ pub fn mine_core<'a, R: Threads + Wait + Sync, A: Allocator + Copy + Send + Sync
     requires workers { (1 ≤ workers) × (workers ≤ 64) }
     requires tries { (1 ≤ tries) × (tries ≤ 16) }
     requires shards { (1 ≤ shards) × (shards ≤ 16) }
-    ensures serial { IfOk result (λ core. Serial (setting_view Two contracts.now) calls.now core.order.items cells.now.cells (positions core.receipts.items core.touched.items) core.cells.cells) }
+    ensures serial { IfOk result (λ core. Serial (setting_view Two contracts.now) calls.now core.order.items cells.now.cells (results_of core.receipts.items core.touched.items) core.cells.cells) }
     ensures admissible { IfOk result (λ core. IsAdmissible (limits calls.now) core.order.items block_fuel) }
     ensures order { IfOk result (λ core. P.watching pace.now ≡ false → core.order.items ≡ first_fit (limits calls.now) block_fuel) }
     ensures receipts { IfOk result (λ core. length core.receipts.items ≡ length core.order.items) }
     ensures touched { IfOk result (λ core. length core.touched.items ≡ length core.order.items) }
     ensures settled { IfOk result (λ core. core.cells.unsettled ≡ finite.empty) }
-    ensures fuel { IfOk result (λ core. core.fuel ≡ fuel_used (positions core.receipts.items core.touched.items)) }
+    ensures fuel { IfOk result (λ core. core.fuel ≡ fuel_of_results (results_of core.receipts.items core.touched.items)) }
     ensures left { IfOk result (λ core. AreLeft core.order.items (length calls.now) core.left.items) }
     ensures by_workers { IfOk result (λ core. core.by_workers ≤ length core.order.items) }
 {
@@ -119,12 +119,12 @@ fn mine_over_book<'a, R: Threads + Wait + Sync, A: Allocator + Copy + Send + Syn
     requires workers { (1 ≤ workers) × (workers ≤ 64) }
     requires tries { (1 ≤ tries) × (tries ≤ 16) }
     requires shards { (1 ≤ shards) × (shards ≤ 16) }
-    ensures serial { IfOk result (λ core. Serial (setting_view Two contracts.now) calls.now core.order.items cells.now.cells (positions core.receipts.items core.touched.items) core.cells.cells) }
+    ensures serial { IfOk result (λ core. Serial (setting_view Two contracts.now) calls.now core.order.items cells.now.cells (results_of core.receipts.items core.touched.items) core.cells.cells) }
     ensures admissible { IfOk result (λ core. IsAdmissible (limits calls.now) core.order.items block_fuel) }
     ensures receipts { IfOk result (λ core. length core.receipts.items ≡ length core.order.items) }
     ensures touched { IfOk result (λ core. length core.touched.items ≡ length core.order.items) }
     ensures settled { IfOk result (λ core. core.cells.unsettled ≡ finite.empty) }
-    ensures fuel { IfOk result (λ core. core.fuel ≡ fuel_used (positions core.receipts.items core.touched.items)) }
+    ensures fuel { IfOk result (λ core. core.fuel ≡ fuel_of_results (results_of core.receipts.items core.touched.items)) }
     ensures left { IfOk result (λ core. AreLeft core.order.items (length calls.now) core.left.items) }
     ensures by_workers { IfOk result (λ core. core.by_workers ≤ length core.order.items) }
 {
@@ -136,7 +136,7 @@ fn mine_over_book<'a, R: Threads + Wait + Sync, A: Allocator + Copy + Send + Syn
     let Some(own) = seats.pop() else {
         unreachable!()
     };
-    let brake = Brake::new(workers);
+    let admission = AdmissionLimit::new(workers);
     let (worked, rest) = {
         let job = Job {
             alloc,
@@ -146,7 +146,7 @@ fn mine_over_book<'a, R: Threads + Wait + Sync, A: Allocator + Copy + Send + Syn
             intake: &intake,
             pace,
             tries,
-            brake: &brake,
+            admission: &admission,
         };
         let worked = run_workers(rt, &job, seats)?;
         (worked, draw_rest(rt, alloc, calls, &intake, own))
@@ -177,7 +177,7 @@ fn run_workers<'a, R: Threads + Wait + Sync, A: Allocator + Copy + Send + Sync, 
     rt: &R,
     job: &Job<'_, 'a, A, P>,
     seats: Vec<Seat, A>,
-) -> Result<Vec<Result<Worked<'a, A>, NoMemory>, A>, NoMemory>
+) -> Result<Vec<Result<WorkerResult<'a, A>, NoMemory>, A>, NoMemory>
     requires calls { job.now.intake.now.limits.calls ≡ length job.now.calls.now }
     requires seats { All (IsSeatOf job.now.intake.now) seats.items }
     ensures { IfOk result (λ parts. All (λ part. IfOk part (AreRuns (setting_view Two job.now.contracts.now) job.now.calls.now)) parts.items) }
@@ -185,7 +185,7 @@ fn run_workers<'a, R: Threads + Wait + Sync, A: Allocator + Copy + Send + Sync, 
     let parts = thread::map_vec(
         rt,
         seats,
-        &|seat: Seat| -> Result<Worked<A>, NoMemory>
+        &|seat: Seat| -> Result<WorkerResult<A>, NoMemory>
             requires { (job.now.intake.now.limits.calls ≡ length job.now.calls.now) × IsSeatOf job.now.intake.now seat }
             ensures { IfOk result (AreRuns (setting_view Two job.entry.now.contracts.now) job.entry.now.calls.now) }
         {

@@ -4,7 +4,7 @@ ghost use Rattle.std.specs.Prelude.{◌≡◌, ◌<◌, ◌≤◌, ◌^◌, IfOk
 ghost use Rattle.sha2.specs.Sha256.{sha256};
 ghost use Rattle.spec_block.specs.Blocks.{block_of, fuel_of, positions as positions_by, world_after};
 ghost use Rattle.spec_block.specs.Bytes.{calls_bytes, world_bytes};
-ghost use Rattle.serial.specs.Positions.{positions as ran_of};
+ghost use Rattle.serial.specs.Positions.{results_of};
 ghost use Rattle.serial.specs.Ordered.{ArePossible};
 ghost use Rattle.world.specs.Views.{world_view};
 
@@ -44,14 +44,14 @@ fn digests_of<A: Allocator + Copy>(
 
 /// What a block says of the run beside its fuel.
 #[derive(Drop)]
-struct Told<A: Allocator> {
+struct BlockParts<A: Allocator> {
     positions: Vec<Position<A>, A>,
     /// SHA-256 of the world after.
     after: [u8; 32],
 }
 
 /// What a block says of a run, each of the two by a thread of its own where there are three workers or more.
-fn told_of<R: Threads + Sync, A: Allocator + Copy + Send + Sync>(
+fn block_parts_of<R: Threads + Sync, A: Allocator + Copy + Send + Sync>(
     rt: &R,
     alloc: &A,
     order: &[u32],
@@ -59,16 +59,16 @@ fn told_of<R: Threads + Sync, A: Allocator + Copy + Send + Sync>(
     touched: &[Touched<A>],
     next: &World<A>,
     workers: u32,
-) -> Result<Told<A>, NoMemory>
+) -> Result<BlockParts<A>, NoMemory>
     requires order { length order.now < 2 ^ 16 }
     requires receipts { length receipts.now ≡ length order.now }
     requires touched { length touched.now ≡ length order.now }
     requires possible { ArePossible receipts.now }
-    ensures positions { IfOk result (λ told. told.positions.items ≡ positions_by order.now (ran_of receipts.now touched.now)) }
+    ensures positions { IfOk result (λ told. told.positions.items ≡ positions_by order.now (results_of receipts.now touched.now)) }
     ensures after { IfOk result (λ told. told.after ≡ sha256 (world_bytes (world_view next.now))) }
 {
     if workers < 3 {
-        return Ok(Told {
+        return Ok(BlockParts {
             positions: positions_of(*alloc, order, receipts, touched)?,
             after: digest_world(*alloc, next)?,
         });
@@ -80,17 +80,17 @@ fn told_of<R: Threads + Sync, A: Allocator + Copy + Send + Sync>(
         { digest_world(*alloc, next) },
         move || -> Result<Vec<Position<A>, A>, NoMemory>
             requires { (length order.now < 2 ^ 16) × (length receipts.now ≡ length order.now) × (length touched.now ≡ length order.now) × ArePossible receipts.now }
-            ensures { IfOk result (λ made. made.items ≡ positions_by order.entry.now (ran_of receipts.entry.now touched.entry.now)) }
+            ensures { IfOk result (λ made. made.items ≡ positions_by order.entry.now (results_of receipts.entry.now touched.entry.now)) }
         { positions_of(*alloc, order, receipts, touched) },
     );
-    Ok(Told {
+    Ok(BlockParts {
         positions: positions?,
         after: after?,
     })
 }
 
 /// The digests of what was given, and what the block says of the run: the former by a thread of its own where there are two workers or more.
-fn digests_and_told<R: Threads + Sync, A: Allocator + Copy + Send + Sync>(
+fn digests_and_parts<R: Threads + Sync, A: Allocator + Copy + Send + Sync>(
     rt: &R,
     alloc: &A,
     world: &World<A>,
@@ -100,7 +100,7 @@ fn digests_and_told<R: Threads + Sync, A: Allocator + Copy + Send + Sync>(
     touched: &[Touched<A>],
     next: &World<A>,
     workers: u32,
-) -> Result<(Digests, Told<A>), NoMemory>
+) -> Result<(Digests, BlockParts<A>), NoMemory>
     requires calls { length calls.now ≤ 65535 }
     requires order { length order.now < 2 ^ 16 }
     requires receipts { length receipts.now ≡ length order.now }
@@ -108,12 +108,12 @@ fn digests_and_told<R: Threads + Sync, A: Allocator + Copy + Send + Sync>(
     requires possible { ArePossible receipts.now }
     ensures before { IfOk result (λ r. r.0.before ≡ sha256 (world_bytes (world_view world.now))) }
     ensures calls { IfOk result (λ r. r.0.calls ≡ sha256 (calls_bytes calls.now)) }
-    ensures positions { IfOk result (λ r. r.1.positions.items ≡ positions_by order.now (ran_of receipts.now touched.now)) }
+    ensures positions { IfOk result (λ r. r.1.positions.items ≡ positions_by order.now (results_of receipts.now touched.now)) }
     ensures after { IfOk result (λ r. r.1.after ≡ sha256 (world_bytes (world_view next.now))) }
 {
     if workers < 2 {
         let digests = digests_of(*alloc, world, calls)?;
-        let told = told_of(rt, alloc, order, receipts, touched, next, workers)?;
+        let told = block_parts_of(rt, alloc, order, receipts, touched, next, workers)?;
         return Ok((digests, told));
     }
     let (digests, told) = join(
@@ -122,10 +122,10 @@ fn digests_and_told<R: Threads + Sync, A: Allocator + Copy + Send + Sync>(
             requires { length calls.now ≤ 65535 }
             ensures { IfOk result (λ digests. (digests.before ≡ sha256 (world_bytes (world_view world.entry.now))) × (digests.calls ≡ sha256 (calls_bytes calls.entry.now))) }
         { digests_of(*alloc, world, calls) },
-        move || -> Result<Told<A>, NoMemory>
+        move || -> Result<BlockParts<A>, NoMemory>
             requires { (length order.now < 2 ^ 16) × (length receipts.now ≡ length order.now) × (length touched.now ≡ length order.now) × ArePossible receipts.now }
-            ensures { IfOk result (λ told. (told.positions.items ≡ positions_by order.entry.now (ran_of receipts.entry.now touched.entry.now)) × (told.after ≡ sha256 (world_bytes (world_view next.entry.now)))) }
-        { told_of(rt, alloc, order, receipts, touched, next, workers) },
+            ensures { IfOk result (λ told. (told.positions.items ≡ positions_by order.entry.now (results_of receipts.entry.now touched.entry.now)) × (told.after ≡ sha256 (world_bytes (world_view next.entry.now)))) }
+        { block_parts_of(rt, alloc, order, receipts, touched, next, workers) },
     );
     Ok((digests?, told?))
 }
@@ -148,8 +148,8 @@ pub(crate) fn build_block_by<R: Threads + Sync, A: Allocator + Copy + Send + Syn
     requires receipts { length core.receipts.items ≡ length order.now }
     requires touched { length core.touched.items ≡ length order.now }
     requires possible { ArePossible core.receipts.items }
-    requires fuel { fuel ≡ fuel_of (ran_of core.receipts.items core.touched.items) }
-    ensures block { IfOk result (λ r. r.0 ≡ block_of version (world_view world.now) calls.now order.now (ran_of core.receipts.items core.touched.items) core.cells.cells) }
+    requires fuel { fuel ≡ fuel_of (results_of core.receipts.items core.touched.items) }
+    ensures block { IfOk result (λ r. r.0 ≡ block_of version (world_view world.now) calls.now order.now (results_of core.receipts.items core.touched.items) core.cells.cells) }
     ensures world { IfOk result (λ r. world_view r.1 ≡ world_after (world_view world.now) core.cells.cells) }
 {
     let Core {
@@ -158,7 +158,7 @@ pub(crate) fn build_block_by<R: Threads + Sync, A: Allocator + Copy + Send + Syn
         cells,
     } = core;
     let next = World::new(copied(alloc, world.contracts())?, cells);
-    let (digests, told) = digests_and_told(
+    let (digests, told) = digests_and_parts(
         rt, &alloc, world, calls, order, &receipts, &touched, &next, workers,
     )?;
     match Block::new(

@@ -14,14 +14,14 @@ ghost use Rattle.spec_ledger.specs.Order.{IsAdmissible};
 ghost use Rattle.spec_execution.specs.Serial.{Serial};
 ghost use Rattle.spec_ledger.specs.declared.Version.TheVariants.{Two};
 ghost use Rattle.interp_run.specs.Callee.{setting_view};
-ghost use Rattle.serial.specs.Positions.{positions};
-ghost use Rattle.publish.specs.Publication.{IsSerialOrder, MayFollow, HasTaken, IsSameJob, HasGoneOn, Sweep, AreLeft, limits, fuel_used};
+ghost use Rattle.serial.specs.Positions.{results_of};
+ghost use Rattle.publish.specs.Publication.{IsSerialOrder, MayFollow, HasTaken, IsSameJob, HasGoneOn, Sweep, AreLeft, limits, fuel_of_results};
 ghost use Rattle.speculation.specs.Calls.{IsFootprintOf};
 ghost use Rattle.spec_execution.specs.ReadWriteSets.{Agrees};
 ghost use Rattle.publish.specs.Adoption.{AreMade, MayFollowBy, ran_by};
 
 pub use crate::adopting::CallRun;
-use crate::adopting::walk;
+use crate::adopting::adopt_entries;
 pub use crate::laws::one_sweep;
 use crate::so_far::{SoFar, unmarked};
 use boost::book::Closed;
@@ -53,7 +53,7 @@ pub struct Publishing<'a, A: Allocator + Copy> {
 impl<'a, A: Allocator + Copy> Model for Publishing<'a, A> {
     ghost use Rattle.spec_ledger.specs.declared.Version.TheVariants.{Two};
     ghost use Rattle.interp_run.specs.Callee.{setting_view};
-    ghost use Rattle.serial.specs.Positions.{positions};
+    ghost use Rattle.serial.specs.Positions.{results_of};
     ghost use Rattle.publish.specs.Publication.{Publication, coded_publication, IsKept};
 
     ghost Value = { Publication };
@@ -120,7 +120,7 @@ impl<'a, A: Allocator + Copy> Publishing<'a, A> {
     /// # Errors
     ///
     /// Memory was refused.
-    pub fn adopt(
+    pub fn adopt_closed_book(
         alloc: A,
         contracts: &'a [Contract<A>],
         calls: &'a [Call],
@@ -143,7 +143,7 @@ impl<'a, A: Allocator + Copy> Publishing<'a, A> {
             cells: last,
             entries,
         } = closed;
-        let Some(so_far) = walk(
+        let Some(so_far) = adopt_entries(
             alloc, contracts, calls, cells, fuel, &entries, runs, touched,
         )?
         else {
@@ -320,13 +320,13 @@ impl<'a, A: Allocator + Copy> Publishing<'a, A> {
     ///
     /// Memory was refused.
     pub fn finish(mut self) -> Result<Published<A>, NoMemory>
-        ensures serial { IfOk result (λ published. Serial self.entry.setting self.entry.calls published.order.items self.entry.opening (positions published.receipts.items published.touched.items) published.cells.cells) }
+        ensures serial { IfOk result (λ published. Serial self.entry.setting self.entry.calls published.order.items self.entry.opening (results_of published.receipts.items published.touched.items) published.cells.cells) }
         ensures admissible { IfOk result (λ published. IsAdmissible (limits self.entry.calls) published.order.items self.entry.fuel) }
         ensures swept { IfOk result (λ published. Sweep (limits self.entry.calls) self.entry.fuel self.entry.order (length self.entry.calls) published.order.items) }
         ensures receipts { IfOk result (λ published. length published.receipts.items ≡ length published.order.items) }
         ensures touched { IfOk result (λ published. length published.touched.items ≡ length published.order.items) }
         ensures settled { IfOk result (λ published. published.cells.unsettled ≡ finite.empty) }
-        ensures fuel { IfOk result (λ published. published.fuel ≡ fuel_used (positions published.receipts.items published.touched.items)) }
+        ensures fuel { IfOk result (λ published. published.fuel ≡ fuel_of_results (results_of published.receipts.items published.touched.items)) }
         ensures left { IfOk result (λ published. AreLeft published.order.items (length self.entry.calls) published.left.items) }
     {
         self.fill()?;
@@ -341,13 +341,13 @@ impl<'a, A: Allocator + Copy> Publishing<'a, A> {
     /// Memory was refused.
     pub fn close(self) -> Result<Published<A>, NoMemory>
         ensures order { IfOk result (λ published. published.order.items ≡ self.entry.order) }
-        ensures ran { IfOk result (λ published. positions published.receipts.items published.touched.items ≡ self.entry.ran) }
+        ensures ran { IfOk result (λ published. results_of published.receipts.items published.touched.items ≡ self.entry.ran) }
         ensures receipts { IfOk result (λ published. length published.receipts.items ≡ length self.entry.order) }
         ensures touched { IfOk result (λ published. length published.touched.items ≡ length self.entry.order) }
         ensures cells { IfOk result (λ published. published.cells.cells ≡ self.entry.cells) }
         ensures settled { IfOk result (λ published. published.cells.unsettled ≡ finite.empty) }
-        ensures serial { IfOk result (λ published. Serial self.entry.setting self.entry.calls published.order.items self.entry.opening (positions published.receipts.items published.touched.items) published.cells.cells) }
-        ensures fuel { IfOk result (λ published. published.fuel ≡ fuel_used self.entry.ran) }
+        ensures serial { IfOk result (λ published. Serial self.entry.setting self.entry.calls published.order.items self.entry.opening (results_of published.receipts.items published.touched.items) published.cells.cells) }
+        ensures fuel { IfOk result (λ published. published.fuel ≡ fuel_of_results self.entry.ran) }
         ensures left { IfOk result (λ published. AreLeft published.order.items (length self.entry.calls) published.left.items) }
     {
         let left = unmarked(self.alloc, &self.so_far.marks)?;

@@ -15,7 +15,7 @@ use publish::{CallRun, Published, Publishing};
 use rows_files::Refused;
 use rows_files::scene::{Made, Scene, scene_of};
 use serial::{run_alone, touched_by};
-use spec_ledger::{Step, Version};
+use spec_ledger::{TraceStep, Version};
 use std::alloc::Global;
 use storage::Cells;
 
@@ -82,7 +82,7 @@ fn commits(book: &mut Book, call: u32, finished: &Finished<'_, Global>) -> bool 
         return false;
     };
     for step in finished.trace() {
-        let Step::Did(op, reply) = *step else {
+        let TraceStep::Did(op, reply) = *step else {
             return false;
         };
         if book.op(&ticket, op) != Ok(reply) {
@@ -116,7 +116,7 @@ fn book(
 }
 
 /// What is published of the book by the runs, where it is over these cells; or that it is not adopted.
-fn adopt<'a>(
+fn adopt_closed_book<'a>(
     alloc: Global,
     contracts: &'a [Deployed<Global>],
     calls: &'a [Call],
@@ -134,7 +134,9 @@ fn adopt<'a>(
     if !closed.opening.has_cells_of(cells) {
         return None;
     }
-    match Publishing::adopt(alloc, contracts, calls, cells, fuel, closed, runs, touched) {
+    match Publishing::adopt_closed_book(
+        alloc, contracts, calls, cells, fuel, closed, runs, touched,
+    ) {
         Ok(Some(publishing)) => Some(Some(publishing.close().ok()?)),
         Ok(None) => Some(None),
         Err(_) => None,

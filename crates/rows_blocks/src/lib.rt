@@ -12,7 +12,7 @@ use rows_files::{Refused, answer_of};
 use std::alloc::Global;
 
 /// What is answered to calls over cells: none where there is no such kind.
-fn told_of_calls(alloc: Global, kind: &str, input: &[u8]) -> Option<Result<String, Refused>> {
+fn answer_to_calls(alloc: Global, kind: &str, input: &[u8]) -> Option<Result<String, Refused>> {
     let told = match kind {
         "serial" => runs::serial(alloc, input),
         "alone" => runs::alone(alloc, input),
@@ -29,7 +29,7 @@ fn told_of_calls(alloc: Global, kind: &str, input: &[u8]) -> Option<Result<Strin
 }
 
 /// What is answered to locks: none where there is no such kind.
-fn told_of_locks(alloc: Global, kind: &str, input: &[u8]) -> Option<Result<String, Refused>> {
+fn answer_to_locks(alloc: Global, kind: &str, input: &[u8]) -> Option<Result<String, Refused>> {
     let told = match kind {
         "lock_profiles" => locks::lock_profiles(alloc, input),
         "lock_profile" => locks::lock_profile(alloc, input),
@@ -41,14 +41,14 @@ fn told_of_locks(alloc: Global, kind: &str, input: &[u8]) -> Option<Result<Strin
 }
 
 /// What is answered to a question: none where there is no such kind.
-fn told(alloc: Global, kind: &str, input: &[u8]) -> Option<Result<String, Refused>> {
-    match told_of_calls(alloc, kind, input) {
+fn answer_to(alloc: Global, kind: &str, input: &[u8]) -> Option<Result<String, Refused>> {
+    match answer_to_calls(alloc, kind, input) {
         Some(told) => Some(told),
-        None => told_of_locks(alloc, kind, input),
+        None => answer_to_locks(alloc, kind, input),
     }
 }
 
 /// The answer to a question of this kind: none where there is no such kind, or no memory.
 pub fn answer(alloc: Global, kind: &str, input: &[u8]) -> Option<String> {
-    answer_of(alloc, told(alloc, kind, input)?)
+    answer_of(alloc, answer_to(alloc, kind, input)?)
 }

@@ -15,7 +15,7 @@ use rows_files::files::put_block_bytes;
 use rows_files::put::{put_cells, put_locks, put_receipt};
 use rows_files::scene::{Scene, scene_of, world_of};
 use serial::{execute, replay, run_alone, run_as, serial_core, touched_by};
-use spec_ledger::{Op, Receipt, Reply, Step, Version};
+use spec_ledger::{Op, Receipt, Reply, TraceStep, Version};
 use std::alloc::{AllocError, Global};
 use storage::Cells;
 use world::World;
@@ -114,16 +114,16 @@ pub(crate) fn replayed(alloc: Global, lines: &[u8]) -> Result<String, Refused> {
 }
 
 /// A step of a trace: `Opened`, `Kept`, `Dropped`, `Add PLACE NUMBER`, or `Total PLACE REPLY`.
-fn step_of(line: &str) -> Result<Step, Refused> {
+fn step_of(line: &str) -> Result<TraceStep, Refused> {
     let (word, rest) = cut(line);
     let (place, number) = cut(rest);
     match word {
-        "Opened" => Ok(Step::Opened),
-        "Kept" => Ok(Step::Kept),
-        "Dropped" => Ok(Step::Dropped),
-        "Add" => Ok(Step::Did(Op::Add(place_of(place)?, long(number)?), Reply::Nothing)),
+        "Opened" => Ok(TraceStep::Opened),
+        "Kept" => Ok(TraceStep::Kept),
+        "Dropped" => Ok(TraceStep::Dropped),
+        "Add" => Ok(TraceStep::Did(Op::Add(place_of(place)?, long(number)?), Reply::Nothing)),
         "Total" => match number.parse::<i64>() {
-            Ok(reply) => Ok(Step::Did(Op::Total(place_of(place)?), Reply::I64(reply))),
+            Ok(reply) => Ok(TraceStep::Did(Op::Total(place_of(place)?), Reply::I64(reply))),
             Err(_) => Err(Refused::Line),
         },
         _ => Err(Refused::Line),

@@ -4,13 +4,13 @@ use crate::refused::Refused;
 use crate::words::{cut, lock_of, long, op_of, outcome_of, short, steps_of};
 use boost::book::Run;
 use boost::play::Event;
-use spec_ledger::{Lock, Op, Outcome, Step};
+use spec_ledger::{Lock, Op, Outcome, TraceStep};
 use std::alloc::Global;
 
 /// What a call did, and how it ended.
 #[derive(Drop)]
 pub(crate) struct Did {
-    pub(crate) trace: Vec<Step>,
+    pub(crate) trace: Vec<TraceStep>,
     pub(crate) outcome: Outcome,
 }
 

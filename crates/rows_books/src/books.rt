@@ -268,7 +268,7 @@ fn put_answers(
 }
 
 /// What a book answers to lines, and what it has when it is closed.
-pub(crate) fn told(alloc: Global, lines: &[u8]) -> Result<String, Refused> {
+pub(crate) fn answer_to(alloc: Global, lines: &[u8]) -> Result<String, Refused> {
     let scene = scene_of(alloc, text_of(lines)?)?;
     let mut book = Book::open(alloc, scene.cells.copy(alloc)?, scene.calls)?;
     let mut out = String::new(alloc);

@@ -60,7 +60,7 @@ fn put_answer(
 }
 
 /// What is answered to operations on cells, one after another.
-pub(crate) fn told(alloc: Global, lines: &[u8]) -> Result<String, Refused> {
+pub(crate) fn answer_to(alloc: Global, lines: &[u8]) -> Result<String, Refused> {
     let mut cells = Cells::new(alloc);
     let mut out = String::new(alloc);
     for line in text_of(lines)?.split('\n') {

@@ -17,16 +17,16 @@ pub use refused::Refused;
 use std::alloc::Global;
 
 /// What is answered to bytes: none where there is no such kind.
-fn told(alloc: Global, kind: &str, input: &[u8]) -> Option<Result<String, Refused>> {
+fn answer_to(alloc: Global, kind: &str, input: &[u8]) -> Option<Result<String, Refused>> {
     let told = match kind {
-        "book" => books::told(alloc, input),
+        "book" => books::answer_to(alloc, input),
         "book_events" => books::events(alloc, input),
-        "storage" => cell_ops::told(alloc, input),
+        "storage" => cell_ops::answer_to(alloc, input),
         "lock_table" => tables::lock_table(alloc, input),
         "home" => parts::home(alloc, input),
         "is_part" => parts::is_part(alloc, input),
         "put_together" => parts::put_together(alloc, input),
-        "shard" => one_shard::told(alloc, input),
+        "shard" => one_shard::answer_to(alloc, input),
         _ => return None,
     };
     Some(told)
@@ -34,7 +34,7 @@ fn told(alloc: Global, kind: &str, input: &[u8]) -> Option<Result<String, Refuse
 
 /// The answer to a question of this kind: none where there is no such kind, or no memory.
 pub fn answer(alloc: Global, kind: &str, input: &[u8]) -> Option<String> {
-    match told(alloc, kind, input)? {
+    match answer_to(alloc, kind, input)? {
         Ok(found) => Some(found),
         Err(Refused::NoMemory) => None,
         Err(refusal) => format!(in alloc; "{refusal:?}\n").ok(),

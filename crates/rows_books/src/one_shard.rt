@@ -79,7 +79,7 @@ fn put_answer(
 }
 
 /// What a shard of two calls answers to each line.
-pub(crate) fn told(alloc: Global, lines: &[u8]) -> Result<String, Refused> {
+pub(crate) fn answer_to(alloc: Global, lines: &[u8]) -> Result<String, Refused> {
     let mut shard = Shard::open(alloc, Cells::new(alloc), 2)?;
     let mut out = String::new(alloc);
     for line in text_of(lines)?.split('\n') {

@@ -7,7 +7,7 @@ use crate::scene::put_cell;
 use crate::words::{cut, lock_of, short, steps_of, text_of};
 use boost::book::{Book, Closed};
 use sharding::{Part, close};
-use spec_ledger::Step;
+use spec_ledger::TraceStep;
 use std::alloc::Global;
 use storage::Cells;
 
@@ -43,7 +43,7 @@ fn commit(book: &mut Book, call: u32, did: &Did) -> Result<(), Refused> {
         return Err(Refused::Line);
     };
     for step in &did.trace {
-        let Step::Did(op, reply) = *step else {
+        let TraceStep::Did(op, reply) = *step else {
             return Err(Refused::Line);
         };
         if book.op(&ticket, op) != Ok(reply) {

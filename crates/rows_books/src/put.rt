@@ -1,9 +1,9 @@
 //! Texts of what is found.
 
 use crate::refused::Refused;
-use boost::attempt::Entry;
+use boost::attempt::CommittedCall;
 use boost::book::Closed;
-use spec_ledger::{CellKey, Lock, Op, Reply, Step};
+use spec_ledger::{CellKey, Lock, Op, Reply, TraceStep};
 use std::alloc::AllocError;
 use storage::Cells;
 
@@ -39,9 +39,9 @@ fn put_reply(out: &mut String, reply: Reply) -> Result<(), AllocError> {
 }
 
 /// Puts a step.
-fn put_step(out: &mut String, step: Step) -> Result<(), AllocError> {
+fn put_step(out: &mut String, step: TraceStep) -> Result<(), AllocError> {
     match step {
-        Step::Did(op, reply) => {
+        TraceStep::Did(op, reply) => {
             put_op(out, op)?;
             put_reply(out, reply)
         }
@@ -50,7 +50,11 @@ fn put_step(out: &mut String, step: Step) -> Result<(), AllocError> {
 }
 
 /// Puts steps, with what stands before the first one and before each other one.
-pub(crate) fn put_steps(out: &mut String, first: &str, steps: &[Step]) -> Result<(), AllocError> {
+pub(crate) fn put_steps(
+    out: &mut String,
+    first: &str,
+    steps: &[TraceStep],
+) -> Result<(), AllocError> {
     let mut before = first;
     for step in steps {
         write!(out, "{before}")?;
@@ -73,7 +77,7 @@ pub(crate) fn put_cells(out: &mut String, word: &str, cells: &Cells) -> Result<(
 }
 
 /// Puts a committed call, and how it held these locks.
-fn put_entry(out: &mut String, entry: &Entry, locks: &[Lock]) -> Result<(), AllocError> {
+fn put_entry(out: &mut String, entry: &CommittedCall, locks: &[Lock]) -> Result<(), AllocError> {
     let outcome = entry.outcome();
     write!(out, "entry {} {outcome:?}", entry.call())?;
     put_steps(out, " ", entry.trace())?;

@@ -1,7 +1,7 @@
 //! Words of lines.
 
 use crate::refused::Refused;
-use spec_ledger::{CellKey, Kind, Lock, Mode, Op, Outcome, Reply, Step};
+use spec_ledger::{CellKey, Kind, Lock, Mode, Op, Outcome, Reply, TraceStep};
 use std::alloc::Global;
 use std::str::from_utf8;
 use wtypes::TrapCode;
@@ -129,21 +129,21 @@ fn reply_of(op: Op, digits: &str) -> Result<Reply, Refused> {
 }
 
 /// A step of a call: `Opened`, `Kept`, `Dropped`, or an operation, and ` = ` and the reply where it has one.
-fn step_of(text: &str) -> Result<Step, Refused> {
+fn step_of(text: &str) -> Result<TraceStep, Refused> {
     match text {
-        "Opened" => Ok(Step::Opened),
-        "Kept" => Ok(Step::Kept),
-        "Dropped" => Ok(Step::Dropped),
+        "Opened" => Ok(TraceStep::Opened),
+        "Kept" => Ok(TraceStep::Kept),
+        "Dropped" => Ok(TraceStep::Dropped),
         _ => {
             let (op, digits) = text.split_once(" = ").unwrap_or((text, ""));
             let op = op_of(op)?;
-            Ok(Step::Did(op, reply_of(op, digits)?))
+            Ok(TraceStep::Did(op, reply_of(op, digits)?))
         }
     }
 }
 
 /// Steps with commas between them.
-pub(crate) fn steps_of(alloc: Global, text: &str) -> Result<Vec<Step>, Refused> {
+pub(crate) fn steps_of(alloc: Global, text: &str) -> Result<Vec<TraceStep>, Refused> {
     let mut steps = Vec::new(alloc);
     if !text.is_empty() {
         for step in text.split(',') {

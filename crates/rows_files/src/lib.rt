@@ -14,7 +14,7 @@ pub use refused::Refused;
 use std::alloc::Global;
 
 /// What is answered to fields of files, and to what is to be written: none where there is no such kind.
-fn told_of_files(alloc: Global, kind: &str, input: &[u8]) -> Option<Result<String, Refused>> {
+fn answer_to_files(alloc: Global, kind: &str, input: &[u8]) -> Option<Result<String, Refused>> {
     let told = match kind {
         "record_numbers" => record_kinds::numbers(alloc, input),
         "record_field" => record_kinds::field(alloc, input),
@@ -51,8 +51,8 @@ fn read(alloc: Global, kind: &str, input: &[u8]) -> Option<Result<String, Refuse
 }
 
 /// What is answered to a question: none where there is no such kind.
-fn told(alloc: Global, kind: &str, input: &[u8]) -> Option<Result<String, Refused>> {
-    match told_of_files(alloc, kind, input) {
+fn answer_to(alloc: Global, kind: &str, input: &[u8]) -> Option<Result<String, Refused>> {
+    match answer_to_files(alloc, kind, input) {
         Some(told) => Some(told),
         None => read(alloc, kind, input),
     }
@@ -73,5 +73,5 @@ pub fn answer_of(alloc: Global, told: Result<String, Refused>) -> Option<String>
 
 /// The answer to a question of this kind: none where there is no such kind, or no memory.
 pub fn answer(alloc: Global, kind: &str, input: &[u8]) -> Option<String> {
-    answer_of(alloc, told(alloc, kind, input)?)
+    answer_of(alloc, answer_to(alloc, kind, input)?)
 }

@@ -1,7 +1,7 @@
 //! Why nothing is found.
 
 use block::BlockRefusal;
-use block_judge::{Reason, Unfit};
+use block_judge::{JudgeRefusal, Reason};
 use records::Fault;
 use std::alloc::{AllocError, AllocFailed};
 use wblock_calls::CallsRefusal;
@@ -32,7 +32,7 @@ pub enum Refused {
 }
 
 impl Refused {
-    /// Whether it is for want of memory.
+    /// Whether it is for lack of memory.
     pub fn is_of_memory(self) -> bool {
         matches!(
             self,
@@ -96,11 +96,11 @@ impl From<CallsRefusal> for Refused {
     }
 }
 
-impl From<Unfit> for Refused {
-    fn from(unfit: Unfit) -> Refused {
+impl From<JudgeRefusal> for Refused {
+    fn from(unfit: JudgeRefusal) -> Refused {
         match unfit {
-            Unfit::Rejected(reason) => Refused::Rejected(reason),
-            Unfit::NoMemory => Refused::NoMemory,
+            JudgeRefusal::Rejected(reason) => Refused::Rejected(reason),
+            JudgeRefusal::NoMemory => Refused::NoMemory,
         }
     }
 }

@@ -18,15 +18,15 @@ pub use machines::make_turn;
 use std::alloc::Global;
 
 /// What is answered to bytes: none where there is no such kind.
-fn told(alloc: Global, kind: &str, input: &[u8]) -> Option<Result<String, Refused>> {
+fn answer_to(alloc: Global, kind: &str, input: &[u8]) -> Option<Result<String, Refused>> {
     let told = match kind {
         "run" => finishes::run(alloc, input),
         "without_fuel" => finishes::without_fuel(alloc, input),
-        "turns" => turns::told(alloc, input),
+        "turns" => turns::answer_to(alloc, input),
         "alike" => alike::alike(alloc, input),
-        "session" => sessions::told(alloc, input),
-        "operands" => over_operands::told(alloc, input),
-        "memory" => memories::told(alloc, input),
+        "session" => sessions::answer_to(alloc, input),
+        "operands" => over_operands::answer_to(alloc, input),
+        "memory" => memories::answer_to(alloc, input),
         _ => return None,
     };
     Some(told)
@@ -39,7 +39,7 @@ fn not_started(alloc: Global, refusal: StartRefusal) -> Option<String> {
 
 /// The answer to a question of this kind: none where there is no such kind, or no memory.
 pub fn answer(alloc: Global, kind: &str, input: &[u8]) -> Option<String> {
-    match told(alloc, kind, input)? {
+    match answer_to(alloc, kind, input)? {
         Ok(found) => Some(found),
         Err(Refused::NoMemory) => None,
         Err(Refused::Start(refusal)) => not_started(alloc, refusal),

@@ -135,7 +135,7 @@ fn put_line(
 }
 
 /// What a memory of so many pages, which may grow to so many, answers to the lines behind the first.
-pub(crate) fn told(alloc: Global, input: &[u8]) -> Result<String, Refused> {
+pub(crate) fn answer_to(alloc: Global, input: &[u8]) -> Result<String, Refused> {
     let Ok(text) = from_utf8(input) else {
         return Err(Refused::Line);
     };

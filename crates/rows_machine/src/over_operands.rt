@@ -93,7 +93,7 @@ fn put_line(
 
 /// A line for each first operand: what an export comes to with it and each second one. The lines are the name of the export, the first operands, and the
 /// second ones where it has two.
-pub(crate) fn told(alloc: Global, input: &[u8]) -> Result<String, Refused> {
+pub(crate) fn answer_to(alloc: Global, input: &[u8]) -> Result<String, Refused> {
     let Some((lines, modules)) = parted(input) else {
         return Err(Refused::Line);
     };

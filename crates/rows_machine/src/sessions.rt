@@ -129,7 +129,7 @@ fn put_asked(
 }
 
 /// What a session of a call by the rules of version 2 over no cells answers to each line, behind the line.
-pub(crate) fn told(alloc: Global, input: &[u8]) -> Result<String, Refused> {
+pub(crate) fn answer_to(alloc: Global, input: &[u8]) -> Result<String, Refused> {
     let question = question_of(alloc, input)?;
     let cells = Cells::new(alloc);
     let mut session = Session::open(

@@ -91,7 +91,7 @@ fn put_all<'a>(
 }
 
 /// What is told of a call, which has no end before its first turn, and what it comes to.
-pub(crate) fn told(alloc: Global, input: &[u8]) -> Result<String, Refused> {
+pub(crate) fn answer_to(alloc: Global, input: &[u8]) -> Result<String, Refused> {
     let question = question_of(alloc, input)?;
     let mut machine = unfinished(alloc, &question.contracts, &question.call)?;
     let mut out = String::new(alloc);

@@ -26,7 +26,7 @@ use std::alloc::Global;
 use std::str::from_utf8;
 
 /// What is answered to a text, where it is a question of tokens and words.
-fn told_of_words(alloc: Global, kind: &str, text: &str) -> Option<Result<String, Refused>> {
+fn answer_to_words(alloc: Global, kind: &str, text: &str) -> Option<Result<String, Refused>> {
     let told = match kind {
         "tokens" => words::tokens_of(alloc, text),
         "integer" => words::integer(alloc, text),
@@ -44,7 +44,7 @@ fn told_of_words(alloc: Global, kind: &str, text: &str) -> Option<Result<String,
 }
 
 /// What is answered to a text, where it is a question of bodies, fields and parts.
-fn told_of_fields(alloc: Global, kind: &str, text: &str) -> Option<Result<String, Refused>> {
+fn answer_to_fields(alloc: Global, kind: &str, text: &str) -> Option<Result<String, Refused>> {
     let told = match kind {
         "body" => flats::body_of(alloc, text),
         "steps" => steps::steps(alloc, text),
@@ -61,7 +61,7 @@ fn told_of_fields(alloc: Global, kind: &str, text: &str) -> Option<Result<String
 }
 
 /// What is answered to a text, where it is a question of whole modules.
-fn told_of_modules(alloc: Global, kind: &str, text: &str) -> Option<Result<String, Refused>> {
+fn answer_to_modules(alloc: Global, kind: &str, text: &str) -> Option<Result<String, Refused>> {
     let told = match kind {
         "fault" => modules::fault(alloc, text),
         "refusal" => modules::refusal(alloc, text),
@@ -74,23 +74,23 @@ fn told_of_modules(alloc: Global, kind: &str, text: &str) -> Option<Result<Strin
 }
 
 /// What is answered to bytes: none where there is no such kind.
-fn told(alloc: Global, kind: &str, input: &[u8]) -> Option<Result<String, Refused>> {
+fn answer_to(alloc: Global, kind: &str, input: &[u8]) -> Option<Result<String, Refused>> {
     if kind == "written_of_bytes" {
         return Some(modules::written_of_bytes(alloc, input));
     }
     let text = from_utf8(input).ok()?;
-    match told_of_words(alloc, kind, text) {
+    match answer_to_words(alloc, kind, text) {
         Some(told) => Some(told),
-        None => match told_of_fields(alloc, kind, text) {
+        None => match answer_to_fields(alloc, kind, text) {
             Some(told) => Some(told),
-            None => told_of_modules(alloc, kind, text),
+            None => answer_to_modules(alloc, kind, text),
         },
     }
 }
 
 /// The answer to a question of this kind: none where there is no such kind, or no memory.
 pub fn answer(alloc: Global, kind: &str, input: &[u8]) -> Option<String> {
-    match told(alloc, kind, input)? {
+    match answer_to(alloc, kind, input)? {
         Ok(found) => Some(found),
         Err(Refused::NoMemory) => None,
         Err(refusal) => format!(in alloc; "{refusal:?}\n").ok(),

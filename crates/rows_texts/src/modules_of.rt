@@ -5,7 +5,7 @@ use crate::modules_of_refused::Refused;
 use std::alloc::Global;
 
 /// What is answered to bytes: none where there is no such kind.
-fn told(alloc: Global, kind: &str, input: &[u8]) -> Option<Result<String, Refused>> {
+fn answer_to(alloc: Global, kind: &str, input: &[u8]) -> Option<Result<String, Refused>> {
     let told = match kind {
         "verdict" => crate::verdict::verdict_text(alloc, input),
         "many_exports" => crate::large::many_exports(alloc, input),
@@ -24,7 +24,7 @@ fn told(alloc: Global, kind: &str, input: &[u8]) -> Option<Result<String, Refuse
 
 /// The answer to a question of this kind: none where there is no such kind, or no memory.
 pub fn module_answer(alloc: Global, kind: &str, input: &[u8]) -> Option<String> {
-    match told(alloc, kind, input)? {
+    match answer_to(alloc, kind, input)? {
         Ok(found) => Some(found),
         Err(Refused::NoMemory) => None,
         Err(refusal) => format!(in alloc; "{refusal:?}\n").ok(),

@@ -9,17 +9,17 @@ use Rattle.spec_ledger.specs.declared.Outcome.{Outcome}
 use Rattle.spec_ledger.specs.declared.Outcome.TheVariants.{Rejected}
 use Rattle.spec_ledger.specs.declared.Receipt.{Receipt}
 use Rattle.spec_ledger.specs.declared.Reply.{Reply}
-use Rattle.spec_ledger.specs.declared.Step.{Step}
-use Rattle.spec_ledger.specs.declared.Step.TheVariants.{Kept, Dropped}
+use Rattle.spec_ledger.specs.declared.TraceStep.{TraceStep}
+use Rattle.spec_ledger.specs.declared.TraceStep.TheVariants.{Kept, Dropped}
 use Rattle.spec_ledger.specs.declared.Version.{Version}
 use Rattle.spec_ledger.specs.Cells.{Cells}
 use Rattle.spec_ledger.specs.Modes.{Modes}
 use Rattle.spec_execution.specs.Configuration.{Setting, Deployed, Contract, Function, Hosted, Defined, function_at, Seq, State, Config, Running, Trap}
-use Rattle.spec_execution.specs.Reduction.{HostRequest, Of, Ask, Answer, Next, Goes, Traps, Asks, Branches, Returns, Ended, Stuck}
+use Rattle.spec_execution.specs.Reduction.{HostEffect, Of, Ask, Answer, Next, Goes, Traps, Asks, Branches, Returns, Ended, Stuck}
 use Rattle.spec_execution.specs.Run.{next, ContractCall, Opening, Refused, Opens, by_wrong, by_function, by_export, by_contract, exported, wrong_argument}
 use Rattle.spec_execution.specs.Levels.{Level, Levels, Move, Over, back_by, back_to, returned, fallen, signed_of, no_answer, trap_status, entering, asked, wished, by_next, by_config, Ends, over, exhausted, RunsWith, refused, ran}
 use Rattle.spec_execution.specs.Serial.{Serial}
-use Rattle.serial.specs.Positions.{positions as ran_of}
+use Rattle.serial.specs.Positions.{results_of}
 use Rattle.serial.specs.Ordered.{IsPossible, ArePossible}
 
 abbrev HasCause : Opening → Type 0
@@ -56,7 +56,7 @@ MayEnd (Over o) = IsPossible o
 MayEnd _ = Unit {0}
 
 module _ (l : Level) (outer : List Level) where
-  back_by_may_end : (s : State) (status : ℕ) (answer : ℤ) (mark : Step) (x : Next) → MayEnd (back_by l outer s status answer mark x)
+  back_by_may_end : (s : State) (status : ℕ) (answer : ℤ) (mark : TraceStep) (x : Next) → MayEnd (back_by l outer s status answer mark x)
   back_by_may_end s status answer mark (Goes charge s' q) = tt
   back_by_may_end s status answer mark (Traps charge t) = tt
   back_by_may_end s status answer mark (Asks (Of op) go) = tt
@@ -67,7 +67,7 @@ module _ (l : Level) (outer : List Level) where
   back_by_may_end s status answer mark (Ended vs) = tt
   back_by_may_end s status answer mark Stuck = tt
 
-  back_to_may_end : (status : ℕ) (answer : ℤ) (mark : Step) (x : Config) → MayEnd (back_to l outer status answer mark x)
+  back_to_may_end : (status : ℕ) (answer : ℤ) (mark : TraceStep) (x : Config) → MayEnd (back_to l outer status answer mark x)
   back_to_may_end status answer mark (Running s q) = back_by_may_end s status answer mark (next l.contract s q)
   back_to_may_end status answer mark (Trap s t) = tt
 
@@ -86,7 +86,7 @@ fallen_may_end t [] = tt
 fallen_may_end t (l ∷ outer) = back_to_may_end l outer (trap_status t) no_answer Dropped l.config
 
 module _ (setting : Setting) where
-  wished_may_end : (l : Level) (outer : List Level) (s : State) (w : HostRequest) (go : Reply → Seq) → MayEnd (wished setting l outer s w go)
+  wished_may_end : (l : Level) (outer : List Level) (s : State) (w : HostEffect) (go : Reply → Seq) → MayEnd (wished setting l outer s w go)
   wished_may_end l outer s (Of op) go = tt
   wished_may_end l outer s (Ask n e x) go = entering_may_end l outer s go x (asked setting (length outer) n e)
   wished_may_end l outer s Answer go = tt
@@ -104,17 +104,17 @@ module _ (setting : Setting) where
   config_may_end l outer (Running s q) = next_may_end l outer s (next l.contract s q)
   config_may_end l outer (Trap s t) = fallen_may_end t outer
 
-  end_is_possible : (limit used : ℕ) (last : Levels) (o : Outcome) (marks : List Step) → Ends setting limit used last o marks → IsPossible o
+  end_is_possible : (limit used : ℕ) (last : Levels) (o : Outcome) (marks : List TraceStep) → Ends setting limit used last o marks → IsPossible o
   end_is_possible limit used last o marks (over u c p is) = subst MayEnd is (config_may_end c.inner c.outer c.inner.config)
   end_is_possible limit used last o marks (exhausted c h) = tt
 
-run_is_possible : (setting : Setting) (call : ContractCall) (trace : List Step) (o : Outcome) (used : ℕ) → RunsWith setting call trace o used → IsPossible o
+run_is_possible : (setting : Setting) (call : ContractCall) (trace : List TraceStep) (o : Outcome) (used : ℕ) → RunsWith setting call trace o used → IsPossible o
 run_is_possible setting call trace o used (refused code is) = subst HasCause is (contract_has_cause setting.version call (slice_get setting.contracts call.contract))
 run_is_possible setting call trace o used (ran c func t p f is run) = end_is_possible setting call.fuel f run.last p run.marks run.ends
 
 -- the receipts of calls that ran one after another
 pub are_possible : (setting : Setting) (calls : List ContractCall) (order : List ℕ) (cells : Cells) (rs : List Receipt) (ms : List Modes) (last : Cells)
-    → length rs ≡ length ms → Serial setting calls order cells (ran_of rs ms) last → ArePossible rs
+    → length rs ≡ length ms → Serial setting calls order cells (results_of rs ms) last → ArePossible rs
 are_possible setting calls order cells [] ms last e s = All-nil (λ (r : Receipt). IsPossible r.outcome)
 are_possible setting calls order cells (r ∷ rs) [] last e s = absurd (omega (arith, e))
 are_possible setting calls [] cells (r ∷ rs) (m ∷ ms) last e s = absurd s

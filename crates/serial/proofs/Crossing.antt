@@ -36,7 +36,7 @@ use Rattle.wtypes.proofs.NoMemory.TheSendSync as no_memory
 use Rattle.wtypes.proofs.PlainInstr.TheSendSync as plain
 use Rattle.wtypes.proofs.ValType.TheSendSync as val_type
 use Rattle.spec_ledger.proofs.Outcome.TheSendSync as outcome
-use Rattle.spec_ledger.proofs.Step.TheSendSync as step
+use Rattle.spec_ledger.proofs.TraceStep.TheSendSync as step
 use Rattle.spec_ledger.proofs.Lock.TheSendSync as lock
 use Rattle.spec_ledger.proofs.Version.TheSendSync as version
 use Rattle.module_tree.proofs.instr.Instr.TheLaws.TheKnot as instr

@@ -1,7 +1,7 @@
 -- What turns that step, and the one behind them, come to.
 use Rattle.std.proofs.Common.{◌≡◌, ◌≤◌, Bool, List, [], ◌∷◌, ◌++◌, refl, sym, ap, ◌∙◌, subst, arith, inl, inr}
-use Rattle.spec_ledger.specs.declared.Step.{Step}
-use Rattle.spec_ledger.specs.declared.Step.TheVariants.{Opened}
+use Rattle.spec_ledger.specs.declared.TraceStep.{TraceStep}
+use Rattle.spec_ledger.specs.declared.TraceStep.TheVariants.{Opened}
 use Rattle.spec_ledger.specs.declared.Op.{Op}
 use Rattle.spec_ledger.specs.declared.Outcome.{Outcome}
 use Rattle.interp_run.specs.declared.turns.Status.{Status}
@@ -85,7 +85,7 @@ entered p q h on =
     let within = within_of q on h.last.goes_on in
     record {
       same = same_joined p h.before q g.same h.last.same;
-      trace = h.last.trace ∙ ap (λ (t : List Step). t ++ Opened ∷ []) g.trace;
+      trace = h.last.trace ∙ ap (λ (t : List TraceStep). t ++ Opened ∷ []) g.trace;
       used = omega (arith, past, more);
       within = within;
       less = omega (arith, less, more, depth, within, fuel_same h.before q h.last.same);
@@ -101,7 +101,7 @@ left p keep q h on =
     let depth = h.last.depth in
     record {
       same = same_joined p h.before q g.same h.last.same;
-      trace = h.last.trace ∙ ap (λ (t : List Step). t ++ mark_of keep ∷ []) g.trace;
+      trace = h.last.trace ∙ ap (λ (t : List TraceStep). t ++ mark_of keep ∷ []) g.trace;
       used = omega (arith, past, more);
       within = elim h.last.left [ inl back ↦ within_of q on back.goes_on | inr shut ↦ (let at : IsProgressAt q status.Closing = subst (λ (x : Status). IsProgressAt q x) shut.closing on.at in at.within) ];
       less = omega (arith, less, more, depth, fuel_same h.before q h.last.same);

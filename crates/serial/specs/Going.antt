@@ -1,7 +1,7 @@
 -- How far a machine goes of its own.
 use Rattle.std.specs.Prelude.{◌≡◌, ◌<◌, ◌≤◌, [], ◌∷◌, ◌++◌, Bool}
 use Rattle.spec_ledger.specs.declared.Op.{Op}
-use Rattle.spec_ledger.specs.declared.Step.TheVariants.{Opened}
+use Rattle.spec_ledger.specs.declared.TraceStep.TheVariants.{Opened}
 use Rattle.interp_run.specs.declared.turns.Status.{Status}
 use Rattle.interp_run.specs.declared.turns.Status.TheVariants as status
 use Rattle.interp_run.specs.Progress.{Progress, IsFree, IsSameCall, WantsMemory, left_of, mark_of}

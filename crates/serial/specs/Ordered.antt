@@ -14,8 +14,8 @@ pub record IsOutcomeOf (world : World) (calls : List Call) (order : List ℕ) (b
   pub storage : next ≡ world_after world of_order.last
 
 -- the fuel that calls with these receipts used
-abbrev pub used_by : List Receipt → ℕ
-used_by receipts = sum_by (λ (r : Receipt). r.used) receipts
+abbrev pub fuel_of_receipts : List Receipt → ℕ
+fuel_of_receipts receipts = sum_by (λ (r : Receipt). r.used) receipts
 
 -- the code of a rejection is that of a cause
 abbrev pub IsPossible : Outcome → Type 0

@@ -7,9 +7,9 @@ ghost use Rattle.spec_ledger.specs.declared.Version.TheVariants.{Two};
 ghost use Rattle.spec_ledger.specs.Order.{limits_of};
 ghost use Rattle.spec_block.specs.Worlds.{limits};
 ghost use Rattle.spec_block.specs.Blocks.{block_of, world_after};
-ghost use Rattle.serial.specs.Positions.{positions as ran_of};
+ghost use Rattle.serial.specs.Positions.{results_of};
 ghost use Rattle.world.specs.Views.{world_view};
-ghost use Rattle.serial.specs.Ordered.{ArePossible, IsOutcomeOf, used_by};
+ghost use Rattle.serial.specs.Ordered.{ArePossible, IsOutcomeOf, fuel_of_receipts};
 
 use crate::contracts::copied;
 use crate::positions::{fuel_of, positions_of};
@@ -41,8 +41,8 @@ pub fn build_block<A: Allocator + Copy>(
     requires receipts { length core.receipts.items ≡ length order.now }
     requires touched { length core.touched.items ≡ length order.now }
     requires possible { ArePossible core.receipts.items }
-    requires fuel { used_by core.receipts.items < 2 ^ 64 }
-    ensures block { IfOk result (λ r. r.0 ≡ block_of version (world_view world.now) calls.now order.now (ran_of core.receipts.items core.touched.items) core.cells.cells) }
+    requires fuel { fuel_of_receipts core.receipts.items < 2 ^ 64 }
+    ensures block { IfOk result (λ r. r.0 ≡ block_of version (world_view world.now) calls.now order.now (results_of core.receipts.items core.touched.items) core.cells.cells) }
     ensures world { IfOk result (λ r. world_view r.1 ≡ world_after (world_view world.now) core.cells.cells) }
 {
     let positions = positions_of(alloc, order, &core.receipts, &core.touched)?;

@@ -21,7 +21,7 @@ ghost use Rattle.spec_execution.specs.Exec.{Executes};
 ghost use Rattle.spec_execution.specs.Serial.{Serial};
 ghost use Rattle.interp_run.specs.Callee.{setting_view};
 ghost use Rattle.serial.specs.Playing.{AreDone};
-ghost use Rattle.serial.specs.Positions.{positions};
+ghost use Rattle.serial.specs.Positions.{results_of};
 
 use crate::again::act_again;
 pub use crate::blocks::{build_block, run, run_as};
@@ -180,7 +180,7 @@ pub fn serial_core<A: Allocator + Copy>(
     version: Version,
 ) -> Result<Core<A>, NoMemory>
     requires { All (λ number. number < length calls.now) order.now }
-    ensures serial { IfOk result (λ core. Serial (setting_view version contracts.now) calls.now order.now cells.now.cells (positions core.receipts.items core.touched.items) core.cells.cells) }
+    ensures serial { IfOk result (λ core. Serial (setting_view version contracts.now) calls.now order.now cells.now.cells (results_of core.receipts.items core.touched.items) core.cells.cells) }
     ensures receipts { IfOk result (λ core. length core.receipts.items ≡ length order.now) }
     ensures touched { IfOk result (λ core. length core.touched.items ≡ length order.now) }
     ensures settled { IfOk result (λ core. core.cells.unsettled ≡ finite.empty) }

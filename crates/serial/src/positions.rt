@@ -2,9 +2,9 @@
 
 ghost use Rattle.std.specs.Prelude.{◌≡◌, ◌≤◌, ◌<◌, ◌^◌, IfOk, length};
 ghost use Rattle.spec_block.specs.Blocks.{positions};
-ghost use Rattle.serial.specs.Positions.{positions as ran_of};
+ghost use Rattle.serial.specs.Positions.{results_of};
 ghost use Rattle.spec_block.specs.Bytes.{IsOutcome};
-ghost use Rattle.serial.specs.Ordered.{ArePossible, IsPossible, used_by};
+ghost use Rattle.serial.specs.Ordered.{ArePossible, IsPossible, fuel_of_receipts};
 
 use block::Position;
 use lock_profile::{Profile, Touched, turns};
@@ -64,7 +64,7 @@ pub fn positions_of<A: Allocator + Copy>(
     requires receipts { length receipts.now ≡ length order.now }
     requires touched { length touched.now ≡ length order.now }
     requires possible { ArePossible receipts.now }
-    ensures { IfOk result (λ made. made.items ≡ positions order.now (ran_of receipts.now touched.now)) }
+    ensures { IfOk result (λ made. made.items ≡ positions order.now (results_of receipts.now touched.now)) }
 {
     let profiles = turns(alloc, touched)?;
     let mut made = Vec::new(alloc);
@@ -78,8 +78,8 @@ pub fn positions_of<A: Allocator + Copy>(
 
 /// The fuel that calls with these receipts used.
 pub(crate) fn fuel_of(receipts: &[Receipt]) -> u64
-    requires { used_by receipts.now < 2 ^ 64 }
-    ensures { result ≡ used_by receipts.now }
+    requires { fuel_of_receipts receipts.now < 2 ^ 64 }
+    ensures { result ≡ fuel_of_receipts receipts.now }
 {
     let mut fuel: u64 = 0;
     for receipt in receipts {

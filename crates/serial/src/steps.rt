@@ -2,7 +2,7 @@
 ghost use Rattle.std.specs.Prelude.{◌≡◌, ◌∷◌, ◌++◌, [], List, IfOk, OnOk, OnErr};
 ghost use Rattle.spec_execution.specs.Run.{IsReply};
 ghost use Rattle.spec_ledger.specs.Cells.{cells_after, inverse_to, reply_to};
-ghost use Rattle.spec_ledger.specs.declared.Step.{Step};
+ghost use Rattle.spec_ledger.specs.declared.TraceStep.{TraceStep};
 ghost use Rattle.storage.specs.Counts.{Store, opened};
 ghost use Rattle.interp_run.specs.Progress.{mark_of};
 ghost use Rattle.serial.specs.Playing.{AreDoneInLevels, MayBeLeft};
@@ -41,7 +41,7 @@ pub(crate) fn leave<A: Allocator + Copy>(
     keep: bool,
 )
     requires { MayBeLeft cells.old inverses.old.items marks.old.items }
-    ensures { (start : Store) (trace : List Step) → AreDoneInLevels start trace cells.old inverses.old.items marks.old.items → AreDoneInLevels start (trace ++ mark_of keep ∷ []) cells.new inverses.new.items marks.new.items }
+    ensures { (start : Store) (trace : List TraceStep) → AreDoneInLevels start trace cells.old inverses.old.items marks.old.items → AreDoneInLevels start (trace ++ mark_of keep ∷ []) cells.new inverses.new.items marks.new.items }
 {
     let Some(mark) = marks.pop() else {
         return;

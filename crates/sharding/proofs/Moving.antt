@@ -6,16 +6,16 @@ use Rattle.std.proofs.lemmas.Option.{get_or_from_slice_get, slice_get_read}
 use Rattle.spec_ledger.specs.declared.Lock.{Lock}
 use Rattle.spec_ledger.specs.Cells.{Cells}
 use Rattle.spec_ledger.specs.Modes.{ops_of}
-use Rattle.spec_ledger.specs.Book.{Entry}
+use Rattle.spec_ledger.specs.Book.{CommittedCall}
 use Rattle.spec_ledger.specs.Shards.{AreCellsOf, part, with_trace, entries_in, shard_of}
 use Rattle.sharding.specs.Parts.{Part, IsPartOf, AreParts}
 use Rattle.sharding.specs.Places.{IsAt, AreAt}
 use Rattle.sharding.proofs.Walks.{same_on, differs, too_short, same_whole, too_long, left_as, entries_here, entries_away}
 use Rattle.sharding.proofs.Together.{each_more}
 
-module _ (home : Lock → ℕ) (shard : ℕ) (own journal : List Entry) (place : ℕ) where
+module _ (home : Lock → ℕ) (shard : ℕ) (own journal : List CommittedCall) (place : ℕ) where
   -- one entry of the journal further
-  module _ (position : ℕ) (e : Entry) (below : position < length journal) (is : e ≡ get_or journal position e) (at : IsAt home shard own journal place position) where
+  module _ (position : ℕ) (e : CommittedCall) (below : position < length journal) (is : e ≡ get_or journal position e) (at : IsAt home shard own journal place position) where
     pub at_away : [] ≡ ops_of (part home shard e.trace) → IsAt home shard own journal place (position + 1)
     at_away none = record {
       left = left_as own (entries_in home shard journal) place (entries_in home shard (drop position journal)) (entries_in home shard (drop (position + 1) journal))
@@ -24,7 +24,7 @@ module _ (home : Lock → ℕ) (shard : ℕ) (own journal : List Entry) (place :
     }
 
     module _ (some : ¬ ([] ≡ ops_of (part home shard e.trace))) where
-      abbrev mine : Entry
+      abbrev mine : CommittedCall
       mine = with_trace e (part home shard e.trace)
 
       begins : (own ≡ entries_in home shard journal) ↔ (drop place own ≡ mine ∷ entries_in home shard (drop (position + 1) journal))
@@ -35,7 +35,7 @@ module _ (home : Lock → ℕ) (shard : ℕ) (own journal : List Entry) (place :
       differs_short past = too_short own (entries_in home shard journal) place mine (entries_in home shard (drop (position + 1) journal)) begins past
 
       -- the shard's own entry there
-      module _ (o : Entry) (under : place < length own) (there : o ≡ get_or own place o) where
+      module _ (o : CommittedCall) (under : place < length own) (there : o ≡ get_or own place o) where
         read : get_or own place mine ≡ o
         read = get_or_from_slice_get own place o mine (slice_get_read own (length own) place o refl under there)
 
@@ -63,7 +63,7 @@ module _ (home : Lock → ℕ) (shard : ℕ) (own journal : List Entry) (place :
     pub ended_before : ¬ (place ≡ length own) → ¬ (own ≡ entries_in home shard journal)
     ended_before more = too_long own (entries_in home shard journal) place ends (let within = at.within in omega (arith, within, more))
 
-module _ (journal : List Entry) (parts : List Part) where
+module _ (journal : List CommittedCall) (parts : List Part) where
   abbrev pub At : ℕ → Part → ℕ → ℕ → Type 0
   At shard p place position = IsAt (shard_of (length parts)) shard p.entries journal place position
 

@@ -1,7 +1,7 @@
 -- A call has one live attempt at most.
 use Rattle.std.proofs.Common.{◌≡◌, ◌≢◌, ℕ, List, [], ◌∷◌, ◌++◌, refl, sym, ◌∙◌, ap, subst}
 use Rattle.std.specs.List.{AllByRecursion}
-use Rattle.spec_ledger.specs.declared.Step.{Step}
+use Rattle.spec_ledger.specs.declared.TraceStep.{TraceStep}
 use Rattle.spec_ledger.specs.Book.{Attempt, Content, AreSideBySide, AreAllSideBySide}
 use Rattle.spec_ledger.specs.Events.{IsFound, IsNotEntered, IsOther, IsStale, HasNoAttempt}
 use Rattle.spec_ledger.proofs.Kept.{All-at}
@@ -40,7 +40,7 @@ one_attempt (x ∷ p) a q (y ∷ p') a' q' apart e same =
     let rest : p ++ a ∷ q ≡ p' ++ a' ∷ q' = cc in
     one_attempt p a q p' a' q' apart.1 rest same
 
-module _ (m b : Content) (same : m ≡ b) (k n call number : ℕ) (of_call : k ≡ call) (of_number : n ≡ number) (own part : List Step) (has : HasTrace m k n own) where
+module _ (m b : Content) (same : m ≡ b) (k n call number : ℕ) (of_call : k ≡ call) (of_number : n ≡ number) (own part : List TraceStep) (has : HasTrace m k n own) where
   pub trace_there : HasTrace b call number own
   trace_there =
       let path : ◌≡◌ {A = Content × (ℕ × ℕ)} (m, (k, n)) (b, (call, number)) = λ i. (same i, (of_call i, of_number i)) in
@@ -58,7 +58,7 @@ module _ (m b : Content) (same : m ≡ b) (k n call number : ℕ) (of_call : k �
       one_attempt h.before h.attempt h.later other.before other.attempt other.later here (sym h.found.among ∙ other.found.among) (h.found.call_is ∙ sym other.found.call_is) in
       other.other_trace (ap (λ (x : Attempt). x.trace) (sym one) ∙ h.trace_is ∙ e)
 
-pub stale_not_other : (m b : Content) → m ≡ b → (call number : ℕ) (part : List Step) → IsStale m call number → ¬ (IsOther b call number part)
+pub stale_not_other : (m b : Content) → m ≡ b → (call number : ℕ) (part : List TraceStep) → IsStale m call number → ¬ (IsOther b call number part)
 stale_not_other m b same call number part gone other =
     found_not_stale b call number other.before other.attempt other.later other.found (subst (λ (x : Content). IsStale x call number) same gone)
 

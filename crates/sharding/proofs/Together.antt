@@ -5,7 +5,7 @@ use Rattle.std.proofs.lemmas.Option.{get_or_from_slice_get, slice_get_read}
 use Rattle.std.specs.FinMap.{get, same_map}
 use Rattle.spec_ledger.specs.declared.Lock.{Lock}
 use Rattle.spec_ledger.specs.Cells.{Cells}
-use Rattle.spec_ledger.specs.Book.{Entry, IsDefined, settled}
+use Rattle.spec_ledger.specs.Book.{CommittedCall, IsDefined, settled}
 use Rattle.spec_ledger.proofs.Maps.{lock_cmp_total, lock_cmp-IsAntisymmetric}
 use Rattle.spec_ledger.specs.Shards.{IsHome, AreCellsOf, entries_in, shard_of}
 use Rattle.sharding.specs.Parts.{Part, AreParts, AreWhole}
@@ -39,7 +39,7 @@ module _ (parts : List Part) (n : ℕ) (p : Part) (is : p ≡ get_or parts n p) 
 pub has_home : (shards : ℕ) → 1 ≤ shards → IsHome (shard_of shards) shards
 has_home shards some lock = omega (arith, some)
 
-module _ (opening : Cells) (journal : List Entry) (parts : List Part) (are : AreParts opening journal parts) (whole : AreWhole parts) where
+module _ (opening : Cells) (journal : List CommittedCall) (parts : List Part) (are : AreParts opening journal parts) (whole : AreWhole parts) where
   abbrev no_part : Part
   no_part = record { opening = opening; cells = opening; entries = [] }
 

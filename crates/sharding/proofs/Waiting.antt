@@ -7,7 +7,7 @@ use Rattle.std.specs.declared.result.Result.TheVariants.{Ok, Err}
 use Rattle.std.specs.List.Sorted.{IsStrictlyIncreasing}
 use Rattle.spec_ledger.specs.declared.Op.{Op}
 use Rattle.spec_ledger.specs.declared.Reply.{Reply}
-use Rattle.spec_ledger.specs.declared.Step.{Step}
+use Rattle.spec_ledger.specs.declared.TraceStep.{TraceStep}
 use Rattle.spec_ledger.specs.Book.{Content, call_is_new}
 use Rattle.spec_ledger.specs.Events.{HasNoAttempt, IsConflict, IsFound, IsStale, OpDone}
 use Rattle.boost.specs.declared.book.OpRefusal.{OpRefusal}
@@ -41,7 +41,7 @@ module _ (k n call number : ℕ) (of_call : k ≡ call) (of_number : n ≡ numbe
     pub count_here : (count : ℕ) → count ≡ get_or b.begun call 0 → get_or b.begun k 0 ≡ count
     count_here count e = ap (λ c. get_or b.begun c 0) of_call ∙ sym e
 
-    module _ (marks : List Step) where
+    module _ (marks : List TraceStep) where
       pub first_ok : (op : Op) (new : Content) (r : Result Reply OpRefusal) → IfOk r (λ reply. (former : Content) → BegunAs former mid k n → (ready : Content) × BegunWith former ready k n marks × OpDone ready new k n op reply) → IfOk r (λ reply. (ready : Content) × IsReady b ready call number marks × OpDone ready new call number op reply)
       first_ok op new (Ok y) h = let w = h b begun_here in (w.0, inr (named (λ c v. BegunWith b w.0 c v marks) w.1), named (λ c v. OpDone w.0 new c v op y) w.2)
       first_ok op new (Err e) h = tt
@@ -69,7 +69,7 @@ module _ (k n call number : ℕ) (of_call : k ≡ call) (of_number : n ≡ numbe
 
 -- ---- one more operation
 
-module _ (m b : Content) (same : m ≡ b) (k n call number : ℕ) (of_call : k ≡ call) (of_number : n ≡ number) (marks : List Step) where
+module _ (m b : Content) (same : m ≡ b) (k n call number : ℕ) (of_call : k ≡ call) (of_number : n ≡ number) (marks : List TraceStep) where
   pub again_ok : (op : Op) (new : Content) (r : Result Reply OpRefusal) → IfOk r (λ reply. OpDone m new k n op reply) → IfOk r (λ reply. (ready : Content) × IsReady b ready call number marks × OpDone ready new call number op reply)
   again_ok op new (Ok y) h = (m, inl same, named k n call number of_call of_number (λ c v. OpDone m new c v op y) h)
   again_ok op new (Err e) h = tt
@@ -88,7 +88,7 @@ module _ (m b : Content) (same : m ≡ b) (k n call number : ℕ) (of_call : k �
 
 -- ---- an attempt that does not live while one of its call does
 
-module _ (b : Content) (call number : ℕ) (marks : List Step) (op : Op) (gone : IsStale b call number) where
+module _ (b : Content) (call number : ℕ) (marks : List TraceStep) (op : Op) (gone : IsStale b call number) where
   never_waits : (IsBehind b call number → ⊥) → ((ready : Content) → BegunWith b ready call number marks → ⊥) → HasToWait b call number marks op → ⊥
   never_waits not_behind not_begun w =
       ⊎_elim not_behind
@@ -128,7 +128,7 @@ refused r = Err r
 abbrev Over : Content → ℕ → ℕ → Type 0
 Over b call number = IsOver b call number ⊎ (length b.begun ≤ call)
 
-module _ (m b : Content) (same : m ≡ b) (call number : ℕ) (marks : List Step) (op : Op) (r : OpRefusal) where
+module _ (m b : Content) (same : m ≡ b) (call number : ℕ) (marks : List TraceStep) (op : Op) (r : OpRefusal) where
   pub over_stale : r ≡ Stale → Over m call number → (refused r ≡ refused Stale) ↔ Over b call number
   over_stale e h = (λ _. subst (λ x. Over x call number) same h, λ _. ap refused e)
 

@@ -6,11 +6,11 @@ use Rattle.std.proofs.lemmas.Bool.{false≢true}
 use Rattle.std.specs.Prelude.{◌↔◌, IsTrue, nat_eq}
 use Rattle.spec_ledger.specs.declared.Lock.{Lock}
 use Rattle.spec_ledger.specs.declared.Op.{Op}
-use Rattle.spec_ledger.specs.declared.Step.{Step}
-use Rattle.spec_ledger.specs.declared.Step.TheVariants.{Did, Opened, Kept, Dropped}
+use Rattle.spec_ledger.specs.declared.TraceStep.{TraceStep}
+use Rattle.spec_ledger.specs.declared.TraceStep.TheVariants.{Did, Opened, Kept, Dropped}
 use Rattle.spec_ledger.specs.Modes.{ops_of}
 use Rattle.sharding.specs.Steps.{asks_at, is_seen}
-use Rattle.spec_ledger.specs.Book.{Entry}
+use Rattle.spec_ledger.specs.Book.{CommittedCall}
 use Rattle.spec_ledger.specs.Shards.{part, with_trace, if_touched, before_others, entries_in}
 
 module _ {X : Type 0} (own all : List X) (n : ℕ) where
@@ -49,25 +49,25 @@ module _ {X : Type 0} (own all : List X) (n : ℕ) where
   left_as rest left same = subst (λ t. (own ≡ all) ↔ (drop n own ≡ t)) same
 
 module _ (home : Lock → ℕ) (i : ℕ) where
-  seen : (s : Step) (t : List Step) → part home i (s ∷ t) ≡ cond (is_seen home i s) (s ∷ part home i t) (part home i t)
+  seen : (s : TraceStep) (t : List TraceStep) → part home i (s ∷ t) ≡ cond (is_seen home i s) (s ∷ part home i t) (part home i t)
   seen (Did op r) t = refl
   seen Opened t = refl
   seen Kept t = refl
   seen Dropped t = refl
 
   -- a shard's part of a trace, one step on
-  pub part_here : (trace : List Step) (j : ℕ) (s : Step) → j < length trace → get_or trace j s ≡ s → is_seen home i s ≡ true → part home i (drop j trace) ≡ s ∷ part home i (drop (j + 1) trace)
+  pub part_here : (trace : List TraceStep) (j : ℕ) (s : TraceStep) → j < length trace → get_or trace j s ≡ s → is_seen home i s ≡ true → part home i (drop j trace) ≡ s ∷ part home i (drop (j + 1) trace)
   part_here trace j s below is here =
       ap (part home i) (drop_more trace j s below ∙ ap (λ y. y ∷ drop (j + 1) trace) is)
       ∙ seen s (drop (j + 1) trace) ∙ ap (λ b. cond b (s ∷ part home i (drop (j + 1) trace)) (part home i (drop (j + 1) trace))) here
 
-  pub part_away : (trace : List Step) (j : ℕ) (s : Step) → j < length trace → get_or trace j s ≡ s → is_seen home i s ≡ false → part home i (drop j trace) ≡ part home i (drop (j + 1) trace)
+  pub part_away : (trace : List TraceStep) (j : ℕ) (s : TraceStep) → j < length trace → get_or trace j s ≡ s → is_seen home i s ≡ false → part home i (drop j trace) ≡ part home i (drop (j + 1) trace)
   part_away trace j s below is away =
       ap (part home i) (drop_more trace j s below ∙ ap (λ y. y ∷ drop (j + 1) trace) is)
       ∙ seen s (drop (j + 1) trace) ∙ ap (λ b. cond b (s ∷ part home i (drop (j + 1) trace)) (part home i (drop (j + 1) trace))) away
 
   -- its operations, one step on
-  asked_op : (s : Step) (t : List Step) → asks_at home i s ≡ true → ¬ ([] ≡ ops_of (part home i (s ∷ t)))
+  asked_op : (s : TraceStep) (t : List TraceStep) → asks_at home i s ≡ true → ¬ ([] ≡ ops_of (part home i (s ∷ t)))
   asked_op (Did op r) t asks none =
       let some : [] ≡ op ∷ ops_of (part home i t) = none ∙ ap (λ b. ops_of (cond b (Did op r ∷ part home i t) (part home i t))) asks in
       absurd (cc some)
@@ -75,40 +75,40 @@ module _ (home : Lock → ℕ) (i : ℕ) where
   asked_op Kept t asks none = absurd (false≢true asks)
   asked_op Dropped t asks none = absurd (false≢true asks)
 
-  no_op : (s : Step) (t : List Step) → asks_at home i s ≡ false → ops_of (part home i (s ∷ t)) ≡ ops_of (part home i t)
+  no_op : (s : TraceStep) (t : List TraceStep) → asks_at home i s ≡ false → ops_of (part home i (s ∷ t)) ≡ ops_of (part home i t)
   no_op (Did op r) t asks = ap (λ b. ops_of (cond b (Did op r ∷ part home i t) (part home i t))) asks
   no_op Opened t asks = refl
   no_op Kept t asks = refl
   no_op Dropped t asks = refl
 
-  pub ops_here : (trace : List Step) (j : ℕ) (s : Step) → j < length trace → get_or trace j s ≡ s → asks_at home i s ≡ true → ops_of (part home i trace) ≡ ops_of (part home i (drop j trace))
+  pub ops_here : (trace : List TraceStep) (j : ℕ) (s : TraceStep) → j < length trace → get_or trace j s ≡ s → asks_at home i s ≡ true → ops_of (part home i trace) ≡ ops_of (part home i (drop j trace))
       → ¬ ([] ≡ ops_of (part home i trace))
   ops_here trace j s below is asks left none =
       asked_op s (drop (j + 1) trace) asks (none ∙ left ∙ ap (λ t. ops_of (part home i t)) (drop_more trace j s below ∙ ap (λ y. y ∷ drop (j + 1) trace) is))
 
-  pub ops_away : (trace : List Step) (j : ℕ) (s : Step) → j < length trace → get_or trace j s ≡ s → asks_at home i s ≡ false → ops_of (part home i trace) ≡ ops_of (part home i (drop j trace))
+  pub ops_away : (trace : List TraceStep) (j : ℕ) (s : TraceStep) → j < length trace → get_or trace j s ≡ s → asks_at home i s ≡ false → ops_of (part home i trace) ≡ ops_of (part home i (drop j trace))
       → ops_of (part home i trace) ≡ ops_of (part home i (drop (j + 1) trace))
   ops_away trace j s below is asks left =
       left ∙ ap (λ t. ops_of (part home i t)) (drop_more trace j s below ∙ ap (λ y. y ∷ drop (j + 1) trace) is) ∙ no_op s (drop (j + 1) trace) asks
 
-  pub ops_none : (trace : List Step) (j : ℕ) → length trace ≤ j → ops_of (part home i trace) ≡ ops_of (part home i (drop j trace)) → [] ≡ ops_of (part home i trace)
+  pub ops_none : (trace : List TraceStep) (j : ℕ) → length trace ≤ j → ops_of (part home i trace) ≡ ops_of (part home i (drop j trace)) → [] ≡ ops_of (part home i trace)
   ops_none trace j past left = sym (left ∙ ap (λ t. ops_of (part home i t)) (drop_all j trace past))
 
   -- the entries that touch a shard, one entry on
-  some_touched : (ops : List Op) (e : Entry) (es : List Entry) → ¬ ([] ≡ ops) → if_touched ops e es ≡ e ∷ es
+  some_touched : (ops : List Op) (e : CommittedCall) (es : List CommittedCall) → ¬ ([] ≡ ops) → if_touched ops e es ≡ e ∷ es
   some_touched [] e es some = absurd (some refl)
   some_touched (op ∷ ops) e es some = refl
 
-  before_some : (e : Entry) (t : List Step) (es : List Entry) → ¬ ([] ≡ ops_of t) → before_others e t es ≡ with_trace e t ∷ es
+  before_some : (e : CommittedCall) (t : List TraceStep) (es : List CommittedCall) → ¬ ([] ≡ ops_of t) → before_others e t es ≡ with_trace e t ∷ es
   before_some e t es some = some_touched (ops_of t) (with_trace e t) es some
 
-  pub entries_here : (journal : List Entry) (j : ℕ) (e : Entry) → j < length journal → get_or journal j e ≡ e → ¬ ([] ≡ ops_of (part home i e.trace))
+  pub entries_here : (journal : List CommittedCall) (j : ℕ) (e : CommittedCall) → j < length journal → get_or journal j e ≡ e → ¬ ([] ≡ ops_of (part home i e.trace))
       → entries_in home i (drop j journal) ≡ with_trace e (part home i e.trace) ∷ entries_in home i (drop (j + 1) journal)
   entries_here journal j e below is some =
       ap (entries_in home i) (drop_more journal j e below ∙ ap (λ y. y ∷ drop (j + 1) journal) is)
       ∙ before_some e (part home i e.trace) (entries_in home i (drop (j + 1) journal)) some
 
-  pub entries_away : (journal : List Entry) (j : ℕ) (e : Entry) → j < length journal → get_or journal j e ≡ e → [] ≡ ops_of (part home i e.trace)
+  pub entries_away : (journal : List CommittedCall) (j : ℕ) (e : CommittedCall) → j < length journal → get_or journal j e ≡ e → [] ≡ ops_of (part home i e.trace)
       → entries_in home i (drop j journal) ≡ entries_in home i (drop (j + 1) journal)
   entries_away journal j e below is none =
       ap (entries_in home i) (drop_more journal j e below ∙ ap (λ y. y ∷ drop (j + 1) journal) is)

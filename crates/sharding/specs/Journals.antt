@@ -3,9 +3,9 @@
 use Rattle.std.specs.Prelude.{◌≡◌, refl, ℕ, ◌+◌, ◌^◌, ◌<◌, Some, List, [], ◌∷◌, ◌++◌, length, slice_get, slice_index, slice_set}
 use Rattle.std.specs.Coded.{Coded, code_by, coded×, coded_list, coded_ℕ}
 use Rattle.std.specs.List.{AllByRecursion}
-use Rattle.spec_ledger.specs.declared.Step.{Step}
+use Rattle.spec_ledger.specs.declared.TraceStep.{TraceStep}
 use Rattle.spec_ledger.specs.declared.Outcome.{Outcome}
-use Rattle.spec_ledger.specs.Book.{AreDistinct, Entry, call_is_new}
+use Rattle.spec_ledger.specs.Book.{AreDistinct, CommittedCall, call_is_new}
 use Rattle.spec_ledger.specs.Codes.{coded_entry}
 use Rattle.spec_ledger.specs.Modes.{touched}
 use Rattle.sharding.specs.contracts.journal.CallState as standing
@@ -14,13 +14,13 @@ use Rattle.sharding.specs.declared.journal.CallState.TheVariants.{Idle, Live, Co
 
 -- the entries in their order, and for each call how it stands and how many of its attempts were begun
 pub record Journal : Type 0 where
-  pub entries : List Entry
+  pub entries : List CommittedCall
   pub standings : List CallState
   pub begun : List ℕ
 
 abbrev pub journal_code : Coded Journal
 journal_code =
-    code_by (List Entry × (List CallState × List ℕ)) (coded× (coded_list coded_entry) (coded× (coded_list standing.the_row.coded) (coded_list coded_ℕ))) (λ j. (j.entries, (j.standings, j.begun)))
+    code_by (List CommittedCall × (List CallState × List ℕ)) (coded× (coded_list coded_entry) (coded× (coded_list standing.the_row.coded) (coded_list coded_ℕ))) (λ j. (j.entries, (j.standings, j.begun)))
     (λ p. record { entries = p.0; standings = p.1.0; begun = p.1.1 }) (λ _. refl)
 
 -- this attempt of the call lives
@@ -54,18 +54,18 @@ abbrev pub after_undo : Journal → ℕ → Journal
 after_undo j call = record j { standings = slice_set j.standings call Idle }
 
 -- the entry of a call with this trace and outcome
-abbrev pub entry_with : ℕ → List Step → Outcome → Entry
+abbrev pub entry_with : ℕ → List TraceStep → Outcome → CommittedCall
 entry_with call trace outcome = record { call = call; trace = trace; outcome = outcome; modes = touched trace }
 
 -- the journal after a commit: the entry is the last
-abbrev pub after_commit : Journal → ℕ → List Step → Outcome → Journal
+abbrev pub after_commit : Journal → ℕ → List TraceStep → Outcome → Journal
 after_commit j call trace outcome = record j {
   entries = j.entries ++ entry_with call trace outcome ∷ [];
   standings = slice_set j.standings call Committed;
 }
 
 -- a live attempt is committed with this trace and outcome, at this position
-pub record Commits (old new : Journal) (call number : ℕ) (trace : List Step) (outcome : Outcome) (position : ℕ) : Type 0 where
+pub record Commits (old new : Journal) (call number : ℕ) (trace : List TraceStep) (outcome : Outcome) (position : ℕ) : Type 0 where
   pub live : IsLive old call number
   pub position_is : position ≡ length old.entries
   pub new_is : new ≡ after_commit old call trace outcome

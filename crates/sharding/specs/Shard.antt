@@ -5,7 +5,7 @@ use Rattle.std.specs.Coded.{Coded, code_by, coded×, coded_list, coded_ℕ}
 use Rattle.std.specs.List.{AllByRecursion}
 use Rattle.std.specs.List.Sorted.{IsStrictlyIncreasing}
 use Rattle.spec_ledger.specs.declared.Op.{Op}
-use Rattle.spec_ledger.specs.declared.Step.{Step}
+use Rattle.spec_ledger.specs.declared.TraceStep.{TraceStep}
 use Rattle.spec_ledger.specs.Book.{Content, call_is_new}
 use Rattle.spec_ledger.specs.Codes.{coded_content}
 use Rattle.spec_ledger.specs.Events.{HasNoAttempt, IsConflict, IsStale}
@@ -40,9 +40,9 @@ pub record IsBehind (b : Content) (call number : ℕ) : Type 0 where
   pub later : slice_index b.begun call ≤ number
 
 -- the book for an operation of an attempt: as it is, or with the attempt begun, where this is its first here, after the marks of levels that it made elsewhere
-abbrev pub IsReady : Content → Content → ℕ → ℕ → List Step → Type 0
+abbrev pub IsReady : Content → Content → ℕ → ℕ → List TraceStep → Type 0
 IsReady b ready call number marks = (ready ≡ b) ⊎ BegunWith b ready call number marks
 
 -- the operation has to wait for another attempt: one that holds the lock in a mode that does not go with the one asked for, or an earlier one of the call, which holds its locks
-abbrev pub HasToWait : Content → ℕ → ℕ → List Step → Op → Type 0
+abbrev pub HasToWait : Content → ℕ → ℕ → List TraceStep → Op → Type 0
 HasToWait b call number marks op = IsBehind b call number ⊎ ((ready : Content) × IsReady b ready call number marks × IsConflict ready call number op)

@@ -10,7 +10,7 @@ ghost use Rattle.sharding.specs.Parts.{AreParts, AreWhole, Part as ThePart};
 ghost use Rattle.sharding.specs.Places.{AreAt, HaveEntriesOf};
 
 use crate::parts::Part;
-use boost::attempt::Entry;
+use boost::attempt::CommittedCall;
 use boost::book::Closed;
 use spec_ledger::shards_are_one_book;
 use std::alloc::Allocator;
@@ -42,7 +42,7 @@ impl From<NoMemory> for CloseRefusal {
 fn move_on<A: Allocator + Copy>(
     parts: &[Part<A>],
     places: &mut [usize; 16],
-    journal: &[Entry<A>],
+    journal: &[CommittedCall<A>],
     position: usize,
 ) -> bool
     requires shards { (1 ≤ length parts.now) × (length parts.now < 2 ^ 32) }
@@ -67,7 +67,7 @@ fn have_ended<A: Allocator + Copy>(
     opening: &Cells<A>,
     parts: &[Part<A>],
     places: &[usize; 16],
-    journal: &[Entry<A>],
+    journal: &[CommittedCall<A>],
 ) -> bool
     requires shards { (1 ≤ length parts.now) × (length parts.now < 2 ^ 32) }
     requires at { AreAt journal.now parts.now places.now (length journal.now) }
@@ -92,7 +92,7 @@ fn have_ended<A: Allocator + Copy>(
 /// Whether each is its shard's part of the book with these opening cells and this journal, which is gone over for each shard.
 fn are_parts_one_by_one<A: Allocator + Copy>(
     opening: &Cells<A>,
-    journal: &[Entry<A>],
+    journal: &[CommittedCall<A>],
     parts: &[Part<A>],
 ) -> bool
     requires { (1 ≤ length parts.now) × (length parts.now < 2 ^ 32) }
@@ -114,7 +114,7 @@ fn are_parts_one_by_one<A: Allocator + Copy>(
 /// place in the entries of each.
 fn are_parts<A: Allocator + Copy>(
     opening: &Cells<A>,
-    journal: &[Entry<A>],
+    journal: &[CommittedCall<A>],
     parts: &[Part<A>],
 ) -> bool
     requires { (1 ≤ length parts.now) × (length parts.now < 2 ^ 32) }
@@ -157,7 +157,7 @@ fn gathered<A: Allocator + Copy>(alloc: A, parts: &[Part<A>]) -> Result<Cells<A>
 pub fn close<A: Allocator + Copy>(
     alloc: A,
     opening: Cells<A>,
-    entries: Vec<Entry<A>, A>,
+    entries: Vec<CommittedCall<A>, A>,
     parts: &[Part<A>],
 ) -> Result<Closed<A>, CloseRefusal>
     requires shards { (1 ≤ length parts.now) × (length parts.now < 2 ^ 32) }

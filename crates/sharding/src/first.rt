@@ -6,14 +6,14 @@ ghost use Rattle.spec_ledger.specs.Modes.{ops_of};
 ghost use Rattle.boost.specs.Numbered.{BegunAs, BegunWith};
 
 use boost::book::{Book, OpRefusal, Ticket};
-use spec_ledger::{Op, Reply, Step};
+use spec_ledger::{Op, Reply, TraceStep};
 use std::alloc::Allocator;
 
 /// Makes these marks of levels in the attempt that was begun last, and does its first operation. A refusal changes nothing.
 fn marked_op<A: Allocator + Copy>(
     book: &mut Book<A>,
     ticket: &Ticket,
-    marks: &[Step],
+    marks: &[TraceStep],
     op: Op,
 ) -> Result<Reply, OpRefusal>
     requires newest { (former : Content) × BegunAs former book.old ticket.now.call ticket.now.number }
@@ -44,7 +44,7 @@ pub(crate) fn first_op<A: Allocator + Copy>(
     positions: &mut Vec<u32, A>,
     ticket: Ticket,
     count: u64,
-    marks: &[Step],
+    marks: &[TraceStep],
     op: Op,
 ) -> Result<Reply, OpRefusal>
     requires newest { (former : Content) × BegunAs former book.old ticket.call ticket.number × (slice_index former.begun ticket.call ≡ count) }

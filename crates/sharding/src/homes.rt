@@ -5,7 +5,7 @@ ghost use Rattle.spec_ledger.specs.Shards.{part, shard_of};
 ghost use Rattle.sharding.specs.Steps.{asks_at, is_seen};
 
 use boost::trace::same_step;
-use spec_ledger::{Lock, Outcome, Step};
+use spec_ledger::{Lock, Outcome, TraceStep};
 use storage::lock;
 
 /// The shard of a lock, of so many: contract and key added modulo 2^64, then modulo the number of shards.
@@ -29,29 +29,29 @@ pub(crate) fn same_outcome(a: Outcome, b: Outcome) -> bool
 }
 
 /// Whether a step is an operation at a lock of a shard.
-fn asks(step: Step, shard: u32, shards: u32) -> bool
+fn asks(step: TraceStep, shard: u32, shards: u32) -> bool
     requires { 0 < shards }
     ensures { result ≡ asks_at (shard_of shards) shard step }
 {
     match step {
-        Step::Did(op, _) => home(lock(op), shards) == shard,
-        Step::Opened | Step::Kept | Step::Dropped => false,
+        TraceStep::Did(op, _) => home(lock(op), shards) == shard,
+        TraceStep::Opened | TraceStep::Kept | TraceStep::Dropped => false,
     }
 }
 
 /// Whether a shard's part of a trace has a step: its operations, and every mark.
-fn sees(step: Step, shard: u32, shards: u32) -> bool
+fn sees(step: TraceStep, shard: u32, shards: u32) -> bool
     requires { 0 < shards }
     ensures { result ≡ is_seen (shard_of shards) shard step }
 {
     match step {
-        Step::Did(op, _) => home(lock(op), shards) == shard,
-        Step::Opened | Step::Kept | Step::Dropped => true,
+        TraceStep::Did(op, _) => home(lock(op), shards) == shard,
+        TraceStep::Opened | TraceStep::Kept | TraceStep::Dropped => true,
     }
 }
 
 /// Whether these steps are a shard's part of a trace: those at its locks and every mark, in order.
-pub fn is_part(own: &[Step], trace: &[Step], shard: u32, shards: u32) -> bool
+pub fn is_part(own: &[TraceStep], trace: &[TraceStep], shard: u32, shards: u32) -> bool
     requires { 0 < shards }
     ensures { IsTrue result ↔ (own.now ≡ part (shard_of shards) shard trace.now) }
 {
@@ -72,7 +72,7 @@ pub fn is_part(own: &[Step], trace: &[Step], shard: u32, shards: u32) -> bool
 }
 
 /// Whether a trace has an operation at a lock of a shard.
-pub(crate) fn touches(trace: &[Step], shard: u32, shards: u32) -> bool
+pub(crate) fn touches(trace: &[TraceStep], shard: u32, shards: u32) -> bool
     requires { 0 < shards }
     ensures { (result ≡ false) ↔ ([] ≡ ops_of (part (shard_of shards) shard trace.now)) }
 {

@@ -7,9 +7,9 @@ ghost use Rattle.spec_ledger.specs.Book.{AreDistinct, call_is_new};
 ghost use Rattle.spec_ledger.specs.Modes.{touched};
 ghost use Rattle.sharding.specs.Journals.{Begins, Commits, IsJournal, IsLive, after_undo};
 
-use boost::attempt::Entry;
+use boost::attempt::CommittedCall;
 use boost::book::{BeginRefusal, CommitRefusal};
-use spec_ledger::{NoMemory, Outcome, Step};
+use spec_ledger::{NoMemory, Outcome, TraceStep};
 use std::alloc::{Allocator, Global};
 use std::marker::Model;
 
@@ -28,7 +28,7 @@ pub enum CallState {
 /// committed.
 #[derive(Drop)]
 pub struct Journal<A: Allocator = Global> {
-    entries: Vec<Entry<A>, A>,
+    entries: Vec<CommittedCall<A>, A>,
     standings: Vec<CallState, A>,
     begun: Vec<u64, A>,
 }
@@ -137,7 +137,7 @@ impl<A: Allocator + Copy> Journal<A> {
         &mut self,
         call: u32,
         number: u64,
-        trace: Vec<Step, A>,
+        trace: Vec<TraceStep, A>,
         outcome: Outcome,
     ) -> Result<u32, CommitRefusal>
         ensures ok { IfOk result (λ position. Commits self.old self.new call number trace.items outcome position) }
@@ -152,7 +152,7 @@ impl<A: Allocator + Copy> Journal<A> {
             return Err(CommitRefusal::NoMemory);
         }
         let position = self.entries.len() as u32;
-        match self.entries.push(Entry::of(call, trace, outcome)) {
+        match self.entries.push(CommittedCall::of(call, trace, outcome)) {
             Ok(()) => (),
             Err(_) => unreachable!(),
         }
@@ -168,7 +168,7 @@ impl<A: Allocator + Copy> Journal<A> {
     }
 
     /// The committed calls in their order.
-    pub fn into_entries(self) -> Vec<Entry<A>, A>
+    pub fn into_entries(self) -> Vec<CommittedCall<A>, A>
         ensures entries { result.items ≡ self.entries }
         ensures distinct { AreDistinct result.items }
         ensures modes { AllByRecursion (λ e. e.modes ≡ touched e.trace) result.items }

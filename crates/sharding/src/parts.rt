@@ -8,7 +8,7 @@ ghost use Rattle.sharding.specs.Parts.{IsPart, IsPartOf};
 ghost use Rattle.sharding.specs.Places.{IsAt};
 
 use crate::homes::{home, is_part, same_outcome, touches};
-use boost::attempt::Entry;
+use boost::attempt::CommittedCall;
 use boost::book::{Book, Closed};
 use spec_ledger::Lock;
 use std::alloc::{Allocator, Global};
@@ -20,7 +20,7 @@ use storage::{Cells, NoMemory};
 pub struct Part<A: Allocator = Global> {
     opening: Cells<A>,
     cells: Cells<A>,
-    entries: Vec<Entry<A>, A>,
+    entries: Vec<CommittedCall<A>, A>,
 }
 
 impl<A: Allocator> Model for Part<A> {
@@ -65,8 +65,8 @@ fn are_cells_among<A: Allocator + Copy>(
 
 /// Whether an entry is a shard's part of another.
 fn is_entry_in<A: Allocator + Copy>(
-    own: &Entry<A>,
-    entry: &Entry<A>,
+    own: &CommittedCall<A>,
+    entry: &CommittedCall<A>,
     shard: u32,
     shards: u32,
 ) -> bool
@@ -81,8 +81,8 @@ fn is_entry_in<A: Allocator + Copy>(
 
 /// Whether entries are those of a journal that touch a shard.
 fn are_entries_in<A: Allocator + Copy>(
-    own: &[Entry<A>],
-    journal: &[Entry<A>],
+    own: &[CommittedCall<A>],
+    journal: &[CommittedCall<A>],
     shard: u32,
     shards: u32,
 ) -> bool
@@ -108,9 +108,9 @@ fn are_entries_in<A: Allocator + Copy>(
 
 /// The place of the shard's next entry once one more entry of the journal was gone over. None where its own is not that one's part.
 fn next_after<A: Allocator + Copy>(
-    own: &[Entry<A>],
+    own: &[CommittedCall<A>],
     next: usize,
-    journal: &[Entry<A>],
+    journal: &[CommittedCall<A>],
     position: usize,
     shard: u32,
     shards: u32,
@@ -197,7 +197,7 @@ impl<A: Allocator + Copy> Part<A> {
     pub(crate) fn is_part_of(
         &self,
         opening: &Cells<A>,
-        journal: &[Entry<A>],
+        journal: &[CommittedCall<A>],
         shard: u32,
         shards: u32,
     ) -> bool
@@ -212,7 +212,7 @@ impl<A: Allocator + Copy> Part<A> {
     pub(crate) fn next_after(
         &self,
         next: usize,
-        journal: &[Entry<A>],
+        journal: &[CommittedCall<A>],
         position: usize,
         shard: u32,
         shards: u32,

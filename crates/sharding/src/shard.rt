@@ -1,6 +1,6 @@
 // A shard of a book.
 ghost use Rattle.std.specs.Prelude.{◌≡◌, ◌≢◌, ◌<◌, ◌≤◌, ◌⊎◌, ◌↔◌, ◌++◌, ◌∷◌, [], IfOk, IfSome, IfNone, IsTrue, OnOk, OnErr, Err, List, length, replicate, slice_get};
-ghost use Rattle.spec_ledger.specs.declared.Step.{Step};
+ghost use Rattle.spec_ledger.specs.declared.TraceStep.{TraceStep};
 ghost use Rattle.spec_ledger.specs.Book.{Content};
 ghost use Rattle.spec_ledger.specs.Events.{CommitDone, EnterDone, HasNoAttempt, IsNotEntered, IsOther, IsStale, LeaveDone, OpDone, UndoDone};
 ghost use Rattle.spec_ledger.specs.Facts.{CellsAreSettledButForHolders, EntriesAreSerialRun, LiveAttemptsGoTogether, LiveTracesGetReplies};
@@ -14,7 +14,7 @@ use crate::{Part, is_part};
 use boost::book::{
     BeginAsRefusal, Book, CommitRefusal, EnterRefusal, LeaveRefusal, OpRefusal, Ticket,
 };
-use spec_ledger::{Op, Outcome, Reply, Step};
+use spec_ledger::{Op, Outcome, Reply, TraceStep};
 use std::alloc::{Allocator, Global};
 use std::marker::Model;
 use storage::{Cells, NoMemory};
@@ -127,7 +127,7 @@ impl<A: Allocator + Copy> Shard<A> {
         &mut self,
         call: u32,
         number: u64,
-        marks: &[Step],
+        marks: &[TraceStep],
         op: Op,
     ) -> Result<Reply, OpRefusal>
         requires { ops_of marks.now ≡ [] }
@@ -234,7 +234,7 @@ impl<A: Allocator + Copy> Shard<A> {
         &self,
         call: u32,
         number: u64,
-        trace: &[Step],
+        trace: &[TraceStep],
         shard: u32,
         shards: u32,
     ) -> Result<(), CommitRefusal>
@@ -269,7 +269,7 @@ impl<A: Allocator + Copy> Shard<A> {
         outcome: Outcome,
         position: u32,
     ) -> Result<(), EndRefusal>
-        ensures ok { OnOk result ((trace : List Step) × CommitDone self.old.book self.new.book call number trace outcome (length self.old.book.entries)) }
+        ensures ok { OnOk result ((trace : List TraceStep) × CommitDone self.old.book self.new.book call number trace outcome (length self.old.book.entries)) }
         ensures positions { OnOk result (self.new.positions ≡ self.old.positions ++ position ∷ []) }
         ensures stale { (result ≡ Err EndRefusal.Stale) ↔ IsStale self.old.book call number }
         ensures position { (result ≡ Err EndRefusal.Position) ↔ (¬ (IsStale self.old.book call number) × ¬ (IsNext self.old.positions position)) }

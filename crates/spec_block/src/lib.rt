@@ -9,7 +9,7 @@ ghost use Rattle.spec_ledger.specs.declared.Mode.{Mode};
 ghost use Rattle.spec_ledger.specs.Cells.{Cells};
 ghost use Rattle.spec_ledger.specs.Order.{AreGroups, groups_before, groups_before_last};
 ghost use Rattle.spec_block.specs.Worlds.{Block, Call, World, profiles_of};
-ghost use Rattle.spec_execution.specs.Serial.{Ran};
+ghost use Rattle.spec_execution.specs.Serial.{CallResult};
 ghost use Rattle.spec_block.specs.Serial.{Serial};
 ghost use Rattle.spec_block.specs.Bytes.{IsCall, SpellsBlock, SpellsWorld, calls_bytes};
 ghost use Rattle.spec_block.specs.Verdicts.{IsVerdictOf, Verdict};
@@ -28,7 +28,7 @@ pub fn one_block_a_spelling()
 
 /// An order has one serial run.
 pub fn one_serial_run()
-    ensures one { (version : Version) (world : World) (calls : List Call) (order : List ℕ) (cells : Cells) (rs ss : List Ran) (l m : Cells) → Serial version world calls order cells rs l → Serial version world calls order cells ss m → (rs ≡ ss) × (l ≡ m) }
+    ensures one { (version : Version) (world : World) (calls : List Call) (order : List ℕ) (cells : Cells) (rs ss : List CallResult) (l m : Cells) → Serial version world calls order cells rs l → Serial version world calls order cells ss m → (rs ≡ ss) × (l ≡ m) }
 {
     spec_execution::runs_are_unique();
 }

@@ -10,7 +10,7 @@ use Rattle.spec_ledger.specs.declared.Op.TheVariants.{Add}
 use Rattle.spec_ledger.specs.declared.Outcome.{Outcome}
 use Rattle.spec_ledger.specs.declared.Outcome.TheVariants.{Rejected}
 use Rattle.spec_ledger.specs.declared.Receipt.{Receipt}
-use Rattle.spec_ledger.specs.declared.Step.{Step}
+use Rattle.spec_ledger.specs.declared.TraceStep.{TraceStep}
 use Rattle.spec_ledger.specs.declared.Version.TheVariants.{Two}
 use Rattle.spec_ledger.specs.Cells.{Cells, lock_cmp, map_at, counter_at, set_at, cell_after}
 use Rattle.spec_ledger.specs.Modes.{Modes}
@@ -166,7 +166,7 @@ leaves_no_sum f =
     let same : Some 5 ≡ None = sym added ∙ ap (λ m. get m sum) e.later_is ∙ get-empty lock_cmp sum in
     absurd (cc same)
 
-never_starts : (trace : List Step) (outcome : Outcome) (used : ℕ) → RunsWith no_contracts call trace outcome used → outcome ≡ Rejected 6
+never_starts : (trace : List TraceStep) (outcome : Outcome) (used : ℕ) → RunsWith no_contracts call trace outcome used → outcome ≡ Rejected 6
 never_starts trace outcome used (refused code e) = let same : Refused 6 ≡ Refused code = e in cc
 never_starts trace outcome used (ran c func t o n e run) = let same : Refused 6 ≡ Opens c func = e in absurd (cc same)
 

@@ -5,8 +5,8 @@ use Rattle.std.specs.Ordering.{eq_by_cmp}
 use Rattle.std.specs.FinMap.{get}
 use Rattle.spec_ledger.specs.declared.Lock.{Lock}
 use Rattle.spec_ledger.specs.declared.Op.{Op}
-use Rattle.spec_ledger.specs.declared.Step.{Step}
-use Rattle.spec_ledger.specs.declared.Step.TheVariants.{Did, Opened, Kept, Dropped}
+use Rattle.spec_ledger.specs.declared.TraceStep.{TraceStep}
+use Rattle.spec_ledger.specs.declared.TraceStep.TheVariants.{Did, Opened, Kept, Dropped}
 use Rattle.spec_ledger.specs.Cells.{Cells, lock_cmp, lock_of, cell_after, cells_after, reply_of}
 use Rattle.spec_ledger.specs.Modes.{ops_of}
 use Rattle.spec_ledger.specs.Book.{Marked, unmarked, kept_at, dropped_at, stepped, folded, after, GetsReplies, GetsRepliesFrom}
@@ -58,17 +58,17 @@ module _ (R : Lock → Option ℕ → Option ℕ → Type 0) where
   dropped_alike m n (o ∷ ms) [] same all = absurd all
   dropped_alike m n (o ∷ ms) (p ∷ ns) same all = all
 
-  folded_alike : (t : List Step) (p q : Marked Cells) → AllByRecursion Keeps (ops_of t) → AreMarkedAlike p q → AreMarkedAlike (folded cells_after t p) (folded cells_after t q)
+  folded_alike : (t : List TraceStep) (p q : Marked Cells) → AllByRecursion Keeps (ops_of t) → AreMarkedAlike p q → AreMarkedAlike (folded cells_after t p) (folded cells_after t q)
   folded_alike [] p q keeps same = same
   folded_alike (Did op r ∷ t) p q keeps same = folded_alike t (stepped cells_after (Did op r) p) (stepped cells_after (Did op r) q) keeps.1 (after_one op p.now q.now keeps.0 same.0, same.1)
   folded_alike (Opened ∷ t) p q keeps same = folded_alike t (stepped cells_after Opened p) (stepped cells_after Opened q) keeps (same.0, same)
   folded_alike (Kept ∷ t) p q keeps same = folded_alike t (stepped cells_after Kept p) (stepped cells_after Kept q) keeps (kept_alike p.now q.now p.marks q.marks same.0 same.1)
   folded_alike (Dropped ∷ t) p q keeps same = folded_alike t (stepped cells_after Dropped p) (stepped cells_after Dropped q) keeps (dropped_alike p.now q.now p.marks q.marks same.0 same.1)
 
-  pub after_alike : (t : List Step) (m n : Cells) → AllByRecursion Keeps (ops_of t) → AreAlike m n → AreAlike (after t m) (after t n)
+  pub after_alike : (t : List TraceStep) (m n : Cells) → AllByRecursion Keeps (ops_of t) → AreAlike m n → AreAlike (after t m) (after t n)
   after_alike t m n keeps same = (folded_alike t (unmarked m) (unmarked n) keeps (same, tt)).0
 
-  replies_from : (t : List Step) (p q : Marked Cells) → AllByRecursion Keeps (ops_of t) → AreMarkedAlike p q → GetsRepliesFrom t p → GetsRepliesFrom t q
+  replies_from : (t : List TraceStep) (p q : Marked Cells) → AllByRecursion Keeps (ops_of t) → AreMarkedAlike p q → GetsRepliesFrom t p → GetsRepliesFrom t q
   replies_from [] p q keeps same g = tt
   replies_from (Did op r ∷ t) p q keeps same g = (
     g.0 ∙ keeps.0.reply (get p.now (lock_of op)) (get q.now (lock_of op)) (same.0 (lock_of op)),
@@ -78,5 +78,5 @@ module _ (R : Lock → Option ℕ → Option ℕ → Type 0) where
   replies_from (Kept ∷ t) p q keeps same g = replies_from t (stepped cells_after Kept p) (stepped cells_after Kept q) keeps (kept_alike p.now q.now p.marks q.marks same.0 same.1) g
   replies_from (Dropped ∷ t) p q keeps same g = replies_from t (stepped cells_after Dropped p) (stepped cells_after Dropped q) keeps (dropped_alike p.now q.now p.marks q.marks same.0 same.1) g
 
-  pub replies_alike : (t : List Step) (m n : Cells) → AllByRecursion Keeps (ops_of t) → AreAlike m n → GetsReplies t m → GetsReplies t n
+  pub replies_alike : (t : List TraceStep) (m n : Cells) → AllByRecursion Keeps (ops_of t) → AreAlike m n → GetsReplies t m → GetsReplies t n
   replies_alike t m n keeps same g = replies_from t (unmarked m) (unmarked n) keeps (same, tt) g

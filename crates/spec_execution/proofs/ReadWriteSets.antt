@@ -16,7 +16,7 @@ use Rattle.spec_ledger.specs.declared.Mode.TheVariants.{Read, Add as Adding, Exc
 use Rattle.spec_ledger.specs.declared.Op.{Op}
 use Rattle.spec_ledger.specs.declared.Op.TheVariants.{Get, Has, Put, Del, Add, Total}
 use Rattle.spec_ledger.specs.declared.Receipt.{Receipt}
-use Rattle.spec_ledger.specs.declared.Step.{Step}
+use Rattle.spec_ledger.specs.declared.TraceStep.{TraceStep}
 use Rattle.spec_ledger.specs.Cells.{Cells, AreCells, IsCounter, lock_cmp, lock_of, counter_at, cell_after, reply_of, counter, number, subtracted, update}
 use Rattle.spec_ledger.specs.Modes.{Modes, mode_of, ops_of, touched}
 use Rattle.spec_ledger.specs.Book.{after, GetsReplies, has_returned}
@@ -227,7 +227,7 @@ module _ (X Y : Cells) where
 
 -- ---- the law
 
-module _ (X P : Cells) (t : List Step) where
+module _ (X P : Cells) (t : List TraceStep) where
   abbrev Alike : Lock → Option ℕ → Option ℕ → Type 0
   Alike q a b = Related (get (touched t) q) q.kind (get X q) (get P q) a b
 
@@ -279,7 +279,7 @@ module _ (X P : Cells) (t : List Step) where
         ∙ meets (get (touched t) q) q.kind (get X q) (get P q) (get Y q) (get (cond stands (after t P) P) q)
         (subst (λ c. Alike q (get c q) (get (cond stands (after t P) P) q)) (sym later) (alike_later stands q)))
 
-later_cells : (stands : Bool) (t : List Step) (X Y : Cells) → Y ≡ cond stands (after t X) X → AreCells X → AreCells Y
+later_cells : (stands : Bool) (t : List TraceStep) (X Y : Cells) → Y ≡ cond stands (after t X) X → AreCells X → AreCells Y
 later_cells true t X Y later are = subst AreCells (sym later) (AreCells-after_all t X are)
 later_cells false t X Y later are = subst AreCells (sym later) are
 

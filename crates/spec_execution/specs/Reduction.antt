@@ -114,7 +114,7 @@ unfoldable pub stored : ℕ → State → ℕ → ℕ → ℕ → List Value →
 stored charge s bytes at x vs rest =
     answered charge (store s.memory at bytes x) (λ memory. Goes charge (with_memory s memory) (values vs rest))
 
--- memory.grow, which never fails for want of memory: own
+-- memory.grow, which never fails for lack of memory: own
 unfoldable pub grown : Contract → ℕ → State → ℕ → List Value → Seq → Next
 grown c charge s delta vs rest =
     let old = pages s.memory in

@@ -6,13 +6,13 @@ use Rattle.spec_ledger.specs.declared.Lock.{Lock}
 use Rattle.spec_ledger.specs.declared.CellKey.{CellKey}
 use Rattle.spec_ledger.specs.declared.Op.TheVariants.{Get, Put, Add}
 use Rattle.spec_ledger.specs.declared.Reply.TheVariants.{Nothing, I64}
-use Rattle.spec_ledger.specs.declared.Step.{Step}
-use Rattle.spec_ledger.specs.declared.Step.TheVariants.{Did}
+use Rattle.spec_ledger.specs.declared.TraceStep.{TraceStep}
+use Rattle.spec_ledger.specs.declared.TraceStep.TheVariants.{Did}
 use Rattle.spec_ledger.specs.declared.Outcome.TheVariants.{Returned}
 use Rattle.spec_ledger.specs.Cells.{lock_cmp}
 use Rattle.spec_ledger.proofs.Maps.{lock_cmp_total}
 use Rattle.spec_ledger.specs.Modes.{touched}
-use Rattle.spec_ledger.specs.Book.{Entry}
+use Rattle.spec_ledger.specs.Book.{CommittedCall}
 use Rattle.spec_ledger.specs.Shards.{shard_of, entries_in, AreCellsOf}
 
 abbrev seven : CellKey
@@ -21,19 +21,19 @@ seven = record { contract = 0; key = 7 }
 abbrev eight : CellKey
 eight = record { contract = 0; key = 8 }
 
-abbrev put_at_seven : Step
+abbrev put_at_seven : TraceStep
 put_at_seven = Did (Put seven 5) Nothing
 
-abbrev get_at_eight : Step
+abbrev get_at_eight : TraceStep
 get_at_eight = Did (Get eight) (I64 (pos 0))
 
-abbrev add_at_seven : Step
+abbrev add_at_seven : TraceStep
 add_at_seven = Did (Add seven 1) Nothing
 
-abbrev entry : ℕ → List Step → Entry
+abbrev entry : ℕ → List TraceStep → CommittedCall
 entry call trace = record { call = call; trace = trace; outcome = Returned None; modes = touched trace }
 
-abbrev journal : List Entry
+abbrev journal : List CommittedCall
 journal = entry 3 (put_at_seven ∷ get_at_eight ∷ []) ∷ entry 1 (add_at_seven ∷ []) ∷ []
 
 -- key 8 lies in the first shard, key 7 in the second, a counter as a map's cell; the sum of contract and key is taken modulo 2^64

@@ -12,9 +12,9 @@ use Rattle.spec_ledger.specs.declared.Lock.{Lock}
 use Rattle.spec_ledger.specs.declared.Op.{Op}
 use Rattle.spec_ledger.specs.declared.Op.TheVariants.{Get, Has, Put, Del, Add, Total}
 use Rattle.spec_ledger.specs.declared.Reply.{Reply}
-use Rattle.spec_ledger.specs.declared.Step.{Step}
-use Rattle.spec_ledger.specs.declared.Step.TheVariants as step
-use Rattle.spec_ledger.specs.declared.Step.TheVariants.{Did}
+use Rattle.spec_ledger.specs.declared.TraceStep.{TraceStep}
+use Rattle.spec_ledger.specs.declared.TraceStep.TheVariants as step
+use Rattle.spec_ledger.specs.declared.TraceStep.TheVariants.{Did}
 use Rattle.spec_ledger.specs.Cells.{Cells, lock_cmp, lock_of, cell_after, cells_after, reply_of, inverse_of, inverse_to, set_at, update}
 use Rattle.spec_ledger.specs.Modes.{Modes, mode_of, join_held, ops_of, touched}
 use Rattle.spec_ledger.specs.Book.{back_all, standing, inverses_of}
@@ -37,7 +37,7 @@ is_mark true = tt
 is_mark false = tt
 
 -- each lock whose change may be taken back was asked for
-module _ (t : List Step) where
+module _ (t : List TraceStep) where
   abbrev WasAsked : Op → Type 0
   WasAsked op = IsSome (get (touched t) (lock_of op))
 
@@ -101,7 +101,7 @@ module _ (m n : BTreeMap Lock Touch) (wanted : Lock) (op : Op) (t next : Touch) 
       ∙ ap (λ (x : _). set_at (modes_of m.entries) wanted (Some x)) (next_mode ∙ mode)
       ∙ ap (λ l. set_at (modes_of m.entries) l (Some (join_held (mode_of op) (get (modes_of m.entries) l)))) wanted_is
 
-  module _ (tr : List Step) (ms : List ℕ) (d : AreTouchesOf tr m.entries is ms) where
+  module _ (tr : List TraceStep) (ms : List ℕ) (d : AreTouchesOf tr m.entries is ms) where
     met_first : get (modes_of m.entries) wanted ≡ None → AreDoneInLevels (with_changes (found_in n.entries) []) tr (with_changes mid is) is ms
     unfolding mid
     met_first none =
@@ -137,7 +137,7 @@ counts_left n is js e =
     ∙ sym (closed_all-opened_all (drop n is) (opened_all (take n is) empty) (AreCounts-opened_all (take n is) empty AreCounts-empty))
     ∙ ap (closed_all (drop n is)) (sym (opened_all-append (take n is) (drop n is) empty) ∙ ap (λ x. opened_all x empty) (take-append-drop n is))
 
-module _ (tr : List Step) (es : List (Lock × Touch)) (is : List Inverse) (ms : List ℕ) (d : AreTouchesOf tr es is ms) where
+module _ (tr : List TraceStep) (es : List (Lock × Touch)) (is : List Inverse) (ms : List ℕ) (d : AreTouchesOf tr es is ms) where
   pub may_drop : AllByRecursion (IsTouched (modes_of es)) is
   may_drop =
       subst (λ (m : Modes). AllByRecursion (IsTouched m) is) (sym d.modes)
@@ -146,7 +146,7 @@ module _ (tr : List Step) (es : List (Lock × Touch)) (is : List Inverse) (ms : 
   pub mark_within : (rest : List ℕ) (n : ℕ) → ms ≡ rest ++ n ∷ [] → n ≤ length is
   mark_within rest n e = within (with_changes (found_in es) []) (with_changes (later_in es) is) tr is ms d.done rest n e
 
-  pub enters : (u : List Step) → u ≡ tr ++ step.Opened ∷ [] → (n : ℕ) → n ≡ length is → (ns : List ℕ) → ns ≡ ms ++ n ∷ [] → AreTouchesOf u es is ns
+  pub enters : (u : List TraceStep) → u ≡ tr ++ step.Opened ∷ [] → (n : ℕ) → n ≡ length is → (ns : List ℕ) → ns ≡ ms ++ n ∷ [] → AreTouchesOf u es is ns
   enters u e n size ns marks = record {
     done = entered (with_changes (found_in es) []) (with_changes (later_in es) is) tr is ms d.done u e n size ns marks;
     modes = d.modes ∙ sym (ap touched e ∙ touched-mark tr step.Opened tt);

@@ -4,8 +4,8 @@ use Rattle.spec_ledger.specs.declared.Inverse.{Inverse}
 use Rattle.spec_ledger.specs.declared.Lock.{Lock}
 use Rattle.spec_ledger.specs.declared.Op.{Op}
 use Rattle.spec_ledger.specs.declared.Reply.{Reply}
-use Rattle.spec_ledger.specs.declared.Step.{Step}
-use Rattle.spec_ledger.specs.declared.Step.TheVariants.{Did}
+use Rattle.spec_ledger.specs.declared.TraceStep.{TraceStep}
+use Rattle.spec_ledger.specs.declared.TraceStep.TheVariants.{Did}
 use Rattle.spec_execution.specs.Configuration.{Setting}
 use Rattle.spec_execution.specs.Run.{ContractCall}
 use Rattle.interp_run.specs.Played.{Played}
@@ -30,14 +30,14 @@ entered_more p q es is ms ns n h size marks d = enters p.trace es is ms d q.trac
 pub left_more : (p q : Progress) (es : List (Lock × Touch)) (is : List Inverse) (ms : List ℕ) (keep : Bool) → HasLeft p keep q → AreTouchesOf (p.trace ++ mark_of keep ∷ []) es is ms → AreTouchesOf q.trace es is ms
 left_more p q es is ms keep h d = subst (λ t. AreTouchesOf t es is ms) (sym h.trace) d
 
-pub of_some : (t : List Step) (es : List (Lock × Touch)) (is : List Inverse) (ms : List ℕ) → AreTouchesOf t es is ms → AreTouches es is ms
+pub of_some : (t : List TraceStep) (es : List (Lock × Touch)) (is : List Inverse) (ms : List ℕ) → AreTouchesOf t es is ms → AreTouches es is ms
 of_some t es is ms d = record { trace = t; are = d }
 
-pub by_it : (t : List Step) (es : List (Lock × Touch)) (is : List Inverse) (ms : List ℕ) → AreTouchesOf t es is ms → WereTouchedBy t es
+pub by_it : (t : List TraceStep) (es : List (Lock × Touch)) (is : List Inverse) (ms : List ℕ) → AreTouchesOf t es is ms → WereTouchedBy t es
 by_it t es is ms d = record { inverses = is; marks = ms; are = d }
 
 -- nothing is done
-pub started : (t : List Step) (es : List (Lock × Touch)) (is : List Inverse) (ms : List ℕ) → t ≡ [] → es ≡ [] → is ≡ [] → ms ≡ [] → AreTouchesOf t es is ms
+pub started : (t : List TraceStep) (es : List (Lock × Touch)) (is : List Inverse) (ms : List ℕ) → t ≡ [] → es ≡ [] → is ≡ [] → ms ≡ [] → AreTouchesOf t es is ms
 started t es is ms t_is es_are is_are ms_are =
     subst (λ x. AreTouchesOf x es is ms) (sym t_is) (subst (λ x. AreTouchesOf [] es x ms) (sym is_are) (subst (λ x. AreTouchesOf [] es [] x) (sym ms_are) (none_touched es es_are)))
 

@@ -5,7 +5,7 @@ use Rattle.spec_ledger.specs.declared.Inverse.{Inverse}
 use Rattle.spec_ledger.specs.declared.Inverse.TheVariants.{Keep, Subtract, Restore}
 use Rattle.spec_ledger.specs.declared.Kind.TheVariants.{Counter}
 use Rattle.spec_ledger.specs.declared.Lock.{Lock}
-use Rattle.spec_ledger.specs.declared.Step.{Step}
+use Rattle.spec_ledger.specs.declared.TraceStep.{TraceStep}
 use Rattle.spec_ledger.specs.Cells.{Cells, IsCounter, lock_cmp, set_at, map_at, counter_at}
 use Rattle.spec_ledger.specs.Modes.{Modes, touched}
 use Rattle.spec_execution.specs.declared.footprints.Access.{Access}
@@ -41,13 +41,13 @@ abbrev pub with_changes : Cells → List Inverse → Store
 with_changes cells inverses = record { cells = cells; unsettled = opened_all inverses empty }
 
 -- The touches are of the locks that a trace asked for. Over the cells that were found there it got its replies, and it made them those that are there now.
-pub record AreTouchesOf (trace : List Step) (touches : List (Lock × Touch)) (inverses : List Inverse) (marks : List ℕ) : Type 0 where
+pub record AreTouchesOf (trace : List TraceStep) (touches : List (Lock × Touch)) (inverses : List Inverse) (marks : List ℕ) : Type 0 where
   pub done : AreDoneInLevels (with_changes (found_in touches) []) trace (with_changes (later_in touches) inverses) inverses marks
   pub modes : modes_of touches ≡ touched trace
 
 -- they are of some trace
 pub record AreTouches (touches : List (Lock × Touch)) (inverses : List Inverse) (marks : List ℕ) : Type 0 where
-  pub trace : List Step
+  pub trace : List TraceStep
   pub are : AreTouchesOf trace touches inverses marks
 
 -- the lock of what is to be taken back was touched
@@ -61,7 +61,7 @@ abbrev pub AreFoundBy : (Lock → Option ℕ → Type 0) → List (Lock × Touch
 AreFoundBy may_read touches = (lock : Lock) → IsSome (get (modes_of touches) lock) → may_read lock (get (found_in touches) lock)
 
 -- they are of this one
-pub record WereTouchedBy (trace : List Step) (touches : List (Lock × Touch)) : Type 0 where
+pub record WereTouchedBy (trace : List TraceStep) (touches : List (Lock × Touch)) : Type 0 where
   pub inverses : List Inverse
   pub marks : List ℕ
   pub are : AreTouchesOf trace touches inverses marks

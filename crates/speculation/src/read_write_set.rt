@@ -42,7 +42,7 @@ fn leave_all<A: Allocator + Copy>(cells: &mut Cells<A>, accesses: &[Access]) -> 
     Ok(())
 }
 
-fn agrees<A: Allocator + Copy>(cells: &Cells<A>, access: Access) -> bool
+fn is_valid_over<A: Allocator + Copy>(cells: &Cells<A>, access: Access) -> bool
     ensures { IsTrue result ↔ Agrees cells.now.cells access }
 {
     match access {
@@ -52,11 +52,11 @@ fn agrees<A: Allocator + Copy>(cells: &Cells<A>, access: Access) -> bool
 }
 
 /// Whether cells hold what a call found where it made these accesses.
-fn agree<A: Allocator + Copy>(cells: &Cells<A>, accesses: &[Access]) -> bool
+fn are_valid_over<A: Allocator + Copy>(cells: &Cells<A>, accesses: &[Access]) -> bool
     ensures { IsTrue result ↔ All (Agrees cells.now.cells) accesses.now }
 {
     for access in accesses {
-        if !agrees(cells, *access) {
+        if !is_valid_over(cells, *access) {
             return false;
         }
     }
@@ -79,7 +79,7 @@ pub fn write_back<A: Allocator + Copy>(
     ensures same { result ≡ Ok false → cells.new ≡ cells.old }
     ensures settled { cells.new.unsettled ≡ finite.empty }
 {
-    if !agree(cells, accesses) {
+    if !are_valid_over(cells, accesses) {
         return Ok(false);
     }
     leave_all(cells, accesses)?;

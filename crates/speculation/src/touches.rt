@@ -5,8 +5,8 @@ ghost use Rattle.std.specs.List.{AllByRecursion};
 ghost use Rattle.spec_ledger.specs.Book.{back_all};
 ghost use Rattle.spec_ledger.specs.Cells.{back, update};
 ghost use Rattle.spec_ledger.specs.Modes.{join_held};
-ghost use Rattle.spec_ledger.specs.declared.Step.{Step};
-ghost use Rattle.spec_ledger.specs.declared.Step.TheVariants.{Did};
+ghost use Rattle.spec_ledger.specs.declared.TraceStep.{TraceStep};
+ghost use Rattle.spec_ledger.specs.declared.TraceStep.TheVariants.{Did};
 ghost use Rattle.spec_execution.specs.Run.{IsReply};
 ghost use Rattle.storage.specs.Slots.{cell_back};
 ghost use Rattle.interp_run.specs.Progress.{mark_of};
@@ -69,7 +69,7 @@ pub(crate) fn act<A: Allocator + Copy, V: Reads>(
     op: Op,
 ) -> Result<Reply, NoMemory>
     ensures is_reply { IfOk result (λ reply. IsReply op reply) }
-    ensures touches { IfOk result (λ reply. (trace : List Step) (marks : List ℕ) → AreTouchesOf trace touches.old.entries inverses.old.items marks → AreTouchesOf (trace ++ Did op reply ∷ []) touches.new.entries inverses.new.items marks) }
+    ensures touches { IfOk result (λ reply. (trace : List TraceStep) (marks : List ℕ) → AreTouchesOf trace touches.old.entries inverses.old.items marks → AreTouchesOf (trace ++ Did op reply ∷ []) touches.new.entries inverses.new.items marks) }
     ensures read { OnOk result (AreFoundBy (V.may_read view.now) touches.old.entries → AreFoundBy (V.may_read view.now) touches.new.entries) }
 {
     let wanted = lock(op);
@@ -147,7 +147,7 @@ pub(crate) fn leave<A: Allocator + Copy>(
     keep: bool,
 )
     requires { AreTouches touches.old.entries inverses.old.items marks.old.items }
-    ensures touches { (trace : List Step) → AreTouchesOf trace touches.old.entries inverses.old.items marks.old.items → AreTouchesOf (trace ++ mark_of keep ∷ []) touches.new.entries inverses.new.items marks.new.items }
+    ensures touches { (trace : List TraceStep) → AreTouchesOf trace touches.old.entries inverses.old.items marks.old.items → AreTouchesOf (trace ++ mark_of keep ∷ []) touches.new.entries inverses.new.items marks.new.items }
     ensures found { found_in touches.new.entries ≡ found_in touches.old.entries }
     ensures modes { modes_of touches.new.entries ≡ modes_of touches.old.entries }
 {

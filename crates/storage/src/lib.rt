@@ -15,7 +15,7 @@ ghost use Rattle.std.specs.Iterator.{YieldsFirst, item_count};
 pub use changes::{end_all, returned, settle_all, take_all_back, take_back_to};
 use effects::reads;
 pub use effects::{counter_lock, former_cell, inverse, lock, map_lock, mode, next_cell, reply};
-pub use spec_ledger::{CellKey, Inverse, Kind, Lock, NoMemory, Op, Reply, Step};
+pub use spec_ledger::{CellKey, Inverse, Kind, Lock, NoMemory, Op, Reply, TraceStep};
 use std::alloc::{Allocator, Global};
 use std::collections::BTreeMap;
 use std::collections::btree_map::Iter;

@@ -15,8 +15,8 @@ use denote.Builtin.{bool}
 use denote.Steps.{nothing, only}
 use denote.Triple.Statement.{Contract}
 use denote.Triple.Spec.{triple_of}
-use Rattle.test_support.specs.contracts.ration.Count as counted
-use Rattle.test_support.specs.contracts.ration.refuses as RF
+use Rattle.test_support.specs.contracts.failing_allocator.Count as counted
+use Rattle.test_support.specs.contracts.failing_allocator.refuses as RF
 
 abbrev Left : RattleType
 Left = counted.the_row

@@ -15,7 +15,7 @@ use wtypes::Value;
 
 /// Why a sample could not be made.
 #[derive(Clone, Copy, Debug, PartialEq, Eq, Error)]
-pub enum Unfit {
+pub enum SampleRefusal {
     /// The bytes spell no module within the limits, or memory was refused.
     #[error("the bytes spell no module within the limits, or memory was refused")]
     NotLoaded,
@@ -30,38 +30,38 @@ pub enum Unfit {
     NotACall,
 }
 
-impl From<AllocError> for Unfit {
-    fn from(_refused: AllocError) -> Unfit {
-        Unfit::NotACall
+impl From<AllocError> for SampleRefusal {
+    fn from(_refused: AllocError) -> SampleRefusal {
+        SampleRefusal::NotACall
     }
 }
 
 /// The module of these bytes, typed.
-pub fn typed<A: Allocator + Copy>(alloc: A, bytes: &[u8]) -> Result<Valid<A>, Unfit> {
+pub fn typed<A: Allocator + Copy>(alloc: A, bytes: &[u8]) -> Result<Valid<A>, SampleRefusal> {
     let Ok(module) = load(alloc, bytes) else {
-        return Err(Unfit::NotLoaded);
+        return Err(SampleRefusal::NotLoaded);
     };
     match check(&alloc, module) {
         Ok(valid) => Ok(valid),
-        Err(_) => Err(Unfit::NotTyped),
+        Err(_) => Err(SampleRefusal::NotTyped),
     }
 }
 
 /// The contract of these bytes.
-pub fn deployed<A: Allocator + Copy>(alloc: A, bytes: &[u8]) -> Result<Deployed<A>, Unfit> {
+pub fn deployed<A: Allocator + Copy>(alloc: A, bytes: &[u8]) -> Result<Deployed<A>, SampleRefusal> {
     match deploy(&alloc, typed(alloc, bytes)?) {
         Ok(contract) => Ok(contract),
-        Err(_) => Err(Unfit::NotLinked),
+        Err(_) => Err(SampleRefusal::NotLinked),
     }
 }
 
 /// The example contract.
-pub fn example<A: Allocator + Copy>(alloc: A) -> Result<Deployed<A>, Unfit> {
+pub fn example<A: Allocator + Copy>(alloc: A) -> Result<Deployed<A>, SampleRefusal> {
     deployed(alloc, &EXAMPLE)
 }
 
 /// The contract of the first module.
-pub fn first<A: Allocator + Copy>(alloc: A) -> Result<Deployed<A>, Unfit> {
+pub fn first<A: Allocator + Copy>(alloc: A) -> Result<Deployed<A>, SampleRefusal> {
     deployed(alloc, &FIRST_MODULE)
 }
 
@@ -72,13 +72,13 @@ pub fn call(
     entry: &str,
     args: &[Value],
     fuel: u64,
-) -> Result<Call, Unfit>
+) -> Result<Call, SampleRefusal>
     ensures fuel { IfOk result (λ made. made.fuel ≡ fuel) }
 {
     let entry = entry.to_string(alloc)?;
     let args = args.to_vec(alloc)?;
     match Call::new(contract, entry, args, fuel) {
         Some(call) => Ok(call),
-        None => Err(Unfit::NotACall),
+        None => Err(SampleRefusal::NotACall),
     }
 }

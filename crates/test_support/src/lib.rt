@@ -2,11 +2,11 @@
 #![tactic(auto)]
 
 mod contracts;
+mod failing_allocator;
 mod modules;
-mod ration;
 #[cfg(test)]
 mod tests;
 
-pub use crate::ration::Ration;
-pub use contracts::{Unfit, call, deployed, example, first, typed};
+pub use crate::failing_allocator::Ration;
+pub use contracts::{SampleRefusal, call, deployed, example, first, typed};
 pub use modules::{ASKING, EXAMPLE, FIRST_MODULE, PROBING};

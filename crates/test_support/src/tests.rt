@@ -1,6 +1,6 @@
 ghost use Rattle.std.specs.Prelude.{◌≡◌, IfOk, vec_len};
 
-use crate::ration::Ration;
+use crate::failing_allocator::Ration;
 use std::alloc::{AllocError, Allocator};
 use std::thread;
 use std::thread::Threads;

@@ -4,7 +4,7 @@ use boost::book::{
 };
 use sharding::CloseRefusal;
 use shards::{NoGate, Shards, Ticket};
-use spec_ledger::{CellKey, Kind, Lock, Op, Outcome, Reply, Step};
+use spec_ledger::{CellKey, Kind, Lock, Op, Outcome, Reply, TraceStep};
 use std::alloc::Allocator;
 use std::sync::Wait;
 use storage::{Cells, NoMemory};
@@ -31,8 +31,8 @@ pub(crate) fn cell(kind: Kind, key: u64) -> Lock {
     }
 }
 
-pub(crate) fn adding(key: u64, value: u64) -> Step {
-    Step::Did(Op::Add(at(key), value), Reply::Nothing)
+pub(crate) fn adding(key: u64, value: u64) -> TraceStep {
+    TraceStep::Did(Op::Add(at(key), value), Reply::Nothing)
 }
 
 /// What a call asks for.
@@ -43,9 +43,9 @@ pub(crate) enum Act {
     Enter,
     Leave(bool),
     Undo,
-    Commit(&'static [Step], Outcome),
+    Commit(&'static [TraceStep], Outcome),
     /// As `Commit`, of a book in which nothing was begun.
-    CommitElsewhere(&'static [Step], Outcome),
+    CommitElsewhere(&'static [TraceStep], Outcome),
     /// As `Leave`, of a book in which nothing was begun.
     LeaveElsewhere(bool),
 }

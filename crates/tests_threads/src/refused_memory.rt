@@ -176,7 +176,7 @@ enum Asked {
 enum Came {
     /// What comes of it without a refusal, and what was lent is as it was.
     AsEver,
-    /// Want of memory, and what was lent is as it was.
+    /// Out of memory, and what was lent is as it was.
     NoMemory,
     Other,
 }
@@ -186,7 +186,7 @@ fn answered(is_right: bool) -> Came {
     if is_right { Came::AsEver } else { Came::Other }
 }
 
-/// Want of memory, where this is so of what was lent.
+/// Out of memory, where this is so of what was lent.
 fn refused(is_as_it_was: bool) -> Came {
     if is_as_it_was {
         Came::NoMemory

@@ -7,7 +7,7 @@ ghost use Rattle.text_body.specs.Turns.{seen_top, move_of, move_at, left_at, fol
 
 use crate::flat::{Flat, Opener};
 use crate::parts::{Part, closes, enters, header, left_behind_parts, optional_id, plain};
-use crate::unread::Unread;
+use crate::unread::ParseFault;
 use lexer::{Piece, Word};
 use spec_text::KeyWord;
 use std::alloc::Allocator;
@@ -85,12 +85,12 @@ fn opener(key: KeyWord) -> Option<Opener>
 fn folded_block<'w, 'a, A: Allocator>(
     opener: Option<Opener>,
     rest: &mut &'w [Word<'a>],
-) -> Result<ParserStep<'a, A>, Unread>
+) -> Result<ParserStep<'a, A>, ParseFault>
     ensures value { Gives (λ t. (move_of t, views rest.new.now)) result (folded_block_at (option_map opener_of opener) (views rest.old.now)) }
     ensures shorter { IfOk result (λ _. length rest.new.now ≤ length rest.old.now) }
 {
     let Some(opener) = opener else {
-        return Err(Unread::Stuck(rest.len() + 1));
+        return Err(ParseFault::Stuck(rest.len() + 1));
     };
     let (label, found) = header(rest)?;
     match opener {
@@ -110,12 +110,12 @@ fn folded_block<'w, 'a, A: Allocator>(
 fn flat_block<'w, 'a, A: Allocator>(
     opener: Option<Opener>,
     rest: &mut &'w [Word<'a>],
-) -> Result<ParserStep<'a, A>, Unread>
+) -> Result<ParserStep<'a, A>, ParseFault>
     ensures value { Gives (λ t. (move_of t, views rest.new.now)) result (flat_block_at (option_map opener_of opener) (views rest.old.now)) }
     ensures shorter { IfOk result (λ _. length rest.new.now ≤ length rest.old.now) }
 {
     let Some(opener) = opener else {
-        return Err(Unread::Stuck(rest.len() + 1));
+        return Err(ParseFault::Stuck(rest.len() + 1));
     };
     let (label, found) = header(rest)?;
     match opener {
@@ -135,12 +135,12 @@ fn flat_block<'w, 'a, A: Allocator>(
 fn folded<'w, 'a, A: Allocator + Clone>(
     alloc: &A,
     rest: &mut &'w [Word<'a>],
-) -> Result<ParserStep<'a, A>, Unread>
+) -> Result<ParserStep<'a, A>, ParseFault>
     ensures value { Gives (λ t. (move_of t, views rest.new.now)) result (folded_at (views rest.old.now)) }
     ensures shorter { IfOk result (λ _. length rest.new.now ≤ length rest.old.now) }
 {
     match *rest {
-        [] => Err(Unread::Stuck(0)),
+        [] => Err(ParseFault::Stuck(0)),
         [word, after @ ..] => match *word {
             Word::Op(op) => {
                 *rest = after;
@@ -151,7 +151,7 @@ fn folded<'w, 'a, A: Allocator + Clone>(
                 *rest = after;
                 folded_block(opener(key), rest)
             }
-            _ => Err(Unread::Stuck(rest.len())),
+            _ => Err(ParseFault::Stuck(rest.len())),
         },
     }
 }
@@ -160,7 +160,7 @@ fn folded<'w, 'a, A: Allocator + Clone>(
 fn then<'w, 'a, A: Allocator>(
     top: Top<'a>,
     rest: &mut &'w [Word<'a>],
-) -> Result<ParserStep<'a, A>, Unread>
+) -> Result<ParserStep<'a, A>, ParseFault>
     ensures value { Gives (λ t. (move_of t, views rest.new.now)) result (then_at (seen_top top.entry) (views rest.old.now)) }
     ensures shorter { IfOk result (λ _. length rest.new.now ≤ length rest.old.now) }
 {
@@ -170,9 +170,9 @@ fn then<'w, 'a, A: Allocator>(
                 Flat::Opens(Opener::If, label, found),
                 Form::Then,
             )),
-            _ => Err(Unread::Stuck(rest.len() + 1)),
+            _ => Err(ParseFault::Stuck(rest.len() + 1)),
         },
-        _ => Err(Unread::Stuck(rest.len() + 1)),
+        _ => Err(ParseFault::Stuck(rest.len() + 1)),
     }
 }
 
@@ -181,7 +181,7 @@ fn left<'w, 'a, A: Allocator + Clone>(
     alloc: &A,
     top: Top<'a>,
     rest: &mut &'w [Word<'a>],
-) -> Result<ParserStep<'a, A>, Unread>
+) -> Result<ParserStep<'a, A>, ParseFault>
     ensures value { Gives (λ t. (move_of t, views rest.new.now)) result (left_at (seen_top top.entry) (views rest.old.now)) }
     ensures shorter { IfOk result (λ _. length rest.new.now ≤ length rest.old.now) }
 {
@@ -198,7 +198,7 @@ fn left<'w, 'a, A: Allocator + Clone>(
 fn right<'w, 'a, A: Allocator>(
     top: Top<'a>,
     rest: &mut &'w [Word<'a>],
-) -> Result<ParserStep<'a, A>, Unread>
+) -> Result<ParserStep<'a, A>, ParseFault>
     ensures value { Gives (λ t. (move_of t, views rest.new.now)) result (right_at (seen_top top.entry) (views rest.old.now)) }
     ensures shorter { IfOk result (λ _. length rest.new.now ≤ length rest.old.now) }
 {
@@ -214,15 +214,15 @@ fn right<'w, 'a, A: Allocator>(
                 if enters(Part::Else, rest) {
                     return Ok(ParserStep::Turns(Flat::Else(None), Form::Otherwise));
                 }
-                Err(Unread::Stuck(left_behind_parts(rest)))
+                Err(ParseFault::Stuck(left_behind_parts(rest)))
             }
             Form::Otherwise => {
                 if closes(rest) {
                     return Ok(ParserStep::Closes(Flat::End(None)));
                 }
-                Err(Unread::Stuck(rest.len()))
+                Err(ParseFault::Stuck(rest.len()))
             }
-            _ => Err(Unread::Stuck(rest.len() + 1)),
+            _ => Err(ParseFault::Stuck(rest.len() + 1)),
         },
     }
 }
@@ -231,7 +231,7 @@ fn right<'w, 'a, A: Allocator>(
 fn end<'w, 'a, A: Allocator>(
     top: Top<'a>,
     rest: &mut &'w [Word<'a>],
-) -> Result<ParserStep<'a, A>, Unread>
+) -> Result<ParserStep<'a, A>, ParseFault>
     ensures value { Gives (λ t. (move_of t, views rest.new.now)) result (end_at (seen_top top.entry) (views rest.old.now)) }
     ensures shorter { IfOk result (λ _. length rest.new.now ≤ length rest.old.now) }
 {
@@ -239,9 +239,9 @@ fn end<'w, 'a, A: Allocator>(
         Top::Inside(form) => match form {
             Form::Flatly => Ok(ParserStep::Closes(Flat::End(optional_id(rest)))),
             Form::FlatIf => Ok(ParserStep::Closes(Flat::End(optional_id(rest)))),
-            _ => Err(Unread::Stuck(rest.len() + 1)),
+            _ => Err(ParseFault::Stuck(rest.len() + 1)),
         },
-        _ => Err(Unread::Stuck(rest.len() + 1)),
+        _ => Err(ParseFault::Stuck(rest.len() + 1)),
     }
 }
 
@@ -249,16 +249,16 @@ fn end<'w, 'a, A: Allocator>(
 fn otherwise<'w, 'a, A: Allocator>(
     top: Top<'a>,
     rest: &mut &'w [Word<'a>],
-) -> Result<ParserStep<'a, A>, Unread>
+) -> Result<ParserStep<'a, A>, ParseFault>
     ensures value { Gives (λ t. (move_of t, views rest.new.now)) result (else_at (seen_top top.entry) (views rest.old.now)) }
     ensures shorter { IfOk result (λ _. length rest.new.now ≤ length rest.old.now) }
 {
     match top {
         Top::Inside(form) => match form {
             Form::FlatIf => Ok(ParserStep::Turns(Flat::Else(optional_id(rest)), Form::Flatly)),
-            _ => Err(Unread::Stuck(rest.len() + 1)),
+            _ => Err(ParseFault::Stuck(rest.len() + 1)),
         },
-        _ => Err(Unread::Stuck(rest.len() + 1)),
+        _ => Err(ParseFault::Stuck(rest.len() + 1)),
     }
 }
 
@@ -281,7 +281,7 @@ fn key_word<'w, 'a, A: Allocator>(
     top: Top<'a>,
     key: KeyWord,
     rest: &mut &'w [Word<'a>],
-) -> Result<ParserStep<'a, A>, Unread>
+) -> Result<ParserStep<'a, A>, ParseFault>
     ensures value { Gives (λ t. (move_of t, views rest.new.now)) result (key_at (seen_top top.entry) key (views rest.old.now)) }
     ensures shorter { IfOk result (λ _. length rest.new.now ≤ length rest.old.now) }
 {
@@ -290,7 +290,7 @@ fn key_word<'w, 'a, A: Allocator>(
         KeyWord::Else => otherwise(top, rest),
         _ => {
             if !all_allowed(top) {
-                return Err(Unread::Stuck(rest.len() + 1));
+                return Err(ParseFault::Stuck(rest.len() + 1));
             }
             flat_block(opener(key), rest)
         }
@@ -302,12 +302,12 @@ pub(crate) fn next_turn<'w, 'a, A: Allocator + Clone>(
     alloc: &A,
     top: Top<'a>,
     rest: &mut &'w [Word<'a>],
-) -> Result<ParserStep<'a, A>, Unread>
+) -> Result<ParserStep<'a, A>, ParseFault>
     ensures value { Gives (λ t. (move_of t, views rest.new.now)) result (move_at (seen_top top.entry) (views rest.old.now)) }
     ensures shorter { IfOk result (λ _. length rest.new.now < length rest.old.now) }
 {
     match *rest {
-        [] => Err(Unread::Stuck(0)),
+        [] => Err(ParseFault::Stuck(0)),
         [word, after @ ..] => match *word {
             Word::LeftBracket => {
                 *rest = after;
@@ -319,7 +319,7 @@ pub(crate) fn next_turn<'w, 'a, A: Allocator + Clone>(
             }
             Word::Op(op) => {
                 if !all_allowed(top) {
-                    return Err(Unread::Stuck(rest.len()));
+                    return Err(ParseFault::Stuck(rest.len()));
                 }
                 *rest = after;
                 let found = plain(alloc, op, rest)?;
@@ -329,7 +329,7 @@ pub(crate) fn next_turn<'w, 'a, A: Allocator + Clone>(
                 *rest = after;
                 key_word(top, key, rest)
             }
-            _ => Err(Unread::Stuck(rest.len())),
+            _ => Err(ParseFault::Stuck(rest.len())),
         },
     }
 }

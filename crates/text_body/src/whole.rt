@@ -5,11 +5,11 @@ ghost use Rattle.text_body.specs.Places.{flat_of, flats_of};
 ghost use Rattle.text_body.specs.Outcome.{Unless};
 ghost use Rattle.text_body.specs.Turns.{seen_top, top_of, state_of, move_of, is_end, completed, left_behind, step_of, applied};
 ghost use Rattle.text_body.specs.Bodies.{IsBody, NoBody, BodiesAreOne};
-ghost use Rattle.text_body.specs.declared.unread.Unread.TheVariants.{NoMemory};
+ghost use Rattle.text_body.specs.declared.unread.ParseFault.TheVariants.{NoMemory};
 
 use crate::flat::Flat;
 use crate::turns::{Open, ParserStep, Top, next_turn};
-use crate::unread::Unread;
+use crate::unread::ParseFault;
 use lexer::Word;
 use std::alloc::Allocator;
 
@@ -55,7 +55,7 @@ fn apply<'a, A: Allocator>(
     turn: ParserStep<'a, A>,
     stack: &mut Vec<Open<'a, A>, A>,
     flats: &mut Vec<Flat<'a, A>, A>,
-) -> Result<bool, Unread>
+) -> Result<bool, ParseFault>
     ensures done { IfOk result (λ done. applied done (state_of stack.new.items, flats_of flats.new.items) ≡ step_of (move_of turn.entry) (state_of stack.old.items) (flats_of flats.old.items)) }
     ensures refused { IfErr result (λ refusal. refusal ≡ NoMemory) }
 {
@@ -104,7 +104,7 @@ fn apply<'a, A: Allocator>(
 pub fn body<'w, 'a, A: Allocator + Clone>(
     alloc: &A,
     rest: &mut &'w [Word<'a>],
-) -> Result<Vec<Flat<'a, A>, A>, Unread>
+) -> Result<Vec<Flat<'a, A>, A>, ParseFault>
     // The words that were passed are these instructions and the bracket.
     ensures grammar { IfOk result (λ found. IsBody (views rest.old.now) (views rest.new.now) (flats_of found.items)) }
     // It is refused for another cause than memory only where the words do not begin with a body.
@@ -117,12 +117,12 @@ pub fn body<'w, 'a, A: Allocator + Clone>(
         let turn = next_turn(alloc, innermost(&stack), rest)?;
         if ends(&turn) {
             if !stack.is_empty() {
-                return Err(Unread::Stuck(rest.len()));
+                return Err(ParseFault::Stuck(rest.len()));
             }
             return Ok(flats);
         }
         if !apply(turn, &mut stack, &mut flats)? {
-            return Err(Unread::Stuck(rest.len()));
+            return Err(ParseFault::Stuck(rest.len()));
         }
     }
 }

@@ -4,7 +4,7 @@ ghost use Rattle.spec_text.specs.Lexical.{Lexes};
 ghost use Rattle.lexer.specs.Views as listed;
 ghost use Rattle.lexer.specs.WordsRefused.{Unless};
 ghost use Rattle.lexer.specs.WordsViews.{views};
-ghost use Rattle.lexer.specs.declared.words.TextRefusal.TheVariants.{NoMemory};
+ghost use Rattle.lexer.specs.declared.refusal.TextRefusal.TheVariants.{NoMemory};
 ghost use Rattle.text_tree.specs.Places.{fields_of};
 ghost use Rattle.text_tree.specs.Texts.{IsTree, NoTree, IsText, NoText, TextsAreOne};
 
@@ -15,7 +15,7 @@ use lexer::{
 };
 use std::alloc::Allocator;
 use std::str::from_utf8;
-use text_body::Unread;
+use text_body::ParseFault;
 
 /// The place of the first of the last `left` tokens, or `end` if there is none.
 fn place(tokens: &[Token], end: usize, left: usize) -> usize {
@@ -37,8 +37,8 @@ fn tree<'a, A: Allocator + Clone>(
 {
     match module(alloc, words) {
         Ok(tree) => Ok(tree),
-        Err(Unread::NoMemory) => Err(TextRefusal::NoMemory),
-        Err(Unread::Stuck(left)) => {
+        Err(ParseFault::NoMemory) => Err(TextRefusal::NoMemory),
+        Err(ParseFault::Stuck(left)) => {
             Err(TextRefusal::Unexpected(place(tokens, text.len(), left)))
         }
     }

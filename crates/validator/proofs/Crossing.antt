@@ -21,8 +21,8 @@ use Rattle.records.specs.contracts.position.Position as position_row
 use Rattle.serial.proofs.Crossing.{crosses, vec_send, vec_sync, contract_sync, contracts_send, cells_sync, finished_send}
 use Rattle.in_order.proofs.Crossing.{job_sync as order_sync}
 use Rattle.validator.specs.contracts.trial.Trial as trial_row
-use Rattle.validator.specs.contracts.job.Made as made_row
-use Rattle.validator.specs.contracts.job.Part as part_row
+use Rattle.validator.specs.contracts.job.PositionRun as made_row
+use Rattle.validator.specs.contracts.job.WorkerRuns as part_row
 use Rattle.validator.specs.contracts.job.Job as job_row
 use Rattle.validator.specs.contracts.shared.Shared as shared_row
 

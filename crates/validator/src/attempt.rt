@@ -9,7 +9,7 @@ ghost use Rattle.serial.specs.Going.{MayGoOn, IsEnded};
 ghost use Rattle.validator.specs.Handed.{IsMade, IsRunIn};
 ghost use Rattle.validator.specs.Jobs.{IsJob};
 
-use crate::job::{Came, Job, Made};
+use crate::job::{Job, PositionResult, PositionRun};
 use crate::profile::allows;
 use ahead::Ahead;
 use call::Call;
@@ -238,7 +238,7 @@ pub(crate) fn attempt<'a, A: Allocator + Copy, R: Wait, P: Pace>(
     job: &Job<'_, 'a, A, P>,
     ahead: &Mutex<Ahead<A>>,
     position: u32,
-) -> Result<Came<'a, A>, NoMemory>
+) -> Result<PositionResult<'a, A>, NoMemory>
     requires { IsJob job.now }
     ensures { IfOk result (λ came. IfSome came.run (IsMade job.now)) }
 {
@@ -247,7 +247,7 @@ pub(crate) fn attempt<'a, A: Allocator + Copy, R: Wait, P: Pace>(
     let trial = job.trial;
     let positions = trial.block.positions();
     if at >= order.len() || at >= positions.len() {
-        return Ok(Came {
+        return Ok(PositionResult {
             run: None,
             stops: false,
         });
@@ -258,7 +258,7 @@ pub(crate) fn attempt<'a, A: Allocator + Copy, R: Wait, P: Pace>(
         nth: 0,
     };
     if must_stop_at(job.ordered.pace, step) {
-        return Ok(Came {
+        return Ok(PositionResult {
             run: None,
             stops: true,
         });
@@ -273,15 +273,15 @@ pub(crate) fn attempt<'a, A: Allocator + Copy, R: Wait, P: Pace>(
     let played = play(rt, job, &place, number);
     acquire(rt, ahead).end(at, stands(&played));
     match played {
-        Ok(finished) => Ok(Came {
-            run: Some(Made { position, finished }),
+        Ok(finished) => Ok(PositionResult {
+            run: Some(PositionRun { position, finished }),
             stops: false,
         }),
-        Err(Stop::Outside) => Ok(Came {
+        Err(Stop::Outside) => Ok(PositionResult {
             run: None,
             stops: false,
         }),
-        Err(Stop::Stopped) => Ok(Came {
+        Err(Stop::Stopped) => Ok(PositionResult {
             run: None,
             stops: true,
         }),

@@ -16,7 +16,7 @@ pub(crate) struct Shared<A: Allocator> {
     pub(crate) ahead: Mutex<Ahead<A>>,
     /// How many positions have not ended.
     pub(crate) rest: AtomicU64,
-    /// Whether a worker gave up: it met want of memory, or the board refused to end a position.
+    /// Whether a worker gave up: it met out of memory, or the board refused to end a position.
     pub(crate) given_up: AtomicBool,
 }
 

@@ -7,5 +7,5 @@ mod misuse;
 mod options;
 mod usage;
 
-pub use command::{Command, Deploying, command_of, told_of};
+pub use command::{Command, Deploying, command_of, watched_command};
 pub use usage::{tell_help, tell_version, usage_text};

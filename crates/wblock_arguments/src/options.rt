@@ -133,10 +133,7 @@ fn switch_of(switches: &[&str]) -> Option<bool>
 }
 
 /// Whether options ask for workers over one book; or None where they ask for it otherwise than once and without a value.
-pub fn boosted_in(
-    alloc: Global,
-    options: &[(&str, &str)],
-) -> Result<Option<bool>, AllocError>
+pub fn boosted_in(alloc: Global, options: &[(&str, &str)]) -> Result<Option<bool>, AllocError>
     ensures { IfOk result (λ found. MatchOption found ((boosted : Bool) → ¬ AsksBoosted (choices options.now) boosted) (AsksBoosted (choices options.now))) }
 {
     let switches = values_of(alloc, options, BOOSTED_SWITCH)?;

@@ -8,7 +8,7 @@ use crate::words::{is_plain, number_of, values_of};
 use call::Call;
 use std::alloc::{AllocError, Global};
 use std::str::from_utf8;
-use wblock_words::{shown, told};
+use wblock_words::{place_line, shown};
 
 /// What is wrong with a word of a line that spells no call.
 #[derive(Clone, Copy, Debug, PartialEq, Eq)]
@@ -195,9 +195,9 @@ pub fn calls_words(alloc: Global, text: &[u8], refusal: CallsRefusal) -> Result<
         CallsRefusal::Line(number) => {
             let line = text.split(|b| *b == b'\n').nth(number.saturating_sub(1));
             let said = line_fault(alloc, line.unwrap_or(&[]))?;
-            told(alloc, "calls, line ", number, said.as_str())
+            place_line(alloc, "calls, line ", number, said.as_str())
         }
-        CallsRefusal::TooMany => told(
+        CallsRefusal::TooMany => place_line(
             alloc,
             "calls, line ",
             MOST_CALLS + 1,

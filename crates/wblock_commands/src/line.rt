@@ -6,7 +6,6 @@ ghost use Rattle.wblock_arguments.specs.Words.{Says, HasFew};
 ghost use Rattle.wblock_commands.specs.Does.{Answers, IsMine, IsNote, MayMiss, Misses, Does, Reads, Fails, IsKept, SaysNote, SaysText};
 ghost use Rattle.wblock_arguments.specs.declared.command.Command.{Command as Asked};
 
-use wblock_arguments::{Command, command_of, tell_help, tell_version, told_of, usage_text};
 use crate::deploy::deploy_apart;
 use crate::show_stored;
 use byte_sinks::{Sink, put_all};
@@ -14,6 +13,7 @@ use pace::Pace;
 use std::alloc::{AllocError, Global};
 use std::sync::Wait;
 use std::thread::Threads;
+use wblock_arguments::{Command, command_of, tell_help, tell_version, usage_text, watched_command};
 use wblock_blocks::{Noted, mine_block, validate_block};
 use wblock_debug::debug_world;
 use wblock_io::Files;
@@ -185,7 +185,7 @@ pub fn run_line<'a, R: Threads + Wait + Sync, F: Files, O: Sink, E: Sink, P: Pac
     ensures calm_files { (result ≡ Status.Done) ⊎ (result ≡ Status.Refused) → F.failures files.new ≡ F.failures files.old }
     ensures calm_output { (result ≡ Status.Done) ⊎ (result ≡ Status.Refused) → O.failures out.new ≡ O.failures out.old }
 {
-    if let Some(command) = told_of(words) {
+    if let Some(command) = watched_command(words) {
         return run_command(rt, alloc, words, command, files, out, err, pace);
     }
     let Ok(split) = split_words(alloc, words) else {

@@ -9,7 +9,7 @@ ghost use Rattle.wblock_line.specs.Rejections.{Rejects};
 ghost use Rattle.wblock_debug.specs.Debugs.{IsText, TellsAbsent, TellsCall, TellsOfBlock, TellsListed, IsBlockName, IsNextRead, IsNotListed, Debugs};
 
 use crate::{Debugging, Printed, debug_call};
-use block_judge::{Reason, Unfit, met_by};
+use block_judge::{JudgeRefusal, Reason, met_by};
 use call::Call;
 use pace::Pace;
 use spec_ledger::Version;
@@ -98,8 +98,8 @@ fn debug_in_block<'a, P: Pace>(
     ) {
         Ok(Some(met)) => Ok(debug_over(alloc, world, &met.cells, call, task, met.version)?),
         Ok(None) => Ok(absent(alloc, task.call)?),
-        Err(Unfit::Rejected(reason)) => Ok(rejected(alloc, bytes, reason)?),
-        Err(Unfit::NoMemory) => Err(NoMemory),
+        Err(JudgeRefusal::Rejected(reason)) => Ok(rejected(alloc, bytes, reason)?),
+        Err(JudgeRefusal::NoMemory) => Err(NoMemory),
     }
 }
 

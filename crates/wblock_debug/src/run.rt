@@ -103,7 +103,7 @@ fn perform_all<A: Allocator + Copy>(
     Ok(printed)
 }
 
-/// The number of the cause for which a call does not start. None where that is want of memory.
+/// The number of the cause for which a call does not start. None where that is out of memory.
 fn start_code(refusal: StartRefusal) -> Option<u8>
     ensures { (o : Opening) → IsRefusedFor refusal o → MatchOption result (IsOpened o) (λ code. o ≡ Refused code) }
 {

@@ -240,7 +240,7 @@ impl ModuleRefusal {
         }
     }
     /// The line of the refusal of a module of these bytes, and its sentence.
-    pub fn told(self, alloc: Global, bytes: &[u8]) -> Result<(String, String), AllocError>
+    pub fn lines_of(self, alloc: Global, bytes: &[u8]) -> Result<(String, String), AllocError>
         ensures { IfOk result (λ told. string_bytes told.0 ≡ refusal_text self ++ 10 ∷ []) }
     {
         let line = format!(in alloc; "{self}\n")?;

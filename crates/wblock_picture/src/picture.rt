@@ -7,7 +7,7 @@ use crate::boxes::boxes_of;
 use crate::head::head_of;
 use crate::lines::lines_of;
 use crate::scene::Scene;
-use crate::shown::{edges_shown, hot_shown, positions_shown, seats_shown, told_of};
+use crate::shown::{edges_shown, hot_shown, positions_shown, print_scene, seats_shown};
 use std::alloc::{AllocError, Global};
 use wtypes::NoMemory;
 
@@ -36,7 +36,7 @@ pub fn picture_of(alloc: Global, scene: &Scene<'_>) -> Result<String, NoMemory>
     ensures { IfOk result (λ text. string_bytes text ≡ picture scene.now) }
 {
     let seats = seats_shown(alloc, scene)?;
-    let told = told_of(scene, &seats);
+    let told = print_scene(scene, &seats);
     let hottest = hot_shown(scene);
     let top = 116 + 16 * hottest.len() as u64;
     let head = head_of(alloc, told, hottest, top)?;

@@ -66,7 +66,7 @@ fn are_more(more_edges: bool, edges: usize) -> bool
 }
 
 /// What is told above the boxes, which stand there.
-pub(crate) fn told_of(scene: &Scene<'_>, seats: &[Seat]) -> Told
+pub(crate) fn print_scene(scene: &Scene<'_>, seats: &[Seat]) -> Told
     requires { seats.now ≡ drawn_seats scene.now }
     ensures is { result ≡ told scene.now }
     ensures columns { result.columns ≤ 2 ^ 32 }

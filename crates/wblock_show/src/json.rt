@@ -48,7 +48,11 @@ fn block_line_of(alloc: Global, block: &Block, calls: Option<&[Call]>) -> Result
 }
 
 /// The answer that tells a block, with its calls where they are known.
-fn told_of<'a>(alloc: Global, block: &Block, calls: Option<&[Call]>) -> Result<Answer<'a>, NoMemory>
+fn block_answer<'a>(
+    alloc: Global,
+    block: &Block,
+    calls: Option<&[Call]>,
+) -> Result<Answer<'a>, NoMemory>
     ensures { IfOk result (IsJsonOf block.now (calls_of calls.entry)) }
 {
     let text = block_line_of(alloc, block, calls)?;
@@ -61,7 +65,7 @@ fn tell_it<'a>(alloc: Global, block: &Block, calls: Option<&[Call]>) -> Result<A
     ensures { IfOk result (TellsIt block.now (calls_of calls.entry)) }
 {
     match other_calls(alloc, block, calls)? {
-        None => told_of(alloc, block, calls),
+        None => block_answer(alloc, block, calls),
         Some(other) => tell_other(alloc, other),
     }
 }
@@ -141,7 +145,7 @@ fn tell_module(alloc: Global, bytes: &[u8]) -> Result<Result<String, (String, St
             Ok(Ok(text))
         }
         Err(Stop::Refused(refusal)) => {
-            let told = refusal.told(alloc, bytes)?;
+            let told = refusal.lines_of(alloc, bytes)?;
             Ok(Err(told))
         }
         Err(Stop::NoMemory) => Err(AllocError),

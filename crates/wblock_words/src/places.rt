@@ -46,7 +46,12 @@ pub fn shown(word: &str) -> &str
 }
 
 /// A sentence: what it speaks of, by its name and number, and what is said of it.
-pub fn told(alloc: Global, name: &str, number: usize, said: &str) -> Result<String, AllocError>
+pub fn place_line(
+    alloc: Global,
+    name: &str,
+    number: usize,
+    said: &str,
+) -> Result<String, AllocError>
     ensures { IfOk result (λ s. Begins (name.now ++ decimal number) (string_bytes s)) }
 {
     format!(in alloc; "{name}{number}{said}")

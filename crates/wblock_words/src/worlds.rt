@@ -138,9 +138,9 @@ pub fn world_words(alloc: Global, bytes: &[u8], refusal: ReadRefusal) -> Result<
             let said = format!(in alloc;
                 "{fault}; name a file WORLD as `deploy` or `mine` wrote it, whole"
             )?;
-            told(alloc, "world, byte ", at, said.as_str())
+            place_line(alloc, "world, byte ", at, said.as_str())
         }
-        ReadRefusal::TooLarge => told(
+        ReadRefusal::TooLarge => place_line(
             alloc,
             "world, byte ",
             8,

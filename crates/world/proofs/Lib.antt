@@ -1,5 +1,5 @@
-mod Contracts
-mod Cells
+mod WorldBytes
+mod CellCounts
 mod Exact
 mod Judging
 mod Parts

@@ -8,7 +8,7 @@ use Rattle.spec_block.specs.Worlds.{Contract, Block, limits, order_of}
 use Rattle.spec_block.specs.Blocks.{Admissible, block_of}
 use Rattle.spec_block.specs.Headline.{IsLeft}
 use Rattle.spec_block.specs.Serial.{setting_of}
-use Rattle.serial.specs.Positions.{positions as ran_of}
+use Rattle.serial.specs.Positions.{results_of}
 use Rattle.world.specs.Views.{world_view}
 use Rattle.serial.proofs.Causes.{are_possible}
 use Rattle.miner.proofs.Orders.{few, left_is, order_again}
@@ -31,7 +31,7 @@ returns-clause-headline g c =
     let calls = c.args.calls.now in
     let world = world_view c.args.world.now in
     let order = c.deref.result.now in
-    let ran = ran_of core.receipts.items core.touched.items in
+    let ran = results_of core.receipts.items core.touched.items in
     let last = core.cells.cells in
     let same = sym c.deref.ensures.value in
     let lent = c.contracts.ensures.contracts in

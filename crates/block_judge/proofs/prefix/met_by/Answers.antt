@@ -4,7 +4,7 @@ use Rattle.spec_ledger.specs.Cells.{Cells}
 use Rattle.spec_ledger.specs.declared.Version.{Version}
 use Rattle.spec_execution.specs.Serial.{Serial}
 use Rattle.spec_block.specs.Worlds.{Contract, order_of}
-use Rattle.serial.specs.Positions.{positions as ran_of}
+use Rattle.serial.specs.Positions.{results_of}
 use Rattle.block_judge.specs.Judging.{Passes}
 use Rattle.world.specs.Views.{world_view}
 use Rattle.block_judge.proofs.Fuels.{fuel_is}
@@ -17,7 +17,7 @@ returns-clause-met g c =
     let calls = c.args.calls.now in
     let block = c.in_ok-fit.fit.block in
     let version = c.version-version.result in
-    let ran = ran_of c.in_ok-core.core.receipts.items c.in_ok-core.core.touched.items in
+    let ran = results_of c.in_ok-core.core.receipts.items c.in_ok-core.core.touched.items in
     let cells = c.in_ok-core.core.cells.cells in
     let passes = c.in_ok-fit.ensures.passed in
     let order_is = c.deref-2.ensures.value ∙ c.in_ok-fit.ensures.order in

@@ -1,6 +1,6 @@
 use Rattle.std.proofs.Common.{ℤ, List, ap, ap₂, ◌∙◌, sym, subst, length, arith, rules, w64, SFits}
 use Rattle.std.proofs.lemmas.Int.{to_z-of_z}
-use Rattle.spec_ledger.specs.declared.Step.{Step}
+use Rattle.spec_ledger.specs.declared.TraceStep.{TraceStep}
 use Rattle.spec_execution.specs.Configuration.{Contract, Seq}
 use Rattle.spec_execution.specs.Levels as spec
 use Rattle.spec_execution.specs.Levels.{asks_in}
@@ -30,7 +30,7 @@ returns-clause-same g c =
     let fits : SFits w64 r.answer = search rules in
     ap (λ (z : ℤ). record s { trace = c.in_ok-copy_trace.field-0.items; contract = contract_of lent; view = view (base_of lent) q; tail = tail; answer = z; outer = levels_of r.call.now.args outer.items }) (to_z-of_z w64 r.answer fits)
     ∙ ap₂ (λ (k : Contract) (v : View). record s { trace = c.in_ok-copy_trace.field-0.items; contract = k; view = v; tail = tail; outer = levels_of r.call.now.args outer.items }) (ap contract_of c.copy_lent.ensures) (ap (λ (x : Callee g.row.A.Denot). view (base_of x) q) c.copy_lent.ensures)
-    ∙ ap₂ (λ (t : List Step) (v : View). record s { trace = t; view = v; tail = tail; outer = levels_of r.call.now.args outer.items }) (c.in_ok-copy_trace.ensures.same ∙ c.deref.ensures.value) (same_view r.parts q c.in_ok-copy_parts.ensures (base_of r.lent))
+    ∙ ap₂ (λ (t : List TraceStep) (v : View). record s { trace = t; view = v; tail = tail; outer = levels_of r.call.now.args outer.items }) (c.in_ok-copy_trace.ensures.same ∙ c.deref.ensures.value) (same_view r.parts q c.in_ok-copy_parts.ensures (base_of r.lent))
     ∙ ap₂ (λ (x : Seq) (ls : List spec.Level). record s { tail = x; outer = ls }) (same_tail (args_of r.call.now.args r.argument) r.waiting w c.in_ok-copy_waiting.ensures) (levels_same r.call.now.args r.outer.items outer.items (subst (λ (xs : List (Level g.row.A.Denot)). AreCopiesOf xs outer.items) c.deref-2.ensures.value c.in_ok-copy_levels.ensures))
 
 pub returns-clause-kept : goal.returns-clause-kept

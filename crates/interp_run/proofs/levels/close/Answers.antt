@@ -1,5 +1,5 @@
 use Rattle.std.proofs.Common.{◌≡◌, [], ◌∷◌, ◌++◌, sym, ap, ◌∙◌, subst, false, length, length-append, arith}
-use Rattle.spec_ledger.specs.declared.Step.TheVariants.{Dropped}
+use Rattle.spec_ledger.specs.declared.TraceStep.TheVariants.{Dropped}
 use Rattle.spec_execution.specs.Levels.{asks_in}
 use Rattle.interp_state.specs.Callee.{contract_of}
 use Rattle.interp_state.specs.Waiting.{tail_of}

@@ -1,6 +1,6 @@
 use Rattle.std.proofs.Common.{ap, sym, ◌∙◌, ◌+◌, ◌-◌, ◌<◌, ◌++◌, ◌∷◌, [], subst, take, length, length-append, arith}
 use Rattle.std.specs.Prelude.{vec_len, vec_capacity}
-use Rattle.spec_ledger.specs.declared.Step.TheVariants.{Did}
+use Rattle.spec_ledger.specs.declared.TraceStep.TheVariants.{Did}
 use Rattle.interp_run.specs.Machine.{params_of, value_of_reply, HasRoom}
 use Rattle.interp_run.specs.Progress.{IsAwaited}
 use Rattle.interp_run.specs.Run.{seen, args_of}

@@ -11,7 +11,7 @@ use Rattle.interp_state.specs.declared.plain.After.{After}
 use Rattle.laws_reduction.specs.Branches.{IsTarget}
 use Rattle.laws_reduction.specs.Meaning.{Item, Block, Loop}
 use Rattle.interp_state.specs.Callee.{contract_of}
-use Rattle.interp_steps.specs.Steps.{Led}
+use Rattle.interp_steps.specs.Steps.{LeadsTo}
 use Rattle.interp_state.specs.Steps.{AreNumbered, HasOpened}
 use Rattle.instance.specs.States.{based}
 use Rattle.interp_state.specs.Views.{view, items_of, opens_of}
@@ -95,8 +95,8 @@ returns-in-Block-clause-led g c =
     let body = instrs_view c.in-Block.body.items in
     let js_are = items_numbered _ c.in-Block.body.items counted in
     let q = c.open.new.parts in
-    if_ok c.open.result (λ a. HasOpened p kind.Block n c.arity.result rest c.deref-in-Block.result.now a q) (λ a. Led c.args.lent.now p a q)
-    (λ a h. subst (λ (x : After). Led c.args.lent.now p x q) (sym h.ran) (λ b safe suits.
+    if_ok c.open.result (λ a. HasOpened p kind.Block n c.arity.result rest c.deref-in-Block.result.now a q) (λ a. LeadsTo c.args.lent.now p a q)
+    (λ a h. subst (λ (x : After). LeadsTo c.args.lent.now p x q) (sym h.ran) (λ b safe suits.
     let k = contract_of c.args.lent.now in
     opened k (view b p) safe (r.ordered b) n is Block (arity c.in-Block.result) is js p.stack.items (r.ordered b).stands refl tt
     (block_one k (view b p) safe (r.ordered b) n is c.in-Block.result body js js_are here)
@@ -126,8 +126,8 @@ returns-in-Loop-clause-led g c =
     let js_are = items_numbered _ c.in-Loop.body.items counted in
     let q = c.open-in-Loop.new.parts in
     let from : List Item = record { ordinal = n; instr = syntax.Loop c.in-Loop.field-1 body } ∷ is in
-    if_ok c.open-in-Loop.result (λ a. HasOpened p kind.Loop n 0 p.code.now c.deref-in-Loop.result.now a q) (λ a. Led c.args.lent.now p a q)
-    (λ a h. subst (λ (x : After). Led c.args.lent.now p x q) (sym h.ran) (λ b safe suits.
+    if_ok c.open-in-Loop.result (λ a. HasOpened p kind.Loop n 0 p.code.now c.deref-in-Loop.result.now a q) (λ a. LeadsTo c.args.lent.now p a q)
+    (λ a h. subst (λ (x : After). LeadsTo c.args.lent.now p x q) (sym h.ran) (λ b safe suits.
     let k = contract_of c.args.lent.now in
     opened k (view b p) safe (r.ordered b) n is Loop 0 from js p.stack.items (r.ordered b).stands refl refl
     (loop_one k (view b p) safe (r.ordered b) n is c.in-Loop.field-1 body js js_are here)
@@ -174,8 +174,8 @@ returns-then-bits-eq0-clause-led g c =
     let a = c.pop_top-choice-in-If.result in
     let popped_parts : Parts g.row.A.Denot = record { code = p.code; entries = p.entries; depth = p.depth; stack = c.pop_top-choice-in-If.new.stack; locals = p.locals; instance = p.instance; spare = p.spare } in
     let q = c.open-then-bits-eq0.new.parts in
-    if_ok c.open-then-bits-eq0.result (λ x. HasOpened popped_parts kind.Block n c.arity-count.result rest c.deref-then-bits-eq0.result.now x q) (λ x. Led c.args.lent.now p x q)
-    (λ x h. subst (λ (y : After). Led c.args.lent.now p y q) (sym h.ran) (λ b safe suits.
+    if_ok c.open-then-bits-eq0.result (λ x. HasOpened popped_parts kind.Block n c.arity-count.result rest c.deref-then-bits-eq0.result.now x q) (λ x. LeadsTo c.args.lent.now p x q)
+    (λ x h. subst (λ (y : After). LeadsTo c.args.lent.now p y q) (sym h.ran) (λ b safe suits.
     let k = contract_of c.args.lent.now in
     let top = if_choice k (view b p) safe (r.ordered b) n is c.in-If.result met unmet here in
     let fits = popped (view b p) (r.ordered b) top kept a c.pop_top-choice-in-If.ensures.items in
@@ -210,8 +210,8 @@ returns-else-bits-eq0-clause-led g c =
     let a = c.pop_top-choice-in-If.result in
     let popped_parts : Parts g.row.A.Denot = record { code = p.code; entries = p.entries; depth = p.depth; stack = c.pop_top-choice-in-If.new.stack; locals = p.locals; instance = p.instance; spare = p.spare } in
     let q = c.open-else-bits-eq0.new.parts in
-    if_ok c.open-else-bits-eq0.result (λ x. HasOpened popped_parts kind.Block n c.arity-count.result rest c.deref-else-bits-eq0.result.now x q) (λ x. Led c.args.lent.now p x q)
-    (λ x h. subst (λ (y : After). Led c.args.lent.now p y q) (sym h.ran) (λ b safe suits.
+    if_ok c.open-else-bits-eq0.result (λ x. HasOpened popped_parts kind.Block n c.arity-count.result rest c.deref-else-bits-eq0.result.now x q) (λ x. LeadsTo c.args.lent.now p x q)
+    (λ x h. subst (λ (y : After). LeadsTo c.args.lent.now p y q) (sym h.ran) (λ b safe suits.
     let k = contract_of c.args.lent.now in
     let top = if_choice k (view b p) safe (r.ordered b) n is c.in-If.result met unmet here in
     let fits = popped (view b p) (r.ordered b) top kept a c.pop_top-choice-in-If.ensures.items in

@@ -4,7 +4,7 @@ use Rattle.spec_syntax.specs.Syntax.{Plain}
 use Rattle.interp_state.specs.declared.parts.Parts.{Parts}
 use Rattle.interp_state.specs.Memories.{DidStore}
 use Rattle.interp_state.specs.Callee.{contract_of}
-use Rattle.interp_steps.specs.Steps.{Led}
+use Rattle.interp_steps.specs.Steps.{LeadsTo}
 use Rattle.interp_state.specs.Views.{view, items_of}
 use Rattle.interp_steps.proofs.Acting.{if_ok}
 use Rattle.interp_steps.proofs.Controlling.{global_there, global_got, set_there, global_was_set}
@@ -101,7 +101,7 @@ returns-in-Store-clause-led g c =
     let is = items_of c.args.rest.now in
     let here = c.requires.here.here ∙ ap (λ (o : PlainInstr). record { ordinal = n; instr = Plain o } ∷ is) c.in-Store.is in
     let q : Parts g.row.A.Denot = record { code = c.args.rest; entries = p.entries; depth = p.depth; stack = c.execute_store-after.new.stack; locals = p.locals; instance = record { globals = p.instance.globals; memory = c.execute_store-after.new.memory; table = p.instance.table }; spare = p.spare } in
-    if_ok c.execute_store-after.result (λ a. DidStore c.in-Store.operator c.in-Store.offset p.instance.memory c.execute_store-after.new.memory p.stack.items a q.stack.items) (λ a. Led c.args.lent.now p a q)
+    if_ok c.execute_store-after.result (λ a. DidStore c.in-Store.operator c.in-Store.offset p.instance.memory c.execute_store-after.new.memory p.stack.items a q.stack.items) (λ a. LeadsTo c.args.lent.now p a q)
     (λ a d b safe suits.
     let k = contract_of c.args.lent.now in
     store_led k (view b p) safe (r.ordered b) n is c.in-Store.operator c.in-Store.field-1 c.in-Store.offset here p.instance.memory c.execute_store-after.new.memory refl a q.stack.items d

@@ -7,7 +7,7 @@ use Rattle.std.proofs.CrossingOver as over
 use Rattle.std.specs.contracts.result.Result as result_row
 use Rattle.wtypes.specs.contracts.NoMemory as no_memory_row
 use Rattle.book_workers.specs.contracts.attempt.Job as job_row
-use Rattle.book_workers.specs.contracts.worker.Worked as worked_row
+use Rattle.book_workers.specs.contracts.worker.WorkerResult as worked_row
 use Rattle.miner.specs.contracts.mined_core.run_workers as rows
 use Rattle.serial.proofs.Crossing.{crosses}
 use Rattle.book_workers.proofs.Crossing.{handed_send, job_sync}

@@ -1,5 +1,5 @@
 use Rattle.std.proofs.Common.{rules, ◌≡◌, true, [], refl, length, take, arith}
-use Rattle.spec_ledger.specs.declared.Step.TheVariants.{Opened, Kept, Dropped}
+use Rattle.spec_ledger.specs.declared.TraceStep.TheVariants.{Opened, Kept, Dropped}
 use Rattle.serial.proofs.Levels.{none_in_levels, may_be_left, same_in_levels, entered}
 use Rattle.serial.proofs.Redoing.{again_more, again_other, not_again, one_more}
 use Rattle.serial.proofs.again.act_again.Goals.{in-Did+in_ok-again-in-Did+else-not-is_same, in-Opened+in_ok-push-in-Opened, in-Kept, in-Dropped}

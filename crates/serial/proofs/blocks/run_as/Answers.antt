@@ -5,7 +5,7 @@ use Rattle.spec_execution.specs.Serial.{Serial}
 use Rattle.spec_block.specs.Worlds.{Contract, Block}
 use Rattle.spec_block.specs.Blocks.{block_of}
 use Rattle.spec_block.specs.Serial.{setting_of}
-use Rattle.serial.specs.Positions.{positions as ran_of}
+use Rattle.serial.specs.Positions.{results_of}
 use Rattle.world.specs.Views.{world_view}
 use Rattle.serial.proofs.Causes.{are_possible}
 use Rattle.serial.proofs.BlocksLimits.{used_within}
@@ -27,7 +27,7 @@ returns-clause-of_order g c =
     let calls = c.args.calls.now in
     let order = c.args.order.now in
     let world = world_view c.args.world.now in
-    let ran = ran_of c.in_ok-core.core.receipts.items c.in_ok-core.core.touched.items in
+    let ran = results_of c.in_ok-core.core.receipts.items c.in_ok-core.core.touched.items in
     let last = c.in_ok-core.core.cells.cells in
     let lent = c.contracts.ensures.contracts in
     let made = c.in_ok-build_block.ensures.block in

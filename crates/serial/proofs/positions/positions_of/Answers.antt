@@ -6,7 +6,7 @@ use Rattle.std.specs.FinMap.{empty}
 use Rattle.spec_ledger.specs.declared.Outcome.TheVariants.{Returned}
 use Rattle.spec_ledger.specs.declared.Receipt.{Receipt}
 use Rattle.spec_block.specs.Blocks.{positions, positions_from, profile_at}
-use Rattle.serial.specs.Positions.{positions as ran_of}
+use Rattle.serial.specs.Positions.{results_of}
 use Rattle.serial.proofs.BlocksOrders.{all_touched_is, left_from, one_made}
 use Rattle.serial.proofs.positions.positions_of.Goals as goal
 
@@ -18,7 +18,7 @@ loop-profile-init g c =
       (tt, tt),
       ap length c.new-made.ensures.items,
       ap (λ xs. xs ++ left_from all order receipts all (length xs)) c.new-made.ensures.items
-          ∙ sym (ap (λ ms. positions_from ms 0 order (ran_of receipts all)) (all_touched_is receipts all (c.requires.receipts ∙ sym c.requires.touched))),
+          ∙ sym (ap (λ ms. positions_from ms 0 order (results_of receipts all)) (all_touched_is receipts all (c.requires.receipts ∙ sym c.requires.touched))),
     )
 
 pub loop-profile-preserved : goal.loop-profile-preserved
@@ -45,6 +45,6 @@ loop-profile-preserved g c =
       (tt, tt),
       len ∙ (ap (λ k. k + 1) even ∙ sym (length_push c.loop-profile.yielded c.in-Some.profile)),
       ap (λ k. c.push.new.self.items ++ left_from all order receipts all k) len
-          ∙ one_made all order receipts all n 0 nothing made c.push.new.self.items c.in_ok-position.position (positions order (ran_of receipts all)) (omega (arith, below, even, c.requires.touched))
+          ∙ one_made all order receipts all n 0 nothing made c.push.new.self.items c.in_ok-position.position (positions order (results_of receipts all)) (omega (arith, below, even, c.requires.touched))
           (omega (arith, below, even, c.requires.touched, c.requires.receipts)) (omega (arith, below, even)) is c.in_ok-push.ensures.items c.loop-profile.invariant.2,
     )

@@ -3,7 +3,7 @@ use base.Fml.{Lft}
 use denote.Ref.{NamedLft, ShrRef}
 use denote.Param.Send.{IsSend, IsSync, shr_sync, sendable}
 use Rattle.validator.specs.contracts.job.Job as job_row
-use Rattle.validator.specs.contracts.job.Part as part_row
+use Rattle.validator.specs.contracts.job.WorkerRuns as part_row
 use Rattle.validator.specs.contracts.shared.Shared as shared_row
 use Rattle.validator.specs.contracts.workers.run_workers as rows
 use Rattle.serial.proofs.Crossing.{crosses}

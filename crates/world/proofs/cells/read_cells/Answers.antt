@@ -8,7 +8,7 @@ use Rattle.spec_block.specs.Bytes.{is_map, is_counter}
 use Rattle.world.proofs.Storing.{these, lists_of}
 use Rattle.world.proofs.cells.read_cells.Goals as goal
 
--- a fault of what does not fail is want of memory
+-- a fault of what does not fail is out of memory
 only_memory : {X : Type 0} (f : Fault) (x : X) → Fails f (Ok x) → f ≡ NoMemory
 only_memory (Malformed left) x h = absurd cc
 only_memory TooLarge x h = absurd cc

@@ -1,5 +1,5 @@
 use Rattle.std.proofs.Common.{◌≡◌, ◌∙◌, ap, ◌++◌, ◌∷◌, [], arith}
-use Rattle.spec_ledger.specs.declared.Step.TheVariants.{Did}
+use Rattle.spec_ledger.specs.declared.TraceStep.TheVariants.{Did}
 use Rattle.spec_ledger.specs.Cells.{Cells, back}
 use Rattle.spec_ledger.proofs.Ops.{back-inverse}
 use Rattle.storage.specs.Counts.{Counts, closed}
