@@ -1,4 +1,4 @@
-//! The assembler: all fields of a text in the text format of WebAssembly are put together to the module that the text names, and no text names two (Core
+//! The assembler, which makes of the fields of a text the module that it names, or finds its refusal: all fields of a text in the text format of WebAssembly are put together to the module that the text names, and no text names two (Core
 //! Specification, 6 Text Format).
 // The refusal of a text whose fields make no module within the limits, which is `met` where that is of memory.
 #![tactic(auto)]

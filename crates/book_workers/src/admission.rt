@@ -1,4 +1,4 @@
-// A admission on attempts that meet one another. Before it begins an attempt, where it holds no lock, a worker looks at a guess of how
+// A limit on attempts that meet one another. Before it begins an attempt, where it holds no lock, a worker looks at a guess of how
 // many may run at once, and waits while as many run. It looks a bounded number of times and then goes on all the same, so that
 // nobody waits for ever, and no fact rests on the guess.
 

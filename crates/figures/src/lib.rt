@@ -1,4 +1,4 @@
-//! Figures of a block that tell an auditor how far its calls can run at once: waves, the longest chain, the locks that the most
+//! Figures of a block that tell an auditor how far its calls can run at once, and of a module: waves, the longest chain, the locks that the most
 //! positions hold, and what the calls came to (Dickerson, Gazzillo, Herlihy, Koskinen, "Adding Concurrency to Smart Contracts",
 //! PODC 2017, section 4: the fork-join program of a validator).
 #![tactic(auto)]

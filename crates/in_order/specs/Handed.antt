@@ -10,6 +10,6 @@ use Rattle.in_order.specs.Shares.{AreSpeculativeRunsOf}
 abbrev pub IsQueueEndOf : {A P : Type 0} → InOrder A P → QueueEnd A → Type 0
 IsQueueEndOf job post = post.line.now.key ≡ job.task
 
--- what has come are calls with their footprints
+-- what has come are calls with their read-write sets
 abbrev pub IsReorderBufferOf : {A : Type 0} → Task A → ReorderBuffer A → Type 0
 IsReorderBufferOf task s = All (λ o. IfSome o (AreSpeculativeRunsOf task)) s.waiting.items

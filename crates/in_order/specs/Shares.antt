@@ -1,4 +1,4 @@
--- Calls that were run ahead of their turn, with their footprints.
+-- Calls that were run ahead of their turn, with their read-write sets.
 use Rattle.std.specs.Prelude.{◌≡◌, ◌-◌, ◌≤◌, ℕ, List, All, drop, length, take}
 use Rattle.spec_execution.specs.Configuration.{Setting}
 use Rattle.spec_execution.specs.Run.{ContractCall}
@@ -13,7 +13,7 @@ use Rattle.in_order.specs.declared.Task.{Task}
 abbrev pub read_write_set_of : {A : Type 0} → List Access → SpeculativeRun A → List Access
 read_write_set_of accesses p = take (p.until - p.from) (drop p.from accesses)
 
--- that part is a read_write_set of the call
+-- that part is a read-write set of the call
 pub record IsSpeculativeRun {A : Type 0} (setting : Setting) (calls : List ContractCall) (accesses : List Access) (p : SpeculativeRun A) : Type 0 where
   pub begins : p.from ≤ p.until
   pub ends : p.until ≤ length accesses
@@ -25,6 +25,6 @@ IsPreparedOf task accesses p = IsSpeculativeRun (setting_view task.version task.
 abbrev pub AreAllPrepared : {A : Type 0} → Setting → List ContractCall → List Access → List (SpeculativeRun A) → Type 0
 AreAllPrepared setting calls accesses ps = All (IsSpeculativeRun setting calls accesses) ps
 
--- what was run are calls of the task, with their footprints
+-- what was run are calls of the task, with their read-write sets
 abbrev pub AreSpeculativeRunsOf : {A : Type 0} → Task A → SpeculativeRuns A → Type 0
 AreSpeculativeRunsOf task s = AreAllPrepared (setting_view task.version task.contracts.now) task.calls.now s.accesses.items s.prepared.items

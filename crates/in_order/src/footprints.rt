@@ -1,4 +1,4 @@
-//! Calls that are run ahead of their turn, over cells that are only read, and kept with their footprints until it is their turn.
+//! Calls that are run ahead of their turn, over cells that are only read, and kept with their read-write sets until it is their turn.
 
 ghost use Rattle.std.specs.Prelude.{◌≡◌, ◌<◌, ◌↔◌, [], All, IfOk, IfNone, IfSome, IsSome, OnOk, Some, length, slice_get};
 ghost use Rattle.std.specs.FinMap as finite;
@@ -17,7 +17,7 @@ use speculation::{Reads, run_over, write_back};
 use std::alloc::Allocator;
 use storage::Cells;
 
-/// A call that was run, and which of the accesses beside it are its read_write_set.
+/// A call that was run, and which of the accesses beside it are its read-write set.
 #[derive(Drop)]
 pub(crate) struct SpeculativeRun<A: Allocator> {
     /// Its number.
@@ -59,7 +59,7 @@ pub(crate) fn open_speculative_runs<'a, A: Allocator + Copy>(
     })
 }
 
-/// Runs a call over a view of the cells, and puts it with its read_write_set behind those of the share.
+/// Runs a call over a view of the cells, and puts it with its read-write set behind those of the share.
 pub(crate) fn run_speculatively<A: Allocator + Copy, V: Reads>(
     alloc: A,
     task: &Task<'_, A>,

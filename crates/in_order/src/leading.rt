@@ -57,7 +57,7 @@ fn note(tally: &mut Tally, calls: u64, ahead: u64) -> bool {
     is_vain
 }
 
-/// Does the calls of a batch by their footprints, and runs those again that found other cells, as long as the order is not stopped.
+/// Does the calls of a batch by their read-write sets, and runs those again that found other cells, as long as the order is not stopped.
 fn do_batch<'a, A: Allocator + Copy, P: Pace>(
     job: &InOrder<'_, 'a, A, P>,
     mut ran: OrderProgress<A>,

@@ -31,7 +31,7 @@ pub(crate) type BatchQueue<'a, A> = TypedQueue<Task<'a, A>, Batch<'a, A>, ReadWr
 /// By what a thread calls there.
 pub(crate) type BatchPass<'a, A> = QueuePass<Task<'a, A>, Batch<'a, A>>;
 
-/// That what is handed over are footprints of calls of the task.
+/// That what is handed over are read-write sets of calls of the task.
 pub(crate) struct ReadWriteSets;
 
 impl<'a, A: Allocator> ItemFact<Task<'a, A>, Batch<'a, A>> for ReadWriteSets {

@@ -26,7 +26,7 @@ struct Done<A: Allocator> {
     ahead: bool,
 }
 
-/// Executes the call of a number by its read_write_set, where one is there and the cells hold what it found.
+/// Executes the call of a number by its read-write set, where one is there and the cells hold what it found.
 fn by_footprint<'a, A: Allocator + Copy, P: Pace>(
     job: &InOrder<'_, 'a, A, P>,
     number: u32,

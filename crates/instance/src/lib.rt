@@ -1,4 +1,4 @@
-// Instances of deployed modules.
+//! Instances of deployed modules, and the function that a call or a level enters.
 #![tactic(auto)]
 
 mod opening;

@@ -1,4 +1,4 @@
-// One instruction: its charged reduction, and the free ones of what it becomes.
+//! One instruction at a time, or several in a straight line: its charged reduction, and the free ones of what it becomes.
 #![tactic(auto)]
 
 pub mod steps;

@@ -52,7 +52,7 @@ pub fn run_straight_line<'a, A: Allocator + Copy>(
     made
 }
 
-// Begins with the instruction to come, and goes on while a value stands beside the stack. Tells the turns, and whether the straight_line end there.
+// Begins with the instruction to come, and goes on while a value stands beside the stack. Tells the turns, and whether the straight line ends there.
 #[inline(always)]
 fn begin<'a, A: Allocator + Copy>(
     lent: &Callee<'a, A>,
@@ -143,7 +143,7 @@ fn go_to<'a, A: Allocator + Copy>(parts: &mut Parts<'a, A>, label: u32, left: u6
     1
 }
 
-// Goes on with a value beside the stack, which is on top of it again at last. Tells the turns, and whether the straight_line end there, as far as it is known.
+// Goes on with a value beside the stack, which is on top of it again at last. Tells the turns, and whether the straight line ends there, as far as it is known.
 #[inline(always)]
 fn hold<'a, A: Allocator + Copy>(
     lent: &Callee<'a, A>,

@@ -1,4 +1,4 @@
-//! Laws of blocks that are accepted: there is one of an order, their turns let no position wait for a later one, so each has waves and a longest chain,
+//! Laws of blocks that are accepted, and worked rows of calls, blocks and texts: there is one of an order, their turns let no position wait for a later one, so each has waves and a longest chain,
 //! and nobody runs it in less time than that chain takes. The functions here state laws.
 #![tactic(auto)]
 

@@ -1,4 +1,4 @@
-//! The tokens of a text in the text format of WebAssembly (Core Specification, 6.2 Lexical Format).
+//! The tokens of a text in the text format of WebAssembly, and its words (Core Specification, 6.2 Lexical Format).
 #![tactic(auto)]
 
 mod list;

@@ -203,7 +203,7 @@ impl<'a, A: Allocator + Copy> Publishing<'a, A> {
         Ok(true)
     }
 
-    /// Publishes a call by a read_write_set of it that was taken elsewhere, where the call may be published next and the cells now hold what it found. Answers
+    /// Publishes a call by a read-write set of it that was taken elsewhere, where the call may be published next and the cells now hold what it found. Answers
     /// whether the call was taken, with all that is published.
     ///
     /// # Errors

@@ -155,7 +155,7 @@ fn adopted_over(
     let cells = scene.cells.copy(alloc).ok()?;
     let book = book(alloc, contracts, calls, &cells, &scene.committed)?;
     let (runs, touched) = all_handed(alloc, contracts, calls, &scene.handed)?;
-    adopt(
+    adopt_closed_book(
         alloc, contracts, calls, &cells, scene.fuel, book, &runs, touched,
     )
 }

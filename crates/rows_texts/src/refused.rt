@@ -4,8 +4,8 @@ use assembler::AsmRefusal;
 use lexer::{LexRefusal, TextRefusal};
 use loader::LoadRefusal;
 use std::alloc::{AllocError, AllocFailed};
-use text_body::Unread;
-use text_resolve::Unresolved;
+use text_body::ParseFault;
+use text_resolve::ResolveFault;
 use wtypes::NoMemory;
 
 /// Why nothing is found, by the step that refuses.
@@ -16,9 +16,9 @@ pub(crate) enum Refused {
     /// The tokens are no words, or the words no fields.
     Text(TextRefusal),
     /// The words are not what is read of them.
-    Body(Unread),
+    Body(ParseFault),
     /// A name or an integer stands for nothing.
-    Names(Unresolved),
+    Names(ResolveFault),
     /// The text names no module.
     Module(AsmRefusal),
     /// The bytes spell no module.
@@ -59,14 +59,14 @@ impl From<TextRefusal> for Refused {
     }
 }
 
-impl From<Unread> for Refused {
-    fn from(refusal: Unread) -> Refused {
+impl From<ParseFault> for Refused {
+    fn from(refusal: ParseFault) -> Refused {
         Refused::Body(refusal)
     }
 }
 
-impl From<Unresolved> for Refused {
-    fn from(refusal: Unresolved) -> Refused {
+impl From<ResolveFault> for Refused {
+    fn from(refusal: ResolveFault) -> Refused {
         Refused::Names(refusal)
     }
 }

@@ -1,4 +1,4 @@
-//! Serial execution: calls run one after another over boosted storage (Dickerson, Gazzillo, Herlihy, Koskinen, "Adding
+//! Serial execution of calls, the requests of a run to its host, and the block of an order: calls run one after another over boosted storage (Dickerson, Gazzillo, Herlihy, Koskinen, "Adding
 //! Concurrency to Smart Contracts", PODC 2017, section 4: the serial order that a miner publishes).
 #![tactic(auto)]
 
@@ -58,7 +58,7 @@ pub struct Executed<A: Allocator = Global> {
     pub touched: Touched<A>,
 }
 
-/// Ends a run whose operations were done on the cells: they stand if it returned, and else are taken back. After want of
+/// Ends a run whose operations were done on the cells: they stand if it returned, and else are taken back. After a refusal of
 /// memory they are taken back.
 fn conclude<A: Allocator + Copy>(
     alloc: A,

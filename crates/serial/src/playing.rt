@@ -119,7 +119,7 @@ fn rejected<'a, A: Allocator + Copy>(
     }
 }
 
-/// Runs a call over the cells by the rules of this version, and answers its run with the inverses of its operations, first to last. After want of
+/// Runs a call over the cells by the rules of this version, and answers its run with the inverses of its operations, first to last. After a refusal of
 /// memory the cells are as they were. A call without fuel for its first instruction is answered before an instance is made.
 pub(crate) fn play<'a, A: Allocator + Copy>(
     alloc: A,

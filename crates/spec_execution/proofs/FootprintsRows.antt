@@ -137,7 +137,7 @@ not_the_last_sum is = cc
 put_by_one_alone : access_at empty with_five (cell, Excl) ≡ Replaced cell None (Some 5)
 put_by_one_alone = ap (λ c. Replaced cell c (get with_five cell)) (get-empty lock_cmp cell) ∙ ap (Replaced cell None) five_there
 
--- ---- footprints: a call of a contract that is not there
+-- ---- read-write sets: a call of a contract that is not there
 
 abbrev no_contracts : Setting
 no_contracts = record { contracts = []; version = Two }

@@ -1,4 +1,4 @@
--- The read_write_set of an execution, over other cells.
+-- The read-write set of an execution, over other cells.
 use Rattle.std.proofs.Common.{◌≡◌, ◌≢◌, ◌⊎◌, inl, inr, ℕ, ◌+◌, ◌-◌, ◌*◌, ◌/◌, ◌%◌, ◌^◌, ◌<◌, Bool, true, false, cond, Option, Some, None, List, [], ◌∷◌, map, refl, sym, ◌∙◌, ap, subst, arith}
 use Rattle.std.proofs.Math.Nat.{mod-add-mod, add-mul-mod_self_left, div-add-mod, mod-lt, mod-eq_of_lt}
 use Rattle.std.proofs.lemmas.List.Elements.{All-from_recursion, recursion_from_All}
@@ -107,7 +107,7 @@ reply_by s Read adding x p a b is = ap (reply_of s) (is.0 ∙ is.1.1 ∙ sym is.
 reply_by s Adding adding x p a b is = adds_blindly s (adding refl) a b
 reply_by s Excl adding x p a b is = ap (reply_of s) is
 
--- what a read_write_set leaves of a cell that held p
+-- what a read-write set leaves of a cell that held p
 abbrev left_by : Mode → Option ℕ → Option ℕ → Option ℕ → Option ℕ
 left_by Read x y p = p
 left_by Adding x y p = counter ((number p + number (subtracted (number x) y)) % 2 ^ 64)

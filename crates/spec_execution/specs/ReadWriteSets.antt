@@ -1,4 +1,4 @@
--- What a call found and left at each lock that it asked for (Dickerson, Gazzillo, Herlihy, Koskinen, "Adding Concurrency to Smart Contracts", PODC 2017, section 3: abstract locks; the footprints are own).
+-- What a call found and left at each lock that it asked for (Dickerson, Gazzillo, Herlihy, Koskinen, "Adding Concurrency to Smart Contracts", PODC 2017, section 3: abstract locks; the read-write sets are own).
 use Rattle.std.specs.Prelude.{◌≡◌, ◌≢◌, ℕ, Option, Some, List, [], ◌∷◌, All}
 use Rattle.std.specs.FinMap.{get}
 use Rattle.spec_ledger.specs.declared.Kind.{Kind}

@@ -1,4 +1,4 @@
-//! The read_write_set of a call: what it did with the cell at each lock that it asked for, in place of its whole run (Dickerson, Gazzillo, Herlihy, Koskinen,
+//! The read-write set of a call: what it did with the cell at each lock that it asked for, in place of its whole run (Dickerson, Gazzillo, Herlihy, Koskinen,
 //! "Adding Concurrency to Smart Contracts", PODC 2017, section 3: what a call does depends on the cells whose locks it holds, and on no others).
 
 ghost use Rattle.std.specs.Prelude.{◌≡◌, All, IfSome, map};
@@ -27,7 +27,7 @@ pub enum Access {
 }
 
 /// An execution over some cells has a read_write_set: over any other cells that agree with what it found, the call is executed with the same receipt and
-/// locks, and leaves what the read_write_set says. A cell whose lock the call did not ask for, or only to read it, is left as it was.
+/// locks, and leaves what the read-write set says. A cell whose lock the call did not ask for, or only to read it, is left as it was.
 pub fn an_execution_has_a_read_write_set()
     ensures read_write_set { (setting : Setting) (call : ContractCall) (before later : Cells) (receipt : Receipt) (locks : Modes) → AreCells before → Executes setting call before later receipt locks → IsReadWriteSet setting call (map (access_at before later) (entries locks)) receipt locks }
     ensures found { (before later : Cells) (locks : Modes) → All (Agrees before) (map (access_at before later) (entries locks)) }

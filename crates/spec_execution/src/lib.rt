@@ -1,4 +1,4 @@
-// The execution of contracts (Core, Execution), which contracts cite: definitions and their laws.
+//! The execution of contracts, and the read-write sets of calls (Core, Execution), which contracts cite: definitions and their laws.
 #![tactic(auto)]
 
 mod footprints;

@@ -1,4 +1,4 @@
--- The read_write_set of a run that touched cells.
+-- The read-write set of a run that touched cells.
 use Rattle.std.proofs.Common.{◌≡◌, ℕ, Bool, cond, List, [], ◌++◌, drop, length, refl, sym, ◌∙◌, ap}
 use Rattle.std.proofs.Math.Seq.{drop-append_seam}
 use Rattle.spec_ledger.specs.declared.Lock.{Lock}

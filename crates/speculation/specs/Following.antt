@@ -1,4 +1,4 @@
--- A call whose read_write_set was followed was executed.
+-- A call whose read-write set was followed was executed.
 use Rattle.std.proofs.Common.{◌≡◌, ℕ, List, Some, slice_get, sym, ◌∙◌, subst}
 use Rattle.std.proofs.lemmas.Option.{same_Some}
 use Rattle.std.specs.Prelude.{All}

@@ -1,4 +1,4 @@
-//! Calls that run beside the cells: over a view that is only read, with what they change kept apart. Such a run gives the call's read_write_set: what it found
+//! Calls that run over a view of the cells, and their read-write sets, which are written back later: over a view that is only read, with what they change kept apart. Such a run gives the call's read_write_set: what it found
 //! and leaves at each lock that it asked for (Dickerson, Gazzillo, Herlihy, Koskinen, "Adding Concurrency to Smart Contracts", PODC 2017, section 4: a miner
 //! runs calls speculatively).
 #![tactic(auto)]
@@ -49,7 +49,7 @@ impl<A: Allocator + Copy> Reads for Cells<A> {
     }
 }
 
-/// Runs a call over a view, by the rules of this version, and puts its read_write_set behind the accesses that are there: what it found and leaves at each lock
+/// Runs a call over a view, by the rules of this version, and puts its read-write set behind the accesses that are there: what it found and leaves at each lock
 /// that it asked for, in the order of locks. The view is read once at each of them, where the call first asks for it, and what it found is what the view may
 /// answer.
 ///

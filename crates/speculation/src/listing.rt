@@ -1,4 +1,4 @@
-// The read_write_set that touches come to.
+// The read-write set that touches come to.
 ghost use Rattle.std.specs.Prelude.{◌≡◌, ◌++◌, IfOk, if◌then◌else◌, map};
 ghost use Rattle.std.specs.FinMap.{entries};
 ghost use Rattle.spec_ledger.specs.Cells.{number, subtracted};

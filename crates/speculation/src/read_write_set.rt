@@ -1,4 +1,4 @@
-//! ReadWriteSets of calls: what a call did with the cell at each lock that it asked for, done again over other cells without running it (Dickerson, Gazzillo,
+//! Read-write sets of calls: what a call did with the cell at each lock that it asked for, done again over other cells without running it (Dickerson, Gazzillo,
 //! Herlihy, Koskinen, "Adding Concurrency to Smart Contracts", PODC 2017, section 4: a miner runs calls speculatively and publishes the order in which they
 //! stand).
 
@@ -63,7 +63,7 @@ fn are_valid_over<A: Allocator + Copy>(cells: &Cells<A>, accesses: &[Access]) ->
     true
 }
 
-/// Does with cells what a read_write_set did, where they hold what it found. Answers whether they do.
+/// Does with cells what a read-write set did, where they hold what it found. Answers whether they do.
 ///
 /// # Errors
 ///

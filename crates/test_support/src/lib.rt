@@ -1,4 +1,4 @@
-//! Sample contracts for tests and benches: their bytes, and the way from bytes to a contract that can be run.
+//! Sample contracts for tests and benches, and an allocator that fails when it is told to: their bytes, and the way from bytes to a contract that can be run.
 #![tactic(auto)]
 
 mod contracts;

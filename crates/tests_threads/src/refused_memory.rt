@@ -1,4 +1,4 @@
-// Every block of memory that a call asks for, refused in turn: alone, and with all that are asked for after it. The answer is want of
+// Every block of memory that a call asks for, refused in turn: alone, and with all that are asked for after it. The answer is out of
 // memory, or the one without a refusal, and what was lent is as it was. Which of the two it is has no clause.
 ghost use Rattle.std.specs.Prelude.{◌≡◌, IfOk};
 

@@ -4,7 +4,7 @@ ghost use Rattle.std.specs.Prelude.{IfOk, string_bytes};
 ghost use Rattle.wblock_words.specs.Sentences.{TellsBlock};
 
 use crate::files::kind_of;
-use crate::places::told;
+use crate::places::place_line;
 use block::BlockRefusal;
 use records::{Fault, read_position, read_receipt, read_u32};
 use spec_ledger::Version;

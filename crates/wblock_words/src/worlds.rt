@@ -4,7 +4,7 @@ ghost use Rattle.std.specs.Prelude.{IfOk, string_bytes};
 ghost use Rattle.wblock_words.specs.Sentences.{TellsWorld};
 
 use crate::files::kind_of;
-use crate::places::told;
+use crate::places::place_line;
 use records::{read_u32, read_u64};
 use std::alloc::{AllocError, Global};
 use world::ReadRefusal;
