@@ -261,11 +261,17 @@ impl<A: Allocator + Copy> Cells<A> {
         ensures unsettled { IfOk result (λ copy. copy.unsettled ≡ finite.empty) }
     {
         self.use_invariant();
-        let mut copy = Cells::new(alloc);
-        for (lock, value) in self.entries() {
-            copy.insert(lock, value)?;
-        }
-        Ok(copy)
+        let slots: BTreeMap<Lock, Slot, A> = self
+            .entries()
+            .map(|(lock, value)| {
+                let slot = Slot {
+                    cell: Some(value),
+                    unsettled: 0,
+                };
+                (lock, slot)
+            })
+            .collect(alloc)?;
+        Ok(Cells { slots })
     }
 
     /// Puts a number into a cell. No counter is put at 0. Its unsettled changes stay.
