@@ -1,10 +1,10 @@
 -- The turns of an order's holders, dealt in the order of locks.
-use Rattle.std.proofs.Common.{◌≡◌, ◌≢◌, ℕ, zero, suc, ◌+◌, ◌<◌, ◌≤◌, ◌^◌, Bool, true, false, cond, ◌&&◌, ◌||◌, not, T, Option, Some, None, List, [], ◌∷◌, ◌++◌, map, length, take, drop, set, get_or, refl, sym, ◌∙◌, ap, subst, arith, nat_eq}
-use Rattle.std.proofs.lemmas.List.{length-set, get_or-set_same, get_or-set_other, ext_get_or, length-append, length-map, append_assoc}
+use Rattle.std.proofs.Common.{◌≡◌, ◌≢◌, ℕ, suc, ◌+◌, ◌<◌, ◌≤◌, ◌^◌, Bool, true, false, cond, ◌&&◌, ◌||◌, not, Option, Some, None, List, [], ◌∷◌, length, set, get_or, refl, sym, ◌∙◌, ap, subst, arith, nat_eq}
+use Rattle.std.proofs.lemmas.List.{length-set, get_or-set_same, get_or-set_other, ext_get_or}
 use Rattle.std.proofs.lemmas.List.Elements.{All-from_recursion, recursion_from_All}
 use Rattle.std.proofs.lemmas.List.Sorted.{ranks_by, sorted_far, list_any-IsPermutation, All-permutation}
-use Rattle.std.specs.Cmp.{eq_by_cmp_equiv, tied_itself, unsigned_Decides}
-use Rattle.std.specs.List.{AllByRecursion, filter, list_any, All}
+use Rattle.std.specs.Cmp.{eq_by_cmp_equiv, unsigned_Decides}
+use Rattle.std.specs.List.{AllByRecursion, filter, list_any}
 use Rattle.std.specs.List.Sorted.{IsPermutation, IsSortedByKey, IsStableByKey, ties}
 use Rattle.std.specs.Ordering.{eq_by_cmp, is_eq, is_lt, ordering_reverse}
 use Rattle.std.specs.declared.cmp.Ordering.{Ordering}
@@ -49,8 +49,8 @@ do_not_fall [] s = tt
 do_not_fall (h ∷ hs) s = (
   recursion_from_All (λ y. is_lt (lock_cmp y.lock h.lock) ≡ false) hs (λ k d below. sorted_far (λ x y. is_lt (lock_cmp x.lock y.lock)) (ranks_by lock_cmp_total (λ h. h.lock)) (h ∷ hs) s 0 (suc k) d (omega arith) (omega (arith, below))),
   do_not_fall hs (λ k d low high.
-  let same : suc k + 1 ≡ suc (k + 1) = omega arith in
-  subst (λ n. is_lt (lock_cmp (get_or (h ∷ hs) n d).lock (get_or hs k d).lock) ≡ false) same (s (suc k) d (omega arith) (omega (arith, high)))),
+      let same : suc k + 1 ≡ suc (k + 1) = omega arith in
+      subst (λ n. is_lt (lock_cmp (get_or (h ∷ hs) n d).lock (get_or hs k d).lock) ≡ false) same (s (suc k) d (omega arith) (omega (arith, high)))),
 )
 
 -- ---- the turns of one lock's holders
@@ -128,14 +128,14 @@ module _ (right : ℕ → ℕ) where
       subst (λ b. AreRightAlone right (group_there before h.lock) (cond b (h ∷ filter (holds h.lock) hs) (filter (holds h.lock) hs))) (holds_is h.lock h ∙ key_itself lock_cmp_total lock_cmp-IsAntisymmetric h.lock) (alone h.lock) in (
         here.0,
         in_lock_order (Some (entry_next before h)) hs rise.0 rise.1 (λ q.
-        elim (eq_by_cmp lock_cmp h.lock q) as (λ b. eq_by_cmp lock_cmp h.lock q ≡ b
-        → AreRightAlone right (cond b (Some (record { mode = h.mode; turn = turn_next (group_there before h.lock) h.mode })) None) (filter (holds q) hs)) [
-          | true ↦ λ t.
-              let same : h.lock ≡ q = is_key lock_cmp_total lock_cmp-IsAntisymmetric h.lock q t in
-              subst (λ k. AreRightAlone right (Some (record { mode = h.mode; turn = turn_next (group_there before h.lock) h.mode })) (filter (holds k) hs)) same here.1
-          | false ↦ λ t. after_another before h hs q up rise.0 t
-          (subst (λ b. AreRightAlone right (group_there before q) (cond b (h ∷ filter (holds q) hs) (filter (holds q) hs))) (holds_is q h ∙ t) (alone q))
-        ] refl),
+            elim (eq_by_cmp lock_cmp h.lock q) as (λ b. eq_by_cmp lock_cmp h.lock q ≡ b
+            → AreRightAlone right (cond b (Some (record { mode = h.mode; turn = turn_next (group_there before h.lock) h.mode })) None) (filter (holds q) hs)) [
+              | true ↦ λ t.
+                  let same : h.lock ≡ q = is_key lock_cmp_total lock_cmp-IsAntisymmetric h.lock q t in
+                  subst (λ k. AreRightAlone right (Some (record { mode = h.mode; turn = turn_next (group_there before h.lock) h.mode })) (filter (holds k) hs)) same here.1
+              | false ↦ λ t. after_another before h hs q up rise.0 t
+                  (subst (λ b. AreRightAlone right (group_there before q) (cond b (h ∷ filter (holds q) hs) (filter (holds q) hs))) (holds_is q h ∙ t) (alone q))
+            ] refl),
       )
 
   -- ---- the writes

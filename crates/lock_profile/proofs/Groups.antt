@@ -1,5 +1,5 @@
 -- The turns of a position's holders, and the groups after them.
-use Rattle.std.proofs.Common.{◌≡◌, ℕ, ◌+◌, ◌<◌, Bool, true, false, cond, ◌&&◌, T, Option, Some, None, List, [], ◌∷◌, ◌++◌, map, length, arith, refl, sym, ◌∙◌, ap}
+use Rattle.std.proofs.Common.{◌≡◌, ℕ, ◌+◌, Bool, true, false, cond, ◌&&◌, T, Option, Some, None, List, [], ◌∷◌, ◌++◌, map, length, arith, refl, sym, ◌∙◌, ap}
 use Rattle.std.specs.declared.cmp.Ordering.{Ordering}
 use Rattle.std.specs.declared.cmp.Ordering.TheVariants.{Less, Equal, Greater}
 use Rattle.std.specs.Ordering.{eq_by_cmp, is_eq, is_lt}
@@ -11,7 +11,6 @@ use Rattle.spec_ledger.specs.declared.Mode.{Mode}
 use Rattle.spec_ledger.specs.Cells.{lock_cmp}
 use Rattle.spec_ledger.proofs.Maps.{lock_cmp_total, lock_cmp-IsAntisymmetric, is_key}
 use Rattle.spec_ledger.specs.declared.Entry.{Entry}
-use Rattle.lock_profile.specs.declared.Holder.{Holder}
 use Rattle.lock_profile.specs.declared.Group.{Group}
 use Rattle.lock_profile.specs.Groups.{group_of, turn_next, groups_with, turns_from, with_turns, numbered}
 

@@ -1,6 +1,6 @@
 -- The loops over an order's holders, one step on and at their ends.
-use Rattle.std.proofs.Common.{◌≡◌, ℕ, ◌+◌, ◌<◌, ◌≤◌, ◌^◌, Option, Some, None, List, [], ◌∷◌, ◌++◌, length, drop, set, get_or, sym, ◌∙◌, ap, subst, arith}
-use Rattle.std.proofs.lemmas.List.{drop_more, drop_all, length_push, length-set, length-append, append_assoc, append-nil}
+use Rattle.std.proofs.Common.{◌≡◌, ℕ, ◌+◌, ◌<◌, ◌≤◌, ◌^◌, Option, Some, List, [], ◌∷◌, ◌++◌, length, drop, set, get_or, sym, ◌∙◌, ap, subst}
+use Rattle.std.proofs.lemmas.List.{drop_more, drop_all, length_push, length-append, append_assoc, append-nil}
 use Rattle.std.specs.FinMap.{entries}
 use Rattle.spec_ledger.specs.Modes.{Modes}
 use Rattle.spec_ledger.specs.declared.Entry.{Entry}

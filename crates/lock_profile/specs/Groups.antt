@@ -45,9 +45,6 @@ abbrev pub group_of : Option Group → Option Mode → Option Group
 group_of last None = last
 group_of last (Some mode) = Some (record { mode = mode; turn = turn_next last mode })
 
-abbrev pub entry_of : (Lock → Option Group) → Held → Entry
-entry_of last h = record { lock = h.lock; mode = h.mode; turn = turn_next (last h.lock) h.mode }
-
 -- the entries of a call after these groups
 abbrev pub written : (Lock → Option Group) → Modes → List Entry
 written last modes = map (λ e. record { lock = e.0; mode = e.1; turn = turn_next (last e.0) e.1 }) (entries modes)

@@ -1,4 +1,4 @@
-use Rattle.std.proofs.Common.{◌≡◌, ◌+◌, ◌<◌, None, length, map, take, drop, get_or, [], arith, ap, sym, ◌∙◌, below_more}
+use Rattle.std.proofs.Common.{◌≡◌, ◌+◌, None, length, drop, get_or, [], arith, ap, sym, ◌∙◌, below_more}
 use Rattle.std.proofs.lemmas.List.{get_or_read, length_push, length-map, get_or_append_left, get_or_push, drop-drop}
 use Rattle.std.specs.FinMap as finite
 use Rattle.lock_profile.specs.Turns.{profile_at}
