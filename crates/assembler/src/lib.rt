@@ -1,6 +1,5 @@
-//! The assembler, which makes of the fields of a text the module that it names, or finds its refusal: all fields of a text in the text format of WebAssembly are put together to the module that the text names, and no text names two (Core
-//! Specification, 6 Text Format).
-// The refusal of a text whose fields make no module within the limits, which is `met` where that is of memory.
+//! The assembler: all fields of a text in the text format of WebAssembly are put together to the module that the text names, or the refusal of the text
+//! is found. No text names two modules (Core Specification, 6 Text Format).
 #![tactic(auto)]
 
 mod bodies;

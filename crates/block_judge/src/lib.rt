@@ -1,5 +1,6 @@
-//! What is found of a block before its calls are run, and the cells that one of its calls meets: the first seven of the nine reasons for which a validator rejects it (Dickerson, Gazzillo,
-//! Herlihy, Koskinen, "Adding Concurrency to Smart Contracts", PODC 2017, section 4: a validator checks what a miner published).
+//! What is found of a block before its calls are run: the first seven of the nine reasons for which a validator rejects it, and the cells that one of its
+//! calls meets (Dickerson, Gazzillo, Herlihy, Koskinen, "Adding Concurrency to Smart Contracts", PODC 2017, section 4: a validator checks what a miner
+//! published).
 #![tactic(auto)]
 
 mod digests;

@@ -1,4 +1,5 @@
-//! What the contracts of modules, of the machine, of calls over cells and of the debugger refuse: each function calls one function of these and has its contract.
+//! What the contracts of modules, of the machine, of calls over cells and of the debugger refuse: each function calls one function of these and has its
+//! contract.
 #![tactic(auto)]
 
 pub mod binary;

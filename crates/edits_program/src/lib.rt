@@ -1,4 +1,5 @@
-//! What the contracts of cells, books, blocks, the miner, the validator and the program's lines refuse: each function calls one function of these and has its contract.
+//! What the contracts of cells, books, blocks, the miner, the validator and the program's lines refuse: each function calls one function of these and has
+//! its contract.
 #![tactic(auto)]
 
 pub mod answers;

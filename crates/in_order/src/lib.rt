@@ -1,7 +1,7 @@
-//! The calls of an order, run ahead of their turn by threads and committed in order by one: several threads run them ahead of their turn, over the cells before the first, and one thread does them with the cells in that order,
-//! each by what it found and left when it was run ahead, or by running it again where it found other cells ("speculative execution with in-order commit").
-//! The miner of Dickerson, Gazzillo, Herlihy, Koskinen, "Adding Concurrency to Smart Contracts", PODC 2017, section 4, runs calls speculatively; here the order
-//! is there before they run.
+//! The calls of an order, run ahead of their turn by threads and committed in order by one: the threads run over the cells before the first, and the one
+//! does each call by what it found and left when it was run ahead, or by running it again where it found other cells
+//! ("speculative execution with in-order commit"). The miner of Dickerson, Gazzillo, Herlihy, Koskinen, "Adding Concurrency to Smart
+//! Contracts", PODC 2017, section 4, runs calls speculatively; here the order is there before they run.
 #![tactic(auto)]
 
 mod ahead_of_turn;

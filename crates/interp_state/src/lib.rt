@@ -1,4 +1,5 @@
-//! The parts of a machine, and what instructions do to its values, locals, memory and table: the code that is left, with the blocks, loops and calls round it, and how these are opened and left.
+//! The parts of a machine, and what instructions do to its values, locals, memory and table: the code that is left, with the blocks, loops and calls
+//! round it.
 #![tactic(auto)]
 
 pub mod blocks;

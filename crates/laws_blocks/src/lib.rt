@@ -1,5 +1,5 @@
-//! Laws of blocks that are accepted, and worked rows of calls, blocks and texts: there is one of an order, their turns let no position wait for a later one, so each has waves and a longest chain,
-//! and nobody runs it in less time than that chain takes. The functions here state laws.
+//! Laws of blocks that are accepted, and worked rows of calls, blocks and texts: there is one block of an order; its turns let no position wait for a
+//! later one, so each has waves and a longest chain, and nobody runs it in less time than that chain takes. The functions here state laws.
 #![tactic(auto)]
 
 mod calls;

@@ -1,5 +1,5 @@
-//! Laws of the binary format of modules and of expressions (Core Specification, 5.5 Modules): no bytes spell two; the shortest spelling of a tree spells that tree, no spelling is
-//! shorter, and what is spelled has its numbers in range.
+//! Laws of the binary format of modules and of expressions (Core Specification, 5.5 Modules): no bytes spell two; the shortest spelling of a tree spells
+//! that tree, no spelling is shorter, and what is spelled has its numbers in range.
 #![tactic(auto)]
 
 mod expressions;

@@ -1,2 +1,3 @@
-//! Laws of reduction of sequences of values and instructions with what is open round them: their meaning, and the laws of their reductions. There is no code here.
+//! Laws of the reduction of sequences of values and instructions, with what is open round them: what they mean, and what they become. There is no code
+//! here.
 #![tactic(auto)]

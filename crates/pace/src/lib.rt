@@ -1,4 +1,5 @@
-//! The steps of a call's way through the threads, told to whoever wants to know them or to hold a thread at one of them, how many threads pay, and brief locks that run calls at once, told to whoever wants to know them or to hold a thread at one of them.
+//! The steps of a call's way through the threads, told to whoever wants to know them or to hold a thread at one of them: also how many threads pay, and
+//! brief locks.
 #![tactic(auto)]
 
 mod policy;

@@ -1,5 +1,5 @@
-//! What rows of data ask of the crates of modules in text and in binary, each by a word: an answer is what is found, by the derived `Debug` of its parts, or why
-//! nothing is found.
+//! What rows of data ask of the crates of modules in text and in binary, each by a word: an answer is what is found, by the derived `Debug` of its parts,
+//! or why nothing is found.
 #![tactic(auto)]
 
 mod bytes;

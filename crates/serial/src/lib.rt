@@ -1,5 +1,5 @@
-//! Serial execution of calls, the requests of a run to its host, and the block of an order: calls run one after another over boosted storage (Dickerson, Gazzillo, Herlihy, Koskinen, "Adding
-//! Concurrency to Smart Contracts", PODC 2017, section 4: the serial order that a miner publishes).
+//! Serial execution of calls, the requests of a run to its host, and the block of an order: calls run one after another over boosted storage (Dickerson,
+//! Gazzillo, Herlihy, Koskinen, "Adding Concurrency to Smart Contracts", PODC 2017, section 4: the serial order that a miner publishes).
 #![tactic(auto)]
 
 mod again;

@@ -1,6 +1,6 @@
-//! A book in shards without threads, with its shards, its journal, and the one book that they were: the book of the shard's own locks, whose attempts begin with their first operation there, and where its entries stand in the
-//! journal of all (Dickerson, Gazzillo, Herlihy, Koskinen, "Adding Concurrency to Smart Contracts", PODC 2017, section 3: locks and inverse logs are kept
-//! for each object by itself).
+//! A book in shards without threads: a shard is the book of its own locks, whose attempts begin with their first operation there; its committed calls
+//! stand in the journal of all (Dickerson, Gazzillo, Herlihy, Koskinen, "Adding Concurrency to Smart Contracts", PODC 2017, section 3:
+//! locks and inverse logs are kept for each object by itself).
 #![tactic(auto)]
 
 mod closing;

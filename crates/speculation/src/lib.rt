@@ -1,6 +1,6 @@
-//! Calls that run over a view of the cells, and their read-write sets, which are written back later: over a view that is only read, with what they change kept apart. Such a run gives the call's read_write_set: what it found
-//! and leaves at each lock that it asked for (Dickerson, Gazzillo, Herlihy, Koskinen, "Adding Concurrency to Smart Contracts", PODC 2017, section 4: a miner
-//! runs calls speculatively).
+//! Calls that run over a view of the cells: the view is only read, and what they change is kept apart. Such a run gives the call's read-write set: what
+//! it found and leaves at each lock that it asked for (Dickerson, Gazzillo, Herlihy, Koskinen, "Adding Concurrency to Smart Contracts", PODC 2017,
+//! section 4: a miner runs calls speculatively).
 #![tactic(auto)]
 
 mod listing;

@@ -1,4 +1,5 @@
-//! A bounded queue through which threads hand items to one another, and each item is known to meet one fact beside a key that was fixed when the queue was opened.
+//! A bounded queue through which threads hand items to one another, and each item is known to meet one fact beside a key that was fixed when the queue
+//! was opened.
 #![tactic(auto)]
 
 mod handover;

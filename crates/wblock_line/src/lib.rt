@@ -1,5 +1,5 @@
-//! What the commands of the program share, from the words of a line to the lines of progress: the words of a line, what a command comes to, how that is written and printed, and the reading of
-//! modules and worlds.
+//! What the commands of the program share: the words of a line, what a command comes to, how that is written and printed, the lines of progress, and the
+//! reading of modules and worlds.
 #![tactic(auto)]
 
 mod answer;
