@@ -1,5 +1,5 @@
 // What threads do under one lock is done by one after the other, whether they wait briefly or long.
-use super::{LOOKS, acquire};
+use crate::spin_lock::{LOOKS, acquire};
 use std::sync::atomic::{AtomicBool, Ordering};
 use std::sync::{Mutex, Wait};
 use std::thread;

@@ -55,7 +55,7 @@ walked_none setting calls opening fuel es rs ms b kept order receipts defined ma
   defined = defined;
   last = refl;
   order = ap (λ xs. xs ++ map (λ (e : CommittedCall). e.call) es) order;
-  ran = ap (λ xs. positions xs b.touched ++ ran_by rs ms) receipts;
+  ran = ap (λ xs. results_of xs b.touched ++ ran_by rs ms) receipts;
   made = made;
   follow = (λ f. subst (λ o. MayFollowBy (limits calls) fuel o es rs) order f, λ f. subst (λ o. MayFollowBy (limits calls) fuel o es rs) (sym order) f);
 }

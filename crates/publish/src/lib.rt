@@ -60,9 +60,9 @@ impl<'a, A: Allocator + Copy> Model for Publishing<'a, A> {
 
     ghost coded = { coded_publication };
 
-    ghost view = { λ p. record { setting = setting_view Two p.contracts.now; calls = p.calls.now; opening = p.opening.now.cells; fuel = p.fuel; order = p.so_far.order.items; ran = positions p.so_far.receipts.items p.so_far.touched.items; cells = p.cells.cells } };
+    ghost view = { λ p. record { setting = setting_view Two p.contracts.now; calls = p.calls.now; opening = p.opening.now.cells; fuel = p.fuel; order = p.so_far.order.items; ran = results_of p.so_far.receipts.items p.so_far.touched.items; cells = p.cells.cells } };
 
-    ghost invariant = { λ p. IsKept (record { setting = setting_view Two p.contracts.now; calls = p.calls.now; opening = p.opening.now.cells; fuel = p.fuel; order = p.so_far.order.items; ran = positions p.so_far.receipts.items p.so_far.touched.items; cells = p.cells.cells }) p.so_far.receipts.items p.so_far.touched.items p.so_far.marks.items p.so_far.remaining p.so_far.used p.cells.unsettled };
+    ghost invariant = { λ p. IsKept (record { setting = setting_view Two p.contracts.now; calls = p.calls.now; opening = p.opening.now.cells; fuel = p.fuel; order = p.so_far.order.items; ran = results_of p.so_far.receipts.items p.so_far.touched.items; cells = p.cells.cells }) p.so_far.receipts.items p.so_far.touched.items p.so_far.marks.items p.so_far.remaining p.so_far.used p.cells.unsettled };
 }
 
 /// What was published.

@@ -95,7 +95,7 @@ fn put_at(value: &mut Vec<u8>, place: u64, bytes: &[u8]) -> Result<(), Wrong> {
     let mut at = place;
     for byte in bytes {
         let Some(there) = value.get_mut(at as usize) else {
-            return Err(Wrong::CellKey);
+            return Err(Wrong::Place);
         };
         *there = *byte;
         at = at.saturating_add(1);
@@ -133,7 +133,7 @@ fn front<'a>(names: &'a [Kept], rest: &str) -> Result<&'a [u8], Wrong> {
     let count = number_of(count)?;
     match bytes.get(..count as usize) {
         Some(front) => Ok(front),
-        None => Err(Wrong::CellKey),
+        None => Err(Wrong::Place),
     }
 }
 
@@ -146,7 +146,7 @@ fn slice<'a>(names: &'a [Kept], rest: &str) -> Result<&'a [u8], Wrong> {
     let to = number_of(to)?;
     match bytes.get(from as usize..to as usize) {
         Some(slice) => Ok(slice),
-        None => Err(Wrong::CellKey),
+        None => Err(Wrong::Place),
     }
 }
 

@@ -20,7 +20,7 @@ pub(crate) enum Wrong {
     /// Hex digits do not stand where they have to.
     Hex,
     /// Bytes have no such place.
-    CellKey,
+    Place,
     /// No bytes have this name.
     Name,
     /// Other bytes have this name.
@@ -58,7 +58,7 @@ impl Wrong {
             Wrong::Fail => "nothing is planned to fail so",
             Wrong::Number => "a number is wanted",
             Wrong::Hex => "hex digits are wanted",
-            Wrong::CellKey => "the bytes have no such place",
+            Wrong::Place => "the bytes have no such place",
             Wrong::Name => "no bytes have this name",
             Wrong::Taken => "other bytes have this name",
             Wrong::File => "no file has this name",

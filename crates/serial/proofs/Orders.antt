@@ -30,8 +30,8 @@ module _ (setting : Setting) (calls : List ContractCall) where
 
   pub serial_more : (order : List ℕ) (i d : ℕ) (cells mid last : Cells) (rs next : List Receipt) (ms more : List Modes) (r : Receipt) (m : Modes) (call : ContractCall)
       → i < length order → Serial setting calls (take i order) cells (results_of rs ms) mid → length rs ≡ length ms → next ≡ rs ++ r ∷ [] → more ≡ ms ++ m ∷ []
-      → slice_get calls (get_or order i d) ≡ Some call → Executes setting call mid last r m → Serial setting calls (take (i + 1) order) cells (positions next more) last
+      → slice_get calls (get_or order i d) ≡ Some call → Executes setting call mid last r m → Serial setting calls (take (i + 1) order) cells (results_of next more) last
   serial_more order i d cells mid last rs next ms more r m call below s even next_is more_is is e =
-      subst (λ o. Serial setting calls o cells (positions next more) last) (sym (take_more order i d below))
+      subst (λ o. Serial setting calls o cells (results_of next more) last) (sym (take_more order i d below))
       (subst (λ ps. Serial setting calls (take i order ++ get_or order i d ∷ []) cells ps last) (sym ((λ k. results_of (next_is k) (more_is k)) ∙ results_of-push rs ms r m even))
       (Serial-push (take i order) cells mid last (results_of rs ms) (get_or order i d) (record { receipt = r; touched = m }) call s is e))

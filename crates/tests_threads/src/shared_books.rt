@@ -5,7 +5,7 @@ use boost::book::{
     BeginRefusal, Book, Closed, CommitRefusal, EnterRefusal, LeaveRefusal, OpRefusal, Run, Ticket,
 };
 use shards::SharedBook;
-use spec_ledger::{CellKey, Kind, Lock, Mode, Op, Outcome, Reply, Step};
+use spec_ledger::{CellKey, Kind, Lock, Mode, Op, Outcome, Reply, TraceStep};
 use std::alloc::Global;
 use std::process::Abort;
 use std::sync::Wait;
@@ -54,32 +54,32 @@ fn cell(kind: Kind, place: CellKey) -> Lock {
     }
 }
 
-fn returned(trace: &[Step]) -> Run<'_> {
+fn returned(trace: &[TraceStep]) -> Run<'_> {
     Run {
         trace,
         outcome: Outcome::Returned(None),
     }
 }
 
-const TOTAL_OF_100: Step = Step::Did(Op::Total(SUM), Reply::I64(100));
+const TOTAL_OF_100: TraceStep = TraceStep::Did(Op::Total(SUM), Reply::I64(100));
 
-const ADDED_3: Step = Step::Did(Op::Add(SUM, 3), Reply::Nothing);
+const ADDED_3: TraceStep = TraceStep::Did(Op::Add(SUM, 3), Reply::Nothing);
 
-const ADDED_5: Step = Step::Did(Op::Add(SUM, 5), Reply::Nothing);
+const ADDED_5: TraceStep = TraceStep::Did(Op::Add(SUM, 5), Reply::Nothing);
 
-const ADDED_20: Step = Step::Did(Op::Add(SUM, 20), Reply::Nothing);
+const ADDED_20: TraceStep = TraceStep::Did(Op::Add(SUM, 20), Reply::Nothing);
 
 /// A call that looks at the counter, adds to it in a level that is dropped, and looks again.
-const LEVELS: [Step; 9] = [
+const LEVELS: [TraceStep; 9] = [
     TOTAL_OF_100,
-    Step::Opened,
+    TraceStep::Opened,
     ADDED_20,
-    Step::Opened,
-    Step::Kept,
-    Step::Dropped,
+    TraceStep::Opened,
+    TraceStep::Kept,
+    TraceStep::Dropped,
     TOTAL_OF_100,
-    Step::Opened,
-    Step::Kept,
+    TraceStep::Opened,
+    TraceStep::Kept,
 ];
 
 /// What is asked of a book for a call.
@@ -90,7 +90,7 @@ enum Asked {
     Enter,
     Leave(bool),
     Undo,
-    Commit(&'static [Step]),
+    Commit(&'static [TraceStep]),
 }
 
 /// What a book answers.
@@ -120,7 +120,7 @@ fn committed<R: Wait>(
     rt: &R,
     book: &SharedBook<'_>,
     hand: &mut Option<Ticket>,
-    trace: &[Step],
+    trace: &[TraceStep],
 ) -> Option<Result<u32, CommitRefusal>> {
     match book.commit(rt, hand.take()?, &returned(trace)) {
         Ok(position) => Some(Ok(position)),
@@ -292,7 +292,7 @@ enum Act {
 }
 
 /// A thread's call: what it does, one after another, and the trace that it is committed with. It then tells that it was.
-type Part = (&'static [Act], &'static [Step]);
+type Part = (&'static [Act], &'static [TraceStep]);
 
 /// Two threads that work in one book at once.
 struct Meeting {
@@ -336,7 +336,7 @@ const MEETINGS: &[Meeting] = &[
                 Act::Tells,
                 Act::Waits(2),
             ],
-            &[Step::Did(PUT_0, Reply::Nothing), ADDED_5],
+            &[TraceStep::Did(PUT_0, Reply::Nothing), ADDED_5],
         ),
         second: (
             &[
@@ -346,7 +346,7 @@ const MEETINGS: &[Meeting] = &[
                 Act::Tells,
                 Act::Waits(2),
             ],
-            &[Step::Did(PUT_1, Reply::Nothing), ADDED_5],
+            &[TraceStep::Did(PUT_1, Reply::Nothing), ADDED_5],
         ),
         in_order: false,
         mode: None,
@@ -368,7 +368,7 @@ const MEETINGS: &[Meeting] = &[
                 Act::Asks(Asked::Leave(false), LEFT),
                 Act::Tells,
             ],
-            &[ADDED_5, Step::Opened, ADDED_20, Step::Dropped],
+            &[ADDED_5, TraceStep::Opened, ADDED_20, TraceStep::Dropped],
         ),
         second: (
             &[
@@ -396,7 +396,7 @@ const MEETINGS: &[Meeting] = &[
                 Act::Tells,
                 Act::Waits(2),
             ],
-            &[Step::Did(PUT_HOT, Reply::Nothing)],
+            &[TraceStep::Did(PUT_HOT, Reply::Nothing)],
         ),
         second: (
             &[
@@ -410,7 +410,7 @@ const MEETINGS: &[Meeting] = &[
                 BEGINS,
                 Act::Asks(Asked::Do(Op::Get(HOT)), READS_9),
             ],
-            &[Step::Did(Op::Get(HOT), Reply::I64(9))],
+            &[TraceStep::Did(Op::Get(HOT), Reply::I64(9))],
         ),
         in_order: true,
         mode: None,
@@ -558,14 +558,14 @@ fn outcome(call: u32) -> Outcome {
 }
 
 /// What a call did that was answered so.
-fn trace(call: u32, replies: [Reply; 4]) -> [Step; 4] {
+fn trace(call: u32, replies: [Reply; 4]) -> [TraceStep; 4] {
     let [add, has, get, put] = ops(call);
     let [added, had, got, done] = replies;
     [
-        Step::Did(add, added),
-        Step::Did(has, had),
-        Step::Did(get, got),
-        Step::Did(put, done),
+        TraceStep::Did(add, added),
+        TraceStep::Did(has, had),
+        TraceStep::Did(get, got),
+        TraceStep::Did(put, done),
     ]
 }
 

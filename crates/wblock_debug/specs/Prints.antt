@@ -9,7 +9,7 @@ use Rattle.debugger.specs.Commands.{IsOpened, HasStepped, HasGoneBack, HasContin
 use Rattle.debugger.specs.declared.session.Refusal.{Refusal}
 use Rattle.debugger.specs.declared.session.Refusal.TheVariants as refusal
 use Rattle.wblock_debug.specs.declared.command.Command.{Command}
-use Rattle.wblock_debug.specs.declared.command.Command.TheVariants.{Step, Back, Cont, LineColumn, Break, Clear, Stack, Locals, Globals, Bytes}
+use Rattle.wblock_debug.specs.declared.command.Command.TheVariants.{Step, Back, Cont, Place, Break, Clear, Stack, Locals, Globals, Bytes}
 use Rattle.wblock_debug.specs.Lines.{state_line, values_line, bytes_line, ok_line, refusal_line, start_line}
 use Rattle.wblock_debug.specs.declared.perform.Said.{Said}
 use Rattle.wblock_debug.specs.declared.printed.Printed.{Printed}
@@ -20,7 +20,7 @@ abbrev pub Does : Command → SessionView → SessionView → List ℕ → Type 
 Does (Step n) s t line = ((made : ℕ) × HasStepped s n made t) × (line ≡ state_line t)
 Does (Back n) s t line = HasGoneBack s n t × (line ≡ state_line t)
 Does Cont s t line = ((made : ℕ) × HasContinued s made t) × (line ≡ state_line t)
-Does LineColumn s t line = (t ≡ s) × (line ≡ state_line t)
+Does Place s t line = (t ≡ s) × (line ≡ state_line t)
 Does (Break f o) s t line = IsSome (instr_there s.contract.deployed.tree (f, o)) × (t ≡ record s { breaks = with_break s.breaks (f, o) }) × (line ≡ ok_line)
 Does (Clear f o) s t line = IsSome (instr_there s.contract.deployed.tree (f, o)) × (t ≡ record s { breaks = without_break s.breaks (f, o) }) × (line ≡ ok_line)
 Does Stack s t line = (t ≡ s) × (line ≡ values_line (codes "stack") (stack_at t))

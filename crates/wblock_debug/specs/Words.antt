@@ -4,7 +4,7 @@ use Rattle.std.specs.List.{AllByRecursion, AllZip}
 use Rattle.std.specs.Borrow.{Bor}
 use Rattle.wblock_line.specs.Words.{Choice}
 use Rattle.wblock_debug.specs.declared.command.Command.{Command}
-use Rattle.wblock_debug.specs.declared.command.Command.TheVariants.{Step, Back, Cont, LineColumn, Break, Clear, Stack, Locals, Globals, Bytes}
+use Rattle.wblock_debug.specs.declared.command.Command.TheVariants.{Step, Back, Cont, Place, Break, Clear, Stack, Locals, Globals, Bytes}
 
 -- `NAME:N`
 abbrev pub with_number : List ℕ → ℕ → List ℕ
@@ -18,7 +18,7 @@ abbrev pub word_of : Command → List ℕ
 word_of (Step n) = with_number (codes "step") n
 word_of (Back n) = with_number (codes "back") n
 word_of Cont = codes "cont"
-word_of LineColumn = codes "place"
+word_of Place = codes "place"
 word_of (Break f o) = with_numbers (codes "break") f o
 word_of (Clear f o) = with_numbers (codes "clear") f o
 word_of Stack = codes "stack"
@@ -34,7 +34,7 @@ IsInRange (Break f o) = (f < 2 ^ 32) × (o < 2 ^ 32)
 IsInRange (Clear f o) = (f < 2 ^ 32) × (o < 2 ^ 32)
 IsInRange (Bytes from n) = (from < 2 ^ 64) × (n < 2 ^ 64)
 IsInRange Cont = Unit {0}
-IsInRange LineColumn = Unit {0}
+IsInRange Place = Unit {0}
 IsInRange Stack = Unit {0}
 IsInRange Locals = Unit {0}
 IsInRange Globals = Unit {0}

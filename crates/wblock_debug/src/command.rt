@@ -17,7 +17,7 @@ pub enum Command {
     /// `cont`: goes on to the next break, or to the end.
     Cont,
     /// `place`: shows where the call stands.
-    LineColumn,
+    Place,
     /// `break:F:O`: sets a break at this function's instruction of this ordinal, in each level that runs the contract that is called.
     Break(u32, u32),
     /// `clear:F:O`: clears the break there.
@@ -47,7 +47,7 @@ fn plain_of(word: &str) -> Option<Command>
         return Some(Command::Cont);
     }
     if is_word(word, "place") {
-        return Some(Command::LineColumn);
+        return Some(Command::Place);
     }
     if is_word(word, "stack") {
         return Some(Command::Stack);

@@ -116,7 +116,7 @@ pub(crate) fn perform<A: Allocator + Copy>(
         Command::Step(count) => step(alloc, session, count),
         Command::Back(count) => back(alloc, session, count),
         Command::Cont => cont(alloc, session),
-        Command::LineColumn => Ok(Said::Line(state_line_of(alloc, session)?)),
+        Command::Place => Ok(Said::Line(state_line_of(alloc, session)?)),
         Command::Break(func, ordinal) => break_at(alloc, session, func, ordinal),
         Command::Clear(func, ordinal) => clear(alloc, session, func, ordinal),
         Command::Stack => Ok(Said::Line(values_line_of(alloc, "stack", session.stack())?)),

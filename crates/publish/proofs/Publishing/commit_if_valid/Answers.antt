@@ -20,7 +20,7 @@ write_back-requires-clause-leaves g c = c.requires.is.cells
 pub invariant_of-published : goal.invariant_of-published
 invariant_of-published g c =
     let s = c.self.inside in
-    let p : Publication = record { setting = setting_view Two s.contracts.now; calls = s.calls.now; opening = s.opening.now.cells; fuel = s.fuel; order = s.so_far.order.items; ran = positions s.so_far.receipts.items s.so_far.touched.items; cells = s.cells.cells } in
+    let p : Publication = record { setting = setting_view Two s.contracts.now; calls = s.calls.now; opening = s.opening.now.cells; fuel = s.fuel; order = s.so_far.order.items; ran = results_of s.so_far.receipts.items s.so_far.touched.items; cells = s.cells.cells } in
     let b : WalkState = record { order = s.so_far.order.items; receipts = s.so_far.receipts.items; touched = s.so_far.touched.items; marks = s.so_far.marks.items; remaining = s.so_far.remaining; used = s.so_far.used; counts = s.cells.unsettled } in
     let room = c.reserve.new.self in
     let made = c.reserve.ensures in
@@ -40,7 +40,7 @@ returns-then-not-branch-clause-answer g c =
 pub returns-then-not-branch-clause-left : goal.returns-then-not-branch-clause-left
 returns-then-not-branch-clause-left g c = λ _.
     let s = c.self.inside in
-    let p : Publication = record { setting = setting_view Two s.contracts.now; calls = s.calls.now; opening = s.opening.now.cells; fuel = s.fuel; order = s.so_far.order.items; ran = positions s.so_far.receipts.items s.so_far.touched.items; cells = s.cells.cells } in
+    let p : Publication = record { setting = setting_view Two s.contracts.now; calls = s.calls.now; opening = s.opening.now.cells; fuel = s.fuel; order = s.so_far.order.items; ran = results_of s.so_far.receipts.items s.so_far.touched.items; cells = s.cells.cells } in
     let b : WalkState = record { order = s.so_far.order.items; receipts = s.so_far.receipts.items; touched = s.so_far.touched.items; marks = s.so_far.marks.items; remaining = s.so_far.remaining; used = s.so_far.used; counts = s.cells.unsettled } in
     let room = c.reserve.new.self in
     let made = c.reserve.ensures in
@@ -52,7 +52,7 @@ returns-then-not-branch-clause-left g c = λ _.
 pub push-requires-clause-fits : goal.push-requires-clause-fits
 push-requires-clause-fits g c =
     let s = c.self.inside in
-    let p : Publication = record { setting = setting_view Two s.contracts.now; calls = s.calls.now; opening = s.opening.now.cells; fuel = s.fuel; order = s.so_far.order.items; ran = positions s.so_far.receipts.items s.so_far.touched.items; cells = s.cells.cells } in
+    let p : Publication = record { setting = setting_view Two s.contracts.now; calls = s.calls.now; opening = s.opening.now.cells; fuel = s.fuel; order = s.so_far.order.items; ran = results_of s.so_far.receipts.items s.so_far.touched.items; cells = s.cells.cells } in
     let b : WalkState = record { order = s.so_far.order.items; receipts = s.so_far.receipts.items; touched = s.so_far.touched.items; marks = s.so_far.marks.items; remaining = s.so_far.remaining; used = s.so_far.used; counts = s.cells.unsettled } in
     let follows : MayFollow (with_parts p p.cells b) c.args.call = subst (λ q. MayFollow q c.args.call) (sym c.self.view_is) (c.may_follow.ensures.0 (search rules)) in
     let of : IsFootprintOf p.setting p.calls c.args.call c.args.accesses.now c.args.executed = subst (λ (q : Publication). IsFootprintOf q.setting q.calls c.args.call c.args.accesses.now c.args.executed) (sym c.self.view_is) c.requires in
@@ -68,7 +68,7 @@ push-requires-clause-fits g c =
 pub push-requires-clause-used : goal.push-requires-clause-used
 push-requires-clause-used g c =
     let s = c.self.inside in
-    let p : Publication = record { setting = setting_view Two s.contracts.now; calls = s.calls.now; opening = s.opening.now.cells; fuel = s.fuel; order = s.so_far.order.items; ran = positions s.so_far.receipts.items s.so_far.touched.items; cells = s.cells.cells } in
+    let p : Publication = record { setting = setting_view Two s.contracts.now; calls = s.calls.now; opening = s.opening.now.cells; fuel = s.fuel; order = s.so_far.order.items; ran = results_of s.so_far.receipts.items s.so_far.touched.items; cells = s.cells.cells } in
     let b : WalkState = record { order = s.so_far.order.items; receipts = s.so_far.receipts.items; touched = s.so_far.touched.items; marks = s.so_far.marks.items; remaining = s.so_far.remaining; used = s.so_far.used; counts = s.cells.unsettled } in
     let follows : MayFollow (with_parts p p.cells b) c.args.call = subst (λ q. MayFollow q c.args.call) (sym c.self.view_is) (c.may_follow.ensures.0 (search rules)) in
     let of : IsFootprintOf p.setting p.calls c.args.call c.args.accesses.now c.args.executed = subst (λ (q : Publication). IsFootprintOf q.setting q.calls c.args.call c.args.accesses.now c.args.executed) (sym c.self.view_is) c.requires in
@@ -84,7 +84,7 @@ push-requires-clause-used g c =
 pub invariant_of-published-2 : goal.invariant_of-published-2
 invariant_of-published-2 g c =
     let s = c.self.inside in
-    let p : Publication = record { setting = setting_view Two s.contracts.now; calls = s.calls.now; opening = s.opening.now.cells; fuel = s.fuel; order = s.so_far.order.items; ran = positions s.so_far.receipts.items s.so_far.touched.items; cells = s.cells.cells } in
+    let p : Publication = record { setting = setting_view Two s.contracts.now; calls = s.calls.now; opening = s.opening.now.cells; fuel = s.fuel; order = s.so_far.order.items; ran = results_of s.so_far.receipts.items s.so_far.touched.items; cells = s.cells.cells } in
     let b : WalkState = record { order = s.so_far.order.items; receipts = s.so_far.receipts.items; touched = s.so_far.touched.items; marks = s.so_far.marks.items; remaining = s.so_far.remaining; used = s.so_far.used; counts = s.cells.unsettled } in
     let follows : MayFollow (with_parts p p.cells b) c.args.call = subst (λ q. MayFollow q c.args.call) (sym c.self.view_is) (c.may_follow.ensures.0 (search rules)) in
     let of : IsFootprintOf p.setting p.calls c.args.call c.args.accesses.now c.args.executed = subst (λ (q : Publication). IsFootprintOf q.setting q.calls c.args.call c.args.accesses.now c.args.executed) (sym c.self.view_is) c.requires in
@@ -114,7 +114,7 @@ returns-clause-answer g c =
 pub returns-clause-taken : goal.returns-clause-taken
 returns-clause-taken g c = λ _.
     let s = c.self.inside in
-    let p : Publication = record { setting = setting_view Two s.contracts.now; calls = s.calls.now; opening = s.opening.now.cells; fuel = s.fuel; order = s.so_far.order.items; ran = positions s.so_far.receipts.items s.so_far.touched.items; cells = s.cells.cells } in
+    let p : Publication = record { setting = setting_view Two s.contracts.now; calls = s.calls.now; opening = s.opening.now.cells; fuel = s.fuel; order = s.so_far.order.items; ran = results_of s.so_far.receipts.items s.so_far.touched.items; cells = s.cells.cells } in
     let b : WalkState = record { order = s.so_far.order.items; receipts = s.so_far.receipts.items; touched = s.so_far.touched.items; marks = s.so_far.marks.items; remaining = s.so_far.remaining; used = s.so_far.used; counts = s.cells.unsettled } in
     let follows : MayFollow (with_parts p p.cells b) c.args.call = subst (λ q. MayFollow q c.args.call) (sym c.self.view_is) (c.may_follow.ensures.0 (search rules)) in
     let of : IsFootprintOf p.setting p.calls c.args.call c.args.accesses.now c.args.executed = subst (λ (q : Publication). IsFootprintOf q.setting q.calls c.args.call c.args.accesses.now c.args.executed) (sym c.self.view_is) c.requires in

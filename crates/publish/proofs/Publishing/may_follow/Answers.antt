@@ -11,7 +11,7 @@ use Rattle.publish.proofs.Publishing.may_follow.Goals as goal
 pub returns-in-Some : goal.returns-in-Some
 returns-in-Some g c =
     let s = c.self.inside in
-    let p : Publication = record { setting = setting_view Two s.contracts.now; calls = s.calls.now; opening = s.opening.now.cells; fuel = s.fuel; order = s.so_far.order.items; ran = positions s.so_far.receipts.items s.so_far.touched.items; cells = s.cells.cells } in
+    let p : Publication = record { setting = setting_view Two s.contracts.now; calls = s.calls.now; opening = s.opening.now.cells; fuel = s.fuel; order = s.so_far.order.items; ran = results_of s.so_far.receipts.items s.so_far.touched.items; cells = s.cells.cells } in
     let b : WalkState = record { order = s.so_far.order.items; receipts = s.so_far.receipts.items; touched = s.so_far.touched.items; marks = s.so_far.marks.items; remaining = s.so_far.remaining; used = s.so_far.used; counts = s.cells.unsettled } in
     let lookup = c.in-Some.ensures.lookup in
     let at = slice_get_read s.calls.now (length s.calls.now) c.args.call c.in-Some.known.now refl lookup.3.0 lookup.1 in
