@@ -1,8 +1,9 @@
 //! What is said of an instruction that breaks a rule: what was expected, and what was found.
 
+use crate::behind::operands_behind;
 use crate::effects::{instr_effect, label_at};
-use crate::known::{Known, known_behind};
 use crate::texts::{end_text, if_text, plain_text, range_text, result_name, table_text};
+use body_typing::operands::Operands;
 use body_typing::rule::Rule;
 use body_typing::scope::Scope;
 use module_tree::instr::Instr;
@@ -149,9 +150,11 @@ fn plain_fault<A: Allocator>(
         Rule::NothingThere => nothing_text(alloc, op),
         Rule::Alignment => alignment_text(alloc, op),
         Rule::Operand => {
-            let known = known_behind(alloc, scope, labels, before)?;
+            let Some(found) = operands_behind(alloc, scope, labels, before)? else {
+                return Ok(String::new(alloc));
+            };
             let effect = instr_effect(alloc, scope, labels, instr)?;
-            plain_text(alloc, op, &effect, &known)
+            plain_text(alloc, op, &effect, &found)
         }
         _ => Ok(String::new(alloc)),
     }
@@ -172,25 +175,27 @@ fn table_fault<A: Allocator>(
         Rule::LabelIndex => label_text(alloc, labels, first_unknown(labels, targets, fallback)),
         Rule::TableLabels => labels_text(alloc, labels, targets, fallback),
         Rule::Operand => {
-            let known = known_behind(alloc, scope, labels, before)?;
+            let Some(found) = operands_behind(alloc, scope, labels, before)? else {
+                return Ok(String::new(alloc));
+            };
             let effect = instr_effect(alloc, scope, labels, instr)?;
-            table_text(alloc, fallback, &effect, &known)
+            table_text(alloc, fallback, &effect, &found)
         }
         _ => Ok(String::new(alloc)),
     }
 }
 
 /// What a block's body leaves, which a branch to the block leaves with the label's type.
-fn left_by<A: Allocator>(
+fn left_in<A: Allocator>(
     alloc: Global,
     scope: &Scope<A, Global>,
     labels: &Vec<Option<ValType>>,
     label: Option<ValType>,
     body: &[Instr<A>],
-) -> Result<Known, AllocError> {
+) -> Result<Option<Operands<Global>>, AllocError> {
     let mut inner = Vec::from_slice(alloc, labels)?;
     inner.push(label)?;
-    known_behind(alloc, scope, &inner, body)
+    operands_behind(alloc, scope, &inner, body)
 }
 
 /// What is said of the end of a block's body.
@@ -202,8 +207,10 @@ fn block_end<A: Allocator>(
     block: Option<ValType>,
     body: &[Instr<A>],
 ) -> Result<String, AllocError> {
-    let left = left_by(alloc, scope, labels, label, body)?;
-    end_text(alloc, block, &left)
+    match left_in(alloc, scope, labels, label, body)? {
+        None => Ok(String::new(alloc)),
+        Some(left) => end_text(alloc, block, &left),
+    }
 }
 
 /// What is said of the end of a part of an `if`.
@@ -215,9 +222,11 @@ fn if_end<A: Allocator>(
     then_body: &[Instr<A>],
     else_body: &[Instr<A>],
 ) -> Result<String, AllocError> {
-    let left = left_by(alloc, scope, labels, block, then_body)?;
+    let Some(left) = left_in(alloc, scope, labels, block, then_body)? else {
+        return Ok(String::new(alloc));
+    };
+    let end = end_text(alloc, block, &left)?;
     if !left.is_result(block) {
-        let end = end_text(alloc, block, &left)?;
         return format!(in alloc; ", of which this is the `then` part{end}");
     }
     let end = block_end(alloc, scope, labels, block, block, else_body)?;
@@ -242,9 +251,11 @@ fn if_fault<A: Allocator>(
             )
         }
         Rule::Operand => {
-            let known = known_behind(alloc, scope, labels, before)?;
+            let Some(found) = operands_behind(alloc, scope, labels, before)? else {
+                return Ok(String::new(alloc));
+            };
             let effect = instr_effect(alloc, scope, labels, instr)?;
-            if_text(alloc, &effect, &known)
+            if_text(alloc, &effect, &found)
         }
         _ => Ok(String::new(alloc)),
     }
@@ -284,6 +295,8 @@ pub(crate) fn body_end<A: Allocator>(
     labels: &Vec<Option<ValType>>,
     body: &[Instr<A>],
 ) -> Result<String, AllocError> {
-    let left = known_behind(alloc, scope, labels, body)?;
-    end_text(alloc, scope.result, &left)
+    match operands_behind(alloc, scope, labels, body)? {
+        None => Ok(String::new(alloc)),
+        Some(left) => end_text(alloc, scope.result, &left),
+    }
 }

@@ -2,9 +2,9 @@
 //! types of the operands that it takes, and what was found, as the types of those on the stack.
 #![tactic(auto)]
 
+mod behind;
 mod effects;
 mod faults;
-mod known;
 mod lists;
 mod locate;
 mod names;

@@ -1,7 +1,7 @@
 //! Types and operands in words.
 
 use crate::effects::Effect;
-use crate::known::Known;
+use body_typing::operands::Operands;
 use std::alloc::{AllocError, Allocator, Global};
 use wtypes::{FuncType, PlainInstr, ValType};
 
@@ -47,12 +47,13 @@ pub(crate) fn types_text(alloc: Global, types: &[ValType]) -> Result<String, All
 /// The operands on top of a stack, as many as these or all, the top last.
 pub(crate) fn operands_text(
     alloc: Global,
-    known: &Known,
+    operands: &Operands<Global>,
     count: usize,
 ) -> Result<String, AllocError> {
     let mut text = String::new(alloc);
-    let from = known.operands.len().saturating_sub(count);
-    for operand in &known.operands[from..] {
+    let known = operands.known();
+    let from = known.len().saturating_sub(count);
+    for operand in &known[from..] {
         if !text.is_empty() {
             text.push_str(" ")?;
         }
@@ -61,7 +62,7 @@ pub(crate) fn operands_text(
     if text.is_empty() {
         text.push_str("nothing")?;
     }
-    if known.any_below {
+    if operands.any_below() {
         text.push_str(", and below it any others, since the code before does not go on")?;
     }
     Ok(text)
@@ -134,10 +135,10 @@ fn found_text(
     alloc: Global,
     effect: &Effect,
     owner: &str,
-    known: &Known,
+    operands: &Operands<Global>,
 ) -> Result<String, AllocError> {
     let takes = takes_text(alloc, effect)?;
-    let found = operands_text(alloc, known, count_of(effect))?;
+    let found = operands_text(alloc, operands, count_of(effect))?;
     format!(in alloc; ", which takes {takes}{owner}; found: {found}")
 }
 
@@ -146,10 +147,10 @@ pub(crate) fn plain_text(
     alloc: Global,
     op: PlainInstr,
     effect: &Effect,
-    known: &Known,
+    operands: &Operands<Global>,
 ) -> Result<String, AllocError> {
     let owner = owner_text(alloc, op)?;
-    found_text(alloc, effect, owner.as_str(), known)
+    found_text(alloc, effect, owner.as_str(), operands)
 }
 
 /// The same of a `br_table` with this default label.
@@ -157,15 +158,19 @@ pub(crate) fn table_text(
     alloc: Global,
     fallback: u32,
     effect: &Effect,
-    known: &Known,
+    operands: &Operands<Global>,
 ) -> Result<String, AllocError> {
     let owner = format!(in alloc; ", the result of its default label {fallback} and a number")?;
-    found_text(alloc, effect, owner.as_str(), known)
+    found_text(alloc, effect, owner.as_str(), operands)
 }
 
 /// The same of an `if`.
-pub(crate) fn if_text(alloc: Global, effect: &Effect, known: &Known) -> Result<String, AllocError> {
-    found_text(alloc, effect, ", its condition", known)
+pub(crate) fn if_text(
+    alloc: Global,
+    effect: &Effect,
+    operands: &Operands<Global>,
+) -> Result<String, AllocError> {
+    found_text(alloc, effect, ", its condition", operands)
 }
 
 /// What is said of a number that is not below the count of what it names.
@@ -183,11 +188,11 @@ pub(crate) fn range_text(
 pub(crate) fn end_text(
     alloc: Global,
     block: Option<ValType>,
-    known: &Known,
+    operands: &Operands<Global>,
 ) -> Result<String, AllocError> {
-    let found = operands_text(alloc, known, 8)?;
+    let found = operands_text(alloc, operands, 8)?;
     let wanted = result_name(block);
-    if known.operands.len() > 8 {
+    if operands.known().len() > 8 {
         return format!(in alloc; "; expected at its end: {wanted}; found: .. {found}");
     }
     format!(in alloc; "; expected at its end: {wanted}; found: {found}")
