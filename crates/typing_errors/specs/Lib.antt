@@ -1,3 +1,3 @@
-pub mod Effects
 pub mod Names
 pub mod Sites
+pub mod Takes

@@ -1,8 +1,9 @@
 //! What is said of an instruction that breaks a rule: what was expected, and what was found.
 
 use crate::behind::operands_behind;
-use crate::effects::{instr_effect, label_at};
+use crate::takes::takes_of;
 use crate::texts::{end_text, if_text, plain_text, range_text, result_name, table_text};
+use body_typing::lookup::label_at;
 use body_typing::operands::Operands;
 use body_typing::rule::Rule;
 use body_typing::scope::Scope;
@@ -153,8 +154,8 @@ fn plain_fault<A: Allocator>(
             let Some(found) = operands_behind(alloc, scope, labels, before)? else {
                 return Ok(String::new(alloc));
             };
-            let effect = instr_effect(alloc, scope, labels, instr)?;
-            plain_text(alloc, op, &effect, &found)
+            let takes = takes_of(alloc, scope, labels, instr)?;
+            plain_text(alloc, op, &takes, &found)
         }
         _ => Ok(String::new(alloc)),
     }
@@ -178,8 +179,8 @@ fn table_fault<A: Allocator>(
             let Some(found) = operands_behind(alloc, scope, labels, before)? else {
                 return Ok(String::new(alloc));
             };
-            let effect = instr_effect(alloc, scope, labels, instr)?;
-            table_text(alloc, fallback, &effect, &found)
+            let takes = takes_of(alloc, scope, labels, instr)?;
+            table_text(alloc, fallback, &takes, &found)
         }
         _ => Ok(String::new(alloc)),
     }
@@ -254,8 +255,8 @@ fn if_fault<A: Allocator>(
             let Some(found) = operands_behind(alloc, scope, labels, before)? else {
                 return Ok(String::new(alloc));
             };
-            let effect = instr_effect(alloc, scope, labels, instr)?;
-            if_text(alloc, &effect, &found)
+            let takes = takes_of(alloc, scope, labels, instr)?;
+            if_text(alloc, &takes, &found)
         }
         _ => Ok(String::new(alloc)),
     }

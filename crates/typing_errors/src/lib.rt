@@ -3,7 +3,6 @@
 #![tactic(auto)]
 
 mod behind;
-mod effects;
 mod faults;
 mod lists;
 mod locate;
@@ -11,6 +10,7 @@ mod names;
 mod operators;
 mod same;
 mod sites;
+mod takes;
 mod texts;
 
 pub use lists::item_text;

@@ -1,6 +1,6 @@
 //! Types and operands in words.
 
-use crate::effects::Effect;
+use crate::takes::Takes;
 use body_typing::operands::Operands;
 use std::alloc::{AllocError, Allocator, Global};
 use wtypes::{FuncType, PlainInstr, ValType};
@@ -88,25 +88,23 @@ pub fn function_text<A: Allocator>(
     Ok(text)
 }
 
-/// How many operands an instruction of this effect takes.
-fn count_of(effect: &Effect) -> usize {
-    match effect {
-        Effect::Arrow(takes, _) => takes.len(),
-        Effect::Leave(takes) => takes.len(),
-        Effect::OneOfAny => 1,
-        Effect::TwoAlike => 3,
-        Effect::Nothing => 0,
+/// How many operands are taken.
+fn count_of(takes: &Takes) -> usize {
+    match takes {
+        Takes::Types(types) => types.len(),
+        Takes::OneOfAny => 1,
+        Takes::TwoAlike => 3,
+        Takes::Nothing => 0,
     }
 }
 
-/// The operands that an instruction of this effect takes.
-fn takes_text(alloc: Global, effect: &Effect) -> Result<String, AllocError> {
-    match effect {
-        Effect::Arrow(takes, _) => types_text(alloc, takes),
-        Effect::Leave(takes) => types_text(alloc, takes),
-        Effect::OneOfAny => "an operand of any type".to_string(alloc),
-        Effect::TwoAlike => "two operands of one type and an i32".to_string(alloc),
-        Effect::Nothing => "nothing".to_string(alloc),
+/// The operands that are taken.
+fn takes_text(alloc: Global, takes: &Takes) -> Result<String, AllocError> {
+    match takes {
+        Takes::Types(types) => types_text(alloc, types),
+        Takes::OneOfAny => "an operand of any type".to_string(alloc),
+        Takes::TwoAlike => "two operands of one type and an i32".to_string(alloc),
+        Takes::Nothing => "nothing".to_string(alloc),
     }
 }
 
@@ -130,47 +128,47 @@ fn owner_text(alloc: Global, op: PlainInstr) -> Result<String, AllocError> {
     }
 }
 
-/// What is said of an instruction of this effect, which finds this stack: what it takes, and what is there.
+/// What is said of an instruction that takes this and finds these operands.
 fn found_text(
     alloc: Global,
-    effect: &Effect,
+    takes: &Takes,
     owner: &str,
     operands: &Operands<Global>,
 ) -> Result<String, AllocError> {
-    let takes = takes_text(alloc, effect)?;
-    let found = operands_text(alloc, operands, count_of(effect))?;
-    format!(in alloc; ", which takes {takes}{owner}; found: {found}")
+    let expected = takes_text(alloc, takes)?;
+    let found = operands_text(alloc, operands, count_of(takes))?;
+    format!(in alloc; ", which takes {expected}{owner}; found: {found}")
 }
 
 /// The same of an instruction that holds no other.
 pub(crate) fn plain_text(
     alloc: Global,
     op: PlainInstr,
-    effect: &Effect,
+    takes: &Takes,
     operands: &Operands<Global>,
 ) -> Result<String, AllocError> {
     let owner = owner_text(alloc, op)?;
-    found_text(alloc, effect, owner.as_str(), operands)
+    found_text(alloc, takes, owner.as_str(), operands)
 }
 
 /// The same of a `br_table` with this default label.
 pub(crate) fn table_text(
     alloc: Global,
     fallback: u32,
-    effect: &Effect,
+    takes: &Takes,
     operands: &Operands<Global>,
 ) -> Result<String, AllocError> {
     let owner = format!(in alloc; ", the result of its default label {fallback} and a number")?;
-    found_text(alloc, effect, owner.as_str(), operands)
+    found_text(alloc, takes, owner.as_str(), operands)
 }
 
 /// The same of an `if`.
 pub(crate) fn if_text(
     alloc: Global,
-    effect: &Effect,
+    takes: &Takes,
     operands: &Operands<Global>,
 ) -> Result<String, AllocError> {
-    found_text(alloc, effect, ", its condition", operands)
+    found_text(alloc, takes, ", its condition", operands)
 }
 
 /// What is said of a number that is not below the count of what it names.
