@@ -2,6 +2,7 @@ pub mod Numbers
 pub mod Profiles
 pub mod Stages
 pub mod Sums
+mod Latest
 mod Fuels
 mod Prefixes
 mod PrefixSums

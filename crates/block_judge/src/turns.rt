@@ -5,11 +5,12 @@ ghost use Rattle.std.specs.BTreeMap.{get};
 ghost use Rattle.std.specs.Ordering.{eq_by_cmp};
 ghost use Rattle.spec_ledger.specs.Cells.{lock_cmp};
 ghost use Rattle.spec_ledger.specs.Modes.{goes_with};
-ghost use Rattle.lock_profile.specs.Groups.{latest, turn_next};
+ghost use Rattle.lock_profile.specs.Groups.{turn_next};
 ghost use Rattle.lock_profile.specs.Turns.{IsProfile};
 ghost use Rattle.spec_block.specs.Worlds.{Call as TheCall, World as TheWorld, profiles_of};
 ghost use Rattle.spec_block.specs.Schedule.{HaveTurns};
 ghost use Rattle.spec_block.specs.Verdicts.{HasOtherTurns, HoldsOf, IsLeast};
+ghost use Rattle.block_judge.specs.Latest.{latest};
 ghost use Rattle.block_judge.specs.Judging.{IfRejected, IsFirstFrom, NoneFrom};
 ghost use Rattle.block_judge.specs.Turned.{lists_of};
 

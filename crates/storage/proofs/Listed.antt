@@ -79,6 +79,52 @@ entries_held es h = sym (entries-cells_in es h)
 
 -- ---- gone over entry by entry
 
+greater_than : (k x : Lock) → T (is_lt (lock_cmp x k)) → eq_by_cmp lock_cmp k x ≡ false
+greater_than k x h = ap is_eq (lock_cmp_total.antisymm k x ∙ ap ordering_reverse (is_less (lock_cmp x k) h))
+
+below_here : (x k : Lock) (v : ℕ) (xs ys : List (Lock × ℕ)) → T (below_all lock_cmp x (xs ++ (k, v) ∷ ys)) → T (is_lt (lock_cmp x k))
+below_here x k v [] ys h = first _ _ h
+below_here x k v (e ∷ xs) ys h = below_here x k v xs ys (second _ _ h)
+
+new_before : (xs : List (Lock × ℕ)) (k : Lock) (v : ℕ) (ys : List (Lock × ℕ)) → T (is_sorted lock_cmp (xs ++ (k, v) ∷ ys)) → find lock_cmp k xs ≡ None
+new_before [] k v ys h = refl
+new_before (x ∷ xs) k v ys h = ap (λ b. cond b (Some x.1) (find lock_cmp k xs)) (greater_than k x.0 (below_here x.0 k v xs ys (first _ _ h))) ∙ new_before xs k v ys (second _ _ h)
+
+found_there : (xs : List (Lock × ℕ)) (k : Lock) (v : ℕ) (ys : List (Lock × ℕ)) → find lock_cmp k xs ≡ None → find lock_cmp k (xs ++ (k, v) ∷ ys) ≡ Some v
+found_there [] k v ys h = ap (λ b. cond b (Some v) (find lock_cmp k ys)) (key_itself lock_cmp_total lock_cmp-IsAntisymmetric k)
+found_there (x ∷ xs) k v ys h =
+    elim (eq_by_cmp lock_cmp k x.0) as (λ b. cond b (Some x.1) (find lock_cmp k xs) ≡ None → cond b (Some x.1) (find lock_cmp k (xs ++ (k, v) ∷ ys)) ≡ Some v) [
+      | true ↦ λ e. cc
+      | false ↦ λ e. found_there xs k v ys e
+    ] h
+
+append_nil : (xs : List (Lock × ℕ)) → xs ≡ xs ++ []
+append_nil [] = refl
+append_nil (x ∷ xs) = ap (λ t. x ∷ t) (append_nil xs)
+
+above_zero : (v : ℕ) → Some v ≢ Some 0 → 0 < v
+above_zero zero h = absurd (h refl)
+above_zero (suc n) h = omega arith
+
+module _ (m : Cells) (xs : List (Lock × ℕ)) (k : Lock) (v : ℕ) (ys : List (Lock × ℕ)) (all : xs ++ (k, v) ∷ ys ≡ entries m) where
+  no_such : find lock_cmp k xs ≡ None
+  no_such = new_before xs k v ys (subst (λ es. T (is_sorted lock_cmp es)) (sym all) (entries_sorted m))
+
+  pub copied_next : from_entries {R = lock_cmp} (xs ++ (k, v) ∷ []) ≡ insert (from_entries xs) k v
+  copied_next = from_entries_push lock_cmp_total lock_cmp-IsAntisymmetric xs k v no_such
+
+  held_there : get m k ≡ Some v
+  held_there = get-entries m k ∙ ap (find lock_cmp k) (sym all) ∙ found_there xs k v ys no_such
+
+  pub copied_condition : AreCells m → k.kind ≡ Counter → 0 < v
+  copied_condition are e =
+      let place : CellKey = record { contract = k.contract; key = k.key } in
+      let same : k ≡ counter_at place = λ i. record { contract = k.contract; kind = e i; key = k.key } in
+      above_zero v (subst (λ (x : Option ℕ). IsCounter x) (ap (get m) (sym same) ∙ held_there) (are.counters place)).not_zero
+
+pub copied_all : (m : Cells) (xs : List (Lock × ℕ)) → xs ++ [] ≡ entries m → from_entries xs ≡ m
+copied_all m xs all = same_map lock_cmp_total lock_cmp-IsAntisymmetric _ _ (λ q. get-from_entries lock_cmp_total xs q ∙ ap (find lock_cmp q) (append_nil xs ∙ all) ∙ sym (get-entries m q))
+
 append_one : (xs : List (Lock × ℕ)) (e : Lock × ℕ) (ys : List (Lock × ℕ)) → xs ++ e ∷ [] ++ ys ≡ xs ++ e ∷ ys
 append_one [] e ys = refl
 append_one (x ∷ xs) e ys = ap (λ t. x ∷ t) (append_one xs e ys)
