@@ -1,6 +1,6 @@
 //! Runs of the machine to their end.
 ghost use Rattle.std.specs.Prelude.{◌≡◌, IfSome};
-ghost use Rattle.interp_run.specs.Progress.{IsFree};
+ghost use Rattle.interp.specs.Progress.{IsFree};
 
 use interp::finished::Finished;
 use interp::machine::Machine;

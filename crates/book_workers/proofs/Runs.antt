@@ -5,7 +5,7 @@ use Rattle.std.specs.declared.result.Result.TheVariants.{Ok, Err}
 use Rattle.std.proofs.lemmas.List.Elements.{All-push}
 use Rattle.spec_execution.specs.Configuration.{Setting}
 use Rattle.spec_execution.specs.Run.{ContractCall}
-use Rattle.interp_run.specs.Played.{Played}
+use Rattle.interp.specs.Played.{Played}
 use Rattle.book_workers.specs.declared.attempt.CommittedRun.{CommittedRun}
 use Rattle.book_workers.specs.Handed.{IsRunOf, IsCommitted, AreAllRuns}
 

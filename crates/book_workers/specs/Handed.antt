@@ -3,7 +3,7 @@ use Rattle.std.specs.Prelude.{◌≡◌, ℕ, List, Some, slice_get, All}
 use Rattle.spec_ledger.specs.Modes.{touched}
 use Rattle.spec_execution.specs.Configuration.{Setting}
 use Rattle.spec_execution.specs.Run.{ContractCall}
-use Rattle.interp_run.specs.Played.{Played}
+use Rattle.interp.specs.Played.{Played}
 use Rattle.book_workers.specs.declared.attempt.CommittedRun.{CommittedRun}
 use Rattle.book_workers.specs.declared.worker.WorkerResult.{WorkerResult}
 

@@ -1,7 +1,7 @@
 // A worker: it draws calls until none is left or the pace stops it.
 ghost use Rattle.std.specs.Prelude.{◌≡◌, ◌<◌, IfOk, OnOk, length};
 ghost use Rattle.spec_ledger.specs.declared.Version.TheVariants.{Two};
-ghost use Rattle.interp_run.specs.Callee.{setting_view};
+ghost use Rattle.interp.specs.Callee.{setting_view};
 ghost use Rattle.intake.specs.Intakes.{IsSeatOf};
 ghost use Rattle.book_workers.specs.Handed.{AreRuns};
 

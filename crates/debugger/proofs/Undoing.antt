@@ -14,7 +14,7 @@ use Rattle.spec_ledger.specs.declared.TraceStep.TheVariants.{Did, Opened}
 use Rattle.spec_ledger.specs.Cells.{Cells, AreCells, cells_after, inverse_to, back, set_at, counter, counter_at, number}
 use Rattle.spec_ledger.specs.Book.{Marked, kept_at, dropped_at, stepped, back_all}
 use Rattle.spec_ledger.proofs.Ops.{back-inverse}
-use Rattle.interp_run.specs.Progress.{mark_of}
+use Rattle.interp.specs.Progress.{mark_of}
 use Rattle.debugger.specs.Undoing.{GoBack, AreNoted}
 
 pub on_ok : {T E : Type 0} (r : Result T E) (P Q : Type 0) → (P → Q) → OnOk r P → OnOk r Q

@@ -12,8 +12,8 @@ use Rattle.spec_execution.specs.Run.{ContractCall, opening, Opens}
 use Rattle.spec_execution.specs.Levels.{Level, Levels, asks_in}
 use Rattle.spec_execution.specs.Turns.{shown, state_of, stack_of, locals_of, place_of}
 use Rattle.spec_execution.specs.Turning.{IsState}
-use Rattle.interp_run.specs.Codes.{coded_setting, coded_contract, coded_levels, coded_call}
-use Rattle.interp_run.specs.Progress.{Progress}
+use Rattle.interp.specs.Codes.{coded_setting, coded_contract, coded_levels, coded_call}
+use Rattle.interp.specs.Progress.{Progress}
 use Rattle.interp.specs.Shown.{ending_of, unless_ended, place_shown, outermost}
 
 -- a call alone over cells, how many of its turns were made, with which steps, and the configuration that it has come to; and the breaks

@@ -1,8 +1,8 @@
 // A call that runs alone over cells, after some of its turns.
 ghost use Rattle.std.specs.Prelude.{◌≡◌, ◌+◌, ◌<◌, ◌≤◌, ◌⊎◌, Ok, true, false, None, IsSome, IfOk, IfErr, OnOk};
 ghost use Rattle.spec_execution.specs.Run.{opening};
-ghost use Rattle.interp_run.specs.Callee.{setting_view};
-ghost use Rattle.interp_run.specs.Progress.{Progress, GoesOn, IsLeftNext, depth_of};
+ghost use Rattle.interp.specs.Callee.{setting_view};
+ghost use Rattle.interp.specs.Progress.{Progress, GoesOn, IsLeftNext, depth_of};
 ghost use Rattle.interp.specs.Shown.{ending};
 ghost use Rattle.interp.specs.Starting.{IsRefusedFor, HasPlace, wrong_in};
 ghost use Rattle.debugger.specs.Cursors.{IsAt, IsOpened, IsSameRun, IsCopy, IsInTurn};
@@ -12,7 +12,7 @@ use crate::undo::{Undo, act, copy_undo, enter, leave, nothing_noted};
 use call::Call;
 use interp::machine::Machine;
 use interp::start::StartRefusal;
-use interp_run::turns::Turn;
+use interp::turns::Turn;
 use spec_ledger::{NoMemory, Version};
 use std::alloc::Allocator;
 use storage::Cells;

@@ -1,6 +1,6 @@
 // A debugger's session.
 ghost use Rattle.std.specs.Prelude.{◌≡◌, ◌+◌, ◌<◌, ◌≤◌, ◌⊎◌, IsSome, IsTrue, ◌↔◌, IfOk, OnOk, true};
-ghost use Rattle.interp_run.specs.Progress.{IsSameCall};
+ghost use Rattle.interp.specs.Progress.{IsSameCall};
 ghost use Rattle.interp.specs.Shown.{ending, AreReadOf};
 ghost use Rattle.debugger.specs.Breaks.{is_set_at, instr_there};
 ghost use Rattle.debugger.specs.Cursors.{IsAt, IsSameRun};
@@ -207,7 +207,7 @@ fn go_on<'a, A: Allocator + Copy>(
 impl<'a, A: Allocator + Copy> Session<'a, A> {
     ghost use Rattle.std.specs.Prelude.{◌≡◌, IfOk, IfErr};
     ghost use Rattle.spec_execution.specs.Run.{opening};
-    ghost use Rattle.interp_run.specs.Callee.{setting_view};
+    ghost use Rattle.interp.specs.Callee.{setting_view};
     ghost use Rattle.interp.specs.Starting.{IsRefusedFor, HasPlace, wrong_in};
     ghost use Rattle.debugger.specs.SessionView.{IsSessionView, ending_at, place_at, contract_at, level_at, asks_at, stack_at, locals_at, globals_at};
     ghost use Rattle.debugger.specs.Commands.{IsOpened, Steps, GoesBack, Continues, Breaks, Clears, Reads};

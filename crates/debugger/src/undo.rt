@@ -4,7 +4,7 @@ ghost use Rattle.spec_execution.specs.Run.{IsReply};
 ghost use Rattle.spec_ledger.specs.Book.{Marked, stepped, back_all};
 ghost use Rattle.spec_ledger.specs.Cells.{Cells as TheCells, back, cells_after, inverse_to, reply_to};
 ghost use Rattle.spec_ledger.specs.declared.TraceStep.TheVariants.{Did, Opened};
-ghost use Rattle.interp_run.specs.Progress.{mark_of};
+ghost use Rattle.interp.specs.Progress.{mark_of};
 ghost use Rattle.debugger.specs.Undoing.{IsNoted};
 
 use spec_ledger::{Inverse, NoMemory, Op, Reply};

@@ -1,9 +1,9 @@
 //! Runs of machines.
 
-ghost use Rattle.interp_run.specs.Progress.{NextIs, IsFree, IsProgress};
+ghost use Rattle.interp.specs.Progress.{NextIs, IsFree, IsProgress};
 
 use interp::machine::Machine;
-use interp_run::turns::Turn;
+use interp::turns::Turn;
 use std::alloc::Allocator;
 
 /// As [`interp::machine::Machine::next`].

@@ -5,7 +5,7 @@ ghost use Rattle.std.specs.FinMap as finite;
 ghost use Rattle.spec_ledger.specs.declared.Version.TheVariants.{Two};
 ghost use Rattle.spec_ledger.specs.Order.{IsAdmissible, first_fit};
 ghost use Rattle.spec_execution.specs.Serial.{Serial};
-ghost use Rattle.interp_run.specs.Callee.{setting_view};
+ghost use Rattle.interp.specs.Callee.{setting_view};
 ghost use Rattle.serial.specs.Positions.{results_of};
 ghost use Rattle.publish.specs.Publication.{AreLeft, limits, fuel_of_results};
 

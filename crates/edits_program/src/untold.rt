@@ -1,9 +1,9 @@
 //! A line of words over an output of which nothing is told.
 
 ghost use Rattle.std.specs.Prelude.{◌≡◌, [], false, IsTrue, map};
-ghost use Rattle.wblock_arguments.specs.Words.{Says};
+ghost use Rattle.wblock_commands.specs.Words.{Says};
 ghost use Rattle.wblock_commands.specs.Does.{Does};
-ghost use Rattle.wblock_arguments.specs.declared.command.Command.{Command as Asked};
+ghost use Rattle.wblock_commands.specs.declared.command.Command.{Command as Asked};
 
 use byte_sinks::Sink;
 use pace::Pace;

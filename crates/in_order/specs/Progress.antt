@@ -5,8 +5,8 @@ use Rattle.spec_ledger.specs.Cells.{Cells}
 use Rattle.spec_execution.specs.Configuration.{Setting}
 use Rattle.spec_execution.specs.Run.{ContractCall}
 use Rattle.spec_execution.specs.Serial.{Serial}
-use Rattle.interp_run.specs.Callee.{setting_view}
-use Rattle.interp_run.specs.Played.{Played}
+use Rattle.interp.specs.Callee.{setting_view}
+use Rattle.interp.specs.Played.{Played}
 use Rattle.serial.specs.Positions.{results_of}
 use Rattle.in_order.specs.declared.InOrder.{InOrder}
 use Rattle.in_order.specs.declared.OrderProgress.{OrderProgress}

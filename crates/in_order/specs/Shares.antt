@@ -3,7 +3,7 @@ use Rattle.std.specs.Prelude.{◌≡◌, ◌-◌, ◌≤◌, ℕ, List, All, dro
 use Rattle.spec_execution.specs.Configuration.{Setting}
 use Rattle.spec_execution.specs.Run.{ContractCall}
 use Rattle.spec_execution.specs.declared.footprints.Access.{Access}
-use Rattle.interp_run.specs.Callee.{setting_view}
+use Rattle.interp.specs.Callee.{setting_view}
 use Rattle.speculation.specs.Calls.{IsFootprintOf}
 use Rattle.in_order.specs.declared.footprints.SpeculativeRun.{SpeculativeRun}
 use Rattle.in_order.specs.declared.footprints.SpeculativeRuns.{SpeculativeRuns}

@@ -5,7 +5,7 @@ ghost use Rattle.std.specs.FinMap as finite;
 ghost use Rattle.spec_execution.specs.Exec.{Executes};
 ghost use Rattle.spec_execution.specs.Run.{ContractCall};
 ghost use Rattle.spec_execution.specs.ReadWriteSets.{Agrees};
-ghost use Rattle.interp_run.specs.Callee.{setting_view};
+ghost use Rattle.interp.specs.Callee.{setting_view};
 ghost use Rattle.in_order.specs.Shares.{IsSpeculativeRun, AreSpeculativeRunsOf, read_write_set_of};
 
 use crate::Task;

@@ -6,12 +6,12 @@ use Rattle.spec_execution.specs.Configuration.{End, Invoke, arguments, fresh}
 use Rattle.spec_execution.specs.Levels.{no_answer}
 use Rattle.interp_state.specs.Steps.{IsCounted}
 use Rattle.interp_state.specs.Waiting.{alone}
-use Rattle.interp_run.specs.declared.turns.Status.TheVariants as status
-use Rattle.interp_run.specs.declared.run.Run.{Run}
-use Rattle.interp_run.specs.Progress.{IsStartOf}
-use Rattle.interp_run.specs.Machine.{Seen, progress, IsBegunAs}
-use Rattle.interp_run.specs.Run.{seen, IsBegun, IsFirst}
-use Rattle.interp_run.proofs.Beginning.{firsts_same, reached_at_first, start_of}
+use Rattle.interp.specs.declared.turns.Status.TheVariants as status
+use Rattle.interp.specs.declared.run.Run.{Run}
+use Rattle.interp.specs.Progress.{IsStartOf}
+use Rattle.interp.specs.Machine.{Seen, progress, IsBegunAs}
+use Rattle.interp.specs.Run.{seen, IsBegun, IsFirst}
+use Rattle.interp.proofs.Beginning.{firsts_same, reached_at_first, start_of}
 
 -- the innermost level is the outer one, and its entry, with the arguments of the call, waits
 pub record IsUntouched (s : Seen) : Type 0 where

@@ -1,15 +1,15 @@
 -- What callers are told of a machine.
 use Rattle.std.proofs.Common.{[], ap, ◌∙◌, arith}
 use Rattle.spec_execution.specs.Reduction.{reduce}
-use Rattle.interp_run.specs.declared.turns.Status.{Status}
-use Rattle.interp_run.specs.declared.turns.Status.TheVariants as status
+use Rattle.interp.specs.declared.turns.Status.{Status}
+use Rattle.interp.specs.declared.turns.Status.TheVariants as status
 use Rattle.laws_reduction.specs.Meaning.{state, invoking}
-use Rattle.interp_run.specs.Progress.{IsProgress, IsProgressAt}
-use Rattle.interp_run.specs.Machine.{Seen, on, progress, IsAt, IsMachine, going_on}
+use Rattle.interp.specs.Progress.{IsProgress, IsProgressAt}
+use Rattle.interp.specs.Machine.{Seen, on, progress, IsAt, IsMachine, going_on}
 use Rattle.laws_reduction.specs.Tails.{joined, joined_next}
 use Rattle.laws_reduction.specs.Joining.{reduce_joined}
-use Rattle.interp_run.proofs.Asking.{asking_among}
-use Rattle.interp_run.proofs.Turning.{innermost, pauses_live, pauses_fallen}
+use Rattle.interp.proofs.Asking.{asking_among}
+use Rattle.interp.proofs.Turning.{innermost, pauses_live, pauses_fallen}
 
 pub progress_of : (s : Seen) → IsMachine s → IsProgress (progress s)
 progress_of s m = record { at = by s.status m.at }

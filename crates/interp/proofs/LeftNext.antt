@@ -9,16 +9,16 @@ use Rattle.spec_execution.specs.Configuration.{Setting, State, Config, Running, 
 use Rattle.spec_execution.specs.Reduction.{Of, Ask, Answer, Next, Goes, Traps, Asks, Branches, Returns, Ended, Stuck}
 use Rattle.spec_execution.specs.Run.{next, result_of}
 use Rattle.spec_execution.specs.Levels.{Level, Levels, Move, On, Over, Nowhere, move, by_next, returned, fallen, back_by, back_to, IsChargedMove}
-use Rattle.interp_run.specs.declared.turns.Status.{Status}
-use Rattle.interp_run.specs.declared.turns.Status.TheVariants as status
-use Rattle.interp_run.specs.Progress.{IsLeftNext, IsToStop, GoesOn, mark_of}
-use Rattle.interp_run.specs.Machine.{Seen, levels, config_at, config_of, progress, IsMachine, IsLeaving}
+use Rattle.interp.specs.declared.turns.Status.{Status}
+use Rattle.interp.specs.declared.turns.Status.TheVariants as status
+use Rattle.interp.specs.Progress.{IsLeftNext, IsToStop, GoesOn, mark_of}
+use Rattle.interp.specs.Machine.{Seen, levels, config_at, config_of, progress, IsMachine, IsLeaving}
 use Rattle.laws_reduction.specs.Meaning.{Item, config, state}
 use Rattle.laws_reduction.specs.Plain.{onto}
 use Rattle.laws_reduction.specs.Tails.{with_tail}
-use Rattle.interp_run.proofs.Around.{some_around}
-use Rattle.interp_run.proofs.Turning.{end_values}
-use Rattle.interp_run.proofs.Leaving.{leaving_kept, leaving_dropped}
+use Rattle.interp.proofs.Around.{some_around}
+use Rattle.interp.proofs.Turning.{end_values}
+use Rattle.interp.proofs.Leaving.{leaving_kept, leaving_dropped}
 use Rattle.interp.proofs.Outlook.{charged_move}
 
 -- a level that is left, where the one around it is not stuck, leads to another configuration

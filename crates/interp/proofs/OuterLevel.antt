@@ -4,14 +4,14 @@ use Rattle.wtypes.specs.declared.Value.{Value}
 use Rattle.spec_execution.specs.Levels as spec
 use Rattle.spec_execution.specs.Turns.{state_of}
 use Rattle.laws_reduction.specs.Meaning.{state}
-use Rattle.interp_run.specs.Progress.{last_level}
+use Rattle.interp.specs.Progress.{last_level}
 use Rattle.interp.specs.Shown.{outermost}
-use Rattle.interp_run.specs.declared.run.Level.{Level}
-use Rattle.interp_run.specs.declared.run.Run.{Run}
-use Rattle.interp_run.specs.Machine.{progress}
-use Rattle.interp_run.specs.Run.{seen, view_of, level_of, levels_of}
-use Rattle.interp_run.proofs.Around.{outer_first}
-use Rattle.interp_run.proofs.Turning.{state_at}
+use Rattle.interp.specs.declared.run.Level.{Level}
+use Rattle.interp.specs.declared.run.Run.{Run}
+use Rattle.interp.specs.Machine.{progress}
+use Rattle.interp.specs.Run.{seen, view_of, level_of, levels_of}
+use Rattle.interp.proofs.Around.{outer_first}
+use Rattle.interp.proofs.Turning.{state_at}
 
 -- the first that is kept is the outer level, or else the innermost one is
 outer_kept : {A : Type 0} (args : List Value) (inner : spec.Level) (ls : List (Level A)) (l : Level A) → Some l ≡ slice_get ls 0 → last_level inner (levels_of args ls) ≡ level_of args l

@@ -17,20 +17,20 @@ use Rattle.spec_execution.specs.Run.{next, IsCharged, result_of, Opening, Refuse
 use Rattle.spec_execution.specs.Levels.{Level, Levels, Move, On, Host, Over, Nowhere, asked, entering, returned, fallen, back_to, back_by, trap_status, signed_of, no_answer, by_next, by_config, move, IsChargedMove, Ends, over, exhausted, IsRun}
 use Rattle.spec_execution.proofs.Lifting.{at, among, charged_lifted}
 use Rattle.spec_execution.specs.Turns.{is_to_come, stack_in, locals_in, place_in, place_of, stack_of, locals_of}
-use Rattle.interp_run.specs.declared.turns.Status.{Status}
-use Rattle.interp_run.specs.declared.turns.Status.TheVariants as status
+use Rattle.interp.specs.declared.turns.Status.{Status}
+use Rattle.interp.specs.declared.turns.Status.TheVariants as status
 use Rattle.laws_reduction.specs.Meaning.{Item, config, calling, invoking, sequence, state, listed, height, IsOrdered}
 use Rattle.laws_reduction.specs.Branches.{in_call}
 use Rattle.laws_reduction.specs.Plain.{onto}
-use Rattle.interp_run.specs.Machine.{Seen, on, first_of, levels, progress, IsAt, IsLive, IsWaiting, IsOver, IsMachine}
+use Rattle.interp.specs.Machine.{Seen, on, first_of, levels, progress, IsAt, IsLive, IsWaiting, IsOver, IsMachine}
 use Rattle.interp.specs.Shown.{ending, ending_by, state_alone, shown_at, is_out, leaves_stack, unless_ended, stack_shown, locals_shown, place_shown, is_fallen, IsShown}
 use Rattle.interp_state.specs.Innermost.{function_in}
 use Rattle.laws_reduction.specs.Charging.{height-le}
 use Rattle.laws_reduction.specs.Rest.{is_charged}
 use Rattle.laws_reduction.specs.Tails.{joined, with_tail, joined_next}
 use Rattle.laws_reduction.specs.Joining.{charged_joined, reduce_joined}
-use Rattle.interp_run.proofs.Showing.{stack_whole, locals_whole, place_whole, call-le, Stops, IsHidden, hidden_end, hidden_stop, stops_whole}
-use Rattle.interp_run.proofs.Turning.{innermost, live_of, fine, end_values, end_values_of}
+use Rattle.interp.proofs.Showing.{stack_whole, locals_whole, place_whole, call-le, Stops, IsHidden, hidden_end, hidden_stop, stops_whole}
+use Rattle.interp.proofs.Turning.{innermost, live_of, fine, end_values, end_values_of}
 
 -- ---- one step, in or out of fuel
 

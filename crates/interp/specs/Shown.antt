@@ -8,9 +8,9 @@ use Rattle.spec_execution.specs.Levels.{Level, Levels, Move, On, Over, move}
 use Rattle.spec_execution.specs.Turns.{shown, state_of, stack_of, locals_of, place_of}
 use Rattle.interp.specs.declared.readers.BytesRefusal.{BytesRefusal}
 use Rattle.interp.specs.declared.readers.BytesRefusal.TheVariants as refusal
-use Rattle.interp_run.specs.declared.turns.Status.{Status}
-use Rattle.interp_run.specs.declared.turns.Status.TheVariants as status
-use Rattle.interp_run.specs.Progress.{Progress, last_level}
+use Rattle.interp.specs.declared.turns.Status.{Status}
+use Rattle.interp.specs.declared.turns.Status.TheVariants as status
+use Rattle.interp.specs.Progress.{Progress, last_level}
 
 -- how a run has ended, if it has
 abbrev pub ending_by : (out : Bool) → Move → Option Outcome

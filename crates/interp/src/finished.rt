@@ -2,9 +2,9 @@
 ghost use Rattle.std.specs.Prelude.{◌≡◌, Some, option_map, IfSome, IfNone};
 ghost use Rattle.spec_execution.specs.Run.{opening};
 ghost use Rattle.spec_execution.specs.Levels.{asks_in};
-ghost use Rattle.interp_run.specs.Played.{IsPlayed};
+ghost use Rattle.interp.specs.Played.{IsPlayed};
 ghost use Rattle.interp.specs.Starting.{IsOpened, IsRejection, LacksFuel, IsWithoutFuel};
-ghost use Rattle.interp_run.specs.Callee.{setting_view};
+ghost use Rattle.interp.specs.Callee.{setting_view};
 
 use crate::start::{Opened, has_code, open_call};
 use call::Call;
@@ -31,8 +31,8 @@ pub struct Finished<'a, A: Allocator> {
 impl<'a, A: Allocator> Model for Finished<'a, A> {
     ghost use Rattle.std.specs.Prelude.{◌≡◌};
     ghost use Rattle.spec_execution.specs.Levels.{asks_in};
-    ghost use Rattle.interp_run.specs.Played.{Played, coded_played, IsPlayed};
-    ghost use Rattle.interp_run.specs.Callee.{setting_view};
+    ghost use Rattle.interp.specs.Played.{Played, coded_played, IsPlayed};
+    ghost use Rattle.interp.specs.Callee.{setting_view};
 
     ghost Value = { Played };
 

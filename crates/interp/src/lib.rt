@@ -2,6 +2,13 @@
 #![tactic(auto)]
 
 pub mod finished;
+mod functions;
+mod imports;
+mod levels;
 pub mod machine;
 pub mod readers;
+mod replies;
+mod run;
+mod running;
 pub mod start;
+pub mod turns;

@@ -1,25 +1,25 @@
 // A machine: a call that runs over lent contracts, a turn at a time.
 ghost use Rattle.std.specs.Prelude.{◌≡◌, ◌≢◌, ◌≤◌, length, IfOk, MatchResult};
 ghost use Rattle.spec_execution.specs.Run.{Opens, opening};
-ghost use Rattle.interp_run.specs.Machine.{progress};
-ghost use Rattle.interp_run.specs.Progress.{NextIs, IsSameCall, WantsMemory, IsTold, IsFree, IsAwaited, HasAnswered, IsFinishOf, IsProgress, IsUnfinished, IsStartOf};
-ghost use Rattle.interp_run.specs.Run.{seen, IsKept};
-ghost use Rattle.interp_run.specs.Going.{HasTurned};
+ghost use Rattle.interp.specs.Machine.{progress};
+ghost use Rattle.interp.specs.Progress.{NextIs, IsSameCall, WantsMemory, IsTold, IsFree, IsAwaited, HasAnswered, IsFinishOf, IsProgress, IsUnfinished, IsStartOf};
+ghost use Rattle.interp.specs.Run.{seen, IsKept};
+ghost use Rattle.interp.specs.Going.{HasTurned};
 ghost use Rattle.link.specs.Parts.{hosts_of};
 ghost use Rattle.instance.specs.Views.{contract_of};
 ghost use Rattle.spec_ledger.specs.declared.Version.TheVariants.{Two};
-ghost use Rattle.interp_run.specs.Callee.{setting_view};
+ghost use Rattle.interp.specs.Callee.{setting_view};
 
 use crate::finished::Finished;
+use crate::functions::start_run;
+use crate::levels::no_parts;
+use crate::replies::take_answer;
+use crate::run::Run;
+use crate::running::{next_turn, turn_on};
 use crate::start::{Opened, StartRefusal, open_call, refusal_of};
+use crate::turns::{Status, Turn};
 use call::Call;
 use instance::open_instance;
-use interp_run::functions::start_run;
-use interp_run::levels::no_parts;
-use interp_run::replies::take_answer;
-use interp_run::run::Run;
-use interp_run::running::{next_turn, turn_on};
-use interp_run::turns::{Status, Turn};
 use interp_state::callee::Callee;
 use interp_state::waiting::prepare;
 use laws_soundness::deployed_calls_are_safe;
@@ -64,14 +64,14 @@ pub struct Machine<'a, A: Allocator + Copy> {
 }
 
 impl<'a, A: Allocator + Copy> Model for Machine<'a, A> {
-    ghost use Rattle.interp_run.specs.Progress.{Progress, coded_progress};
+    ghost use Rattle.interp.specs.Progress.{Progress, coded_progress};
 
     ghost Value = { Progress };
 
     ghost coded = { coded_progress };
 
-    ghost use Rattle.interp_run.specs.Machine.{progress};
-    ghost use Rattle.interp_run.specs.Run.{seen, IsKept};
+    ghost use Rattle.interp.specs.Machine.{progress};
+    ghost use Rattle.interp.specs.Run.{seen, IsKept};
 
     ghost view = { λ m. progress (seen m.run) };
 
@@ -140,8 +140,8 @@ impl<'a, A: Allocator + Copy> Machine<'a, A> {
     ghost use Rattle.spec_execution.specs.Run.{opening, Opens};
     ghost use Rattle.spec_ledger.specs.declared.Version.TheVariants.{Two};
     ghost use Rattle.instance.specs.Views.{contract_of};
-    ghost use Rattle.interp_run.specs.Callee.{setting_view};
-    ghost use Rattle.interp_run.specs.Progress.{IsStartOf, IsProgress};
+    ghost use Rattle.interp.specs.Callee.{setting_view};
+    ghost use Rattle.interp.specs.Progress.{IsStartOf, IsProgress};
     ghost use Rattle.interp.specs.Starting.{IsRefusedFor, HasPlace, wrong_in};
 
     /// The machine of a call before its first turn, by the rules of version 2: `start_as` with it.

@@ -1,15 +1,15 @@
 // What a debugger reads off a machine.
 ghost use Rattle.std.specs.Prelude.{◌≡◌, ◌↔◌, ◌<◌, ◌≤◌, ◌+◌, IfOk, IsTrue, length, drop, vec_len, vec_capacity};
 ghost use Rattle.spec_execution.specs.Turns.{state_of};
-ghost use Rattle.interp_run.specs.Machine.{progress};
-ghost use Rattle.interp_run.specs.Run.{seen, IsKept};
-ghost use Rattle.interp_run.specs.Progress.{GoesOn, IsLeftNext};
+ghost use Rattle.interp.specs.Machine.{progress};
+ghost use Rattle.interp.specs.Run.{seen, IsKept};
+ghost use Rattle.interp.specs.Progress.{GoesOn, IsLeftNext};
 ghost use Rattle.interp.specs.Shown.{is_out, leaves_stack, ending, stack_shown, locals_shown, place_shown, outermost, IsShown, AreReadOf, IsReadOf, is_fallen};
 
 use crate::machine::Machine;
+use crate::run::{Level, Run};
+use crate::turns::Status;
 use instance::Instance;
-use interp_run::run::{Level, Run};
-use interp_run::turns::Status;
 use interp_state::callee::Callee;
 use interp_state::copies::{copy_parts, copy_waiting};
 use interp_state::places::{height_of_call, place_in_code};
@@ -234,7 +234,7 @@ fn copy_trace<A: Allocator + Copy>(
     Ok(copy)
 }
 
-ghost use Rattle.interp_run.specs.Run.{IsCopyOf, AreCopiesOf};
+ghost use Rattle.interp.specs.Run.{IsCopyOf, AreCopiesOf};
 
 // The same level, with memory of its own.
 fn copy_level<'a, A: Allocator + Copy>(
@@ -313,7 +313,7 @@ impl<'a, A: Allocator + Copy> Machine<'a, A> {
     ghost use Rattle.spec_execution.specs.Turns.{state_of};
     ghost use Rattle.std.specs.Prelude.{◌↔◌, IsTrue};
     ghost use Rattle.spec_execution.specs.Levels.{asks_in};
-    ghost use Rattle.interp_run.specs.Progress.{GoesOn, IsLeftNext};
+    ghost use Rattle.interp.specs.Progress.{GoesOn, IsLeftNext};
     ghost use Rattle.interp.specs.Shown.{ending, stack_shown, locals_shown, place_shown, outermost, IsShown, IsReadOf};
 
     /// The same machine, with memory of its own.

@@ -8,7 +8,7 @@ ghost use Rattle.link.specs.Parts.{hosts_of};
 ghost use Rattle.instance.specs.Views as opening_views;
 ghost use Rattle.instance.specs.Views.{code_of, contract_of, deployed_view};
 ghost use Rattle.spec_ledger.specs.declared.Version.{Version};
-ghost use Rattle.interp_run.specs.Callee.{setting_view};
+ghost use Rattle.interp.specs.Callee.{setting_view};
 ghost use Rattle.interp.specs.Starting.{IsRefusedFor, HasPlace, HasCode, wrong_in};
 
 use call::Call;

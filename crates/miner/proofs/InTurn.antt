@@ -6,7 +6,7 @@ use Rattle.spec_ledger.specs.Cells.{Cells}
 use Rattle.spec_ledger.specs.Order.{IsAdmissible}
 use Rattle.spec_execution.specs.Run.{ContractCall}
 use Rattle.spec_execution.specs.Serial.{Serial}
-use Rattle.interp_run.specs.Callee.{setting_view}
+use Rattle.interp.specs.Callee.{setting_view}
 use Rattle.serial.specs.Positions.{results_of}
 use Rattle.serial.specs.Ordered.{fuel_of_receipts}
 use Rattle.serial.proofs.BlocksLimits.{used_within, fuel_is}

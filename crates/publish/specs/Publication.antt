@@ -14,7 +14,7 @@ use Rattle.spec_execution.specs.Configuration.{Setting}
 use Rattle.spec_execution.specs.Run.{ContractCall}
 use Rattle.spec_execution.specs.Exec.{Executes}
 use Rattle.spec_execution.specs.Serial.{CallResult, Serial}
-use Rattle.interp_run.specs.Codes.{coded_setting, coded_call}
+use Rattle.interp.specs.Codes.{coded_setting, coded_call}
 
 -- Calls over contracts, from the opening cells on, with this fuel for all of them; and so far: the order, what the call at each position came to, and the cells.
 pub record Publication : Type 0 where

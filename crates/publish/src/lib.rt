@@ -13,7 +13,7 @@ ghost use Rattle.spec_ledger.specs.Book.{GetsReplies, IsDefined, settled};
 ghost use Rattle.spec_ledger.specs.Order.{IsAdmissible};
 ghost use Rattle.spec_execution.specs.Serial.{Serial};
 ghost use Rattle.spec_ledger.specs.declared.Version.TheVariants.{Two};
-ghost use Rattle.interp_run.specs.Callee.{setting_view};
+ghost use Rattle.interp.specs.Callee.{setting_view};
 ghost use Rattle.serial.specs.Positions.{results_of};
 ghost use Rattle.publish.specs.Publication.{IsSerialOrder, MayFollow, HasTaken, IsSameJob, HasGoneOn, Sweep, AreLeft, limits, fuel_of_results};
 ghost use Rattle.speculation.specs.Calls.{IsFootprintOf};
@@ -52,7 +52,7 @@ pub struct Publishing<'a, A: Allocator + Copy> {
 
 impl<'a, A: Allocator + Copy> Model for Publishing<'a, A> {
     ghost use Rattle.spec_ledger.specs.declared.Version.TheVariants.{Two};
-    ghost use Rattle.interp_run.specs.Callee.{setting_view};
+    ghost use Rattle.interp.specs.Callee.{setting_view};
     ghost use Rattle.serial.specs.Positions.{results_of};
     ghost use Rattle.publish.specs.Publication.{Publication, coded_publication, IsKept};
 

@@ -7,8 +7,7 @@ use rows_script::{Came, Fails, cut};
 use std::alloc::Global;
 use std::sync::Wait;
 use std::thread::Threads;
-use wblock_arguments::usage_text;
-use wblock_commands::run_line;
+use wblock_commands::{run_line, usage_text};
 use wblock_io::MemoryFiles;
 use wblock_line::Status;
 

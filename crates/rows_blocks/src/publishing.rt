@@ -2,7 +2,7 @@
 
 ghost use Rattle.std.specs.Prelude.{◌≡◌, ◌<◌, ◌^◌, length};
 ghost use Rattle.spec_ledger.specs.declared.Version.TheVariants.{Two};
-ghost use Rattle.interp_run.specs.Callee.{setting_view};
+ghost use Rattle.interp.specs.Callee.{setting_view};
 ghost use Rattle.publish.specs.Publication.{IsSameJob};
 
 use crate::runs::put_core;

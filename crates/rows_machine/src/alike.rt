@@ -1,6 +1,6 @@
 //! Whether turns in one call come to the same as single ones.
 
-ghost use Rattle.interp_run.specs.Progress.{IsFree};
+ghost use Rattle.interp.specs.Progress.{IsFree};
 
 use crate::machines::{started, turn_on, turn_on_by_one};
 use crate::question::{Question, question_of};

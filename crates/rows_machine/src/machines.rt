@@ -1,13 +1,13 @@
 //! Machines that are run turn by turn or to their end, over a host that replies the same whatever the key.
 
 ghost use Rattle.std.specs.Prelude.{IfOk};
-ghost use Rattle.interp_run.specs.Progress.{IsFree};
+ghost use Rattle.interp.specs.Progress.{IsFree};
 ghost use Rattle.spec_execution.specs.Run.{IsReply};
 
 use crate::refused::Refused;
 use call::Call;
 use interp::machine::Machine;
-use interp_run::turns::Turn;
+use interp::turns::Turn;
 use link::deployed::Deployed;
 use spec_ledger::{Op, Reply, Version};
 use std::alloc::{Allocator, Global};

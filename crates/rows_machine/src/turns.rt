@@ -1,6 +1,6 @@
 //! What turns tell, one after another.
 
-ghost use Rattle.interp_run.specs.Progress.{IsFree};
+ghost use Rattle.interp.specs.Progress.{IsFree};
 
 use crate::finishes::put_end;
 use crate::machines::{make_turn, play, unfinished};

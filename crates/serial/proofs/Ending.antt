@@ -17,7 +17,7 @@ use Rattle.spec_execution.specs.Configuration.{Setting}
 use Rattle.spec_execution.specs.Run.{ContractCall}
 use Rattle.spec_execution.specs.Levels.{RunsWith, asks_in}
 use Rattle.spec_execution.specs.Exec.{Executes}
-use Rattle.interp_run.specs.Played.{Played, IsPlayed}
+use Rattle.interp.specs.Played.{Played, IsPlayed}
 use Rattle.serial.specs.Playing.{AreDone, IsPlayedOver}
 
 module _ (start now : Store) (t : List TraceStep) (is : List Inverse) (d : AreDone start t now is) (settled : start.unsettled ≡ empty) where

@@ -4,11 +4,11 @@ use Rattle.spec_ledger.specs.declared.TraceStep.{TraceStep}
 use Rattle.spec_ledger.specs.declared.TraceStep.TheVariants.{Opened}
 use Rattle.spec_ledger.specs.declared.Op.{Op}
 use Rattle.spec_ledger.specs.declared.Outcome.{Outcome}
-use Rattle.interp_run.specs.declared.turns.Status.{Status}
-use Rattle.interp_run.specs.declared.turns.Status.TheVariants as status
-use Rattle.interp_run.specs.declared.turns.Turn.TheVariants as turn
-use Rattle.interp_run.specs.Progress.{Progress, IsProgress, IsProgressAt, IsSameCall, IsFree, GoesOn, mark_of, with_inner}
-use Rattle.interp_run.specs.Going.{AreSteps, none, one_more, HasTurned}
+use Rattle.interp.specs.declared.turns.Status.{Status}
+use Rattle.interp.specs.declared.turns.Status.TheVariants as status
+use Rattle.interp.specs.declared.turns.Turn.TheVariants as turn
+use Rattle.interp.specs.Progress.{Progress, IsProgress, IsProgressAt, IsSameCall, IsFree, GoesOn, mark_of, with_inner}
+use Rattle.interp.specs.Going.{AreSteps, none, one_more, HasTurned}
 use Rattle.serial.specs.Going.{HasGone, HasAskedFor, HasEntered, HasLeft, HasEnded, HasLacked, IsEnded}
 
 same_joined : (p m q : Progress) → IsSameCall p m → IsSameCall m q → IsSameCall p q

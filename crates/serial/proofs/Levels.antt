@@ -13,7 +13,7 @@ use Rattle.spec_ledger.specs.Book.{Marked, kept_at, dropped_at, stepped, noted, 
 use Rattle.spec_ledger.proofs.Traces.{IsMark, AreFronts, fronts_of, standing_at-push, after-standing, back_all-inverses, inverses_of-append, inverses_of-length, GetsReplies-mark, AreCells-ops, ops_after-append}
 use Rattle.storage.specs.Counts.{Store, AreCounts, opened, opened_all, closed_all, AreUnsettled}
 use Rattle.storage.proofs.Counted.{AreCounts-empty, AreCounts-opened_all, AreUnsettled-opened_all, closed_all-opened_all, opened_all-append}
-use Rattle.interp_run.specs.Progress.{mark_of}
+use Rattle.interp.specs.Progress.{mark_of}
 use Rattle.serial.specs.Playing.{AreDone, AreSomeDone, AreDoneInLevels, MayBeLeft}
 use Rattle.serial.proofs.Doing.{done_none, done_more}
 

@@ -7,9 +7,9 @@ use Rattle.spec_ledger.specs.declared.TraceStep.TheVariants.{Did}
 use Rattle.spec_ledger.specs.Cells.{cells_after, reply_to, inverse_to}
 use Rattle.spec_execution.specs.Run.{ContractCall}
 use Rattle.storage.specs.Counts.{Store, opened}
-use Rattle.interp_run.specs.declared.turns.Status.{Status}
-use Rattle.interp_run.specs.declared.turns.Status.TheVariants as status
-use Rattle.interp_run.specs.Progress.{Progress, IsSameCall, HasReplied, HasAnswered, AnsweredAt, GoesOn, IsFree, left_of, mark_of}
+use Rattle.interp.specs.declared.turns.Status.{Status}
+use Rattle.interp.specs.declared.turns.Status.TheVariants as status
+use Rattle.interp.specs.Progress.{Progress, IsSameCall, HasReplied, HasAnswered, AnsweredAt, GoesOn, IsFree, left_of, mark_of}
 use Rattle.serial.specs.declared.turn_loop.HostRequest.{HostRequest}
 use Rattle.serial.specs.Going.{HasComeTo, HasAskedFor, HasEntered, HasLeft, MayGoOn}
 use Rattle.serial.specs.Playing.{AreDoneInLevels, IsOnItsWay}

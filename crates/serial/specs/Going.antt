@@ -2,9 +2,9 @@
 use Rattle.std.specs.Prelude.{◌≡◌, ◌<◌, ◌≤◌, [], ◌∷◌, ◌++◌, Bool}
 use Rattle.spec_ledger.specs.declared.Op.{Op}
 use Rattle.spec_ledger.specs.declared.TraceStep.TheVariants.{Opened}
-use Rattle.interp_run.specs.declared.turns.Status.{Status}
-use Rattle.interp_run.specs.declared.turns.Status.TheVariants as status
-use Rattle.interp_run.specs.Progress.{Progress, IsFree, IsSameCall, WantsMemory, left_of, mark_of}
+use Rattle.interp.specs.declared.turns.Status.{Status}
+use Rattle.interp.specs.declared.turns.Status.TheVariants as status
+use Rattle.interp.specs.Progress.{Progress, IsFree, IsSameCall, WantsMemory, left_of, mark_of}
 use Rattle.serial.specs.declared.turn_loop.HostRequest.{HostRequest}
 use Rattle.serial.specs.declared.turn_loop.HostRequest.TheVariants as wish
 

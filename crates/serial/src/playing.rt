@@ -3,9 +3,9 @@ ghost use Rattle.std.specs.Prelude.{◌≡◌, [], Ok, true, false, IfOk, OnOk, 
 ghost use Rattle.std.specs.FinMap as finite;
 ghost use Rattle.spec_execution.specs.Run.{opening};
 ghost use Rattle.storage.specs.Counts.{Store};
-ghost use Rattle.interp_run.specs.Callee.{setting_view};
+ghost use Rattle.interp.specs.Callee.{setting_view};
 ghost use Rattle.interp.specs.Starting.{IsOpened, IsRejection};
-ghost use Rattle.interp_run.specs.Progress.{IsFree, IsSameCall};
+ghost use Rattle.interp.specs.Progress.{IsFree, IsSameCall};
 ghost use Rattle.serial.specs.Going.{MayGoOn, IsEnded};
 ghost use Rattle.serial.specs.Playing.{IsOnItsWay, IsPlayedOver, AreDone, AreSomeDone, MayBeLeft};
 

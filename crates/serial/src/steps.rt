@@ -4,7 +4,7 @@ ghost use Rattle.spec_execution.specs.Run.{IsReply};
 ghost use Rattle.spec_ledger.specs.Cells.{cells_after, inverse_to, reply_to};
 ghost use Rattle.spec_ledger.specs.declared.TraceStep.{TraceStep};
 ghost use Rattle.storage.specs.Counts.{Store, opened};
-ghost use Rattle.interp_run.specs.Progress.{mark_of};
+ghost use Rattle.interp.specs.Progress.{mark_of};
 ghost use Rattle.serial.specs.Playing.{AreDoneInLevels, MayBeLeft};
 
 use spec_ledger::{Inverse, NoMemory, Op, Reply};

@@ -1,11 +1,11 @@
 //! The one way over a machine's turns. Who runs a call goes from one wish to the next, an operation of storage or a level that is entered or left, and answers each operation.
 
 ghost use Rattle.std.specs.Prelude.{IfOk, IfSome, OnErr, None, Ok, ◌≡◌};
-ghost use Rattle.interp_run.specs.Progress.{IsFree, IsProgress, IsSameCall};
+ghost use Rattle.interp.specs.Progress.{IsFree, IsProgress, IsSameCall};
 ghost use Rattle.serial.specs.Going.{HasComeTo, HasEnded, HasLacked};
 
 use interp::machine::Machine;
-use interp_run::turns::Turn;
+use interp::turns::Turn;
 use spec_ledger::{NoMemory, Op};
 use std::alloc::Allocator;
 

@@ -10,7 +10,7 @@ use Rattle.spec_execution.specs.Configuration.{Setting}
 use Rattle.spec_execution.specs.Run.{ContractCall}
 use Rattle.spec_execution.specs.Levels.{asks_in}
 use Rattle.spec_execution.specs.Exec.{Executes}
-use Rattle.interp_run.specs.Played.{Played, IsPlayed}
+use Rattle.interp.specs.Played.{Played, IsPlayed}
 use Rattle.serial.proofs.Ending.{executed, undone}
 use Rattle.speculation.specs.declared.touches.Touch.{Touch}
 use Rattle.speculation.specs.Behind.{behind}

@@ -22,7 +22,7 @@ use Rattle.spec_ledger.proofs.Ops.{AreCells-empty}
 use Rattle.spec_ledger.proofs.Traces.{All-weaken, All-standing, Holds, IsMark, all_hold, get-touched_by, touched-mark}
 use Rattle.storage.specs.Counts.{opened_all, closed_all}
 use Rattle.storage.proofs.Counted.{AreCounts-empty, AreCounts-opened_all, closed_all-opened_all, opened_all-append, opened_all-push}
-use Rattle.interp_run.specs.Progress.{mark_of}
+use Rattle.interp.specs.Progress.{mark_of}
 use Rattle.serial.specs.Asking.{asked}
 use Rattle.serial.specs.Playing.{AreDoneInLevels}
 use Rattle.serial.proofs.Levels.{none_in_levels, did_one, entered, kept, dropped, left_outside, within}

@@ -8,8 +8,8 @@ use Rattle.spec_ledger.specs.declared.TraceStep.{TraceStep}
 use Rattle.spec_ledger.specs.declared.TraceStep.TheVariants.{Did}
 use Rattle.spec_execution.specs.Configuration.{Setting}
 use Rattle.spec_execution.specs.Run.{ContractCall}
-use Rattle.interp_run.specs.Played.{Played}
-use Rattle.interp_run.specs.Progress.{Progress, HasAnswered, IsSameCall, mark_of}
+use Rattle.interp.specs.Played.{Played}
+use Rattle.interp.specs.Progress.{Progress, HasAnswered, IsSameCall, mark_of}
 use Rattle.serial.specs.Going.{HasAskedFor, HasEntered, HasLeft}
 use Rattle.serial.proofs.Meeting.{replied_to}
 use Rattle.speculation.specs.declared.touches.Touch.{Touch}

@@ -12,7 +12,7 @@ ghost use Rattle.std.specs.Prelude.{◌≡◌, ◌++◌, ℕ, All, IfOk, OnOk, O
 ghost use Rattle.std.specs.FinMap.{get};
 ghost use Rattle.spec_ledger.specs.declared.Lock.{Lock};
 ghost use Rattle.spec_execution.specs.ReadWriteSets.{IsReadWriteSet};
-ghost use Rattle.interp_run.specs.Callee.{setting_view};
+ghost use Rattle.interp.specs.Callee.{setting_view};
 ghost use Rattle.speculation.specs.Behind.{behind};
 ghost use Rattle.speculation.specs.Found.{IsFoundBy};
 ghost use Rattle.speculation.specs.Touches.{AreAccessesAt, IsCellAt};

@@ -1,9 +1,9 @@
 // A call that runs, and touches cells.
 ghost use Rattle.std.specs.Prelude.{◌≡◌, [], Ok, true, false, IfOk, OnOk};
 ghost use Rattle.spec_execution.specs.Run.{opening};
-ghost use Rattle.interp_run.specs.Callee.{setting_view};
+ghost use Rattle.interp.specs.Callee.{setting_view};
 ghost use Rattle.interp.specs.Starting.{IsOpened, IsRejection};
-ghost use Rattle.interp_run.specs.Progress.{IsFree, IsSameCall};
+ghost use Rattle.interp.specs.Progress.{IsFree, IsSameCall};
 ghost use Rattle.serial.specs.Going.{MayGoOn, IsEnded};
 ghost use Rattle.speculation.specs.Touches.{AreFoundBy, AreTouches, AreTouchesOf, IsPlayedBeside, WereTouchedBy};
 

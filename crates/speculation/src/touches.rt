@@ -9,7 +9,7 @@ ghost use Rattle.spec_ledger.specs.declared.TraceStep.{TraceStep};
 ghost use Rattle.spec_ledger.specs.declared.TraceStep.TheVariants.{Did};
 ghost use Rattle.spec_execution.specs.Run.{IsReply};
 ghost use Rattle.storage.specs.Slots.{cell_back};
-ghost use Rattle.interp_run.specs.Progress.{mark_of};
+ghost use Rattle.interp.specs.Progress.{mark_of};
 ghost use Rattle.speculation.specs.Touches.{AreFoundBy, AreTouches, AreTouchesOf, IsCellAt, IsTouched, found_in, later_in, modes_of};
 
 use crate::Reads;

@@ -1,12 +1,12 @@
 // A machine whose memory comes from a small heap: growth takes none, and where it is refused, the machine wants it again and again.
 ghost use Rattle.std.specs.Prelude.{IfOk};
-ghost use Rattle.interp_run.specs.Progress.{IsFree};
+ghost use Rattle.interp.specs.Progress.{IsFree};
 
 use crate::assertions::equal;
 use crate::programs::{PAGES, STORING};
 use call::Call;
 use interp::machine::Machine;
-use interp_run::turns::Turn;
+use interp::turns::Turn;
 use link::deployed::Deployed;
 use linked_list_allocator::LocalHeap;
 use rows_machine::make_turn;

@@ -14,7 +14,7 @@ use Rattle.spec_block.specs.Bytes.{IsBlock}
 use Rattle.spec_block.specs.Schedule.{HaveTurns}
 use Rattle.spec_block.specs.Serial.{setting_of}
 use Rattle.spec_block.specs.Verdicts.{HoldsOf, Verdict, place, RunOf}
-use Rattle.interp_run.specs.Callee.{setting_view}
+use Rattle.interp.specs.Callee.{setting_view}
 use Rattle.block_judge.specs.declared.reason.JudgeRefusal.{JudgeRefusal}
 use Rattle.block_judge.specs.declared.reason.JudgeRefusal.TheVariants as unfit
 use Rattle.block_judge.specs.Judging.{IfRejected, IsFirstFrom, NoneFrom}

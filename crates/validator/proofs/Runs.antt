@@ -9,7 +9,7 @@ use Rattle.spec_ledger.specs.declared.Reply.{Reply}
 use Rattle.spec_ledger.specs.Cells.{Cells, reply_to}
 use Rattle.spec_execution.specs.Run.{ContractCall, IsReply}
 use Rattle.serial.proofs.Replies.{is_reply}
-use Rattle.interp_run.specs.Played.{Played}
+use Rattle.interp.specs.Played.{Played}
 use Rattle.in_order.specs.Progress.{IsRunOf}
 use Rattle.validator.specs.declared.job.Job.{Job}
 use Rattle.validator.specs.declared.job.PositionRun.{PositionRun}

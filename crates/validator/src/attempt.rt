@@ -2,9 +2,9 @@
 
 ghost use Rattle.std.specs.Prelude.{◌≡◌, ◌<◌, ◌≤◌, ◌^◌, Ok, true, false, IfOk, IfSome, OnOk, length};
 ghost use Rattle.spec_execution.specs.Run.{IsReply, opening};
-ghost use Rattle.interp_run.specs.Callee.{setting_view};
+ghost use Rattle.interp.specs.Callee.{setting_view};
 ghost use Rattle.interp.specs.Starting.{IsOpened, IsRejection};
-ghost use Rattle.interp_run.specs.Progress.{IsFree, IsSameCall};
+ghost use Rattle.interp.specs.Progress.{IsFree, IsSameCall};
 ghost use Rattle.serial.specs.Going.{MayGoOn, IsEnded};
 ghost use Rattle.validator.specs.Handed.{IsMade, IsRunIn};
 ghost use Rattle.validator.specs.Jobs.{IsJob};

@@ -1,3 +1,7 @@
 mod Noting
 pub mod Numbers
 mod Saying
+pub mod Asked
+pub mod Lines
+pub mod Next
+pub mod Showing

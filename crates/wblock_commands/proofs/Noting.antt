@@ -8,8 +8,8 @@ use Rattle.wblock_line.specs.declared.answer.Answer.{Answer}
 use Rattle.wblock_line.specs.declared.answer.Answer.TheVariants.{Done, Refused}
 use Rattle.wblock_blocks.specs.Notes.{IsReturn, HasReturned, EndsLine}
 use Rattle.wblock_commands.specs.Does.{IsMine, IsNote, SaysNote}
-use Rattle.wblock_arguments.specs.declared.command.Command.{Command}
-use Rattle.wblock_arguments.specs.declared.command.Command.TheVariants.{Stored, Help, Version, Asm, Text, Check, Deploy, Mine, Validate, Debug, Show}
+use Rattle.wblock_commands.specs.declared.command.Command.{Command}
+use Rattle.wblock_commands.specs.declared.command.Command.TheVariants.{Stored, Help, Version, Asm, Text, Check, Deploy, Mine, Validate, Debug, Show}
 
 returned_or_not : (o : Outcome) → IsReturn o ⊎ (IsReturn o → ⊥)
 returned_or_not (Returned value) = inl tt

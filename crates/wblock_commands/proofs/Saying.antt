@@ -7,7 +7,7 @@ use Rattle.wblock_line.specs.declared.answer.Fault.{Fault}
 use Rattle.wblock_line.specs.declared.answer.Fault.TheVariants.{File, NoMemory}
 use Rattle.wblock_line.specs.declared.perform.Status.TheVariants as status
 use Rattle.wblock_line.specs.Answers.{status_of, status_of_fault, writes_of, why_line, Wrote, WroteSome, CountsFault, IsFailing, IsOfFile, IsSaid, SaysFile, SaysFault}
-use Rattle.wblock_arguments.specs.declared.command.Command.{Command}
+use Rattle.wblock_commands.specs.declared.command.Command.{Command}
 use Rattle.wblock_commands.specs.Does.{Answers, SaysText, Reads, Fails}
 
 pub says_why : (a : Answer) (old new : List ℕ) (failed fails : ℕ) → status_of a ≡ status.Refused → IsSaid (why_line a) old new failed fails → SaysText old new failed fails

@@ -5,7 +5,7 @@ use Rattle.wblock_line.specs.declared.answer.Answer.{Answer}
 use Rattle.wblock_line.specs.declared.perform.Status.{Status}
 use Rattle.wblock_line.specs.Answers.{status_of, writes_of, text_of, Wrote, IsFailing, IsSaid}
 use Rattle.wblock_commands.specs.Stored.{ShowsStored}
-use Rattle.wblock_arguments.specs.Texts.{TellsText}
+use Rattle.wblock_commands.specs.Texts.{TellsText}
 use Rattle.wblock_modules.specs.Assembles.{Assembles}
 use Rattle.wblock_modules.specs.Checks.{Checks}
 use Rattle.wblock_modules.specs.Texts.{WritesText}
@@ -15,8 +15,8 @@ use Rattle.wblock_blocks.specs.Notes.{EndsLine, Notes}
 use Rattle.wblock_blocks.specs.Validates.{Validates, IsNextFile}
 use Rattle.wblock_debug.specs.Debugs.{Debugs, IsNotListed, IsNextRead}
 use Rattle.wblock_show.specs.Named.{ShowsNamed, IsNextNamed}
-use Rattle.wblock_arguments.specs.declared.command.Command.{Command}
-use Rattle.wblock_arguments.specs.declared.command.Command.TheVariants.{Stored, Help, Version, Asm, Text, Check, Deploy, Mine, Validate, Debug, Show}
+use Rattle.wblock_commands.specs.declared.command.Command.{Command}
+use Rattle.wblock_commands.specs.declared.command.Command.TheVariants.{Stored, Help, Version, Asm, Text, Check, Deploy, Mine, Validate, Debug, Show}
 use Rattle.wblock_commands.specs.Deploying.{IsTaken, DeploysFree, IsNextToDeploy}
 
 -- what a command comes to over files

@@ -3,3 +3,6 @@ pub mod Deploying
 pub mod Does
 pub mod Runs
 pub mod Stored
+pub mod Options
+pub mod Texts
+pub mod Words

@@ -1,7 +1,7 @@
 //! What a module and a text of its calls come to.
 
 ghost use Rattle.std.specs.Prelude.{◌≡◌, IfOk, IfErr};
-ghost use Rattle.interp_run.specs.Callee.{contract_view};
+ghost use Rattle.interp.specs.Callee.{contract_view};
 ghost use Rattle.wblock_commands.specs.Answers.{CallsAnswer, Refuses, IsAnswer};
 ghost use Rattle.wblock_commands.specs.Stored.{ShowsStored};
 

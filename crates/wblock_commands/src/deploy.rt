@@ -4,8 +4,8 @@ ghost use Rattle.std.specs.Prelude.{◌≡◌, ◌≤◌, false, IsTrue, IfOk, I
 ghost use Rattle.wblock_line.specs.Answers.{CountsFault, IsOfFile};
 ghost use Rattle.wblock_commands.specs.Deploying.{IsTaken, DeploysFree, IsNextToDeploy};
 
+use crate::Deploying;
 use std::alloc::Global;
-use wblock_arguments::Deploying;
 use wblock_io::Files;
 use wblock_line::{Answer, Fault};
 use wblock_modules::deploy_modules;

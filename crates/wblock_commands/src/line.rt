@@ -2,18 +2,19 @@
 
 ghost use Rattle.std.specs.Prelude.{◌≡◌, ◌≢◌, ◌≤◌, ◌⊎◌, ◌++◌, ℕ, List, [], IsTrue, IfOk, IfErr, OnOk, MatchOption, map, string_bytes};
 ghost use Rattle.wblock_line.specs.Answers.{CountsFault, IsFailing, IsOfFile, IsSaid, SaysFile, Wrote, memory_line, status_of, text_of, why_line, writes_of};
-ghost use Rattle.wblock_arguments.specs.Words.{Says, HasFew};
+ghost use Rattle.wblock_commands.specs.Words.{Says, HasFew};
 ghost use Rattle.wblock_commands.specs.Does.{Answers, IsMine, IsNote, MayMiss, Misses, Does, Reads, Fails, IsKept, SaysNote, SaysText};
-ghost use Rattle.wblock_arguments.specs.declared.command.Command.{Command as Asked};
+ghost use Rattle.wblock_commands.specs.declared.command.Command.{Command as Asked};
 
+use crate::command::{Command, command_of, watched_command};
 use crate::deploy::deploy_apart;
-use crate::show_stored;
+use crate::usage::{tell_help, tell_version};
+use crate::{show_stored, usage_text};
 use byte_sinks::{Sink, put_all};
 use pace::Pace;
 use std::alloc::{AllocError, Global};
 use std::sync::Wait;
 use std::thread::Threads;
-use wblock_arguments::{Command, command_of, tell_help, tell_version, usage_text, watched_command};
 use wblock_blocks::{Noted, mine_block, validate_block};
 use wblock_debug::debug_world;
 use wblock_io::Files;

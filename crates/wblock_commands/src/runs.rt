@@ -1,7 +1,7 @@
 //! The calls of a contract, one after another, and the lines that tell what they came to.
 
 ghost use Rattle.std.specs.Prelude.{◌≡◌, ◌<◌, ◌≤◌, length, IfOk, string_bytes};
-ghost use Rattle.interp_run.specs.Callee.{contract_view};
+ghost use Rattle.interp.specs.Callee.{contract_view};
 ghost use Rattle.wblock_commands.specs.Runs.{Shows, numbers_from, told_of};
 
 use call::Call;

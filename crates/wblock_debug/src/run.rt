@@ -3,7 +3,7 @@
 ghost use Rattle.std.specs.Prelude.{◌≡◌, IfOk, OnOk, MatchOption, string_bytes};
 ghost use Rattle.spec_execution.specs.Configuration.{Setting};
 ghost use Rattle.spec_execution.specs.Run.{ContractCall, Opening, Refused, opening};
-ghost use Rattle.interp_run.specs.Callee.{setting_view};
+ghost use Rattle.interp.specs.Callee.{setting_view};
 ghost use Rattle.interp.specs.Starting.{IsOpened, IsRefusedFor};
 ghost use Rattle.wblock_debug.specs.Lines.{refusal_line};
 ghost use Rattle.wblock_debug.specs.Prints.{IsPrinted, AddsCommand, IsNotStarted, IsDebugged};

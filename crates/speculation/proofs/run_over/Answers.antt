@@ -1,7 +1,7 @@
 use Rattle.std.proofs.Common.{cond, sym, subst}
 use Rattle.std.specs.Prelude.{All}
 use Rattle.spec_execution.specs.ReadWriteSets.{IsReadWriteSet}
-use Rattle.interp_run.specs.Callee.{setting_view}
+use Rattle.interp.specs.Callee.{setting_view}
 use Rattle.speculation.specs.Found.{IsFoundBy}
 use Rattle.speculation.specs.Touches.{found_in, later_in}
 use Rattle.speculation.proofs.Ending.{behind_is, executed_beside, found_are, put_behind}

@@ -1,5 +1,5 @@
 use Rattle.std.proofs.Common.{◌≡◌, ℕ, ◌<◌, List, Some, Contains, length, slice_get, slice_index_or, sym, subst, ◌∙◌, take}
-use Rattle.interp_run.specs.Callee.{setting_view}
+use Rattle.interp.specs.Callee.{setting_view}
 use Rattle.spec_ledger.specs.Cells.{Cells}
 use Rattle.spec_ledger.specs.declared.Version.{Version}
 use Rattle.spec_execution.specs.Serial.{Serial}

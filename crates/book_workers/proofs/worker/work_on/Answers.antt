@@ -1,7 +1,7 @@
 use Rattle.std.proofs.Common.{IfSome, subst}
 use Rattle.book_workers.specs.Handed.{IsCommitted}
 use Rattle.spec_ledger.specs.declared.Version.TheVariants.{Two}
-use Rattle.interp_run.specs.Callee.{setting_view}
+use Rattle.interp.specs.Callee.{setting_view}
 use Rattle.book_workers.proofs.Runs.{one_more_run}
 use Rattle.book_workers.proofs.worker.work_on.Goals as goal
 

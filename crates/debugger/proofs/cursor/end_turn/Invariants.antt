@@ -1,5 +1,5 @@
 use Rattle.std.proofs.Common.{◌≡◌}
-use Rattle.interp_run.specs.Progress.{Progress, GoesOn, depth_of}
+use Rattle.interp.specs.Progress.{Progress, GoesOn, depth_of}
 use Rattle.debugger.specs.Cursors.{IsInTurn}
 use Rattle.debugger.proofs.cursor.end_turn.Given as goal
 

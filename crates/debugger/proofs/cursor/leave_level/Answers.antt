@@ -1,4 +1,4 @@
-use Rattle.interp_run.specs.Progress.{mark_of}
+use Rattle.interp.specs.Progress.{mark_of}
 use Rattle.debugger.proofs.Turning.{begun_left, left_mark, marked, ends_not}
 use Rattle.debugger.proofs.Undoing.{on_ok}
 use Rattle.debugger.proofs.cursor.leave_level.Goals as goal

@@ -2,7 +2,7 @@ use Rattle.std.proofs.Common.{◌≡◌, IfSome, arith, subst}
 use Rattle.std.specs.Prelude.{Some, slice_get}
 use Rattle.spec_execution.specs.Exec.{Executes}
 use Rattle.spec_execution.specs.Run.{ContractCall}
-use Rattle.interp_run.specs.Callee.{setting_view}
+use Rattle.interp.specs.Callee.{setting_view}
 use Rattle.in_order.proofs.turns.by_footprint.Goals as goal
 
 pub returns-clause-executed : goal.returns-clause-executed

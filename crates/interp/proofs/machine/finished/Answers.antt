@@ -1,7 +1,7 @@
 use Rattle.std.proofs.Common.{subst}
 use Rattle.spec_execution.specs.Levels.{ran}
-use Rattle.interp_run.specs.Machine.{IsAt}
-use Rattle.interp_run.specs.Run.{seen}
+use Rattle.interp.specs.Machine.{IsAt}
+use Rattle.interp.specs.Run.{seen}
 use Rattle.interp.proofs.machine.finished.Goals as goal
 
 pub of-requires-clause-played : goal.of-requires-clause-played

@@ -1,9 +1,9 @@
 use Rattle.std.proofs.Common.{◌≡◌, ℕ, List, sym, ap, subst}
 use Rattle.spec_execution.specs.Configuration.{State}
 use Rattle.spec_execution.specs.Turns.{state_of}
-use Rattle.interp_run.specs.Machine.{progress}
-use Rattle.interp_run.specs.Run.{seen}
-use Rattle.interp_run.proofs.Turning.{state_at}
+use Rattle.interp.specs.Machine.{progress}
+use Rattle.interp.specs.Run.{seen}
+use Rattle.interp.proofs.Turning.{state_at}
 use Rattle.interp.specs.Shown.{AreReadOf}
 use Rattle.interp.proofs.readers.bytes_of_run.Goals as goal
 

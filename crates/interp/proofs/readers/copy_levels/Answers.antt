@@ -1,4 +1,4 @@
-use Rattle.interp_run.proofs.Copying.{copied_more}
+use Rattle.interp.proofs.Copying.{copied_more}
 use Rattle.interp.proofs.readers.copy_levels.Goals as goal
 
 pub loop-level-preserved : goal.loop-level-preserved

@@ -1,5 +1,5 @@
 use Rattle.std.proofs.Common.{take}
-use Rattle.interp_run.specs.Run.{AreCopiesOf}
+use Rattle.interp.specs.Run.{AreCopiesOf}
 use Rattle.interp.proofs.readers.copy_levels.Given as goal
 
 abbrev pub invariant-loop-level : goal.invariant-loop-level

@@ -4,17 +4,17 @@ use Rattle.spec_ledger.specs.declared.TraceStep.{TraceStep}
 use Rattle.spec_execution.specs.Configuration.{Contract, Seq}
 use Rattle.spec_execution.specs.Levels as spec
 use Rattle.spec_execution.specs.Levels.{asks_in}
-use Rattle.interp_run.specs.declared.run.Level.{Level}
+use Rattle.interp.specs.declared.run.Level.{Level}
 use Rattle.laws_reduction.specs.Meaning.{View}
 use Rattle.interp_state.specs.declared.callee.Callee.{Callee}
 use Rattle.interp_state.specs.Callee.{base_of, contract_of}
 use Rattle.interp_state.specs.Views.{view}
-use Rattle.interp_run.specs.Machine.{Seen, IsMachine, HasRoom}
-use Rattle.interp_run.specs.Run.{seen, args_of, levels_of, AreCopiesOf}
+use Rattle.interp.specs.Machine.{Seen, IsMachine, HasRoom}
+use Rattle.interp.specs.Run.{seen, args_of, levels_of, AreCopiesOf}
 use Rattle.interp_steps.specs.Steps.{Suits}
 use Rattle.interp_state.specs.Waiting.{tail_of, Waits}
 use Rattle.interp_state.specs.CopyLaws.{same_view, same_counted, same_tail, same_waits, same_place}
-use Rattle.interp_run.proofs.Copying.{room_for, levels_same, all_around, as_long}
+use Rattle.interp.proofs.Copying.{room_for, levels_same, all_around, as_long}
 use Rattle.interp.proofs.readers.copy_run.Goals as goal
 
 -- The copied fields are put back one after another: the answer, the contract, the parts with the trace, what waits, the levels around.

@@ -1,14 +1,14 @@
 use Rattle.std.proofs.Common.{◌≡◌, ap, ◌∙◌, ◌-◌, sym, subst, refl, length, slice_get, true≢false, Some}
 use Rattle.std.specs.Prelude.{◌==◌}
 use Rattle.spec_ledger.specs.declared.Outcome.TheVariants.{Returned, OutOfFuel}
-use Rattle.interp_run.specs.declared.turns.Status.{Status}
-use Rattle.interp_run.specs.Machine.{on, progress}
+use Rattle.interp.specs.declared.turns.Status.{Status}
+use Rattle.interp.specs.Machine.{on, progress}
 use Rattle.interp.specs.Shown.{ending}
-use Rattle.interp_run.specs.Run.{seen}
+use Rattle.interp.specs.Run.{seen}
 use Rattle.interp_state.specs.Views.{items_of}
 use Rattle.interp_state.specs.ViewLaws.{items_nil}
-use Rattle.interp_run.proofs.Outermost.{no_items, none_around, one_around}
-use Rattle.interp_run.proofs.Turning.{result_last}
+use Rattle.interp.proofs.Outermost.{no_items, none_around, one_around}
+use Rattle.interp.proofs.Turning.{result_last}
 use Rattle.interp.proofs.Outlook.{ends_returned, ends_level, ends_exhausted, goes_on, asks_on, tells_end, tells_fall, falls_on}
 use Rattle.interp.proofs.readers.ending_of_run.Goals as goal
 

@@ -1,10 +1,10 @@
 use Rattle.std.proofs.Common.{ap, ◌∙◌, sym, true≢false, length, refl, subst}
 use Rattle.std.specs.Prelude.{◌==◌}
-use Rattle.interp_run.specs.Progress.{GoesOn}
-use Rattle.interp_run.specs.Run.{seen}
+use Rattle.interp.specs.Progress.{GoesOn}
+use Rattle.interp.specs.Run.{seen}
 use Rattle.interp_state.specs.Views.{items_of}
 use Rattle.interp_state.specs.ViewLaws.{items_nil}
-use Rattle.interp_run.proofs.Outermost.{no_items, none_around, one_around}
+use Rattle.interp.proofs.Outermost.{no_items, none_around, one_around}
 use Rattle.interp.proofs.LeftNext.{not_left_alone, left_by_code, left_fallen}
 use Rattle.interp.proofs.readers.is_left_next.Goals as goal
 

@@ -1,5 +1,5 @@
 use Rattle.std.proofs.Common.{sym, ◌∙◌}
-use Rattle.interp_run.proofs.Around.{levels_length}
+use Rattle.interp.proofs.Around.{levels_length}
 use Rattle.interp.proofs.readers.level_of_run.Goals as goal
 
 pub returns : goal.returns

@@ -1,5 +1,5 @@
 use Rattle.std.proofs.Common.{◌∙◌, refl, sym}
-use Rattle.interp_run.specs.Run.{seen}
+use Rattle.interp.specs.Run.{seen}
 use Rattle.interp.proofs.Outlook.{shows_locals, shows_none, shows_trap}
 use Rattle.interp.proofs.readers.locals_of_call.Goals as goal
 

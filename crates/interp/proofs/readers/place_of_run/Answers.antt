@@ -1,5 +1,5 @@
 use Rattle.std.proofs.Common.{◌∙◌, sym}
-use Rattle.interp_run.specs.Run.{seen}
+use Rattle.interp.specs.Run.{seen}
 use Rattle.interp.proofs.Outlook.{running_place, no_place, ended_place}
 use Rattle.interp.proofs.readers.place_of_run.Goals as goal
 

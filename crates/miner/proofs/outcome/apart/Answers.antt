@@ -1,6 +1,6 @@
 use Rattle.std.proofs.Common.{refl}
 use Rattle.spec_ledger.specs.declared.Version.TheVariants.{Two}
-use Rattle.interp_run.specs.Callee.{setting_view}
+use Rattle.interp.specs.Callee.{setting_view}
 use Rattle.publish.specs.declared.adopting.CallRun.{CallRun}
 use Rattle.miner.proofs.Ties.{places_left, run_at, made_more, committed_made}
 use Rattle.miner.proofs.outcome.apart.Goals as goal

@@ -1,7 +1,7 @@
 use Rattle.std.proofs.Common.{◌-◌, ◌∙◌, Some}
 use Rattle.std.proofs.lemmas.List.{length-set}
 use Rattle.spec_ledger.specs.declared.Version.TheVariants.{Two}
-use Rattle.interp_run.specs.Callee.{setting_view}
+use Rattle.interp.specs.Callee.{setting_view}
 use Rattle.miner.proofs.Ties.{runs_left, run_placed}
 use Rattle.miner.proofs.outcome.placed.Goals as goal
 

@@ -1,6 +1,6 @@
 use Rattle.std.proofs.Common.{◌≡◌, All, IfSome, length}
 use Rattle.spec_ledger.specs.declared.Version.TheVariants.{Two}
-use Rattle.interp_run.specs.Callee.{setting_view}
+use Rattle.interp.specs.Callee.{setting_view}
 use Rattle.book_workers.specs.Handed.{AreAllRuns, IsCommitted}
 use Rattle.miner.proofs.outcome.placed.Given as goal
 

@@ -1,5 +1,5 @@
 use Rattle.spec_ledger.specs.declared.Version.TheVariants.{Two}
-use Rattle.interp_run.specs.Callee.{setting_view}
+use Rattle.interp.specs.Callee.{setting_view}
 use Rattle.miner.proofs.Ties.{no_run_more}
 use Rattle.miner.proofs.outcome.places.Goals as goal
 

@@ -1,6 +1,6 @@
 use Rattle.std.proofs.Common.{arith, refl, ap}
 use Rattle.spec_ledger.specs.declared.Version.TheVariants.{Two}
-use Rattle.interp_run.specs.Callee.{setting_view}
+use Rattle.interp.specs.Callee.{setting_view}
 use Rattle.publish.specs.Publication.{Publication}
 use Rattle.miner.proofs.Ties.{made_for, adopted_length}
 use Rattle.miner.proofs.outcome.tie.Goals as goal

@@ -1,7 +1,7 @@
 use Rattle.std.proofs.Common.{length, ◌∙◌, ap, subst}
 use Rattle.publish.proofs.Marks.{are_left}
 use Rattle.spec_ledger.specs.declared.Version.TheVariants.{Two}
-use Rattle.interp_run.specs.Callee.{setting_view}
+use Rattle.interp.specs.Callee.{setting_view}
 use Rattle.serial.specs.Positions.{results_of}
 use Rattle.publish.specs.Publication.{Publication}
 use Rattle.publish.proofs.Keeping.{WalkState, as_many}

@@ -3,7 +3,7 @@ use Rattle.std.proofs.lemmas.Option.{slice_get_read}
 use Rattle.spec_ledger.specs.declared.Version.TheVariants.{Two}
 use Rattle.storage.specs.Counts.{Store}
 use Rattle.spec_execution.specs.ReadWriteSets.{Agrees, all_left}
-use Rattle.interp_run.specs.Callee.{setting_view}
+use Rattle.interp.specs.Callee.{setting_view}
 use Rattle.serial.specs.Positions.{results_of}
 use Rattle.publish.specs.Publication.{Publication, MayFollow, HasTaken}
 use Rattle.speculation.specs.Calls.{IsFootprintOf}

@@ -2,7 +2,7 @@ use Rattle.std.proofs.Common.{◌≡◌, ◌≤◌, false, length, refl, subst}
 use Rattle.std.specs.Prelude.{◌↔◌, IsTrue}
 use Rattle.std.proofs.lemmas.Option.{slice_get_read}
 use Rattle.spec_ledger.specs.declared.Version.TheVariants.{Two}
-use Rattle.interp_run.specs.Callee.{setting_view}
+use Rattle.interp.specs.Callee.{setting_view}
 use Rattle.serial.specs.Positions.{results_of}
 use Rattle.publish.specs.Publication.{Publication, MayFollow, is_marked}
 use Rattle.publish.proofs.Keeping.{WalkState, may_follow}

@@ -5,7 +5,7 @@ use Rattle.spec_ledger.specs.Book.{GetsReplies}
 use Rattle.spec_execution.specs.Exec.{Executes}
 use Rattle.spec_execution.specs.Run.{ContractCall}
 use Rattle.spec_ledger.specs.declared.Version.TheVariants.{Two}
-use Rattle.interp_run.specs.Callee.{setting_view}
+use Rattle.interp.specs.Callee.{setting_view}
 use Rattle.serial.specs.Positions.{results_of}
 use Rattle.publish.specs.Publication.{Publication, MayFollow, HasTaken}
 use Rattle.publish.proofs.Keeping.{WalkState, with_parts, fits, fits_used, is_more, kept_after, taken_after}

@@ -3,7 +3,7 @@ use Rattle.std.specs.FinMap.{empty}
 use Rattle.std.proofs.lemmas.List.{take_more}
 use Rattle.spec_execution.specs.Run.{ContractCall}
 use Rattle.spec_ledger.specs.declared.Version.TheVariants.{Two}
-use Rattle.interp_run.specs.Callee.{setting_view}
+use Rattle.interp.specs.Callee.{setting_view}
 use Rattle.publish.proofs.Keeping.{WalkState, opened, kept_opened}
 use Rattle.publish.proofs.Walking.{as_many_locks, as_many_entries, walked_none, walked_on, is_run_here, known_here, no_room_here, follows_here, fits_next, used_next, all_order, all_ran, all_follow, all_kept}
 use Rattle.publish.proofs.adopting.adopt_entries.Goals as goal

@@ -1,7 +1,7 @@
 use Rattle.std.proofs.Common.{take, drop}
 use Rattle.std.specs.FinMap.{empty}
 use Rattle.spec_ledger.specs.declared.Version.TheVariants.{Two}
-use Rattle.interp_run.specs.Callee.{setting_view}
+use Rattle.interp.specs.Callee.{setting_view}
 use Rattle.publish.proofs.Keeping.{opened}
 use Rattle.publish.proofs.Walking.{IsWalked}
 use Rattle.publish.proofs.adopting.adopt_entries.Given as goal

@@ -1,4 +1,4 @@
-use Rattle.interp_run.specs.Progress.{IsFree}
+use Rattle.interp.specs.Progress.{IsFree}
 use Rattle.rows_machine.proofs.turns.put_all.Given as goal
 
 abbrev pub invariant-asks : goal.invariant-asks

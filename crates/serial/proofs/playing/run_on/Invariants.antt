@@ -1,4 +1,4 @@
-use Rattle.interp_run.specs.Progress.{IsSameCall, IsFree, left_of}
+use Rattle.interp.specs.Progress.{IsSameCall, IsFree, left_of}
 use Rattle.serial.specs.Playing.{IsOnItsWay}
 use Rattle.serial.proofs.playing.run_on.Given as goal
 

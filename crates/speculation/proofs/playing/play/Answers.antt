@@ -1,5 +1,5 @@
 use Rattle.std.proofs.Common.{IfOk, subst}
-use Rattle.interp_run.specs.Callee.{setting_view}
+use Rattle.interp.specs.Callee.{setting_view}
 use Rattle.serial.proofs.Meeting.{free_first}
 use Rattle.speculation.specs.Touches.{IsPlayedBeside}
 use Rattle.speculation.proofs.Reading.{none_found}

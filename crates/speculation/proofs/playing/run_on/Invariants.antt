@@ -1,4 +1,4 @@
-use Rattle.interp_run.specs.Progress.{IsSameCall, IsFree, left_of}
+use Rattle.interp.specs.Progress.{IsSameCall, IsFree, left_of}
 use Rattle.speculation.specs.Touches.{AreFoundBy, AreTouchesOf}
 use Rattle.speculation.proofs.playing.run_on.Given as goal
 

@@ -1,5 +1,5 @@
 use Rattle.std.proofs.Common.{◌≤◌, ◌<◌, ◌^◌}
-use Rattle.interp_run.specs.Progress.{IsSameCall, IsFree, left_of}
+use Rattle.interp.specs.Progress.{IsSameCall, IsFree, left_of}
 use Rattle.validator.proofs.attempt.run.Given as goal
 
 abbrev pub invariant-operations : goal.invariant-operations

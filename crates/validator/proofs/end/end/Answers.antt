@@ -4,7 +4,7 @@ use Rattle.serial.specs.Positions.{results_of}
 use Rattle.spec_block.specs.Worlds.{Call}
 use Rattle.spec_block.specs.Verdicts.{RunOf}
 use Rattle.spec_execution.specs.Serial.{Serial}
-use Rattle.interp_run.specs.Callee.{setting_view}
+use Rattle.interp.specs.Callee.{setting_view}
 use Rattle.world.specs.Views.{world_view}
 use Rattle.validator.proofs.Fits.{as_many_numbers, first_of_all, run_of}
 use Rattle.validator.proofs.end.end.Goals as goal

@@ -3,8 +3,8 @@ use Rattle.spec_ledger.specs.declared.TraceStep.{TraceStep}
 use Rattle.spec_ledger.specs.declared.Outcome.TheVariants.{Rejected}
 use Rattle.spec_execution.specs.Run.{Refused}
 use Rattle.spec_execution.specs.Levels.{RunsWith, refused}
-use Rattle.interp_run.specs.Callee.{setting_view}
-use Rattle.interp_run.specs.Played.{Played}
+use Rattle.interp.specs.Callee.{setting_view}
+use Rattle.interp.specs.Played.{Played}
 use Rattle.interp.proofs.finished.Finished.rejected.Goals as goal
 
 pub of-requires-clause-played : goal.of-requires-clause-played

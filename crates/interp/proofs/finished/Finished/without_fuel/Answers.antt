@@ -2,10 +2,10 @@ use Rattle.std.proofs.Common.{◌≡◌, ◌∙◌, List, true≢false, sym, ap,
 use Rattle.spec_ledger.specs.declared.TraceStep.{TraceStep}
 use Rattle.spec_ledger.specs.declared.Outcome.TheVariants.{OutOfFuel}
 use Rattle.spec_execution.specs.Levels.{RunsWith}
-use Rattle.interp_run.specs.Callee.{setting_view}
-use Rattle.interp_run.specs.Played.{Played}
+use Rattle.interp.specs.Callee.{setting_view}
+use Rattle.interp.specs.Played.{Played}
 use Rattle.interp.specs.Starting.{HasCode}
-use Rattle.interp_run.proofs.Beginning.{safe_of, all_linked}
+use Rattle.interp.proofs.Beginning.{safe_of, all_linked}
 use Rattle.interp.proofs.Unfuelled.{runs_out}
 use Rattle.interp.proofs.finished.Finished.without_fuel.Goals as goal
 

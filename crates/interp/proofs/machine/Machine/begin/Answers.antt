@@ -6,9 +6,9 @@ use Rattle.spec_execution.specs.Configuration.{Contract, End, Invoke, arguments,
 use Rattle.spec_execution.specs.Levels.{asks_in}
 use Rattle.instance.specs.States.{IsFresh}
 use Rattle.interp_state.specs.Waiting.{IsEntry, IsPrepared, alone}
-use Rattle.interp_run.specs.Callee.{setting_view}
-use Rattle.interp_run.specs.Run.{seen, levels_of, AreAround}
-use Rattle.interp_run.proofs.Beginning.{based_fresh, safe_of, all_linked, contract_same, at_number, nothing_view, nothing_counted}
+use Rattle.interp.specs.Callee.{setting_view}
+use Rattle.interp.specs.Run.{seen, levels_of, AreAround}
+use Rattle.interp.proofs.Beginning.{based_fresh, safe_of, all_linked, contract_same, at_number, nothing_view, nothing_counted}
 use Rattle.interp.proofs.Fresh.{is_first, is_start}
 use Rattle.interp.proofs.Going.{progress_of}
 use Rattle.interp.proofs.Opened.{opened_entry}

@@ -1,4 +1,4 @@
-use Rattle.interp_run.specs.Run.{seen}
+use Rattle.interp.specs.Run.{seen}
 use Rattle.interp.proofs.Going.{progress_of}
 use Rattle.interp.proofs.machine.Machine.next.Goals as goal
 

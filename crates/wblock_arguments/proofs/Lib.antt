@@ -1,4 +1,0 @@
-pub mod Asked
-pub mod Lines
-pub mod Next
-pub mod Showing

@@ -1,9 +1,0 @@
-use Rattle.std.proofs.Common.{rules, ◌≡◌, ℕ, List, IfOk, MatchOption, codes, subst}
-use Rattle.wblock_arguments.specs.Options.{values_in, IsNumberOr}
-use Rattle.wblock_arguments.specs.Words.{texts, choices}
-use Rattle.wblock_arguments.proofs.options.workers_in.Goals as goal
-
-pub returns : goal.returns
-returns c =
-    let e : texts c.as_slice.result.now ≡ values_in (codes "--workers") (choices c.args.options.now) = search rules in
-    subst (λ (vs : List (List ℕ)). IfOk c.count_in.result (λ found. MatchOption found ((n : ℕ) → ¬ (IsNumberOr 4 vs 1 64 n)) (IsNumberOr 4 vs 1 64))) e c.count_in.ensures

@@ -1,0 +1,18 @@
+use Rattle.std.proofs.Common.{rules, ℕ, List, Option}
+use Rattle.wblock_line.specs.Words.{line_of}
+use Rattle.wblock_show.specs.declared.file.Showing.{Showing}
+use Rattle.wblock_commands.specs.declared.command.Deploying.{Deploying}
+use Rattle.wblock_commands.specs.Words.{AsksStored, AsksAsm, AsksText, AsksCheck, AsksDeploy, AsksShow, AsksNoTask}
+use Rattle.wblock_commands.proofs.Asked.{nothing_asked}
+use Rattle.wblock_commands.proofs.command.command_of.Goals as goal
+
+pub returns-in-None : goal.returns-in-None
+returns-in-None c =
+    let stored : ¬ AsksStored (line_of c.args.line.now) = search rules in
+    let assembled : (text target : List ℕ) → ¬ AsksAsm (line_of c.args.line.now) text target = search rules in
+    let written : (source target : List ℕ) → ¬ AsksText (line_of c.args.line.now) source target = search rules in
+    let checked : (target : List ℕ) (heap : Option ℕ) → ¬ AsksCheck (line_of c.args.line.now) target heap = search rules in
+    let deployed : (d : Deploying) → ¬ AsksDeploy (line_of c.args.line.now) d = search rules in
+    let shown : (s : Showing) → ¬ AsksShow (line_of c.args.line.now) s = search rules in
+    let task : AsksNoTask (line_of c.args.line.now) = search rules in
+    nothing_asked (line_of c.args.line.now) stored assembled written checked deployed shown task

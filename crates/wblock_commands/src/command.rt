@@ -1,0 +1,451 @@
+//! What a line of words asks for.
+
+ghost use Rattle.std.specs.Prelude.{◌≡◌, ◌≢◌, ◌≤◌, ◌↔◌, ℕ, Bool, List, [], ◌∷◌, Option, IfOk, IfSome, IsTrue, MatchOption, codes, decimal};
+ghost use Rattle.wblock_line.specs.Words.{line_of};
+ghost use Rattle.wblock_commands.specs.Words.{AsksStored, AsksAsm, AsksText, AsksShow, AsksHeap, IsSize, AsksCheck, AsksForce, NamesModules, AsksDeploy, AsksMine, AsksValidate, CountsValidate, SpellsValidate, AsksNoTask, IsLineOf, IsApart, KeepsInputs, NextIsApart, SpellsShow, PictureIsApart, AsksHelp, IsTold, HasFew, texts, choices};
+ghost use Rattle.wblock_commands.specs.declared.command.Command.{Command as Asked};
+ghost use Rattle.wblock_commands.specs.declared.command.Deploying.{Deploying as TheDeploying};
+ghost use Rattle.wblock_blocks.specs.declared.mine.Mining.{Mining as TheMining};
+ghost use Rattle.wblock_blocks.specs.declared.validate.Validation.{Validation as TheValidation};
+ghost use Rattle.wblock_show.specs.declared.file.Showing.{Showing as TheShowing};
+
+use crate::declared::HEAP;
+use crate::options::{
+    boosted_in, calls_in, form_in, fuel_in, has_only_mining, has_only_showing, has_only_validation,
+    next_in, number_within, tries_in, workers_in,
+};
+use std::alloc::{AllocError, Global};
+use wblock_blocks::{Mining, Validation};
+use wblock_debug::{Debugging, debugging_of};
+use wblock_line::{FORCE_SWITCH, Line};
+use wblock_show::{Form, Showing};
+
+/// What is to be deployed.
+#[derive(Clone, Copy, Debug)]
+pub struct Deploying<'l, 'w> {
+    /// The name of the file that is to hold the world.
+    pub world: &'w str,
+    /// The names of the files of the modules, 1 to 1,024, in their order.
+    pub modules: &'l [&'w str],
+    /// Whether the world may be written in the place of a file that is there.
+    pub forced: bool,
+}
+
+/// A command with its words.
+#[derive(Debug, Drop)]
+pub enum Command<'l, 'w> {
+    /// No words: the two stored calls of the stored contract.
+    Stored,
+    /// `--help` or `-h` among these words: how the program, or the command of the first word, is called.
+    Help(&'l [&'w str]),
+    /// `--version` alone: the program's name and version.
+    Version,
+    /// `asm TEXT MODULE`: the module that a text names, in its shortest spelling.
+    Asm(&'w str, &'w str),
+    /// `text MODULE TEXT`: a text that names a module.
+    Text(&'w str, &'w str),
+    /// `check MODULE [--heap N]`: whether a module is valid, its tree in an arena or in a heap of N bytes, 1,024 to 16,777,216.
+    Check(&'w str, Option<u32>),
+    /// `deploy WORLD MODULE... [--force]`: the world of these modules, 1 to 1,024.
+    Deploy(Deploying<'l, 'w>),
+    /// `mine WORLD CALLS BLOCK NEXT --fuel N [--workers 4] [--boosted] [--tries 3]`: a block of the calls over the world, and the world after it.
+    Mine(Mining<'w>),
+    /// `validate WORLD CALLS BLOCK --fuel N [--workers 4] [--next NEXT]`: the verdict on the block, and the world after it.
+    Validate(Validation<'w>),
+    /// `debug WORLD CALLS CALL CMD... [--block BLOCK [--fuel N]]`: a call that runs alone, or in a block, turn by turn.
+    Debug(Debugging<'w>),
+    /// `show FILE [--calls CALLS]`: what is in a module, a world or a block; or `show FILE --svg PICTURE`: a picture of a block.
+    Show(Showing<'w>),
+}
+
+/// Whether a line has neither words nor options.
+fn is_stored(words: &[&str], options: &[(&str, &str)]) -> bool
+    ensures { IsTrue result ↔ AsksStored (record { words = texts words.now; options = choices options.now }) }
+{
+    words.is_empty() && options.is_empty()
+}
+
+/// The size of a heap that a word spells, in decimal with no needless zero.
+fn size_of(alloc: Global, word: &str) -> Result<Option<u32>, AllocError>
+    ensures { IfOk result (λ found. MatchOption found ((n : ℕ) → 1024 ≤ n → n ≤ 16777216 → word.now ≢ decimal n) (λ n. IsSize word.now n)) }
+{
+    match number_within(alloc, word, HEAP.least, HEAP.most)? {
+        Some(size) => Ok(Some(size as u32)),
+        None => Ok(None),
+    }
+}
+
+/// Whether a word is none of these.
+pub(crate) fn is_apart(word: &str, others: &[&str]) -> bool
+    ensures { IsTrue result ↔ IsApart word.now (texts others.now) }
+{
+    match others {
+        [] => true,
+        [other, rest @ ..] => !is_word(*other, word) && is_apart(word, rest),
+    }
+}
+
+/// Whether a word is this one.
+fn is_word(word: &str, name: &str) -> bool
+    ensures { IsTrue result ↔ (word.now ≡ name.now) }
+{
+    word == name
+}
+
+/// The heap that options ask for, if any; or None where they are no options of `check`.
+fn heap_of(alloc: Global, options: &[(&str, &str)]) -> Result<Option<Option<u32>>, AllocError>
+    ensures { IfOk result (λ found. MatchOption found ((heap : Option ℕ) → ¬ AsksHeap (choices options.now) heap) (AsksHeap (choices options.now))) }
+{
+    if options.is_empty() {
+        return Ok(Some(None));
+    }
+    if options.len() > 1 || !is_word(options[0].0, HEAP.word) {
+        return Ok(None);
+    }
+    match size_of(alloc, options[0].1)? {
+        Some(size) => Ok(Some(Some(size))),
+        None => Ok(None),
+    }
+}
+
+/// The module and the heap of `check`.
+fn check_of<'w>(
+    alloc: Global,
+    words: &[&'w str],
+    options: &[(&str, &str)],
+) -> Result<Option<(&'w str, Option<u32>)>, AllocError>
+    ensures { IfOk result (λ found. MatchOption found ((target : List ℕ) (heap : Option ℕ) → ¬ AsksCheck (record { words = texts words.now; options = choices options.now }) target heap) (λ x. AsksCheck (record { words = texts words.now; options = choices options.now }) x.0.now x.1)) }
+{
+    if words.len() != 2 || !is_word(words[0], "check") {
+        return Ok(None);
+    }
+    match heap_of(alloc, options)? {
+        Some(heap) => Ok(Some((words[1], heap))),
+        None => Ok(None),
+    }
+}
+
+/// The text and the module of `asm`.
+fn asm_of<'w>(words: &[&'w str], options: &[(&str, &str)]) -> Option<(&'w str, &'w str)>
+    ensures { MatchOption result ((text target : List ℕ) → ¬ AsksAsm (record { words = texts words.now; options = choices options.now }) text target) (λ x. AsksAsm (record { words = texts words.now; options = choices options.now }) x.0.now x.1.now) }
+{
+    if !options.is_empty() || words.len() != 3 || !is_word(words[0], "asm") {
+        return None;
+    }
+    if is_word(words[1], words[2]) {
+        return None;
+    }
+    Some((words[1], words[2]))
+}
+
+/// The module and the text of `text`.
+fn text_of<'w>(words: &[&'w str], options: &[(&str, &str)]) -> Option<(&'w str, &'w str)>
+    ensures { MatchOption result ((source target : List ℕ) → ¬ AsksText (record { words = texts words.now; options = choices options.now }) source target) (λ x. AsksText (record { words = texts words.now; options = choices options.now }) x.0.now x.1.now) }
+{
+    if !options.is_empty() || words.len() != 3 || !is_word(words[0], "text") {
+        return None;
+    }
+    if is_word(words[1], words[2]) {
+        return None;
+    }
+    Some((words[1], words[2]))
+}
+
+/// What `show` is asked for, whatever PICTURE is.
+fn spelled_showing<'w>(
+    alloc: Global,
+    words: &[&'w str],
+    options: &[(&'w str, &'w str)],
+) -> Result<Option<Showing<'w>>, AllocError>
+    ensures { IfOk result (λ found. MatchOption found ((s : TheShowing) → ¬ SpellsShow (record { words = texts words.now; options = choices options.now }) s) (SpellsShow (record { words = texts words.now; options = choices options.now }))) }
+{
+    if words.len() != 2 || !is_word(words[0], "show") || !has_only_showing(options) {
+        return Ok(None);
+    }
+    let Some(calls) = calls_in(alloc, options)? else {
+        return Ok(None);
+    };
+    let Some(form) = form_in(alloc, options)? else {
+        return Ok(None);
+    };
+    Ok(Some(Showing {
+        file: words[1],
+        calls,
+        form,
+    }))
+}
+
+/// Whether PICTURE, where there is one, is asked for without CALLS and takes not the place of FILE.
+fn picture_is_apart(showing: Showing) -> bool
+    ensures { IsTrue result ↔ PictureIsApart showing.entry }
+{
+    match showing.form {
+        Form::Text => true,
+        Form::Json => true,
+        Form::Picture(picture) => showing.calls.is_none() && !is_word(showing.file, picture),
+    }
+}
+
+/// What `show` is asked for.
+fn showing_of<'w>(
+    alloc: Global,
+    words: &[&'w str],
+    options: &[(&'w str, &'w str)],
+) -> Result<Option<Showing<'w>>, AllocError>
+    ensures { IfOk result (λ found. MatchOption found ((s : TheShowing) → ¬ AsksShow (record { words = texts words.now; options = choices options.now }) s) (AsksShow (record { words = texts words.now; options = choices options.now }))) }
+{
+    let Some(showing) = spelled_showing(alloc, words, options)? else {
+        return Ok(None);
+    };
+    if !picture_is_apart(showing) {
+        return Ok(None);
+    }
+    Ok(Some(showing))
+}
+
+/// Whether options ask that a world be written in the place of a file that is there; or None where they are no options of `deploy`.
+fn force_of(options: &[(&str, &str)]) -> Option<bool>
+    ensures { MatchOption result ((forced : Bool) → ¬ AsksForce (choices options.now) forced) (AsksForce (choices options.now)) }
+{
+    if options.is_empty() {
+        return Some(false);
+    }
+    if options.len() > 1 || !is_word(options[0].0, FORCE_SWITCH) || !options[0].1.is_empty() {
+        return None;
+    }
+    Some(true)
+}
+
+/// The world and the modules of `deploy`, whatever the options.
+fn modules_of<'l, 'w>(words: &'l [&'w str]) -> Option<(&'w str, &'l [&'w str])>
+    ensures { MatchOption result ((world : List ℕ) (modules : List (List ℕ)) → ¬ NamesModules (texts words.entry.now) world modules) (λ x. NamesModules (texts words.entry.now) x.0.now (texts x.1.now)) }
+{
+    if words.len() < 3 || words.len() > 1_026 || !is_word(words[0], "deploy") {
+        return None;
+    }
+    let modules = &words[2..];
+    if !is_apart(words[1], modules) {
+        return None;
+    }
+    Some((words[1], modules))
+}
+
+/// What `deploy` is asked for.
+fn deploying_of<'l, 'w>(words: &'l [&'w str], options: &[(&str, &str)]) -> Option<Deploying<'l, 'w>>
+    ensures { MatchOption result ((d : TheDeploying) → ¬ AsksDeploy (record { words = texts words.entry.now; options = choices options.now }) d) (AsksDeploy (record { words = texts words.entry.now; options = choices options.now })) }
+{
+    let (world, modules) = modules_of(words)?;
+    let forced = force_of(options)?;
+    Some(Deploying {
+        world,
+        modules,
+        forced,
+    })
+}
+
+/// Whether BLOCK and NEXT take the place of no file that is read, nor of one another; NEXT may be WORLD.
+fn keeps_inputs(mining: Mining) -> bool
+    ensures { IsTrue result ↔ KeepsInputs mining.entry }
+{
+    !is_word(mining.world, mining.block)
+        && !is_word(mining.calls, mining.block)
+        && !is_word(mining.next, mining.block)
+        && !is_word(mining.calls, mining.next)
+}
+
+/// What `mine` is asked for.
+fn mining_of<'w>(
+    alloc: Global,
+    words: &[&'w str],
+    options: &[(&'w str, &'w str)],
+) -> Result<Option<Mining<'w>>, AllocError>
+    ensures { IfOk result (λ found. MatchOption found ((m : TheMining) → ¬ AsksMine (record { words = texts words.now; options = choices options.now }) m) (AsksMine (record { words = texts words.now; options = choices options.now }))) }
+{
+    if words.len() != 5 || !is_word(words[0], "mine") || !has_only_mining(options) {
+        return Ok(None);
+    }
+    let Some(fuel) = fuel_in(alloc, options)? else {
+        return Ok(None);
+    };
+    let Some(workers) = workers_in(alloc, options)? else {
+        return Ok(None);
+    };
+    let Some(tries) = tries_in(alloc, options)? else {
+        return Ok(None);
+    };
+    let Some(boosted) = boosted_in(alloc, options)? else {
+        return Ok(None);
+    };
+    let mining = Mining {
+        world: words[1],
+        calls: words[2],
+        block: words[3],
+        next: words[4],
+        fuel,
+        workers,
+        tries,
+        boosted,
+    };
+    if !keeps_inputs(mining) {
+        return Ok(None);
+    }
+    Ok(Some(mining))
+}
+
+/// Whether NEXT takes the place of neither CALLS nor BLOCK; it may be WORLD.
+fn next_is_apart(validation: Validation) -> bool
+    ensures { IsTrue result ↔ NextIsApart validation.entry }
+{
+    match validation.next {
+        Some(next) => !is_word(validation.calls, next) && !is_word(validation.block, next),
+        None => true,
+    }
+}
+
+/// What `validate` is asked for, without NEXT.
+fn counted_validation<'w>(
+    alloc: Global,
+    words: &[&'w str],
+    options: &[(&'w str, &'w str)],
+) -> Result<Option<Validation<'w>>, AllocError>
+    ensures { IfOk result (λ found. MatchOption found ((world calls block : List ℕ) (fuel workers : ℕ) → ¬ CountsValidate (record { words = texts words.now; options = choices options.now }) world calls block fuel workers) (λ v. CountsValidate (record { words = texts words.now; options = choices options.now }) v.world.now v.calls.now v.block.now v.fuel v.workers)) }
+{
+    if words.len() != 4 || !is_word(words[0], "validate") || !has_only_validation(options) {
+        return Ok(None);
+    }
+    let Some(fuel) = fuel_in(alloc, options)? else {
+        return Ok(None);
+    };
+    let Some(workers) = workers_in(alloc, options)? else {
+        return Ok(None);
+    };
+    Ok(Some(Validation {
+        world: words[1],
+        calls: words[2],
+        block: words[3],
+        fuel,
+        workers,
+        boosted: false,
+        next: None,
+    }))
+}
+
+/// What `validate` is asked for, whatever NEXT is.
+fn spelled_validation<'w>(
+    alloc: Global,
+    words: &[&'w str],
+    options: &[(&'w str, &'w str)],
+) -> Result<Option<Validation<'w>>, AllocError>
+    ensures { IfOk result (λ found. MatchOption found ((v : TheValidation) → ¬ SpellsValidate (record { words = texts words.now; options = choices options.now }) v) (SpellsValidate (record { words = texts words.now; options = choices options.now }))) }
+{
+    let Some(counted) = counted_validation(alloc, words, options)? else {
+        return Ok(None);
+    };
+    let Some(boosted) = boosted_in(alloc, options)? else {
+        return Ok(None);
+    };
+    let Some(next) = next_in(alloc, options)? else {
+        return Ok(None);
+    };
+    Ok(Some(Validation {
+        boosted,
+        next,
+        ..counted
+    }))
+}
+
+/// What `validate` is asked for.
+fn validation_of<'w>(
+    alloc: Global,
+    words: &[&'w str],
+    options: &[(&'w str, &'w str)],
+) -> Result<Option<Validation<'w>>, AllocError>
+    ensures { IfOk result (λ found. MatchOption found ((v : TheValidation) → ¬ AsksValidate (record { words = texts words.now; options = choices options.now }) v) (AsksValidate (record { words = texts words.now; options = choices options.now }))) }
+{
+    let Some(validation) = spelled_validation(alloc, words, options)? else {
+        return Ok(None);
+    };
+    if !next_is_apart(validation) {
+        return Ok(None);
+    }
+    Ok(Some(validation))
+}
+
+/// The command over a world and calls that a line asks for.
+fn task_of<'l, 'w>(alloc: Global, line: &'l Line<'w>) -> Result<Option<Command<'l, 'w>>, AllocError>
+    ensures { IfOk result (λ found. MatchOption found (AsksNoTask (line_of line.entry.now)) (IsLineOf (line_of line.entry.now))) }
+{
+    let words = line.words.as_slice();
+    let options = line.options.as_slice();
+    if let Some(task) = mining_of(alloc, words, options)? {
+        return Ok(Some(Command::Mine(task)));
+    }
+    if let Some(task) = validation_of(alloc, words, options)? {
+        return Ok(Some(Command::Validate(task)));
+    }
+    match debugging_of(alloc, line)? {
+        Some(task) => Ok(Some(Command::Debug(task))),
+        None => Ok(None),
+    }
+}
+
+/// The command of a line, or None where the line asks for nothing.
+pub fn command_of<'l, 'w>(
+    alloc: Global,
+    line: &'l Line<'w>,
+) -> Result<Option<Command<'l, 'w>>, AllocError>
+    ensures { IfOk result (λ found. MatchOption found ((c : Asked) → ¬ IsLineOf (line_of line.entry.now) c) (IsLineOf (line_of line.entry.now))) }
+{
+    let words = line.words.as_slice();
+    let options = line.options.as_slice();
+    if is_stored(words, options) {
+        return Ok(Some(Command::Stored));
+    }
+    if let Some((text, target)) = asm_of(words, options) {
+        return Ok(Some(Command::Asm(text, target)));
+    }
+    if let Some((source, target)) = text_of(words, options) {
+        return Ok(Some(Command::Text(source, target)));
+    }
+    if let Some((target, heap)) = check_of(alloc, words, options)? {
+        return Ok(Some(Command::Check(target, heap)));
+    }
+    if let Some(task) = deploying_of(words, options) {
+        return Ok(Some(Command::Deploy(task)));
+    }
+    if let Some(task) = showing_of(alloc, words, options)? {
+        return Ok(Some(Command::Show(task)));
+    }
+    match task_of(alloc, line)? {
+        Some(task) => Ok(Some(task)),
+        None => Ok(None),
+    }
+}
+
+/// Whether `--help` or `-h` stands among the words.
+fn asks_help(words: &[&str]) -> bool
+    ensures { IsTrue result ↔ AsksHelp (texts words.now) }
+{
+    !(is_apart("--help", words) && is_apart("-h", words))
+}
+
+/// Whether the words are `--version` alone.
+fn asks_version(words: &[&str]) -> bool
+    ensures { IsTrue result ↔ (texts words.now ≡ codes "--version" ∷ []) }
+{
+    words.len() == 1 && is_word(words[0], "--version")
+}
+
+/// What words ask to be told of the program, or None where they do not.
+pub(crate) fn watched_command<'a>(words: &'a [&'a str]) -> Option<Command<'a, 'a>>
+    ensures told { MatchOption result ((c : Asked) → ¬ IsTold (texts words.entry.now) c) (IsTold (texts words.entry.now)) }
+    ensures few { IfSome result HasFew }
+{
+    if asks_help(words) {
+        return Some(Command::Help(words));
+    }
+    if asks_version(words) {
+        return Some(Command::Version);
+    }
+    None
+}
