@@ -59,7 +59,7 @@ returns-clause-granted g c =
 pub invariant_of-self-in-Ok-hold : goal.invariant_of-self-in-Ok-hold
 invariant_of-self-in-Ok-hold g c = (
   take_shared c.self.inside.locks c.self.inside.holders c.args.call (subst (λ ms. c.args.call < length ms) (sym c.self.view_is) c.requires) c.self.invariant.0 c.args.lock c.args.mode c.join_to-joined.result c.mode-held.result c.mode-held.ensures c.at-shared.result c.at-shared.ensures c.join_to-joined.ensures (subst (λ n. MayJoin c.at-shared.result n c.join_to-joined.result) c.count_others-others.ensures (c.if-not-may_join.ensures.0 refl)) (record { mode = c.join_to-joined.result; count = c.count_others-others.result + 1 }) (λ i. record { mode = c.join_to-joined.result; count = c.count_others-others.ensures i + 1 })
-      c.put.new.self c.in-Ok.ensures.ok c.use_invariant.new.self c.in-Ok-hold.ensures.ok,
+      c.put.new.self c.in-Ok.ensures.ok c.hold.new.self c.in-Ok-hold.ensures.ok,
   subst (λ n. n < 2 ^ 32) (sym (ap length c.in-Ok-hold.ensures.ok ∙ length-set c.self.inside.holders c.args.call _)) c.self.invariant.1,
 )
 
@@ -68,7 +68,7 @@ put_back-requires g c = put_there c.self.inside.locks c.put.new.self c.args.lock
 
 pub invariant_of-self-in_default-hold : goal.invariant_of-self-in_default-hold
 invariant_of-self-in_default-hold g c = (
-  kept_shared c.self.inside.locks c.put_back.new.self c.self.inside.holders c.use_invariant.new.self c.self.invariant.0
+  kept_shared c.self.inside.locks c.put_back.new.self c.self.inside.holders c.hold.new.self c.self.invariant.0
       (restored c.self.inside.locks c.put.new.self c.put_back.new.self c.args.lock (record { mode = c.join_to-joined.result; count = c.count_others-others.result + 1 }) c.at-shared.result c.in-Ok.ensures.ok c.at-shared.ensures c.put_back.ensures)
       c.in_default-hold.ensures.err,
   subst (λ n. n < 2 ^ 32) (sym (ap length c.in_default-hold.ensures.err)) c.self.invariant.1,
