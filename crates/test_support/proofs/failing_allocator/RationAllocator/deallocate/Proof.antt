@@ -39,10 +39,10 @@ use denote.Builtin.{usize, RawPtr, RefOf}
 use denote.Triple.Call.{calls_at}
 use Rattle.std.proofs.alloc.Calls.{Al, α, seen, token, gives_key, Gives, at_gives, Gives-goes, Gives-Gives}
 use Rattle.test_support.specs.contracts.failing_allocator.Ration as wrapper
-use Rattle.test_support.specs.contracts.failing_allocator.FailingAllocator.deallocate as F
-use Rattle.test_support.specs.contracts.failing_allocator.FailingAllocator.deallocate.Key as key
-use Rattle.test_support.proofs.failing_allocator.FailingAllocator.deallocate.Statement as stated
-use Rattle.test_support.proofs.failing_allocator.FailingAllocator.deallocate.Code as code
+use Rattle.test_support.specs.contracts.failing_allocator.RationAllocator.deallocate as F
+use Rattle.test_support.specs.contracts.failing_allocator.RationAllocator.deallocate.Key as key
+use Rattle.test_support.proofs.failing_allocator.RationAllocator.deallocate.Statement as stated
+use Rattle.test_support.proofs.failing_allocator.RationAllocator.deallocate.Code as code
 
 module _ (Z : Al) where
   abbrev args : Args

@@ -40,10 +40,10 @@ use Rattle.test_support.proofs.Refusals.{Refuses, at_refuses, Refuses-goes, Refu
 use Rattle.test_support.proofs.failing_allocator.refuses.Symbol as c_sym
 use Rattle.test_support.proofs.failing_allocator.refuses.Met as c_met
 use Rattle.test_support.specs.contracts.failing_allocator.Ration as wrapper
-use Rattle.test_support.specs.contracts.failing_allocator.FailingAllocator.allocate as F
-use Rattle.test_support.specs.contracts.failing_allocator.FailingAllocator.allocate.Key as key
-use Rattle.test_support.proofs.failing_allocator.FailingAllocator.allocate.Statement as stated
-use Rattle.test_support.proofs.failing_allocator.FailingAllocator.allocate.Code as code
+use Rattle.test_support.specs.contracts.failing_allocator.RationAllocator.allocate as F
+use Rattle.test_support.specs.contracts.failing_allocator.RationAllocator.allocate.Key as key
+use Rattle.test_support.proofs.failing_allocator.RationAllocator.allocate.Statement as stated
+use Rattle.test_support.proofs.failing_allocator.RationAllocator.allocate.Code as code
 
 module _ (Z : Al) where
   abbrev args : Args
