@@ -34,6 +34,7 @@ def begin(accounts):
 def load(dice, accounts, calls):
     """Calls by chance."""
     share = MOST // (accounts + 1)
+    holders = [1] * 20
     for _ in range(calls):
         kind, side = dice.random(), dice.randrange(2)
         account = min(int(dice.paretovariate(0.4)), accounts + 1) if dice.random() < 0.2 else dice.randrange(1, accounts + 1)
@@ -50,8 +51,11 @@ def load(dice, accounts, calls):
         elif kind < 0.93:
             yield f"2 {FUEL} buy i64:{account} i32:{side} i64:{amount} i64:{limit or MOST}"
         elif kind < 0.96:
+            holders.append(account)
             yield f"2 {FUEL} add_shares i64:{account} i64:{amount} i64:{amount_of(dice, share)} i64:{limit}"
         elif kind < 0.98:
+            if dice.random() < 0.9:
+                account = dice.choice(holders)
             yield f"2 {FUEL} remove_shares i64:{account} i64:{amount_of(dice, share // 8)} i64:{limit} i64:0"
         else:
             yield f"2 {FUEL} quote i32:{side} i64:{amount}"
