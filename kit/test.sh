@@ -6,7 +6,7 @@
 # Without a compiler it takes the texts in prebuilt/, which `wblock text` wrote of what the compilers made: `abi` finds no fault, the calls of each example come
 # to the same as over the example's own text, the steps of token.steps and exchange.steps pass, and 10,000 calls of examples/exchange are mined, validated, judged
 # and drawn. Where clang and wasm-ld are there it compiles the contracts in C anew and does the same, runs the native tests, and what has to be refused is refused.
-# Where rustc has wasm32-unknown-unknown or wasm32v1-none it does so with those in Rust. What is not there is said, and is no failure. The status is 0 where all
+# Where cargo is there it runs the native test in Rust. Where rustc has wasm32-unknown-unknown or wasm32v1-none it does so with those in Rust. What is not there is said, and is no failure. The status is 0 where all
 # passed, 1 where one failed, 2 where there is no program.
 # shellcheck source=SCRIPTDIR/../examples/checks.sh
 . "$(dirname "${BASH_SOURCE[0]}")/../examples/checks.sh" "$@"
@@ -48,6 +48,15 @@ exchange_over() {
     is "$1: a picture of them" grep -q ">10000 positions in .* waves<" "$2/load.svg"
     is "$1: and of the first 2,000" grep -q "drawn: 2000 positions, " "$2/load.svg"
     is "$1: and of their hot cells" grep -q "hot: map 2:0, in " "$2/load.svg"
+}
+
+# The code in GUIDE that begins with this line.
+code_of_guide() { awk -v first="$1" '$0 == first { on = 1 } /^```/ { on = 0 } on' "$kit/../docs/GUIDE.md"; }
+
+# The way from GUIDE's source to a call: $1 its name, $2 what compiles it.
+way_of_guide() {
+    done_well "$2" "$1" deposits.wasm && done_well "$tools/abi" deposits.wasm && done_well "$program" deploy deposits.world deposits.wasm --force &&
+        "$tools/call" "$program" deposits.world 0 deposit 1 50 >out && grep -qx "map 0:1 excl - -> 50" out
 }
 
 # Whether a test on this machine passes: $1 its source.
@@ -102,6 +111,8 @@ if command -v clang >/dev/null && command -v wasm-ld >/dev/null; then
     examples_over clang compiled-c
     for name in "${exchange[@]}"; do is "clang: $name" done_well "$kit/c/compile" "$examples/exchange/$name.c" "compiled-c/$name.wasm"; done
     exchange_over clang compiled-c
+    code_of_guide '#include "foshqarel.h"' >deposits.c
+    is "the contract in C of GUIDE" way_of_guide deposits.c "$kit/c/compile"
     for name in token maths; do is "the native test of $name" passes_here "$kit/c/contracts/${name}_test.c"; done
     for name in "${exchange[@]}"; do is "the native test of $name" passes_here "$examples/exchange/${name}_test.c"; done
     is "memory.copy" refuses bulk_memory.c "refused load 1" -mbulk-memory
@@ -125,6 +136,13 @@ else
     echo "kit: there is no clang with wasm-ld, so contracts in C were not compiled"
 fi
 
+if command -v cargo >/dev/null; then
+    cp -r "$kit/rust" cargo
+    is "the native test of token in Rust" done_well cargo test --offline --quiet --manifest-path cargo/Cargo.toml -p token
+else
+    echo "kit: there is no cargo, so the native test in Rust was not run"
+fi
+
 # The first rustc that has a target for contracts: its name and the target.
 rust_for_contracts() {
     local one target folder
@@ -143,6 +161,8 @@ if command -v wasm-ld >/dev/null && found=$(rust_for_contracts); then
     mkdir compiled-rust
     for name in "${contracts[@]}" maths; do is "rustc: $name" done_well "$kit/rust/compile" "$kit/rust/contracts/$name.rs" "compiled-rust/$name.wasm"; done
     examples_over rustc compiled-rust
+    code_of_guide '#![cfg_attr(target_arch = "wasm32", no_std)]' >deposits.rs
+    is "the contract in Rust of GUIDE" way_of_guide deposits.rs "$kit/rust/compile"
     is "a parameter of type bool" says 'the trait bound `bool: Word` is not satisfied' "$kit/rust/compile" "$kit/rust/refused/bool.rs" bool.wasm
 else
     echo "kit: there is no rustc with wasm32, so contracts in Rust were not compiled"
