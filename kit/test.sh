@@ -6,8 +6,8 @@
 # Without a compiler it takes the texts in prebuilt/, which `wblock text` wrote of what the compilers made: `abi` finds no fault, the calls of each example come
 # to the same as over the example's own text, the steps of token.steps and exchange.steps pass, and 10,000 calls of examples/exchange are mined, validated, judged
 # and drawn. Where clang and wasm-ld are there it compiles the contracts in C anew and does the same, runs the native tests, and what has to be refused is refused.
-# Where cargo is there it runs the native test in Rust. Where rustc has wasm32-unknown-unknown or wasm32v1-none it does so with those in Rust. What is not there is said, and is no failure. The status is 0 where all
-# passed, 1 where one failed, 2 where there is no program.
+# Where cargo is there it runs the native test in Rust. Where rustc has wasm32-unknown-unknown or wasm32v1-none it does so with those in Rust. What is not there
+# is said, and is no failure. The status is 0 where all passed, 1 where one failed, 2 where there is no program.
 # shellcheck source=SCRIPTDIR/../examples/checks.sh
 . "$(dirname "${BASH_SOURCE[0]}")/../examples/checks.sh" "$@"
 script=kit
