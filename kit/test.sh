@@ -92,6 +92,9 @@ is "where in a text" says "this is no module" "$tools/where" text 0:0
 is "steps of no file" says "No such file" "$tools/steps" "$program" absent
 printf 'jump 3\n' >jump.steps
 is "a step that is none" says "no such step" "$tools/steps" "$program" jump.steps
+mkdir bin
+ln -s "$program" bin/wblock
+is "steps by a program on the path" done_well env PATH="$work/bin:$PATH" "$tools/steps" wblock prebuilt-c/token.steps
 printf 'deploy prebuilt-c/token.wasm\nholds print(1) > 0\n' >words.steps
 is "a comparison with words" says "no comparison: print(1) > 0" "$tools/steps" "$program" words.steps
 printf 'deploy prebuilt-c/token.wasm\nalways map:0:0 <= 99\ncall 0 open i64:100 = returned\n' >always.steps

@@ -80,12 +80,35 @@ static void each_refusal(void) {
     GIVES(buy(2, 1, 1000, 5000), 4009);
     REFUSES(remove_shares(1, 1000, 501, 0), WORSE);
     REFUSES(remove_shares(2, 1, 0, 0), FEW_SHARES);
+    REFUSES(remove_shares(1, 1, 0, 0), NOTHING);
     /* with no coins in the places 0 and 1 the whole call is refused */
     fq_asked = 0;
     REFUSED(sell(1, 0, 1000, 0));
     EXPECT(!fq_has(fq_key(MARKET, WANTED)));
     fq_asked = coins;
     EXPECT(wants_0(0) == 0 && wants_1(order_of(INTO_MARKET, 1, 1)) == 0);
+}
+
+/* Quotients of more than 64 bits, and all that there is of the coins. */
+static void borders(void) {
+    u64 half = AMOUNTS / 2;
+    fq_reset();
+    balance[0][0] = balance[1][0] = 0;
+    balance[0][1] = balance[1][1] = AMOUNTS - 1;
+    GIVES(add_shares(1, half, half, 0), (i64)half - LOCKED);
+    REFUSES(buy(1, 0, half - 1, AMOUNTS - 1), WORSE);
+    REFUSES(buy(1, 0, half, AMOUNTS - 1), BEYOND);
+    GIVES(sell(1, 0, half - 1, 0), (i64)((u128)(half - 1) * 997 * half / ((u128)half * 1000 + (half - 1) * 997)));
+    EXPECT(balance[0][1] == 0 && held(0) == AMOUNTS - 1);
+    REFUSES(sell(1, 0, AMOUNTS - 1, 0), SHORT_0);
+    fq_reset();
+    balance[0][0] = balance[1][0] = 0;
+    balance[0][1] = balance[1][1] = AMOUNTS - 1;
+    GIVES(add_shares(1, 1, AMOUNTS - 2, 0), 1048575 - LOCKED);
+    REFUSES(add_shares(1, AMOUNTS - 2, 1, 0), NOTHING);
+    REFUSES(buy(1, 0, AMOUNTS - 3, AMOUNTS - 1), WORSE);
+    REFUSES(buy(1, 1, 1, AMOUNTS - 1), BEYOND);
+    GIVES(sell(1, 0, AMOUNTS - 2, 0), (i64)((u128)(AMOUNTS - 2) * 997 * (AMOUNTS - 2) / (1000 + (u128)(AMOUNTS - 2) * 997)));
 }
 
 /* Whatever is called, coins and shares are kept, x * y / shares^2 does not fall, and every amount is the formula's. */
@@ -142,6 +165,7 @@ static void random_calls(int calls) {
 int main(void) {
     fq_asked = coins;
     each_refusal();
+    borders();
     for (int round = 0; round < 20; round++) random_calls(1000);
     return fq_tested();
 }

@@ -8,7 +8,8 @@
 # status is 0 where one worker and four make the same block, it is valid, and the judge finds no fault.
 set -euo pipefail
 [ $# = 2 ] || [ $# = 3 ] || { sed -n 's/^#   /usage: /p' "$0" >&2; exit 2; }
-program=$(cd "$(dirname "$1")" && pwd)/$(basename "$1")
+program=$(command -v "$1") || { echo "load: there is no program $1" >&2; exit 2; }
+program=$(realpath "$program")
 here=$(cd "$(dirname "${BASH_SOURCE[0]}")" && pwd)
 cd "$2"
 "$here/load.py" "${3:-1}" 500 10000 .
