@@ -20,12 +20,13 @@ FQ_INLINE int pay(u64 from, u64 to, u64 amount) {
     return 1;
 }
 
-/* Place 0, for the market: 1 where the order is done, 0 where the account has too little. */
+/* Place 0, for the market: the order again where it is done, 0 where the account has too little. */
 EXPORT(u64, move, u64 order) {
     require(fq_has(fq_key(SETTINGS, MARKET)));
     u64 market = fq_get(fq_key(SETTINGS, MARKET)), account = order_account(order);
     require(fq_need((u32)market, (u32)(market >> 32), order) == 1);
-    return order_direction(order) == INTO_MARKET ? pay(account, 0, order_amount(order)) : pay(0, account, order_amount(order));
+    u64 from = order_direction(order) == INTO_MARKET ? account : 0;
+    return pay(from, account - from, order_amount(order)) ? order : 0;
 }
 
 EXPORT(i64, open, u64 issuer, u32 market, u32 place) {

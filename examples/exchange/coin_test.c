@@ -42,11 +42,11 @@ int main(void) {
     wanted = order_of(INTO_MARKET, 1, 600);
     REFUSED(move(order_of(INTO_MARKET, 1, 601)));
     REFUSED(move(order_of(OUT_OF_MARKET, 1, 600)));
-    GIVES(move(wanted), 1);
+    GIVES(move(wanted), (i64)wanted);
     GIVES(move(wanted), 0);
     EXPECT(balance_of(0) == 600 && balance_of(1) == 100);
     wanted = order_of(OUT_OF_MARKET, 3, 600);
-    GIVES(move(wanted), 1);
+    GIVES(move(wanted), (i64)wanted);
     GIVES(move(wanted), 0);
     EXPECT(balance_of(0) == 0 && balance_of(3) == 600 && fq_total(SUPPLY) == AMOUNTS - 1);
     return fq_tested();

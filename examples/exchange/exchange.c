@@ -49,13 +49,14 @@ static u64 root_of_product(u64 a, u64 b) {
     return root;
 }
 
-/* Has a coin do an order: whether the account had as much. */
+/* Has a coin do an order: whether the account had as much. An answer that no coin gives comes from another contract in its place, and refuses the call. */
 static int moved(u32 coin, u32 direction, u64 account, u64 amount) {
     u64 order = order_of(direction, account, amount);
     fq_put(fq_key(MARKET, WANTED + coin), order);
-    u64 done = fq_need(coin, MOVE, order);
+    u64 answer = fq_need(coin, MOVE, order);
+    require(answer == order || answer == 0);
     fq_del(fq_key(MARKET, WANTED + coin));
-    return done == 1;
+    return answer == order;
 }
 
 /* Takes an amount of one coin from an account and gives it one of the other; its own cells are in order before it asks. */

@@ -11,10 +11,17 @@ static u32 coins(u32 contract, u32 place, u64 order, u64 *answer) {
     if (contract > 1 || place != MOVE) return 10;
     if ((contract == 0 ? wants_0(order) : wants_1(order)) != 1) return 1;
     u64 from = order_direction(order) == INTO_MARKET ? account : 0, to = from == 0 ? account : 0;
-    *answer = balance[contract][from] >= amount;
+    *answer = balance[contract][from] >= amount ? order : 0;
     if (*answer == 0) return 0;
     balance[contract][from] -= amount;
     balance[contract][to] += amount;
+    return 0;
+}
+
+/* A contract that answers 1 to all, as `wants_0` does to an order that stands. */
+static u32 another(u32 contract, u32 place, u64 order, u64 *answer) {
+    (void)contract, (void)place, (void)order;
+    *answer = 1;
     return 0;
 }
 
@@ -85,6 +92,8 @@ static void each_refusal(void) {
     fq_asked = 0;
     REFUSED(sell(1, 0, 1000, 0));
     EXPECT(!fq_has(fq_key(MARKET, WANTED)));
+    fq_asked = another;
+    REFUSED(sell(1, 0, 1000, 0));
     fq_asked = coins;
     EXPECT(wants_0(0) == 0 && wants_1(order_of(INTO_MARKET, 1, 1)) == 0);
 }

@@ -19,6 +19,9 @@
     (local i64) ;; local 1
     (local i64) ;; local 2
     (local i64) ;; local 3
+    (local i64) ;; local 4
+    (local i64) ;; local 5
+    (local i64) ;; local 6
     block ;; 0
       i64.const 1 ;; 1
       call $boost.has ;; 2
@@ -39,88 +42,67 @@
       i64.const 1 ;; 17
       i64.ne ;; 18
       br_if 0 ;; 19
-      local.get 0 ;; 20
-      i64.const 40 ;; 21
-      i64.shr_u ;; 22
-      i64.const 8388607 ;; 23
-      i64.and ;; 24
-      local.set 2 ;; 25
-      local.get 0 ;; 26
-      i64.const 1099511627775 ;; 27
-      i64.and ;; 28
-      local.set 1 ;; 29
-      i64.const 0 ;; 30
-      local.set 3 ;; 31
-      block ;; 32
-        block ;; 33
-          block ;; 34
-            local.get 0 ;; 35
-            i64.const 0 ;; 36
-            i64.lt_s ;; 37
-            br_if 0 ;; 38
-            local.get 2 ;; 39
-            i64.const 72057594037927936 ;; 40
-            i64.or ;; 41
-            local.tee 0 ;; 42
-            call $boost.get ;; 43
-            local.tee 2 ;; 44
-            local.get 1 ;; 45
-            i64.lt_u ;; 46
-            br_if 2 ;; 47
-            local.get 0 ;; 48
-            local.get 2 ;; 49
-            local.get 1 ;; 50
-            i64.sub ;; 51
-            call $boost.put ;; 52
-            i64.const 72057594037927936 ;; 53
-            call $boost.get ;; 54
-            local.tee 0 ;; 55
-            local.get 1 ;; 56
-            i64.add ;; 57
-            local.tee 1 ;; 58
-            local.get 0 ;; 59
-            i64.lt_u ;; 60
-            br_if 3 ;; 61
-            i64.const 72057594037927936 ;; 62
-            local.get 1 ;; 63
-            call $boost.put ;; 64
-            br 1 ;; 65
-          end
-          i64.const 72057594037927936 ;; 66
-          call $boost.get ;; 67
-          local.tee 0 ;; 68
-          local.get 1 ;; 69
-          i64.lt_u ;; 70
-          br_if 1 ;; 71
-          i64.const 72057594037927936 ;; 72
-          local.get 0 ;; 73
-          local.get 1 ;; 74
-          i64.sub ;; 75
-          call $boost.put ;; 76
-          local.get 2 ;; 77
-          i64.const 72057594037927936 ;; 78
-          i64.or ;; 79
-          local.tee 0 ;; 80
-          call $boost.get ;; 81
-          local.tee 3 ;; 82
-          local.get 1 ;; 83
-          i64.add ;; 84
-          local.tee 1 ;; 85
-          local.get 3 ;; 86
-          i64.lt_u ;; 87
-          br_if 2 ;; 88
-          local.get 0 ;; 89
-          local.get 1 ;; 90
-          call $boost.put ;; 91
-        end
-        i64.const 1 ;; 92
-        local.set 3 ;; 93
+      i64.const 0 ;; 20
+      local.set 1 ;; 21
+      block ;; 22
+        i64.const 0 ;; 23
+        local.get 0 ;; 24
+        i64.const 40 ;; 25
+        i64.shr_u ;; 26
+        i64.const 8388607 ;; 27
+        i64.and ;; 28
+        local.tee 2 ;; 29
+        local.get 0 ;; 30
+        i64.const 0 ;; 31
+        i64.lt_s ;; 32
+        select ;; 33
+        local.tee 3 ;; 34
+        i64.const 72057594037927936 ;; 35
+        i64.or ;; 36
+        local.tee 4 ;; 37
+        call $boost.get ;; 38
+        local.tee 5 ;; 39
+        local.get 0 ;; 40
+        i64.const 1099511627775 ;; 41
+        i64.and ;; 42
+        local.tee 6 ;; 43
+        i64.lt_u ;; 44
+        br_if 0 ;; 45
+        local.get 4 ;; 46
+        local.get 5 ;; 47
+        local.get 6 ;; 48
+        i64.sub ;; 49
+        call $boost.put ;; 50
+        local.get 2 ;; 51
+        local.get 3 ;; 52
+        i64.sub ;; 53
+        local.tee 1 ;; 54
+        i64.const 72057594037927936 ;; 55
+        i64.ge_u ;; 56
+        br_if 1 ;; 57
+        local.get 1 ;; 58
+        i64.const 72057594037927936 ;; 59
+        i64.or ;; 60
+        local.tee 2 ;; 61
+        call $boost.get ;; 62
+        local.tee 1 ;; 63
+        local.get 6 ;; 64
+        i64.add ;; 65
+        local.tee 6 ;; 66
+        local.get 1 ;; 67
+        i64.lt_u ;; 68
+        br_if 1 ;; 69
+        local.get 2 ;; 70
+        local.get 6 ;; 71
+        call $boost.put ;; 72
+        local.get 0 ;; 73
+        local.set 1 ;; 74
       end
-      local.get 3 ;; 94
-      return ;; 95
+      local.get 1 ;; 75
+      return ;; 76
     end
-    unreachable ;; 96
-    unreachable ;; 97
+    unreachable ;; 77
+    unreachable ;; 78
   )
   (func $open (type 5) ;; function 8
     (param i64) ;; local 0

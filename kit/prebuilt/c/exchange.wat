@@ -364,6 +364,8 @@
     (local i64) ;; local 7
     (local i64) ;; local 8
     (local i64) ;; local 9
+    (local i64) ;; local 10
+    (local i32) ;; local 11
     local.get 1 ;; 0
     i64.extend_i32_u ;; 1
     local.tee 4 ;; 2
@@ -406,59 +408,76 @@
       local.get 2 ;; 39
       call $boost.ask ;; 40
       br_if 0 ;; 41
-      call $boost.answer ;; 42
-      local.set 2 ;; 43
-      local.get 9 ;; 44
-      call $boost.del ;; 45
-      drop ;; 46
-      block ;; 47
-        local.get 2 ;; 48
-        i64.const 1 ;; 49
-        i64.eq ;; 50
-        br_if 0 ;; 51
-        local.get 4 ;; 52
-        local.get 5 ;; 53
-        call $boost.put ;; 54
-        local.get 7 ;; 55
-        local.get 8 ;; 56
-        call $boost.put ;; 57
-        i64.const -14 ;; 58
-        i64.const -13 ;; 59
-        local.get 1 ;; 60
-        select ;; 61
-        return ;; 62
+      block ;; 42
+        call $boost.answer ;; 43
+        local.tee 10 ;; 44
+        local.get 2 ;; 45
+        i64.eq ;; 46
+        local.tee 11 ;; 47
+        br_if 0 ;; 48
+        local.get 10 ;; 49
+        i64.eqz ;; 50
+        i32.eqz ;; 51
+        br_if 1 ;; 52
       end
-      i32.const 4 ;; 63
-      local.get 1 ;; 64
-      i32.sub ;; 65
-      i64.extend_i32_u ;; 66
-      local.tee 4 ;; 67
-      local.get 0 ;; 68
-      local.get 3 ;; 69
-      i64.or ;; 70
-      i64.const -9223372036854775808 ;; 71
-      i64.or ;; 72
-      local.tee 2 ;; 73
-      call $boost.put ;; 74
-      local.get 6 ;; 75
-      i32.const 0 ;; 76
-      local.get 2 ;; 77
-      call $boost.ask ;; 78
-      br_if 0 ;; 79
-      call $boost.answer ;; 80
-      local.set 2 ;; 81
-      local.get 4 ;; 82
-      call $boost.del ;; 83
-      drop ;; 84
-      local.get 2 ;; 85
-      i64.const 1 ;; 86
-      i64.ne ;; 87
-      br_if 0 ;; 88
-      i64.const 0 ;; 89
-      return ;; 90
+      local.get 9 ;; 53
+      call $boost.del ;; 54
+      drop ;; 55
+      block ;; 56
+        local.get 11 ;; 57
+        br_if 0 ;; 58
+        local.get 4 ;; 59
+        local.get 5 ;; 60
+        call $boost.put ;; 61
+        local.get 7 ;; 62
+        local.get 8 ;; 63
+        call $boost.put ;; 64
+        i64.const -14 ;; 65
+        i64.const -13 ;; 66
+        local.get 1 ;; 67
+        select ;; 68
+        return ;; 69
+      end
+      i32.const 4 ;; 70
+      local.get 1 ;; 71
+      i32.sub ;; 72
+      i64.extend_i32_u ;; 73
+      local.tee 4 ;; 74
+      local.get 0 ;; 75
+      local.get 3 ;; 76
+      i64.or ;; 77
+      i64.const -9223372036854775808 ;; 78
+      i64.or ;; 79
+      local.tee 2 ;; 80
+      call $boost.put ;; 81
+      local.get 6 ;; 82
+      i32.const 0 ;; 83
+      local.get 2 ;; 84
+      call $boost.ask ;; 85
+      br_if 0 ;; 86
+      block ;; 87
+        call $boost.answer ;; 88
+        local.tee 3 ;; 89
+        local.get 2 ;; 90
+        i64.eq ;; 91
+        local.tee 1 ;; 92
+        br_if 0 ;; 93
+        local.get 3 ;; 94
+        i64.eqz ;; 95
+        i32.eqz ;; 96
+        br_if 1 ;; 97
+      end
+      local.get 4 ;; 98
+      call $boost.del ;; 99
+      drop ;; 100
+      local.get 1 ;; 101
+      i32.eqz ;; 102
+      br_if 0 ;; 103
+      i64.const 0 ;; 104
+      return ;; 105
     end
-    unreachable ;; 91
-    unreachable ;; 92
+    unreachable ;; 106
+    unreachable ;; 107
   )
   (func $buy (type 5) ;; function 10
     (param i64) ;; local 0
@@ -572,6 +591,7 @@
     (local i64) ;; local 14
     (local i64) ;; local 15
     (local i64) ;; local 16
+    (local i32) ;; local 17
     i64.const -1 ;; 0
     local.set 4 ;; 1
     block ;; 2
@@ -824,7 +844,7 @@
       local.get 0 ;; 243
       i64.const 40 ;; 244
       i64.shl ;; 245
-      local.tee 5 ;; 246
+      local.tee 14 ;; 246
       i64.or ;; 247
       local.tee 4 ;; 248
       call $boost.put ;; 249
@@ -837,84 +857,101 @@
               local.get 4 ;; 256
               call $boost.ask ;; 257
               br_if 0 ;; 258
-              call $boost.answer ;; 259
-              local.set 13 ;; 260
-              i64.const 3 ;; 261
-              call $boost.del ;; 262
-              drop ;; 263
-              i64.const -13 ;; 264
-              local.set 4 ;; 265
-              local.get 13 ;; 266
-              i64.const 1 ;; 267
-              i64.ne ;; 268
-              br_if 2 ;; 269
-              i64.const 4 ;; 270
-              local.get 11 ;; 271
-              local.get 5 ;; 272
-              i64.or ;; 273
-              local.tee 4 ;; 274
-              call $boost.put ;; 275
-              i32.const 1 ;; 276
-              i32.const 0 ;; 277
-              local.get 4 ;; 278
-              call $boost.ask ;; 279
-              br_if 0 ;; 280
-              call $boost.answer ;; 281
-              local.set 4 ;; 282
-              i64.const 4 ;; 283
-              call $boost.del ;; 284
-              drop ;; 285
+              block ;; 259
+                call $boost.answer ;; 260
+                local.tee 13 ;; 261
+                local.get 4 ;; 262
+                i64.eq ;; 263
+                br_if 0 ;; 264
+                local.get 13 ;; 265
+                i64.eqz ;; 266
+                i32.eqz ;; 267
+                br_if 1 ;; 268
+              end
+              i64.const 3 ;; 269
+              call $boost.del ;; 270
+              drop ;; 271
+              i64.const -13 ;; 272
+              local.set 5 ;; 273
+              local.get 13 ;; 274
+              local.get 4 ;; 275
+              i64.ne ;; 276
+              br_if 2 ;; 277
+              i64.const 4 ;; 278
+              local.get 11 ;; 279
+              local.get 14 ;; 280
+              i64.or ;; 281
+              local.tee 4 ;; 282
+              call $boost.put ;; 283
+              i32.const 1 ;; 284
+              i32.const 0 ;; 285
               local.get 4 ;; 286
-              i64.const 1 ;; 287
-              i64.eq ;; 288
-              br_if 1 ;; 289
-              i64.const -14 ;; 290
-              local.set 4 ;; 291
-              i32.const 0 ;; 292
-              i32.const 1 ;; 293
-              local.get 0 ;; 294
-              local.get 1 ;; 295
-              call 12 ;; 296
-              br_if 2 ;; 297
+              call $boost.ask ;; 287
+              br_if 0 ;; 288
+              block ;; 289
+                call $boost.answer ;; 290
+                local.tee 11 ;; 291
+                local.get 4 ;; 292
+                i64.eq ;; 293
+                local.tee 17 ;; 294
+                br_if 0 ;; 295
+                local.get 11 ;; 296
+                i64.eqz ;; 297
+                i32.eqz ;; 298
+                br_if 1 ;; 299
+              end
+              i64.const 4 ;; 300
+              call $boost.del ;; 301
+              drop ;; 302
+              local.get 17 ;; 303
+              br_if 1 ;; 304
+              i64.const -14 ;; 305
+              local.set 5 ;; 306
+              i32.const 0 ;; 307
+              i32.const 1 ;; 308
+              local.get 0 ;; 309
+              local.get 1 ;; 310
+              call 12 ;; 311
+              br_if 2 ;; 312
             end
-            unreachable ;; 298
-            unreachable ;; 299
+            unreachable ;; 313
+            unreachable ;; 314
           end
-          local.get 12 ;; 300
-          i64.const -1 ;; 301
-          i64.gt_s ;; 302
-          br_if 1 ;; 303
-          local.get 12 ;; 304
-          local.set 4 ;; 305
+          local.get 12 ;; 315
+          i64.const -1 ;; 316
+          i64.gt_s ;; 317
+          br_if 1 ;; 318
+          local.get 12 ;; 319
+          local.set 5 ;; 320
         end
-        i64.const 0 ;; 306
-        local.get 6 ;; 307
-        call $boost.put ;; 308
-        i64.const 1 ;; 309
-        local.get 7 ;; 310
-        call $boost.put ;; 311
-        local.get 9 ;; 312
-        local.get 10 ;; 313
-        call $boost.put ;; 314
-        i64.const 2 ;; 315
-        local.get 8 ;; 316
-        call $boost.put ;; 317
-        local.get 4 ;; 318
-        return ;; 319
+        i64.const 0 ;; 321
+        local.get 6 ;; 322
+        call $boost.put ;; 323
+        i64.const 1 ;; 324
+        local.get 7 ;; 325
+        call $boost.put ;; 326
+        local.get 9 ;; 327
+        local.get 10 ;; 328
+        call $boost.put ;; 329
+        i64.const 2 ;; 330
+        local.get 8 ;; 331
+        call $boost.put ;; 332
+        local.get 5 ;; 333
+        return ;; 334
       end
-      block ;; 320
-        local.get 8 ;; 321
-        i64.const 0 ;; 322
-        i64.ne ;; 323
-        br_if 0 ;; 324
-        i64.const 72057594037927936 ;; 325
-        local.get 16 ;; 326
-        call $boost.put ;; 327
+      block ;; 335
+        local.get 8 ;; 336
+        i64.const 0 ;; 337
+        i64.ne ;; 338
+        br_if 0 ;; 339
+        i64.const 72057594037927936 ;; 340
+        local.get 16 ;; 341
+        call $boost.put ;; 342
       end
-      local.get 12 ;; 328
-      local.set 4 ;; 329
+      local.get 12 ;; 343
+      local.set 4 ;; 344
     end
-    local.get 4 ;; 330
+    local.get 4 ;; 345
   )
   (func (type 8) ;; function 12
     (param i32) ;; local 0
@@ -945,19 +982,27 @@
       i32.const 0 ;; 19
       local.get 3 ;; 20
       call $boost.ask ;; 21
-      i32.eqz ;; 22
-      br_if 0 ;; 23
-      unreachable ;; 24
-      unreachable ;; 25
+      br_if 0 ;; 22
+      block ;; 23
+        call $boost.answer ;; 24
+        local.tee 2 ;; 25
+        local.get 3 ;; 26
+        i64.eq ;; 27
+        local.tee 0 ;; 28
+        br_if 0 ;; 29
+        local.get 2 ;; 30
+        i64.eqz ;; 31
+        i32.eqz ;; 32
+        br_if 1 ;; 33
+      end
+      local.get 4 ;; 34
+      call $boost.del ;; 35
+      drop ;; 36
+      local.get 0 ;; 37
+      return ;; 38
     end
-    call $boost.answer ;; 26
-    local.set 3 ;; 27
-    local.get 4 ;; 28
-    call $boost.del ;; 29
-    drop ;; 30
-    local.get 3 ;; 31
-    i64.const 1 ;; 32
-    i64.eq ;; 33
+    unreachable ;; 39
+    unreachable ;; 40
   )
   (func $remove_shares (type 7) ;; function 13
     (param i64) ;; local 0
@@ -973,6 +1018,7 @@
     (local i64) ;; local 9
     (local i64) ;; local 10
     (local i64) ;; local 11
+    (local i32) ;; local 12
     i64.const -1 ;; 0
     local.set 4 ;; 1
     block ;; 2
@@ -1074,43 +1120,61 @@
         local.get 4 ;; 98
         call $boost.ask ;; 99
         br_if 1 ;; 100
-        call $boost.answer ;; 101
-        local.set 4 ;; 102
-        i64.const 3 ;; 103
-        call $boost.del ;; 104
-        drop ;; 105
-        local.get 4 ;; 106
-        i64.const 1 ;; 107
-        i64.ne ;; 108
-        br_if 1 ;; 109
-        i64.const 4 ;; 110
-        local.get 11 ;; 111
-        local.get 0 ;; 112
-        i64.or ;; 113
-        local.tee 4 ;; 114
-        call $boost.put ;; 115
-        i32.const 1 ;; 116
-        i32.const 0 ;; 117
-        local.get 4 ;; 118
-        call $boost.ask ;; 119
-        br_if 1 ;; 120
-        call $boost.answer ;; 121
-        local.set 0 ;; 122
-        i64.const 4 ;; 123
-        call $boost.del ;; 124
-        drop ;; 125
-        local.get 10 ;; 126
-        local.set 4 ;; 127
-        local.get 0 ;; 128
-        i64.const 1 ;; 129
-        i64.ne ;; 130
-        br_if 1 ;; 131
+        block ;; 101
+          call $boost.answer ;; 102
+          local.tee 1 ;; 103
+          local.get 4 ;; 104
+          i64.eq ;; 105
+          local.tee 12 ;; 106
+          br_if 0 ;; 107
+          local.get 1 ;; 108
+          i64.eqz ;; 109
+          i32.eqz ;; 110
+          br_if 2 ;; 111
+        end
+        i64.const 3 ;; 112
+        call $boost.del ;; 113
+        drop ;; 114
+        local.get 12 ;; 115
+        i32.eqz ;; 116
+        br_if 1 ;; 117
+        i64.const 4 ;; 118
+        local.get 11 ;; 119
+        local.get 0 ;; 120
+        i64.or ;; 121
+        local.tee 4 ;; 122
+        call $boost.put ;; 123
+        i32.const 1 ;; 124
+        i32.const 0 ;; 125
+        local.get 4 ;; 126
+        call $boost.ask ;; 127
+        br_if 1 ;; 128
+        block ;; 129
+          call $boost.answer ;; 130
+          local.tee 0 ;; 131
+          local.get 4 ;; 132
+          i64.eq ;; 133
+          local.tee 12 ;; 134
+          br_if 0 ;; 135
+          local.get 0 ;; 136
+          i64.eqz ;; 137
+          i32.eqz ;; 138
+          br_if 2 ;; 139
+        end
+        i64.const 4 ;; 140
+        call $boost.del ;; 141
+        drop ;; 142
+        local.get 10 ;; 143
+        local.set 4 ;; 144
+        local.get 12 ;; 145
+        i32.eqz ;; 146
+        br_if 1 ;; 147
       end
-      local.get 4 ;; 132
-      return ;; 133
+      local.get 4 ;; 148
+      return ;; 149
     end
-    unreachable ;; 134
-    unreachable ;; 135
+    unreachable ;; 150
+    unreachable ;; 151
   )
   (func $quote (type 9) ;; function 14
     (param i32) ;; local 0
