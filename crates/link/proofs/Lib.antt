@@ -1,4 +1,5 @@
 pub mod Added
+mod ByName
 pub mod Calls
 pub mod Constants
 pub mod Faults

@@ -3,6 +3,7 @@
 
 pub mod deploy;
 pub mod deployed;
+mod exports;
 mod imports;
 pub mod refusal;
 mod segments;
