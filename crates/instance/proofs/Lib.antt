@@ -1,5 +1,3 @@
-pub mod Constants
-pub mod Elements
 pub mod Segments
 mod Asking
 pub mod Entering

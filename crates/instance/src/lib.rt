@@ -2,14 +2,10 @@
 #![tactic(auto)]
 
 mod opening;
-mod tables;
 
 ghost use Rattle.std.specs.Prelude.{◌≡◌, ℕ, ◌*◌, ◌≤◌, None, map, IfOk};
-ghost use Rattle.spec_numeric.specs.Operators.{bits_of};
-ghost use Rattle.module_tree.specs.View.{instrs_view};
 ghost use Rattle.module_tree.specs.ModuleView.{global_view, limits_view};
 ghost use Rattle.module_tree.specs.Modules.{module_view};
-ghost use Rattle.spec_syntax.specs.Syntax as syntax;
 ghost use Rattle.spec_syntax.specs.Profile.{page_size, page_limit};
 ghost use Rattle.spec_execution.specs.Configuration.{constant, size_of, fresh};
 ghost use Rattle.spec_execution.specs.Reduction.{pages_of, most_pages};
@@ -18,15 +14,14 @@ ghost use Rattle.link.specs.Parts.{tree_of};
 ghost use Rattle.instance.specs.States.{IsFresh};
 
 pub use crate::opening::{Refusal, asked_entry, entry_of};
-use crate::tables::open_table;
 use link::deployed::Deployed;
+use link::expressions::constant_of;
+use link::table::Table;
 use memory::{Linear, PAGE_LIMIT, Start};
-use module_tree::instr::Instr;
-use module_tree::lone::lone_plain;
 use module_tree::module::Global as Declared;
 use spec_ledger::Version;
 use std::alloc::{AllocError, Allocator, Global};
-use wtypes::{Limits, NoMemory, PlainInstr, Value};
+use wtypes::{Limits, NoMemory, Value};
 
 /// What a call may change beside its frames (Core Specification, 4.2.5 Module Instances).
 #[derive(Drop)]
@@ -35,9 +30,8 @@ pub struct Instance<'a, A: Allocator + Copy = Global> {
     pub globals: Vec<Value, A>,
     /// The memory, which is lent what it begins with. Where the module has none, it has no page.
     pub memory: Linear<'a, A>,
-    /// The number of the function that each element of the table is, or None where it is empty. Where the module has no table, it
-    /// has no element.
-    pub table: Vec<Option<u32>, A>,
+    /// The table, which the module lends, since no instruction writes it. Where the module has none, it has no element.
+    pub table: &'a Table<A>,
 }
 
 /// A fresh instance (Core Specification, 4.5.4 Instantiation): its globals have their first values, and its data
@@ -59,11 +53,10 @@ pub fn open_instance<'a, A: Allocator + Copy>(
         Err(_) => return Err(NoMemory),
     };
     let memory = open_memory(alloc, version, deployed)?;
-    let table = open_table(alloc, deployed)?;
     Ok(Instance {
         globals,
         memory,
-        table,
+        table: deployed.table(),
     })
 }
 
@@ -79,16 +72,6 @@ fn open_memory<'a, A: Allocator + Copy>(
     deployed.is_linked();
     let tree = deployed.module();
     first_memory(alloc, version, &tree.memories, deployed.start())
-}
-
-// The number that a value's bits spell.
-fn bits(value: Value) -> u64
-    ensures { result ≡ bits_of value }
-{
-    match value {
-        Value::I32(x) => u64::from(x.cast_unsigned()),
-        Value::I64(x) => x.cast_unsigned(),
-    }
 }
 
 // No memory grows to more in version 1, but where its minimum is more.
@@ -144,23 +127,4 @@ fn open_globals<A: Allocator + Copy>(
         values.push(constant_of(&global.init))?;
     }
     Ok(values)
-}
-
-// The value of a constant expression.
-fn constant_of<A: Allocator>(expression: &Vec<Instr<A>, A>) -> Value
-    ensures { result ≡ constant (instrs_view expression.now.items) }
-{
-    match lone_plain(expression) {
-        Some(op) => value_of_const(op),
-        None => Value::I32(0),
-    }
-}
-
-fn value_of_const(op: PlainInstr) -> Value
-    ensures { result ≡ constant (syntax.seq (syntax.Plain op) syntax.nothing) }
-{
-    match op {
-        PlainInstr::Const(value) => value,
-        _ => Value::I32(0),
-    }
 }

@@ -56,11 +56,10 @@ fn copy_instance<'a, A: Allocator + Copy>(
 {
     let memory = instance.memory.copy()?;
     let globals = instance.globals.to_vec(alloc)?;
-    let table = instance.table.to_vec(alloc)?;
     Ok(Instance {
         globals,
         memory,
-        table,
+        table: instance.table,
     })
 }
 

@@ -214,7 +214,7 @@ fn call_element<'a, A: Allocator + Copy>(
 {
     parts.code = rest;
     let element = bits(pop_top(&mut parts.stack));
-    match function_of_element(lent, &parts.instance.table, element, type_index) {
+    match function_of_element(lent, parts.instance.table, element, type_index) {
         Ok(func) => After::Calls(func),
         Err(code) => After::Fell(code),
     }

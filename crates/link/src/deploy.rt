@@ -19,6 +19,7 @@ use crate::imports::{call_named, host_calls, import_fault};
 use crate::refusal::LinkRefusal;
 use crate::segments::{all_within, data_fault, element_fault};
 use crate::starts::first_start;
+use crate::tables::first_table;
 use module_tree::module::Module;
 use std::alloc::{AllocError, Allocator};
 use typing::valid::Valid;
@@ -120,7 +121,7 @@ fn link_module<A: Allocator + Clone>(
     }
 }
 
-// The host calls of a module that can be instantiated, what its memory begins with, and its exports by name.
+// The host calls of a module that can be instantiated, what its memory begins with, its table, and its exports by name.
 fn link_parts<A: Allocator + Clone>(
     alloc: &A,
     tree: &Module<A>,
@@ -129,6 +130,7 @@ fn link_parts<A: Allocator + Clone>(
     ensures linked { IfOk result (λ parts. IsLinked (module_view tree.now) parts.hosts.items) }
     ensures begun { IfOk result (λ parts. first_bytes parts.start (page_size * size_of (module_view tree.now).memories) ≡ (fresh (module_view tree.now)).memory) }
     ensures ends { IfOk result (λ parts. (k : ℕ) → page_size * size_of (module_view tree.now).memories ≤ k → stands parts.start k ≡ None) }
+    ensures filled { IfOk result (λ parts. parts.table ≡ (fresh (module_view tree.now)).table) }
     ensures named { IfOk result (λ parts. AreExports parts.exports (module_view tree.now).exports) }
     ensures says { IfErr result (λ e. Says e (module_view tree.now)) }
     ensures passed { IfErr result (λ e. PassedBefore e (module_view tree.now)) }
@@ -137,12 +139,16 @@ fn link_parts<A: Allocator + Clone>(
     let Ok(start) = first_start(alloc, tree, &hosts) else {
         return Err(LinkRefusal::NoMemory);
     };
+    let Ok(table) = first_table(alloc, tree, &hosts) else {
+        return Err(LinkRefusal::NoMemory);
+    };
     let Ok(exports) = exports_by_name(alloc, &tree.exports) else {
         return Err(LinkRefusal::NoMemory);
     };
     Ok(Parts {
         hosts,
         start,
+        table,
         exports,
     })
 }

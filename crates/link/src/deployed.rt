@@ -8,6 +8,7 @@ ghost use Rattle.module_tree.specs.Modules.{module_view};
 ghost use Rattle.link.specs.Exports.{AreExports};
 
 use crate::exports::{Exports, exports_by_name};
+use crate::table::Table;
 use memory::Start;
 use module_tree::module::{ExportDesc, Module};
 use std::alloc::Allocator;
@@ -15,16 +16,18 @@ use wtypes::{HostCall, NoMemory};
 
 /// A module that can be instantiated (Core Specification, 4.5.4 Instantiation): it is typed, each of its imports is a
 /// host call of its type, its segments are in range, and its memory and its table keep the limits of the profile. It has the bytes that its
-/// memory begins with, at most as many as its data segments, which the memories of its instances are lent; and what it exports, by name.
+/// memory begins with, at most as many as its data segments, and its table, which no instruction writes: its instances are lent both. It has what it exports, by name.
 #[derive(Drop)]
 pub struct Deployed<A: Allocator> {
     tree: Module<A>,
     hosts: Vec<HostCall, A>,
     start: Start<A>,
+    table: Table<A>,
     exports: Exports<A>,
     pub ghost linked: { ∥ IsLinked (module_view tree) hosts.items ∥₁ },
     ghost begun: { first_bytes start (page_size * size_of (module_view tree).memories) ≡ (fresh (module_view tree)).memory },
     ghost ends: { (k : ℕ) → page_size * size_of (module_view tree).memories ≤ k → stands start k ≡ None },
+    ghost filled: { table ≡ (fresh (module_view tree)).table },
     ghost named: { AreExports exports (module_view tree).exports },
 }
 
@@ -35,6 +38,8 @@ pub(crate) struct Parts<A: Allocator> {
     pub hosts: Vec<HostCall, A>,
     /// The bytes that its memory begins with.
     pub start: Start<A>,
+    /// Its table.
+    pub table: Table<A>,
     /// What is exported under each name.
     pub exports: Exports<A>,
 }
@@ -45,11 +50,12 @@ impl<A: Allocator> Deployed<A> {
     ghost use Rattle.module_tree.specs.ModuleView.{export_desc_view};
     ghost use Rattle.link.specs.Parts.{tree_of, hosts_of, start_of};
 
-    /// A module that is linked to these host calls, whose memory begins with these bytes, and which exports this.
+    /// A module that is linked to these host calls, whose memory begins with these bytes, whose table is this, and which exports this.
     pub(crate) fn of_linked(tree: Module<A>, parts: Parts<A>) -> Deployed<A>
         requires linked { IsLinked (module_view tree) parts.hosts.items }
         requires begun { first_bytes parts.start (page_size * size_of (module_view tree).memories) ≡ (fresh (module_view tree)).memory }
         requires ends { (k : ℕ) → page_size * size_of (module_view tree).memories ≤ k → stands parts.start k ≡ None }
+        requires filled { parts.table ≡ (fresh (module_view tree)).table }
         requires named { AreExports parts.exports (module_view tree).exports }
         ensures tree { tree_of result ≡ tree }
         ensures hosts { hosts_of result ≡ parts.hosts.items }
@@ -57,12 +63,14 @@ impl<A: Allocator> Deployed<A> {
         let Parts {
             hosts,
             start,
+            table,
             exports,
         } = parts;
         Deployed {
             tree,
             hosts,
             start,
+            table,
             exports,
         }
     }
@@ -97,6 +105,13 @@ impl<A: Allocator> Deployed<A> {
         &self.start
     }
 
+    /// Its table, with the element segments in place: that of each of its instances at any time.
+    pub fn table(&self) -> &Table<A>
+        ensures { result.now ≡ (fresh (module_view (tree_of self.now))).table }
+    {
+        &self.table
+    }
+
     /// What is exported under a name, or None where nothing is. It looks among the names by halves, in the order of their bytes.
     pub fn exported(&self, name: &str) -> Option<ExportDesc>
         ensures { option_map export_desc_view result ≡ exported name.now (module_view (tree_of self.now)).exports }
@@ -115,12 +130,14 @@ impl<A: Allocator> Deployed<A> {
     {
         let hosts = Vec::from_slice(alloc.clone()?, self.hosts())?;
         let start = self.start.copy_in(alloc.clone()?)?;
+        let table = self.table.copy_in(alloc.clone()?)?;
         let tree = self.tree.copy_in(alloc.clone()?)?;
         let exports = exports_by_name(&alloc, &tree.exports)?;
         Ok(Deployed {
             tree,
             hosts,
             start,
+            table,
             exports,
         })
     }

@@ -4,7 +4,10 @@
 pub mod deploy;
 pub mod deployed;
 mod exports;
+pub mod expressions;
 mod imports;
 pub mod refusal;
 mod segments;
 mod starts;
+pub mod table;
+mod tables;

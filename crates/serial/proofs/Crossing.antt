@@ -21,6 +21,7 @@ use Rattle.module_tree.specs.contracts.module.Import as import_row
 use Rattle.module_tree.specs.contracts.module.Module as tree_row
 use Rattle.memory.specs.contracts.start.Start as start_row
 use Rattle.link.specs.contracts.deployed.Deployed as contract_row
+use Rattle.link.specs.contracts.table.Table as table_row
 use Rattle.interp.specs.contracts.finished.Finished as finished_row
 use Rattle.storage.specs.contracts.Cells as cells_row
 use Rattle.std.proofs.Crossing as std
@@ -46,6 +47,7 @@ use Rattle.module_tree.proofs.module.GlobalType.TheSendSync as global_type
 use Rattle.module_tree.proofs.module.Import.TheSendSync as imported
 use Rattle.module_tree.proofs.module.ImportDesc.TheSendSync as import_desc
 use Rattle.memory.proofs.start.Run.TheSendSync as run
+use Rattle.link.proofs.table.Filled.TheSendSync as filled
 use Rattle.call.proofs.Call.TheSendSync as call
 use Rattle.storage.proofs.Slot.TheSendSync as slot
 
@@ -126,9 +128,12 @@ module _ (B : RattleType) (g : Ghosts B.Denot) (send : IsSend B) (sync : IsSync 
   start_sync : IsSync (start_row.the_row B g)
   start_sync = declared_sync (start_row.the_type B g) (search (crosses, vec_sync, run.the_field_sync) depth 60 fits 100000, (search (crosses, vec_sync) depth 60 fits 100000, tt))
 
+  table_sync : IsSync (table_row.the_row B g)
+  table_sync = declared_sync (table_row.the_type B g) (search crosses depth 60 fits 100000, (search (crosses, vec_sync, filled.the_field_sync) depth 60 fits 100000, tt))
+
   pub contract_sync : IsSync (contract_row.the_row B g)
   contract_sync = declared_sync (contract_row.the_type B g)
-      (search (crosses, tree_sync) depth 60, (search (crosses, hosts_sync) depth 60, (search (crosses, start_sync) depth 60, (search (crosses, maps_over.crosses, text_sync) depth 60 fits 100000, tt))))
+      (search (crosses, tree_sync) depth 60, (search (crosses, hosts_sync) depth 60, (search (crosses, start_sync) depth 60, (search (crosses, table_sync) depth 60, (search (crosses, maps_over.crosses, text_sync) depth 60 fits 100000, tt)))))
 
   pub contracts_send : (ℓ : Lifetime) (κ : Lft) → IsSend (ShrSlice ℓ κ (contract_row.the_row B g))
   contracts_send ℓ κ = shr_slice_send ℓ κ _ contract_sync

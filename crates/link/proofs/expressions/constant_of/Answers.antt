@@ -1,6 +1,6 @@
 use Rattle.module_tree.specs.View.{instrs_view}
-use Rattle.instance.proofs.Constants.{value_some, value_none}
-use Rattle.instance.proofs.constant_of.Goals as goal
+use Rattle.link.proofs.Values.{value_some, value_none}
+use Rattle.link.proofs.expressions.constant_of.Goals as goal
 
 pub returns-in-Some : goal.returns-in-Some
 returns-in-Some g c =

@@ -1,8 +1,8 @@
 use Rattle.std.proofs.Common.{◌≡◌, ◌+◌, ◌∙◌, ap, map, length, slice_set, slice_index_or, Some, arith, take}
 use Rattle.std.proofs.Math.Seq.{take-length}
 use Rattle.spec_numeric.specs.Memory.{written}
-use Rattle.instance.proofs.Elements.{put_function}
-use Rattle.instance.proofs.tables.put_functions.Goals as goal
+use Rattle.link.proofs.Elements.{put_function}
+use Rattle.link.proofs.tables.put_functions.Goals as goal
 
 pub loop-i-preserved : goal.loop-i-preserved
 loop-i-preserved g c =
