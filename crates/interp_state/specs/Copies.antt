@@ -12,7 +12,7 @@ abbrev pub codes_of : {A : Type 0} → List (Entry A) → List (List (Instr A))
 codes_of es = map (λ e. e.from.now) es
 
 pub record IsInstanceCopy {A : Type 0} (i j : Instance A) : Type 0 where
-  pub globals : j.globals.items ≡ i.globals.items
+  pub globals : j.globals ≡ i.globals
   pub memory : j.memory ≡ i.memory
   pub table : j.table.now ≡ i.table.now
 

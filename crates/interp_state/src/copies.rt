@@ -55,7 +55,7 @@ fn copy_instance<'a, A: Allocator + Copy>(
     ensures { IfOk result (λ copy. IsInstanceCopy instance.now copy) }
 {
     let memory = instance.memory.copy()?;
-    let globals = instance.globals.to_vec(alloc)?;
+    let globals = instance.globals.copy(alloc)?;
     Ok(Instance {
         globals,
         memory,

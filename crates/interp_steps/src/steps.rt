@@ -157,14 +157,14 @@ fn execute_on_instance<'a, A: Allocator + Copy>(
 {
     match op {
         PlainInstr::GlobalGet(x) => {
-            let value = parts.instance.globals[*x as usize];
+            let value = parts.instance.globals.as_slice()[*x as usize];
             push(&mut parts.stack, value)?;
             parts.code = rest;
             Ok(After::Ran)
         }
         PlainInstr::GlobalSet(x) => {
             let value = pop_top(&mut parts.stack);
-            parts.instance.globals[*x as usize] = value;
+            parts.instance.globals.set(*x, value);
             parts.code = rest;
             Ok(After::Ran)
         }

@@ -15,6 +15,7 @@ ghost use Rattle.link.specs.Tests.{AllCalls, Sized};
 
 use crate::deployed::{Deployed, Parts};
 use crate::exports::exports_by_name;
+use crate::globals::first_globals;
 use crate::imports::{call_named, host_calls, import_fault};
 use crate::refusal::LinkRefusal;
 use crate::segments::{all_within, data_fault, element_fault};
@@ -121,16 +122,15 @@ fn link_module<A: Allocator + Clone>(
     }
 }
 
-// The host calls of a module that can be instantiated, what its memory begins with, its table, and its exports by name.
-fn link_parts<A: Allocator + Clone>(
-    alloc: &A,
-    tree: &Module<A>,
-) -> Result<Parts<A>, LinkRefusal>
+// The host calls of a module that can be instantiated, what its memory begins with, its table, the first values of its globals,
+// and its exports by name.
+fn link_parts<A: Allocator + Clone>(alloc: &A, tree: &Module<A>) -> Result<Parts<A>, LinkRefusal>
     requires { ModuleTyped (module_view tree.now) }
     ensures linked { IfOk result (λ parts. IsLinked (module_view tree.now) parts.hosts.items) }
     ensures begun { IfOk result (λ parts. first_bytes parts.start (page_size * size_of (module_view tree.now).memories) ≡ (fresh (module_view tree.now)).memory) }
     ensures ends { IfOk result (λ parts. (k : ℕ) → page_size * size_of (module_view tree.now).memories ≤ k → stands parts.start k ≡ None) }
     ensures filled { IfOk result (λ parts. parts.table ≡ (fresh (module_view tree.now)).table) }
+    ensures first { IfOk result (λ parts. parts.globals.items ≡ (fresh (module_view tree.now)).globals) }
     ensures named { IfOk result (λ parts. AreExports parts.exports (module_view tree.now).exports) }
     ensures says { IfErr result (λ e. Says e (module_view tree.now)) }
     ensures passed { IfErr result (λ e. PassedBefore e (module_view tree.now)) }
@@ -142,6 +142,9 @@ fn link_parts<A: Allocator + Clone>(
     let Ok(table) = first_table(alloc, tree, &hosts) else {
         return Err(LinkRefusal::NoMemory);
     };
+    let Ok(globals) = first_globals(alloc, tree) else {
+        return Err(LinkRefusal::NoMemory);
+    };
     let Ok(exports) = exports_by_name(alloc, &tree.exports) else {
         return Err(LinkRefusal::NoMemory);
     };
@@ -149,6 +152,7 @@ fn link_parts<A: Allocator + Clone>(
         hosts,
         start,
         table,
+        globals,
         exports,
     })
 }

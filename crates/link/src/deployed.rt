@@ -12,22 +12,25 @@ use crate::table::Table;
 use memory::Start;
 use module_tree::module::{ExportDesc, Module};
 use std::alloc::Allocator;
-use wtypes::{HostCall, NoMemory};
+use wtypes::{HostCall, NoMemory, Value};
 
 /// A module that can be instantiated (Core Specification, 4.5.4 Instantiation): it is typed, each of its imports is a
 /// host call of its type, its segments are in range, and its memory and its table keep the limits of the profile. It has the bytes that its
-/// memory begins with, at most as many as its data segments, and its table, which no instruction writes: its instances are lent both. It has what it exports, by name.
+/// memory begins with, at most as many as its data segments, its table, which no instruction writes, and the first values of its globals: its instances
+/// are lent all of them. It has what it exports, by name.
 #[derive(Drop)]
 pub struct Deployed<A: Allocator> {
     tree: Module<A>,
     hosts: Vec<HostCall, A>,
     start: Start<A>,
     table: Table<A>,
+    globals: Vec<Value, A>,
     exports: Exports<A>,
     pub ghost linked: { ∥ IsLinked (module_view tree) hosts.items ∥₁ },
     ghost begun: { first_bytes start (page_size * size_of (module_view tree).memories) ≡ (fresh (module_view tree)).memory },
     ghost ends: { (k : ℕ) → page_size * size_of (module_view tree).memories ≤ k → stands start k ≡ None },
     ghost filled: { table ≡ (fresh (module_view tree)).table },
+    ghost first: { globals.items ≡ (fresh (module_view tree)).globals },
     ghost named: { AreExports exports (module_view tree).exports },
 }
 
@@ -40,6 +43,8 @@ pub(crate) struct Parts<A: Allocator> {
     pub start: Start<A>,
     /// Its table.
     pub table: Table<A>,
+    /// The first values of its globals.
+    pub globals: Vec<Value, A>,
     /// What is exported under each name.
     pub exports: Exports<A>,
 }
@@ -50,12 +55,13 @@ impl<A: Allocator> Deployed<A> {
     ghost use Rattle.module_tree.specs.ModuleView.{export_desc_view};
     ghost use Rattle.link.specs.Parts.{tree_of, hosts_of, start_of};
 
-    /// A module that is linked to these host calls, whose memory begins with these bytes, whose table is this, and which exports this.
+    /// A module that is linked to these host calls, whose memory begins with these bytes, whose table and whose first values of globals are these, and which exports this.
     pub(crate) fn of_linked(tree: Module<A>, parts: Parts<A>) -> Deployed<A>
         requires linked { IsLinked (module_view tree) parts.hosts.items }
         requires begun { first_bytes parts.start (page_size * size_of (module_view tree).memories) ≡ (fresh (module_view tree)).memory }
         requires ends { (k : ℕ) → page_size * size_of (module_view tree).memories ≤ k → stands parts.start k ≡ None }
         requires filled { parts.table ≡ (fresh (module_view tree)).table }
+        requires first { parts.globals.items ≡ (fresh (module_view tree)).globals }
         requires named { AreExports parts.exports (module_view tree).exports }
         ensures tree { tree_of result ≡ tree }
         ensures hosts { hosts_of result ≡ parts.hosts.items }
@@ -64,6 +70,7 @@ impl<A: Allocator> Deployed<A> {
             hosts,
             start,
             table,
+            globals,
             exports,
         } = parts;
         Deployed {
@@ -71,6 +78,7 @@ impl<A: Allocator> Deployed<A> {
             hosts,
             start,
             table,
+            globals,
             exports,
         }
     }
@@ -105,14 +113,21 @@ impl<A: Allocator> Deployed<A> {
         &self.start
     }
 
-    /// Its table, with the element segments in place: that of each of its instances at any time.
+    /// Its table, with the element segments in place (Core Specification, 4.5.4 Instantiation): that of each of its instances at any time.
     pub fn table(&self) -> &Table<A>
         ensures { result.now ≡ (fresh (module_view (tree_of self.now))).table }
     {
         &self.table
     }
 
-    /// What is exported under a name, or None where nothing is. It looks among the names by halves, in the order of their bytes.
+    /// The first values of its globals, in the order of their numbers (Core Specification, 4.5.4 Instantiation).
+    pub fn globals(&self) -> &[Value]
+        ensures { result.now ≡ (fresh (module_view (tree_of self.now))).globals }
+    {
+        &self.globals
+    }
+
+    /// What is exported under a name (Core Specification, 2.5.10 Exports), or None where nothing is. It looks among the names by halves, in the order of their bytes.
     pub fn exported(&self, name: &str) -> Option<ExportDesc>
         ensures { option_map export_desc_view result ≡ exported name.now (module_view (tree_of self.now)).exports }
     {
@@ -131,6 +146,7 @@ impl<A: Allocator> Deployed<A> {
         let hosts = Vec::from_slice(alloc.clone()?, self.hosts())?;
         let start = self.start.copy_in(alloc.clone()?)?;
         let table = self.table.copy_in(alloc.clone()?)?;
+        let globals = Vec::from_slice(alloc.clone()?, self.globals())?;
         let tree = self.tree.copy_in(alloc.clone()?)?;
         let exports = exports_by_name(&alloc, &tree.exports)?;
         Ok(Deployed {
@@ -138,6 +154,7 @@ impl<A: Allocator> Deployed<A> {
             hosts,
             start,
             table,
+            globals,
             exports,
         })
     }

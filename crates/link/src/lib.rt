@@ -4,7 +4,8 @@
 pub mod deploy;
 pub mod deployed;
 mod exports;
-pub mod expressions;
+mod expressions;
+mod globals;
 mod imports;
 pub mod refusal;
 mod segments;

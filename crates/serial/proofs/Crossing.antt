@@ -36,6 +36,7 @@ use Rattle.wtypes.proofs.Limits.TheSendSync as limits
 use Rattle.wtypes.proofs.NoMemory.TheSendSync as no_memory
 use Rattle.wtypes.proofs.PlainInstr.TheSendSync as plain
 use Rattle.wtypes.proofs.ValType.TheSendSync as val_type
+use Rattle.wtypes.proofs.Value.TheSendSync as value
 use Rattle.spec_ledger.proofs.Outcome.TheSendSync as outcome
 use Rattle.spec_ledger.proofs.TraceStep.TheSendSync as step
 use Rattle.spec_ledger.proofs.Lock.TheSendSync as lock
@@ -67,6 +68,7 @@ pub ruleset crosses = (
   limits.the_field_sync,
   plain.the_field_sync,
   val_type.the_field_sync,
+  value.the_field_sync,
   host.the_field_sync,
   option.the_field_sync,
   result.the_field_send,
@@ -133,7 +135,7 @@ module _ (B : RattleType) (g : Ghosts B.Denot) (send : IsSend B) (sync : IsSync 
 
   pub contract_sync : IsSync (contract_row.the_row B g)
   contract_sync = declared_sync (contract_row.the_type B g)
-      (search (crosses, tree_sync) depth 60, (search (crosses, hosts_sync) depth 60, (search (crosses, start_sync) depth 60, (search (crosses, table_sync) depth 60, (search (crosses, maps_over.crosses, text_sync) depth 60 fits 100000, tt)))))
+      (search (crosses, tree_sync) depth 60, (search (crosses, hosts_sync) depth 60, (search (crosses, start_sync) depth 60, (search (crosses, table_sync) depth 60, (search (crosses, vec_sync) depth 60 fits 100000, (search (crosses, maps_over.crosses, text_sync) depth 60 fits 100000, tt))))))
 
   pub contracts_send : (ℓ : Lifetime) (κ : Lft) → IsSend (ShrSlice ℓ κ (contract_row.the_row B g))
   contracts_send ℓ κ = shr_slice_send ℓ κ _ contract_sync

@@ -20,6 +20,7 @@ invariant_of-result g c =
           (same_start (stands d.start) (stands c.in_ok-start.start) (page_size * size_of (module_view d.tree).memories) c.in_ok-start.ensures ∙ d.begun);
       ends = subst (λ (m : Module). (k : ℕ) → page_size * size_of m.memories ≤ k → stands c.in_ok-start.start k ≡ None) tree (λ k q. c.in_ok-start.ensures k ∙ d.ends k q);
       filled = subst (λ (m : Module). c.in_ok-table.table ≡ (fresh m).table) tree (c.in_ok-table.ensures ∙ d.filled);
+      first = subst (λ (m : Module). c.in_ok-globals.globals.items ≡ (fresh m).globals) tree (c.in_ok-globals.ensures.items ∙ c.globals.ensures);
       named = c.in_ok-exports.ensures;
     }
 
