@@ -18,7 +18,7 @@ use interp::machine::Machine;
 use interp::start::StartRefusal;
 use link::deployed::Deployed as Contract;
 use lock_profile::Touched;
-use pace::{Pace, Step};
+use pace::{Pace, Step, must_stop_at};
 use serial::{HostRequest, next_request, touched_by};
 use shards::{NoGate, Shards, Ticket};
 use spec_ledger::{NoMemory, Op, Reply, Version};
@@ -76,12 +76,6 @@ enum Stop {
     NoMemory,
     /// The pace stopped the worker.
     Stopped,
-}
-
-/// Tells the pace a step, and answers whether the worker stops there.
-pub fn must_stop_at<P: Pace>(pace: &P, step: Step) -> bool {
-    pace.at(step);
-    pace.stops(step)
 }
 
 /// Why an attempt stops at an operation that was refused, where the pace stops the worker or does not. Out of memory is told

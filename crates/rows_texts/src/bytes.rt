@@ -1,6 +1,6 @@
 //! What bytes spell.
 
-use crate::modules_of_refused::Refused;
+use crate::refused::Refused;
 use crate::put_instrs;
 use encoder::encode;
 use expr_reader::read_expr;

@@ -1,6 +1,6 @@
 //! Which function a call starts with.
 
-use crate::modules_of_refused::Refused;
+use crate::refused::Refused;
 use crate::numbers::first_line;
 use call::Call;
 use instance::{asked_entry, entry_of};

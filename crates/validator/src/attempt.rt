@@ -19,7 +19,7 @@ use interp::machine::Machine;
 use interp::start::StartRefusal;
 use link::deployed::Deployed as Contract;
 use lock_profile::Profile;
-use pace::{Pace, Step, acquire};
+use pace::{Pace, Step, acquire, must_stop_at};
 use serial::{HostRequest, next_request};
 use spec_ledger::{NoMemory, Op, Reply, Version};
 use std::alloc::Allocator;
@@ -35,12 +35,6 @@ enum Stop {
     NoMemory,
     /// The pace stopped the worker.
     Stopped,
-}
-
-/// Tells the pace a step, and answers whether the worker stops there.
-fn must_stop_at<P: Pace>(pace: &P, step: Step) -> bool {
-    pace.at(step);
-    pace.stops(step)
 }
 
 /// A position, the number of its call, what the call may ask for, the cells that it is run over, and who is told.

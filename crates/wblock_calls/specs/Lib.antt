@@ -2,3 +2,4 @@ pub mod Texts
 pub mod Refusals
 pub mod Receipts
 pub mod Rows
+pub mod Words

@@ -4,7 +4,7 @@ use Rattle.wblock_io.specs.Holding.{Holding}
 use Rattle.wblock_line.specs.declared.answer.Answer.{Answer}
 use Rattle.wblock_modules.specs.Deploys.{Deploys, IsNextModule}
 use Rattle.wblock_commands.specs.declared.command.Deploying.{Deploying}
-use Rattle.wblock_commands.specs.Words.{texts}
+use Rattle.wblock_calls.specs.Words.{texts}
 
 -- the file of the world is there, and is not to be written over
 pub record IsTaken (d : Deploying) (holds : Holding) : Type 0 where

@@ -1,6 +1,7 @@
 -- What the words of a line ask for.
-use Rattle.std.specs.Prelude.{◌≡◌, ◌≢◌, ℕ, ◌<◌, ◌≤◌, ◌⊎◌, Bool, true, false, List, [], ◌∷◌, Option, Some, None, IfSome, codes, decimal, length, map}
+use Rattle.std.specs.Prelude.{◌≡◌, ◌≢◌, ℕ, ◌<◌, ◌≤◌, ◌⊎◌, Bool, true, false, List, [], ◌∷◌, Option, Some, None, IfSome, codes, decimal, length}
 use Rattle.std.specs.Borrow.{Bor}
+use Rattle.wblock_calls.specs.Words.{texts}
 use Rattle.wblock_line.specs.Words.{Line, Choice, split}
 use Rattle.wblock_commands.specs.declared.command.Command.{Command}
 use Rattle.wblock_commands.specs.declared.command.Command.TheVariants.{Stored, Help, Version, Asm, Text, Check, Deploy, Mine, Validate, Debug, Show}
@@ -13,12 +14,6 @@ use Rattle.wblock_blocks.specs.declared.validate.Validation.{Validation}
 use Rattle.wblock_show.specs.declared.file.Form.{Form}
 use Rattle.wblock_show.specs.declared.file.Form.TheVariants as form
 use Rattle.wblock_show.specs.declared.file.Showing.{Showing}
-
-abbrev pub texts : List (Bor (List ℕ)) → List (List ℕ)
-texts words = map (λ w. w.now) words
-
-abbrev pub choices : List (Bor (List ℕ) × Bor (List ℕ)) → List Choice
-choices options = map (λ o. (o.0.now, o.1.now)) options
 
 -- the word is none of these
 abbrev pub IsApart : List ℕ → List (List ℕ) → Type 0

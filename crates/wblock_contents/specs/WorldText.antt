@@ -11,6 +11,7 @@ use Rattle.spec_ledger.specs.Cells.{Cells}
 use Rattle.spec_binary.specs.Shortest.{shortest}
 use Rattle.spec_block.specs.Worlds.{Contract, World}
 use Rattle.spec_block.specs.Bytes.{world_bytes}
+use Rattle.figures.specs.Words.{lock_text}
 use Rattle.world.specs.Views.{is_cell_of}
 use Rattle.wblock_contents.specs.Lines.{numbered}
 use Rattle.wblock_contents.specs.ModuleText.{interface_text}
@@ -19,13 +20,9 @@ use Rattle.wblock_contents.specs.ModuleText.{interface_text}
 abbrev pub contract_text : ℕ → Contract → List ℕ
 contract_text n c = (codes "contract " ++ decimal n ++ codes " " ++ decimal (length (shortest c.tree)) ++ codes " bytes\n") ++ interface_text c.tree
 
-abbrev pub kind_name : Kind → List ℕ
-kind_name Map = codes "map "
-kind_name Counter = codes "counter "
-
 -- `map K:KEY VALUE` or `counter K:KEY VALUE`
 abbrev pub cell_line : Lock × ℕ → List ℕ
-cell_line c = kind_name c.0.kind ++ decimal c.0.contract ++ codes ":" ++ decimal c.0.key ++ codes " " ++ decimal c.1 ++ 10 ∷ []
+cell_line c = lock_text c.0 ++ codes " " ++ decimal c.1 ++ 10 ∷ []
 
 -- the cells of a kind, rising by contract and key
 abbrev pub cells_text : Kind → Cells → List ℕ

@@ -3,8 +3,9 @@
 ghost use Rattle.std.specs.Prelude.{◌≡◌, IfOk, string_bytes};
 ghost use Rattle.std.specs.FinMap as finite;
 ghost use Rattle.world.specs.Views.{is_of};
-ghost use Rattle.wblock_contents.specs.WorldText.{kind_name, cell_line, cells_text};
+ghost use Rattle.wblock_contents.specs.WorldText.{cell_line, cells_text};
 
+use figures::lock_text_of;
 use std::alloc::{AllocError, Global};
 use storage::{Cells, Kind, Lock};
 
@@ -28,24 +29,12 @@ pub(crate) fn list_cells(alloc: Global, cells: &Cells) -> Result<Vec<(Lock, u64)
     Ok(all)
 }
 
-/// The word of a kind of cells.
-fn kind_word(kind: Kind) -> &'static str
-    ensures { result.now ≡ kind_name kind }
-{
-    match kind {
-        Kind::Map => "map ",
-        Kind::Counter => "counter ",
-    }
-}
-
 /// The line of a cell.
 fn cell_line_of(alloc: Global, lock: Lock, value: u64) -> Result<String, AllocError>
     ensures { IfOk result (λ line. string_bytes line ≡ cell_line (lock, value)) }
 {
-    let word = kind_word(lock.kind);
-    let contract = lock.contract;
-    let key = lock.key;
-    let line = format!(in alloc; "{word}{contract}:{key} {value}\n")?;
+    let lock = lock_text_of(alloc, lock)?;
+    let line = format!(in alloc; "{lock} {value}\n")?;
     Ok(line)
 }
 

@@ -16,7 +16,7 @@ mod wiped;
 mod words;
 mod worlds;
 
-pub use answer::{Answer, Fault, Write, read_file};
+pub use answer::{Answer, Fault, Write, read_file, write_counted};
 pub use inputs::{Inputs, judge_calls, read_inputs};
 pub use line::WIPE;
 pub use modules::{Stop, read_contract, read_valid};

@@ -1,12 +1,11 @@
 -- What `text` answers.
-use Rattle.std.specs.Prelude.{◌≡◌, ℕ, ◌⊎◌, List, [], ◌∷◌, ◌++◌, Some, codes, decimal, length, string_bytes}
+use Rattle.std.specs.Prelude.{◌≡◌, ℕ, ◌⊎◌, List, [], ◌∷◌, ◌++◌, Some, codes, decimal, string_bytes}
 use Rattle.spec_syntax.specs.Syntax.{Module}
 use Rattle.spec_text.specs.Names.{Names}
 use Rattle.wblock_io.specs.Holding.{Holding}
 use Rattle.wblock_line.specs.declared.answer.Answer.{Answer}
 use Rattle.wblock_line.specs.declared.answer.Answer.TheVariants.{Done, Refused}
-use Rattle.wblock_line.specs.declared.perform.Status.TheVariants as status
-use Rattle.wblock_line.specs.Answers.{writes_of, text_of, status_of}
+use Rattle.wblock_line.specs.Answers.{IsCounted}
 use Rattle.wblock_line.specs.Modules.{IsValidOf}
 use Rattle.wblock_line.specs.Refusals.{TellsNoModule}
 use Rattle.wblock_modules.specs.declared.text.Found.{Found}
@@ -20,17 +19,11 @@ pub record IsTextOf (bytes text : List ℕ) : Type 0 where
   pub valid : IsValidOf bytes tree
   pub names : Names text tree
 
--- a file is to hold this text, and `text N bytes` is to be printed
-pub record IsDone (target text : List ℕ) (a : Answer) : Type 0 where
-  pub status : status_of a ≡ status.Done
-  pub writes : writes_of a ≡ (target, text) ∷ []
-  pub line : text_of a ≡ codes "text " ++ decimal (length text) ++ codes " bytes" ++ 10 ∷ []
-
 -- the file is to hold a text that names the module
 pub record TellsText (bytes target : List ℕ) (a : Answer) : Type 0 where
   pub text : List ℕ
   pub is_text : IsTextOf bytes text
-  pub is_done : IsDone target text a
+  pub is_done : IsCounted (codes "text") target text a
 
 -- ---- modules without a text
 

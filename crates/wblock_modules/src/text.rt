@@ -3,12 +3,12 @@
 ghost use Rattle.std.specs.Prelude.{◌≡◌, IsTrue, IfOk, IfErr, OnOk, string_bytes};
 ghost use Rattle.wblock_line.specs.Answers.{CountsFault, IsOfFile};
 ghost use Rattle.wblock_line.specs.Modules.{StopsAt};
-ghost use Rattle.wblock_modules.specs.Texts.{IsFound, IsDone, IsAnswer, WritesText, unwritten_line};
+ghost use Rattle.wblock_modules.specs.Texts.{IsFound, IsAnswer, WritesText, unwritten_line};
 
 use module_text::{TextRefusal, text_of};
 use std::alloc::{AllocError, Global};
 use wblock_io::Files;
-use wblock_line::{Answer, Fault, Stop, Write, read_file, read_valid};
+use wblock_line::{Answer, Fault, Stop, read_file, read_valid, write_counted};
 
 /// What a valid module comes to.
 #[derive(Drop)]
@@ -44,21 +44,6 @@ fn unwritten_text(alloc: Global, number: u8, why: &str) -> Result<(String, Strin
     Ok((line, why))
 }
 
-/// The answer of a text, which is to be written to a file.
-fn done<'a>(alloc: Global, target: &'a str, text: String) -> Result<Answer<'a>, AllocError>
-    ensures { IfOk result (λ a. IsDone target.entry.now (string_bytes text) a) }
-{
-    let bytes = text.into_bytes();
-    let count = bytes.len();
-    let line = format!(in alloc; "text {count} bytes\n")?;
-    let mut writes = Vec::new(alloc);
-    writes.push(Write {
-        name: target,
-        bytes,
-    })?;
-    Ok(Answer::Done(writes, line))
-}
-
 /// The text of the module of these bytes, or why it is refused.
 fn answer_or_refuse<'a>(
     alloc: Global,
@@ -68,7 +53,7 @@ fn answer_or_refuse<'a>(
     ensures { IfOk result (IsAnswer bytes.now target.entry.now) }
 {
     match find_text(alloc, bytes) {
-        Ok(Found::Text(text)) => done(alloc, target, text),
+        Ok(Found::Text(text)) => write_counted(alloc, "text", target, text.into_bytes()),
         Ok(Found::TooLong) => {
             let (line, why) = unwritten_text(
                 alloc,

@@ -3,7 +3,7 @@ use Rattle.std.proofs.lemmas.List.{length-map}
 use Rattle.module_tree.specs.ModuleView.{func_view}
 use Rattle.module_tree.specs.Modules.{module_view}
 use Rattle.figures.proofs.Counting.{few_funcs}
-use Rattle.figures.proofs.module_figures_figures.first_func.Goals as goal
+use Rattle.figures.proofs.module_figures.first_func.Goals as goal
 
 pub overflow_cast-result : goal.overflow_cast-result
 overflow_cast-result c =
