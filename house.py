@@ -37,7 +37,7 @@ LIMITS = {
     "README.md": 4_500,
     "CONTRIBUTING.md": 11_000,
     "CHANGELOG.md": 8_000,
-    "docs/ARCHITECTURE.md": 14_000,
+    "docs/ARCHITECTURE.md": 15_500,
     "docs/BENCHMARKS.md": 14_000,
     "docs/DECISIONS.md": 27_500,
     "docs/DEFINITIONS.md": 18_500,
@@ -59,14 +59,7 @@ LONG_READMES = {"rows": (101, "it has the words of rows, which authors of tests 
 NO_README = {}
 
 # Crates that depend on one of a higher layer, and why.
-UPWARD = {
-    ("call", "spec_execution"): "what contracts see of a call is a record of the definitions",
-    ("module_rows", "opening"): "a row asks which function a call enters",
-    ("debugger", "storage"): "a session runs a call over cells",
-    ("machine_rows", "storage"): "a row runs a call over cells",
-    ("tests_blocks", "ration"): "it tests refusals of memory",
-    ("tests_verdicts", "calls_text"): "it reads lists of calls as texts",
-}
+UPWARD = {}
 
 
 def layers():

@@ -9,3 +9,6 @@ pub mod Ordered
 pub mod Sealing
 pub mod Turned
 pub mod Unplaced
+pub mod Depths
+pub mod Below
+pub mod Fitting

@@ -12,8 +12,8 @@ use Rattle.spec_text.specs.Fields.{AreSpaces, Resolves, count_imported}
 use Rattle.spec_text.specs.Names.{Names}
 use Rattle.text_resolve.specs.Outcome as inner
 use Rattle.text_resolve.specs.Refused.{Unless}
-use Rattle.text_resolve.specs.declared.refusal.Unresolved.{Unresolved}
-use Rattle.text_resolve.specs.declared.refusal.Unresolved.TheVariants as unresolved
+use Rattle.text_resolve.specs.declared.refusal.ResolveFault.{ResolveFault}
+use Rattle.text_resolve.specs.declared.refusal.ResolveFault.TheVariants as unresolved
 use Rattle.text_resolve.specs.declared.refusal.AsmRefusal.{AsmRefusal}
 use Rattle.text_resolve.specs.declared.refusal.AsmRefusal.TheVariants.{Lex, Unexpected, UnknownName, RepeatedName, NumberRange, TooLarge, NoMemory}
 use Rattle.text_tree.specs.Texts.{IsText, NoText, TextsAreOne}
@@ -21,7 +21,7 @@ use Rattle.text_fields.specs.Listed.{NoSpaces, SpacesAreOne}
 use Rattle.assembler.specs.Made.{make_at, ExpressionsFit, ReadingIsExact}
 use Rattle.assembler.proofs.Ordered.{made_in_order}
 use Rattle.assembler.proofs.Unplaced.{order_kept}
-use Rattle.text_faults.specs.OfFields.{IsOfFields}
+use Rattle.assembler.specs.OfFields.{IsOfFields}
 use Rattle.assembler.specs.Named.{HasFields, NamesNothing, LexesToNothing, ResolveToNothing, MakesNothing, IsWhy}
 
 -- ---- tokens and fields
@@ -75,7 +75,7 @@ rightly (NumberRange at) p = p
 rightly (TooLarge limit) p = p
 
 -- one refusal in place of another
-pub told : {P Q : Type 0} (e : Unresolved) (r : AsmRefusal) → (e ≡ unresolved.NoMemory → r ≡ NoMemory) → (P → Q) → inner.Unless P e → Unless Q r
+pub told : {P Q : Type 0} (e : ResolveFault) (r : AsmRefusal) → (e ≡ unresolved.NoMemory → r ≡ NoMemory) → (P → Q) → inner.Unless P e → Unless Q r
 told unresolved.NoMemory r same f p = rw (same refl) tt
 told unresolved.Broken r same f p = rightly r (f p)
 told (unresolved.UnknownName at) r same f p = rightly r (f p)
@@ -94,7 +94,7 @@ of_fields text (NumberRange at) is none = none
 of_fields text (TooLarge limit) is none = none
 
 -- and so it is in place of another refusal
-pub why_of_fields : {P : Type 0} (text : List ℕ) (e : Unresolved) (r : AsmRefusal) → (e ≡ unresolved.NoMemory → r ≡ NoMemory) → IsOfFields r → (P → MakesNothing text) → inner.Unless P e → IsWhy text r
+pub why_of_fields : {P : Type 0} (text : List ℕ) (e : ResolveFault) (r : AsmRefusal) → (e ≡ unresolved.NoMemory → r ≡ NoMemory) → IsOfFields r → (P → MakesNothing text) → inner.Unless P e → IsWhy text r
 why_of_fields text unresolved.NoMemory r same is f p = rw (same refl) tt
 why_of_fields text unresolved.Broken r same is f p = of_fields text r is (f p)
 why_of_fields text (unresolved.UnknownName at) r same is f p = of_fields text r is (f p)

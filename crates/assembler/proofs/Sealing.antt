@@ -12,7 +12,7 @@ use Rattle.spec_text.specs.Fields.{AreSpaces, Resolves, count_imported}
 use Rattle.text_fields.specs.Listed.{SpacesAreOne}
 use Rattle.assembler.specs.Made.{make_at, ExpressionsFit, ReadingIsExact}
 use Rattle.assembler.specs.PartsView.{with_types, AreInRange}
-use Rattle.module_limits.specs.ListsView.{IsTooLarge}
+use Rattle.assembler.specs.ListsView.{IsTooLarge}
 use Rattle.assembler.specs.Named.{ResolveToNothing}
 use Rattle.assembler.proofs.Limits.{is_within, is_judged, is_short}
 use Rattle.assembler.proofs.Naming.{resolved, made_fits, made}

@@ -6,7 +6,7 @@ use Rattle.spec_text.specs.Forms.{index_by, binding_by, use_by, flat_by, bounds_
 use Rattle.spec_text.specs.Words.{Placed}
 use Rattle.spec_text.specs.Placed as P
 use Rattle.spec_text.specs.Named as N
-use Rattle.text_words.specs.declared.word.Piece.{Piece}
+use Rattle.lexer.specs.declared.word.Piece.{Piece}
 use Rattle.text_body.specs.declared.flat.Index.{Index}
 use Rattle.text_body.specs.declared.flat.Index.TheVariants as index
 use Rattle.text_body.specs.declared.flat.Binding.{Binding}

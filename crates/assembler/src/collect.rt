@@ -4,7 +4,7 @@ ghost use Rattle.spec_text.specs.Fields.{count_imported};
 ghost use Rattle.module_tree.specs.ModuleView.{func_type_view};
 ghost use Rattle.text_tree.specs.Views.{field_of, fields_of};
 ghost use Rattle.text_resolve.specs.Outcome.{Gives};
-ghost use Rattle.text_resolve.specs.declared.refusal.Unresolved.TheVariants.{NoMemory};
+ghost use Rattle.text_resolve.specs.declared.refusal.ResolveFault.TheVariants.{NoMemory};
 ghost use Rattle.text_resolve.specs.Views.{spaces_of};
 ghost use Rattle.assembler.specs.Made.{only_types, make_at};
 ghost use Rattle.assembler.specs.PartsView.{parts_view, with_types, are_parts_numbered, AreInRange};
@@ -13,11 +13,11 @@ ghost use Rattle.assembler.specs.Counted.{defined_funcs, has_func, count_funcs};
 use crate::parts::{Parts, put};
 use std::alloc::Allocator;
 use text_fields::part_of;
-use text_resolve::{Spaces, Unresolved};
+use text_resolve::{ResolveFault, Spaces};
 use text_tree::{Desc, Field, Text};
 
 // No parts.
-fn nothing<A: Allocator + Clone>(alloc: &A) -> Result<Parts<A>, Unresolved>
+fn nothing<A: Allocator + Clone>(alloc: &A) -> Result<Parts<A>, ResolveFault>
     ensures nothing { IfOk result (λ p. parts_view p ≡ only_types []) }
     ensures numbered { IfOk result (λ p. are_parts_numbered p ≡ true) }
     ensures refused { IfErr result (λ e. e ≡ NoMemory) }
@@ -60,7 +60,7 @@ fn has_func<'a, A: Allocator>(field: &Field<'a, A>) -> u32
 }
 
 // The number of all functions.
-fn count_funcs<'a, A: Allocator>(text: &Text<'a, A>) -> Result<u32, Unresolved>
+fn count_funcs<'a, A: Allocator>(text: &Text<'a, A>) -> Result<u32, ResolveFault>
     ensures count { IfOk result (λ n. n ≡ count_funcs (fields_of text.now)) }
     ensures refused { IfErr result (λ e. e ≡ NoMemory) }
 {
@@ -68,7 +68,7 @@ fn count_funcs<'a, A: Allocator>(text: &Text<'a, A>) -> Result<u32, Unresolved>
     for field in &text.fields {
         // There are never so many in a text within the limit on its bytes.
         if count == u32::MAX {
-            return Err(Unresolved::NoMemory);
+            return Err(ResolveFault::NoMemory);
         }
         count += has_func(field);
     }
@@ -81,7 +81,7 @@ pub fn parts_of_text<'a, A: Allocator + Clone>(
     alloc: &A,
     spaces: &Spaces<'a, A>,
     text: &Text<'a, A>,
-) -> Result<Parts<A>, Unresolved>
+) -> Result<Parts<A>, ResolveFault>
     ensures parts { Gives (λ p. with_types (map func_type_view spaces.now.types.items) (parts_view p)) result (make_at (spaces_of spaces.now) (fields_of text.now) (count_imported (fields_of text.now))) }
     ensures in_range { IfOk result (λ p. AreInRange (parts_view p)) }
     ensures numbered { IfOk result (λ p. are_parts_numbered p ≡ true) }

@@ -6,11 +6,10 @@ ghost use Rattle.text_resolve.specs.Refused.{Unless};
 ghost use Rattle.text_tree.specs.Places.{fields_of};
 ghost use Rattle.assembler.specs.Named.{HasFields, NamesNothing, LexesToNothing, IsWhy};
 
-use lexer::{LexRefusal, Tokens, no_text_lexes_to_two_lists, tokens};
+use lexer::{LexRefusal, TextRefusal, Tokens, no_text_lexes_to_two_lists, tokens};
 use std::alloc::Allocator;
 use text_resolve::AsmRefusal;
 use text_tree::{Text, no_words_are_two_texts, parse};
-use text_words::TextRefusal;
 
 // The tokens of a text.
 fn tokens_of<A: Allocator>(alloc: A, text: &str) -> Result<Tokens<A>, AsmRefusal>

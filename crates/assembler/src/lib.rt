@@ -1,48 +1,59 @@
-//! The assembler: all fields of a text in the text format of WebAssembly are put together to the module that the text names, and no text names two (Core
-//! Specification, 6 Text Format).
+//! The assembler: all fields of a text in the text format of WebAssembly are put together to the module that the text names, or the refusal of the text
+//! is found. No text names two modules (Core Specification, 6 Text Format).
 #![tactic(auto)]
+
+mod bodies;
+mod builder_bodies;
+mod builder_lists;
+mod builder_parts;
+mod collect;
+mod faults;
+mod faults_of_fields;
+mod fields;
+mod judge;
+mod labels;
+mod laws;
+mod lists;
+mod names;
+mod parts;
+mod ranges;
+mod whole;
 
 ghost use Rattle.std.specs.Prelude.{◌≡◌, IfOk, IfErr};
 ghost use Rattle.module_tree.specs.Modules.{module_view};
 ghost use Rattle.spec_text.specs.Names.{Names};
 ghost use Rattle.text_resolve.specs.Refused.{Unless};
 ghost use Rattle.text_resolve.specs.declared.refusal.AsmRefusal.TheVariants as refusal;
-ghost use Rattle.text_resolve.specs.declared.refusal.Unresolved.TheVariants as unresolved;
-ghost use Rattle.text_faults.specs.OfFields.{IsOfFields};
+ghost use Rattle.text_resolve.specs.declared.refusal.ResolveFault.TheVariants as unresolved;
+ghost use Rattle.assembler.specs.OfFields.{IsOfFields};
 ghost use Rattle.assembler.specs.Named.{NamesNothing, IsWhy};
 
-mod collect;
-mod fields;
-mod laws;
-mod lists;
-mod parts;
-mod whole;
-
+pub use builder_lists::Lists;
 pub use collect::parts_of_text;
+pub use faults_of_fields::first_fault;
 use fields::tree_of;
+pub use judge::{BuildFault, build_module};
 pub use laws::{no_fields_make_two_modules, no_text_names_two_modules, reading_of_fields_is_exact};
 use module_tree::limit::BYTE_LIMIT;
 use module_tree::module::Module;
 pub use parts::{Parts, put};
 use std::alloc::Allocator;
-use text_faults::first_fault;
-use text_resolve::Unresolved;
+use text_resolve::ResolveFault;
 pub use text_resolve::{AsmRefusal, Limit};
 use text_tree::Text;
 use whole::module_of;
 
-// The refusal of a text whose fields make no module within the limits, which is `met` where that is of memory.
 fn fault_of<A: Allocator + Clone>(
     alloc: &A,
     text: &str,
     tree: &Text<'_, A>,
-    met: Unresolved,
+    met: ResolveFault,
 ) -> AsmRefusal
     ensures memory { met ≡ unresolved.NoMemory → result ≡ refusal.NoMemory }
     ensures of_fields { IsOfFields result }
 {
     match met {
-        Unresolved::NoMemory => AsmRefusal::NoMemory,
+        ResolveFault::NoMemory => AsmRefusal::NoMemory,
         _ => match first_fault(alloc, tree) {
             AsmRefusal::TooLarge(_) if text.len() > BYTE_LIMIT => {
                 AsmRefusal::TooLarge(Limit::Bytes)

@@ -1,11 +1,10 @@
 //! Parts as lists.
 ghost use Rattle.std.specs.Prelude.{◌≡◌, true, map, reverse};
 ghost use Rattle.module_tree.specs.ModuleView.{func_type_view, are_numbered};
-ghost use Rattle.module_limits.specs.ListsView.{lists_view};
+ghost use Rattle.assembler.specs.ListsView.{lists_view};
 ghost use Rattle.assembler.specs.PartsView.{parts_view, with_types, are_parts_numbered};
 
-use crate::Parts;
-use module_limits::Lists;
+use crate::{Lists, Parts};
 use std::alloc::Allocator;
 use wtypes::FuncType;
 

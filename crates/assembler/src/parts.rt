@@ -1,7 +1,7 @@
 //! Parts of a module one after another, from the last.
 ghost use Rattle.std.specs.Prelude.{◌≡◌, ◌++◌, true, reverse, OnOk, IfErr};
 ghost use Rattle.text_resolve.specs.Outcome.{Gives};
-ghost use Rattle.text_resolve.specs.declared.refusal.Unresolved.TheVariants.{NoMemory};
+ghost use Rattle.text_resolve.specs.declared.refusal.ResolveFault.TheVariants.{NoMemory};
 ghost use Rattle.text_fields.specs.PartView.{part_view, is_numbered};
 ghost use Rattle.assembler.specs.Made.{put_in};
 ghost use Rattle.assembler.specs.PartsView.{parts_view, are_parts_numbered};
@@ -9,7 +9,7 @@ ghost use Rattle.assembler.specs.PartsView.{parts_view, are_parts_numbered};
 use module_tree::module::{DataSegment, Element, Export, Func, Global, Import};
 use std::alloc::Allocator;
 use text_fields::Part;
-use text_resolve::Unresolved;
+use text_resolve::ResolveFault;
 use wtypes::Limits;
 
 /// The parts of a module, each list from its last to its first.
@@ -39,7 +39,7 @@ pub struct Parts<A: Allocator> {
 fn put_exports<A: Allocator>(
     all: &mut Vec<Export<A>, A>,
     exports: Vec<Export<A>, A>,
-) -> Result<(), Unresolved>
+) -> Result<(), ResolveFault>
     ensures put { OnOk result (all.new.items ≡ all.old.items ++ reverse exports.items) }
     ensures refused { IfErr result (λ e. e ≡ NoMemory) }
 {
@@ -52,7 +52,7 @@ fn put_exports<A: Allocator>(
 /// Puts a part in front. It is refused for another cause than memory only where an import stands behind a definition, or a
 /// start behind a start.
 #[tactic(auto, using(crate::proofs::Fronts::pushed, crate::proofs::Fronts::joined, crate::proofs::Fronts::before, crate::proofs::Fronts::behind, crate::proofs::Fronts::numbered_push))]
-pub fn put<A: Allocator>(parts: &mut Parts<A>, part: Part<A>) -> Result<(), Unresolved>
+pub fn put<A: Allocator>(parts: &mut Parts<A>, part: Part<A>) -> Result<(), ResolveFault>
     requires numbered { are_parts_numbered parts.old ≡ true }
     requires part_numbered { is_numbered part ≡ true }
     ensures value { Gives (λ _. parts_view parts.new) result (put_in (part_view part) (parts_view parts.old)) }
@@ -66,7 +66,7 @@ pub fn put<A: Allocator>(parts: &mut Parts<A>, part: Part<A>) -> Result<(), Unre
         }
         Part::Func(func, exports) => {
             if !parts.imports.is_empty() {
-                return Err(Unresolved::Broken);
+                return Err(ResolveFault::Broken);
             }
             parts.funcs.push(func)?;
             put_exports(&mut parts.exports, exports)?;
@@ -74,21 +74,21 @@ pub fn put<A: Allocator>(parts: &mut Parts<A>, part: Part<A>) -> Result<(), Unre
         }
         Part::Table(limits) => {
             if !parts.imports.is_empty() {
-                return Err(Unresolved::Broken);
+                return Err(ResolveFault::Broken);
             }
             parts.tables.push(limits)?;
             Ok(())
         }
         Part::Memory(limits) => {
             if !parts.imports.is_empty() {
-                return Err(Unresolved::Broken);
+                return Err(ResolveFault::Broken);
             }
             parts.memories.push(limits)?;
             Ok(())
         }
         Part::Global(global) => {
             if !parts.imports.is_empty() {
-                return Err(Unresolved::Broken);
+                return Err(ResolveFault::Broken);
             }
             parts.globals.push(global)?;
             Ok(())
@@ -99,7 +99,7 @@ pub fn put<A: Allocator>(parts: &mut Parts<A>, part: Part<A>) -> Result<(), Unre
         }
         Part::Start(func) => {
             if parts.start.is_some() {
-                return Err(Unresolved::Broken);
+                return Err(ResolveFault::Broken);
             }
             parts.start = Some(func);
             Ok(())

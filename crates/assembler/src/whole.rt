@@ -8,12 +8,11 @@ ghost use Rattle.text_tree.specs.Views.{fields_of};
 ghost use Rattle.assembler.specs.Named.{ResolveToNothing};
 
 use crate::lists::lists_of;
-use crate::{parts_of_text, reading_of_fields_is_exact};
-use module_limits::{Unsealed, seal};
+use crate::{BuildFault, build_module, parts_of_text, reading_of_fields_is_exact};
 use module_tree::module::Module;
 use std::alloc::Allocator;
 use text_fields::{no_text_has_two_lists_of_spaces, spaces_of_text};
-use text_resolve::Unresolved;
+use text_resolve::ResolveFault;
 use text_tree::Text;
 
 /// The module that fields make, within its limits. They are refused for another cause than memory only where they make no
@@ -21,7 +20,7 @@ use text_tree::Text;
 pub fn module_of<A: Allocator + Clone>(
     alloc: &A,
     tree: &Text<'_, A>,
-) -> Result<Module<A>, Unresolved>
+) -> Result<Module<A>, ResolveFault>
     ensures resolves { IfOk result (λ m. Resolves (fields_of tree.now) (module_view m)) }
     ensures fits { IfOk result (λ m. ModuleFits (module_view m)) }
     ensures refused { IfErr result (Unless (ResolveToNothing (fields_of tree.now))) }
@@ -30,9 +29,9 @@ pub fn module_of<A: Allocator + Clone>(
     reading_of_fields_is_exact();
     let spaces = spaces_of_text(alloc, tree)?;
     let parts = parts_of_text(alloc, &spaces, tree)?;
-    match seal(lists_of(spaces.types, parts)) {
+    match build_module(lists_of(spaces.types, parts)) {
         Ok(module) => Ok(module),
-        Err(Unsealed::NoMemory) => Err(Unresolved::NoMemory),
-        Err(Unsealed::TooLarge) => Err(Unresolved::Broken),
+        Err(BuildFault::NoMemory) => Err(ResolveFault::NoMemory),
+        Err(BuildFault::TooLarge) => Err(ResolveFault::Broken),
     }
 }

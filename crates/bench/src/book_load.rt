@@ -4,7 +4,7 @@ ghost use Rattle.std.specs.Prelude.{◌≡◌, ◌<◌, IfOk, [], replicate};
 use boost::book::Book;
 use rand::RngExt;
 use rand_pcg::Pcg32;
-use spec_ledger::{Kind, Lock, Op, Place};
+use spec_ledger::{CellKey, Kind, Lock, Op};
 use std::alloc::Global;
 use storage::{Cells, NoMemory};
 
@@ -68,7 +68,7 @@ impl Load {
     /// An operation at the key that the generator chooses: a get at an even key, an add at an odd one. No two of these conflict.
     pub fn operation(self, random: &mut Pcg32) -> Op {
         let key = random.random_range(0..self.keys);
-        let place = Place {
+        let place = CellKey {
             contract: 0,
             key: u64::from(key),
         };

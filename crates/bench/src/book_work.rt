@@ -4,7 +4,7 @@ ghost use Rattle.std.specs.Prelude.{◌≡◌, ◌+◌, ◌<◌, IfOk, OnOk, len
 use crate::book_load::{GROUPS, LIVE, Load, ROUNDS};
 use boost::book::{Book, Run, Ticket};
 use rand_pcg::Pcg32;
-use spec_ledger::{Outcome, Step};
+use spec_ledger::{Outcome, TraceStep};
 use std::alloc::Global;
 use storage::NoMemory;
 
@@ -12,7 +12,7 @@ use storage::NoMemory;
 #[derive(Drop)]
 struct Live {
     ticket: Ticket,
-    trace: Vec<Step>,
+    trace: Vec<TraceStep>,
     /// What chooses its keys.
     random: Pcg32,
 }
@@ -39,7 +39,9 @@ fn operate(book: &mut Book, live: &mut Live, load: Load) -> Result<(), NoMemory>
     let Ok(reply) = book.op(&live.ticket, op) else {
         return Err(NoMemory);
     };
-    live.trace.push(Step::Did(op, reply)).map_err(|_| NoMemory)
+    live.trace
+        .push(TraceStep::Did(op, reply))
+        .map_err(|_| NoMemory)
 }
 
 /// Commits a call.

@@ -1,8 +1,8 @@
 //! What is measured: the example contract, and calls of it.
 use call::Call;
-use samples::example;
 use std::alloc::Global;
 use storage::Cells;
+use test_support::example;
 use world::World;
 use wtypes::{NoMemory, Value};
 

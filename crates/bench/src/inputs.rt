@@ -4,11 +4,10 @@ ghost use Rattle.std.specs.Prelude.{◌≤◌, vec_len};
 use crate::files::read_file;
 use crate::refusals::refused;
 use call::Call;
-use calls_text::read_calls;
 use std::alloc::Global;
 use std::io;
-use world::World;
-use world_reader::read_world;
+use wblock_calls::read_calls;
+use world::{World, read_world};
 
 /// A world, and calls over it.
 #[derive(Drop)]

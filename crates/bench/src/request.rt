@@ -3,9 +3,9 @@ use crate::files::read_file;
 use crate::refusals::refused;
 use call::Call;
 use link::deployed::Deployed;
-use samples::deployed;
 use std::alloc::Global;
 use std::io;
+use test_support::deployed;
 
 /// The run of an export of a module, with a limit of fuel.
 #[derive(Clone, Copy)]

@@ -4,8 +4,8 @@ ghost use Rattle.interp.specs.Progress.{IsFree};
 
 use interp::finished::Finished;
 use interp::machine::Machine;
+use serial::next_request;
 use std::alloc::Allocator;
-use turn_loop::next_wish;
 
 /// Makes the turns of a run up to its end, as who executes calls does. `None` where the run asked for something, or where memory was refused.
 pub fn run_to_end<'a, A: Allocator + Copy>(mut machine: Machine<'a, A>) -> Option<Finished<'a, A>>
@@ -13,7 +13,7 @@ pub fn run_to_end<'a, A: Allocator + Copy>(mut machine: Machine<'a, A>) -> Optio
     ensures setting { IfSome result (λ f. f.setting ≡ machine.entry.setting) }
     ensures call { IfSome result (λ f. f.call ≡ machine.entry.call) }
 {
-    match next_wish(&mut machine) {
+    match next_request(&mut machine) {
         Ok(None) => {}
         Ok(Some(_)) => return None,
         Err(_) => return None,

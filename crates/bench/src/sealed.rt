@@ -5,7 +5,7 @@ ghost use Rattle.std.specs.Prelude.{◌≤◌, length};
 use crate::orders::{all_numbers, remaining};
 use block::Block;
 use call::Call;
-use serial_block::run;
+use serial::run;
 use std::alloc::Global;
 use world::World;
 

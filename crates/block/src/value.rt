@@ -48,7 +48,7 @@ fn note_positions<A: Allocator>(positions: &[Position<A>])
     ensures { AllByRecursion IsPosition positions.now }
 {
     for position in positions {
-        position.hold();
+        position.use_invariant();
     }
 }
 
@@ -159,7 +159,7 @@ impl<A: Allocator> Block<A> {
     }
 
     /// What the type keeps: the block has a spelling.
-    pub fn hold(&self)
+    pub fn use_invariant(&self)
         ensures { IsBlock self.now }
     {
         let _fuel = self.fuel;

@@ -2,14 +2,14 @@
 
 ghost use Rattle.std.specs.Prelude.{◌≡◌, ◌≤◌, ◌++◌, length, OnOk, IsErrOf, IsTrue};
 ghost use Rattle.std.specs.List.{AllByRecursion};
-ghost use Rattle.codec.specs.Putting.{IsCutShort, IsRaised};
+ghost use Rattle.byte_sinks.specs.Putting.{IsCutShort, IsRaised};
 ghost use Rattle.spec_ledger.specs.declared.Version.{Version};
 ghost use Rattle.spec_block.specs.Bytes.{block_bytes, counted, position_bytes, version_code, ForVersion};
 
 use crate::read::MAGIC;
 use crate::refusal::WriteRefusal;
 use crate::value::Block;
-use codec::{Sink, put_all};
+use byte_sinks::{Sink, put_all};
 use records::{Position, append_position, append_u32, append_u64};
 use spec_ledger::Version;
 use std::alloc::{AllocError, Allocator};
@@ -56,7 +56,7 @@ fn number_of(version: Version) -> u32
 fn append_block<A: Allocator>(out: &mut Vec<u8, A>, block: &Block<A>) -> Result<(), AllocError>
     ensures { OnOk result (out.new.items ≡ out.old.items ++ block_bytes block.now) }
 {
-    block.hold();
+    block.use_invariant();
     append_u32(out, MAGIC)?;
     append_u32(out, number_of(block.version()))?;
     out.extend_from_slice(block.before())?;

@@ -2,3 +2,8 @@ pub mod Numbers
 pub mod Profiles
 pub mod Stages
 pub mod Sums
+mod Latest
+mod Fuels
+mod Prefixes
+mod PrefixSums
+mod Told

@@ -15,9 +15,11 @@ use Rattle.spec_ledger.specs.Cells.{lock_cmp}
 use Rattle.spec_ledger.specs.Order.{holders, turn_by}
 use Rattle.lock_profile.specs.declared.Group.{Group}
 use Rattle.lock_profile.specs.declared.Held.{Held}
-use Rattle.lock_profile.specs.Groups.{latest, turn_next, group_of, last_group, entry_of, pairs}
+use Rattle.lock_profile.specs.Groups.{turn_next, group_of, last_group, pairs}
+use Rattle.block_judge.specs.Latest.{latest, entry_of}
 use Rattle.lock_profile.specs.Turns.{IsProfile}
-use Rattle.lock_profile.proofs.Groups.{left, right, less, map_found, groups_placed}
+use Rattle.lock_profile.proofs.Groups.{left, right, less, map_found}
+use Rattle.block_judge.proofs.Latest.{groups_placed}
 use Rattle.lock_profile.proofs.Orders.{last_group-push, turn_value, turn_is, next_is}
 use Rattle.spec_block.specs.Worlds.{held_in}
 use Rattle.spec_block.specs.Verdicts.{mode_in, HasTurn}

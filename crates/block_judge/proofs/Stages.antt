@@ -9,8 +9,8 @@ use Rattle.spec_ledger.specs.Order.{IsAdmissible, limits_of}
 use Rattle.spec_block.specs.Worlds.{Call, World, Block, order_of, limits}
 use Rattle.spec_block.specs.Bytes.{SpellsBlock}
 use Rattle.spec_block.specs.Verdicts.{Verdict, Malformed, WrongWorld, WrongCalls, BadOrder, OverBudget, RoomLeft, BadTurns, Deviates, WrongEnd, Accept, place, IsLeast, IsBadNumber, HasRoom, HoldsOf, Holds, IsVerdictOf}
-use Rattle.block_judge.specs.declared.reason.Unfit.{Unfit}
-use Rattle.block_judge.specs.declared.reason.Unfit.TheVariants as unfit
+use Rattle.block_judge.specs.declared.reason.JudgeRefusal.{JudgeRefusal}
+use Rattle.block_judge.specs.declared.reason.JudgeRefusal.TheVariants as unfit
 use Rattle.block_judge.specs.Judging.{IfRejected, IsFirstFrom, IsReasonOf, NoneFrom, told}
 
 module _ (P : Verdict → Type 0) where
@@ -110,7 +110,7 @@ room_left calls order fuel bad within c least =
 
 -- where the digests are right, the first reason of the order is the first of all
 pub after_digests : (world : World) (calls : List Call) (fuel : ℕ) (b : Block) (order : List ℕ) → order_of b ≡ order → NoneFrom (HoldsOf world calls fuel b) 1 4
-    → (u : Unfit) → IfRejected u (IsReasonOf calls order fuel) → IfRejected u (IsFirstFrom (HoldsOf world calls fuel b) 1)
+    → (u : JudgeRefusal) → IfRejected u (IsReasonOf calls order fuel) → IfRejected u (IsFirstFrom (HoldsOf world calls fuel b) 1)
 after_digests world calls fuel b order same none (unfit.Rejected r) reason = first_joined (HoldsOf world calls fuel b) 1 4 (told r) (omega arith) none (reason.first world b same)
 after_digests world calls fuel b order same none unfit.NoMemory reason = tt
 

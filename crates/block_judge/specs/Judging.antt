@@ -6,8 +6,8 @@ use Rattle.spec_block.specs.Schedule.{HaveTurns}
 use Rattle.spec_block.specs.Verdicts.{Verdict, Malformed, WrongWorld, WrongCalls, BadOrder, OverBudget, RoomLeft, BadTurns, Deviates, WrongEnd, place, HoldsOf, IsVerdictOf}
 use Rattle.block_judge.specs.declared.reason.Reason.{Reason}
 use Rattle.block_judge.specs.declared.reason.Reason.TheVariants as reason
-use Rattle.block_judge.specs.declared.reason.Unfit.{Unfit}
-use Rattle.block_judge.specs.declared.reason.Unfit.TheVariants as unfit
+use Rattle.block_judge.specs.declared.reason.JudgeRefusal.{JudgeRefusal}
+use Rattle.block_judge.specs.declared.reason.JudgeRefusal.TheVariants as unfit
 
 -- the verdict that a reason tells
 abbrev pub told : Reason → Verdict
@@ -30,7 +30,7 @@ place_in (Deviates position) = Some position
 place_in _ = None
 
 -- what is said of the verdict, where there is one
-abbrev pub IfRejected : Unfit → (Verdict → Type 0) → Type 0
+abbrev pub IfRejected : JudgeRefusal → (Verdict → Type 0) → Type 0
 IfRejected (unfit.Rejected r) P = P (told r)
 IfRejected unfit.NoMemory P = Unit {0}
 

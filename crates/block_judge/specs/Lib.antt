@@ -1,3 +1,5 @@
+pub mod Latest
 pub mod Judging
 pub mod Marks
 pub mod Turned
+pub mod Meeting

@@ -5,7 +5,7 @@ ghost use Rattle.spec_block.specs.Verdicts.{HoldsOf};
 ghost use Rattle.world.specs.Views.{world_view};
 ghost use Rattle.block_judge.specs.Judging.{IfRejected, IsFirstFrom, NoneFrom};
 
-use crate::reason::{Reason, Unfit};
+use crate::reason::{JudgeRefusal, Reason};
 use block::{Block, digest_calls};
 use call::Call;
 use std::alloc::Allocator;
@@ -27,18 +27,18 @@ pub fn judge_digests<A: Allocator + Copy>(
     world: &World<A>,
     calls: &[Call],
     block: &Block<A>,
-) -> Result<(), Unfit>
+) -> Result<(), JudgeRefusal>
     requires { length calls.now ≤ 65535 }
     ensures rejected { (fuel : ℕ) → IfErr result (λ unfit. IfRejected unfit (IsFirstFrom (HoldsOf (world_view world.now) calls.now fuel block.now) 1)) }
     ensures passed { OnOk result ((fuel : ℕ) → NoneFrom (HoldsOf (world_view world.now) calls.now fuel block.now) 1 4) }
 {
     let before = digest_world(alloc, world)?;
     if !is_same(block.before(), &before) {
-        return Err(Unfit::Rejected(Reason::WrongWorld));
+        return Err(JudgeRefusal::Rejected(Reason::WrongWorld));
     }
     let digest = digest_calls(alloc, calls)?;
     if !is_same(block.calls(), &digest) {
-        return Err(Unfit::Rejected(Reason::WrongCalls));
+        return Err(JudgeRefusal::Rejected(Reason::WrongCalls));
     }
     Ok(())
 }

@@ -1,10 +1,15 @@
-//! What is found of a block before its calls are run: the first seven of the nine reasons for which a validator rejects it (Dickerson, Gazzillo,
-//! Herlihy, Koskinen, "Adding Concurrency to Smart Contracts", PODC 2017, section 4: a validator checks what a miner published).
+//! What is found of a block before its calls are run: the first seven of the nine reasons for which a validator rejects it, and the cells that one of its
+//! calls meets (Dickerson, Gazzillo, Herlihy, Koskinen, "Adding Concurrency to Smart Contracts", PODC 2017, section 4: a validator checks what a miner
+//! published).
 #![tactic(auto)]
 
 mod digests;
+mod fuel;
 mod laws;
 mod order;
+mod place;
+mod prefix;
+mod prefix_laws;
 mod reason;
 mod turns;
 
@@ -19,7 +24,9 @@ ghost use Rattle.block_judge.specs.Judging.{IfRejected, IsFirstFrom, NoneFrom, P
 pub use crate::digests::judge_digests;
 pub use crate::laws::first_is_verdict;
 pub use crate::order::{judge_order, numbers_of};
-pub use crate::reason::{Reason, Unfit};
+pub use crate::prefix::{Met, met_by};
+pub use crate::prefix_laws::tells_of_the_run;
+pub use crate::reason::{JudgeRefusal, Reason};
 pub use crate::turns::judge_turns;
 use block::{Block, BlockRefusal, read_block};
 use call::Call;
@@ -40,15 +47,15 @@ pub struct Fit<A: Allocator = Global> {
 /// # Errors
 ///
 /// The bytes spell no block; or memory was refused.
-pub fn spelled_by<A: Allocator + Copy>(alloc: A, bytes: &[u8]) -> Result<Block<A>, Unfit>
+pub fn spelled_by<A: Allocator + Copy>(alloc: A, bytes: &[u8]) -> Result<Block<A>, JudgeRefusal>
     ensures spelled { IfOk result (SpellsBlock bytes.now) }
     ensures rejected { IfErr result (λ unfit. (world : TheWorld) (calls : List TheCall) (fuel : ℕ) → IfRejected unfit (IsVerdictOf world calls fuel bytes.now)) }
 {
     match read_block(alloc, bytes) {
         Ok(block) => Ok(block),
-        Err(BlockRefusal::NoMemory) => Err(Unfit::NoMemory),
+        Err(BlockRefusal::NoMemory) => Err(JudgeRefusal::NoMemory),
         Err(BlockRefusal::Malformed(_) | BlockRefusal::TooLarge) => {
-            Err(Unfit::Rejected(Reason::Malformed))
+            Err(JudgeRefusal::Rejected(Reason::Malformed))
         }
     }
 }
@@ -65,7 +72,7 @@ pub fn judge_block<A: Allocator + Copy>(
     fuel: u64,
     block: &Block<A>,
     order: &[u32],
-) -> Result<(), Unfit>
+) -> Result<(), JudgeRefusal>
     requires calls { length calls.now ≤ 65535 }
     requires order { order.now ≡ order_of block.now }
     requires few { length (order_of block.now) ≤ 65535 }
@@ -91,7 +98,7 @@ pub fn judge<A: Allocator + Copy>(
     calls: &[Call],
     fuel: u64,
     bytes: &[u8],
-) -> Result<Fit<A>, Unfit>
+) -> Result<Fit<A>, JudgeRefusal>
     requires { length calls.now ≤ 65535 }
     ensures rejected { IfErr result (λ unfit. IfRejected unfit (IsVerdictOf (world_view world.now) calls.now fuel bytes.now)) }
     ensures passed { IfOk result (λ fit. Passes (world_view world.now) calls.now fuel bytes.now fit.block) }
@@ -99,7 +106,7 @@ pub fn judge<A: Allocator + Copy>(
 {
     first_is_verdict();
     let block = spelled_by(alloc, bytes)?;
-    block.hold();
+    block.use_invariant();
     let order = numbers_of(alloc, &block)?;
     judge_block(alloc, world, calls, fuel, &block, &order)?;
     Ok(Fit { block, order })

@@ -7,7 +7,7 @@ ghost use Rattle.spec_block.specs.Verdicts.{HasRoom, IsBadNumber, IsLeast};
 ghost use Rattle.block_judge.specs.Judging.{IfRejected, IsReasonOf};
 ghost use Rattle.block_judge.specs.Marks.{AreMarked};
 
-use crate::reason::{Reason, Unfit};
+use crate::reason::{JudgeRefusal, Reason};
 use block::Block;
 use call::Call;
 use std::alloc::Allocator;
@@ -97,7 +97,7 @@ pub fn judge_order<A: Allocator>(
     calls: &[Call],
     fuel: u64,
     order: &[u32],
-) -> Result<(), Unfit>
+) -> Result<(), JudgeRefusal>
     requires calls { length calls.now ≤ 65535 }
     requires order { length order.now ≤ 65535 }
     ensures rejected { IfErr result (λ unfit. IfRejected unfit (IsReasonOf calls.now order.now fuel)) }
@@ -105,13 +105,13 @@ pub fn judge_order<A: Allocator>(
 {
     let mut marks = vec![in alloc; false; calls.len()]?;
     if let Some(position) = mark(calls, order, &mut marks) {
-        return Err(Unfit::Rejected(Reason::BadOrder(position)));
+        return Err(JudgeRefusal::Rejected(Reason::BadOrder(position)));
     }
     let Some(rest) = remaining(calls, order, fuel) else {
-        return Err(Unfit::Rejected(Reason::OverBudget));
+        return Err(JudgeRefusal::Rejected(Reason::OverBudget));
     };
     if let Some(call) = least_with_room(calls, order, &marks, fuel, rest) {
-        return Err(Unfit::Rejected(Reason::RoomLeft(call)));
+        return Err(JudgeRefusal::Rejected(Reason::RoomLeft(call)));
     }
     Ok(())
 }

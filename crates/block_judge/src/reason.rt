@@ -77,7 +77,7 @@ impl Reason {
 
 /// Why a judgement ends.
 #[derive(Clone, Copy, Debug, PartialEq, Eq, Error)]
-pub enum Unfit {
+pub enum JudgeRefusal {
     /// The block is rejected.
     #[error("the block is rejected: {0}")]
     Rejected(Reason),
@@ -86,32 +86,32 @@ pub enum Unfit {
     NoMemory,
 }
 
-impl From<NoMemory> for Unfit {
-    ghost use Rattle.block_judge.specs.declared.reason.Unfit.TheVariants as unfit;
+impl From<NoMemory> for JudgeRefusal {
+    ghost use Rattle.block_judge.specs.declared.reason.JudgeRefusal.TheVariants as unfit;
 
     ghost from_gives = { λ _ e. e ≡ unfit.NoMemory };
 
-    fn from(_refused: NoMemory) -> Unfit {
-        Unfit::NoMemory
+    fn from(_refused: NoMemory) -> JudgeRefusal {
+        JudgeRefusal::NoMemory
     }
 }
 
-impl From<AllocError> for Unfit {
-    ghost use Rattle.block_judge.specs.declared.reason.Unfit.TheVariants as unfit;
+impl From<AllocError> for JudgeRefusal {
+    ghost use Rattle.block_judge.specs.declared.reason.JudgeRefusal.TheVariants as unfit;
 
     ghost from_gives = { λ _ e. e ≡ unfit.NoMemory };
 
-    fn from(_refused: AllocError) -> Unfit {
-        Unfit::NoMemory
+    fn from(_refused: AllocError) -> JudgeRefusal {
+        JudgeRefusal::NoMemory
     }
 }
 
-impl<T: Drop> From<AllocFailed<T>> for Unfit {
-    ghost use Rattle.block_judge.specs.declared.reason.Unfit.TheVariants as unfit;
+impl<T: Drop> From<AllocFailed<T>> for JudgeRefusal {
+    ghost use Rattle.block_judge.specs.declared.reason.JudgeRefusal.TheVariants as unfit;
 
     ghost from_gives = { λ _ e. e ≡ unfit.NoMemory };
 
-    fn from(_refused: AllocFailed<T>) -> Unfit {
-        Unfit::NoMemory
+    fn from(_refused: AllocFailed<T>) -> JudgeRefusal {
+        JudgeRefusal::NoMemory
     }
 }

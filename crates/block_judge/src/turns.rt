@@ -5,15 +5,16 @@ ghost use Rattle.std.specs.BTreeMap.{get};
 ghost use Rattle.std.specs.Ordering.{eq_by_cmp};
 ghost use Rattle.spec_ledger.specs.Cells.{lock_cmp};
 ghost use Rattle.spec_ledger.specs.Modes.{goes_with};
-ghost use Rattle.lock_profile.specs.Groups.{latest, turn_next};
+ghost use Rattle.lock_profile.specs.Groups.{turn_next};
 ghost use Rattle.lock_profile.specs.Turns.{IsProfile};
 ghost use Rattle.spec_block.specs.Worlds.{Call as TheCall, World as TheWorld, profiles_of};
 ghost use Rattle.spec_block.specs.Schedule.{HaveTurns};
 ghost use Rattle.spec_block.specs.Verdicts.{HasOtherTurns, HoldsOf, IsLeast};
+ghost use Rattle.block_judge.specs.Latest.{latest};
 ghost use Rattle.block_judge.specs.Judging.{IfRejected, IsFirstFrom, NoneFrom};
 ghost use Rattle.block_judge.specs.Turned.{lists_of};
 
-use crate::reason::{Reason, Unfit};
+use crate::reason::{JudgeRefusal, Reason};
 use block::{Block, Position};
 use lock_profile::Group;
 use spec_ledger::{Entry, Lock, Mode};
@@ -86,7 +87,7 @@ fn first_other<A: Allocator + Copy>(
     let mut groups = BTreeMap::new(alloc);
     for (at, position) in positions.iter().enumerate() {
         let profile = position.profile();
-        profile.hold();
+        profile.use_invariant();
         if !have_turns(&mut groups, profile.entries())? {
             return Ok(Some(at as u32));
         }
@@ -99,14 +100,14 @@ fn first_other<A: Allocator + Copy>(
 /// # Errors
 ///
 /// The turns are others (reason 7); or memory was refused.
-pub fn judge_turns<A: Allocator + Copy>(alloc: A, block: &Block<A>) -> Result<(), Unfit>
+pub fn judge_turns<A: Allocator + Copy>(alloc: A, block: &Block<A>) -> Result<(), JudgeRefusal>
     requires { length (profiles_of block.now) ≤ 65535 }
     ensures rejected { (world : TheWorld) (calls : List TheCall) (fuel : ℕ) → NoneFrom (HoldsOf world calls fuel block.now) 1 7 → IfErr result (λ unfit. IfRejected unfit (IsFirstFrom (HoldsOf world calls fuel block.now) 1)) }
     ensures passed { OnOk result ((world : TheWorld) (calls : List TheCall) (fuel : ℕ) → NoneFrom (HoldsOf world calls fuel block.now) 1 7 → NoneFrom (HoldsOf world calls fuel block.now) 1 8) }
     ensures turns { OnOk result (HaveTurns (profiles_of block.now)) }
 {
     match first_other(alloc, block.positions())? {
-        Some(position) => Err(Unfit::Rejected(Reason::BadTurns(position))),
+        Some(position) => Err(JudgeRefusal::Rejected(Reason::BadTurns(position))),
         None => Ok(()),
     }
 }

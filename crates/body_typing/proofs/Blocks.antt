@@ -68,6 +68,22 @@ all_goes_on scope labels labels' label body x i s after lt at same kept m =
     let c = in_block label (context_at scope labels) in
     sym (one_more c body x i s lt at ∙ ap (option_and_then (run c (instrs_view (drop (i + 1) body)))) (ap (λ c. step c (instr_view x) s) (sym (inside scope labels labels' label same)) ∙ m)) ∙ kept
 
+-- the same where no block begins with the sequence
+pub left_refused : {A W : _} (T U : Type 0) (view : U → Stack) (e : TypeRefusal) (scope : Scope A W) (labels labels' : List (Option ValType)) (body : List (Instr A)) (x : Instr A) (i : ℕ) (s after : Stack) →
+    i < length body → x ≡ get_or body i x → labels' ≡ labels → run (context_at scope labels) (instrs_view (drop i body)) s ≡ run (context_at scope labels) (instrs_view body) empty →
+    Meets {T = T} (Err e) after (step (context_at scope labels') (instr_view x) s) → Gives {T = U} view (Err e) (run (context_at scope labels) (instrs_view body) empty)
+left_refused T U view NoMemory scope labels labels' body x i s after lt at same kept m = tt
+left_refused T U view (At f n k) scope labels labels' body x i s after lt at same kept m =
+    let c = context_at scope labels in
+    sym kept ∙ (one_more c body x i s lt at ∙ ap (option_and_then (run c (instrs_view (drop (i + 1) body)))) (ap (λ ls. step (context_at scope ls) (instr_view x) s) (sym same) ∙ m))
+
+pub left_goes_on : {A W : _} (scope : Scope A W) (labels labels' : List (Option ValType)) (body : List (Instr A)) (x : Instr A) (i : ℕ) (s after : Stack) →
+    i < length body → x ≡ get_or body i x → labels' ≡ labels → run (context_at scope labels) (instrs_view (drop i body)) s ≡ run (context_at scope labels) (instrs_view body) empty →
+    step (context_at scope labels') (instr_view x) s ≡ Some after → run (context_at scope labels) (instrs_view (drop (i + 1) body)) after ≡ run (context_at scope labels) (instrs_view body) empty
+left_goes_on scope labels labels' body x i s after lt at same kept m =
+    let c = context_at scope labels in
+    sym (one_more c body x i s lt at ∙ ap (option_and_then (run c (instrs_view (drop (i + 1) body)))) (ap (λ ls. step (context_at scope ls) (instr_view x) s) (sym same) ∙ m)) ∙ kept
+
 -- a body's context, as its scope gives it
 pub body_context : (spaces : modules.Spaces) (type : syntax.FuncType) (locals all : List ValType) (result : Option ValType) (labels : List (Option ValType)) →
     labels ≡ [] → all ≡ type.params ++ locals → result ≡ modules.result_of type.results →

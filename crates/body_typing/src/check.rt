@@ -173,3 +173,25 @@ pub fn check_func<A: Allocator, W: Allocator + Clone>(
         }
     }
 }
+
+/// What these instructions leave, begun on the empty stack, in blocks with these labels, the innermost last. Refused where
+/// they break a rule, and where memory was refused.
+pub fn left_by<A: Allocator, W: Allocator + Clone>(
+    alloc: &W,
+    scope: &Scope<A, W>,
+    labels: &mut Vec<Option<ValType>, W>,
+    instrs: &[Instr<A>],
+) -> Result<Operands<W>, TypeRefusal>
+    ensures gives { Gives (λ left. left) result (run (context_at scope.now labels.old.items) (instrs_view instrs.now) empty) }
+    ensures labels { OnOk result (labels.new.items ≡ labels.old.items) }
+{
+    let mut ops = Operands::new(alloc.clone()?);
+    let mut next = 0;
+    for i in instrs {
+        match check_instr(alloc, scope, labels, &mut ops, i, &mut next) {
+            Ok(()) => {}
+            Err(refusal) => return Err(refusal),
+        }
+    }
+    Ok(ops)
+}

@@ -2,7 +2,8 @@
 #![tactic(auto)]
 
 pub mod check;
-mod operands;
+pub mod lookup;
+pub mod operands;
 pub mod operators;
 mod plain;
 pub mod rule;

@@ -26,7 +26,7 @@ impl<W: Allocator> Model for Operands<W> {
 }
 
 impl<W: Allocator> Operands<W> {
-    pub fn new(alloc: W) -> Operands<W>
+    pub(crate) fn new(alloc: W) -> Operands<W>
         ensures { result ≡ empty }
     {
         Operands {
@@ -35,8 +35,22 @@ impl<W: Allocator> Operands<W> {
         }
     }
 
+    /// The operands that are known, the top last, each by its type where that is known.
+    pub fn known(&self) -> &[Option<ValType>]
+        ensures { reverse result.now ≡ self.now.top }
+    {
+        &self.known
+    }
+
+    /// Whether any others may stand below those that are known.
+    pub fn any_below(&self) -> bool
+        ensures { result ≡ self.now.any_below }
+    {
+        self.any_below
+    }
+
     /// Puts an operand on top.
-    pub fn push(&mut self, operand: Option<ValType>) -> Result<(), AllocError>
+    pub(crate) fn push(&mut self, operand: Option<ValType>) -> Result<(), AllocError>
         ensures { OnOk result (self.new ≡ record { any_below = self.old.any_below; top = operand ∷ self.old.top }) }
     {
         self.known.push(operand)?;
@@ -44,7 +58,7 @@ impl<W: Allocator> Operands<W> {
     }
 
     /// Takes the top one off, if there may be one.
-    pub fn pop(&mut self) -> Option<Option<ValType>>
+    pub(crate) fn pop(&mut self) -> Option<Option<ValType>>
         ensures popped { pop self.old.any_below self.old.top ≡ option_map (λ o. (o, self.new.top)) result }
         ensures below { self.new.any_below ≡ self.old.any_below }
     {
@@ -55,7 +69,7 @@ impl<W: Allocator> Operands<W> {
     }
 
     /// Takes one of this type off the top, or answers false.
-    pub fn pop_type(&mut self, wanted: ValType) -> bool
+    pub(crate) fn pop_type(&mut self, wanted: ValType) -> bool
         ensures popped { guard result self.new.top ≡ pop_type wanted self.old.any_below self.old.top }
         ensures below { self.new.any_below ≡ self.old.any_below }
     {
@@ -68,7 +82,7 @@ impl<W: Allocator> Operands<W> {
 
     /// Takes operands of these types off, the last on top, or answers false. Once none is known there are all or none,
     /// so that the time is that of the operands that were put there.
-    pub fn take(&mut self, types: &[ValType]) -> bool
+    pub(crate) fn take(&mut self, types: &[ValType]) -> bool
         ensures taken { guard result self.new ≡ arrow (reverse types.now) [] self.old }
     {
         let mut left = types.len();
@@ -85,7 +99,7 @@ impl<W: Allocator> Operands<W> {
     }
 
     /// Puts results of these types there, the last on top.
-    pub fn put(&mut self, types: &[ValType]) -> Result<(), AllocError>
+    pub(crate) fn put(&mut self, types: &[ValType]) -> Result<(), AllocError>
         ensures { OnOk result (Some self.new ≡ arrow [] (reverse types.now) self.old) }
     {
         for t in types {
@@ -95,7 +109,7 @@ impl<W: Allocator> Operands<W> {
     }
 
     /// After an instruction that does not go on.
-    pub fn forget(&mut self)
+    pub(crate) fn forget(&mut self)
         ensures { self.new ≡ anything }
     {
         self.known.clear();
@@ -103,7 +117,7 @@ impl<W: Allocator> Operands<W> {
     }
 
     /// Takes a block's result off, or answers false.
-    pub fn take_result(&mut self, block: Option<ValType>) -> bool
+    pub(crate) fn take_result(&mut self, block: Option<ValType>) -> bool
         ensures taken { guard result self.new ≡ arrow (of block) [] self.old }
     {
         match block {
@@ -113,7 +127,7 @@ impl<W: Allocator> Operands<W> {
     }
 
     /// Puts a block's result there.
-    pub fn put_result(&mut self, block: Option<ValType>) -> Result<(), AllocError>
+    pub(crate) fn put_result(&mut self, block: Option<ValType>) -> Result<(), AllocError>
         ensures { OnOk result (Some self.new ≡ arrow [] (of block) self.old) }
     {
         if let Some(t) = block {

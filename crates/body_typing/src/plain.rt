@@ -1,6 +1,6 @@
 // The check of an instruction that holds no other.
 
-ghost use Rattle.std.specs.Prelude.{◌≡◌, ◌<◌, ◌^◌, nat_le, ◌∷◌, slice_get, [], reverse, Option, Some, None, false, IsTrue, option_map, option_and_then};
+ghost use Rattle.std.specs.Prelude.{◌≡◌, ◌∷◌, slice_get, [], reverse, Option, Some, None, false, IsTrue, option_and_then};
 ghost use Rattle.wtypes.specs.declared.ValType.{ValType};
 ghost use Rattle.wtypes.specs.declared.ValType.TheVariants.{I32};
 ghost use Rattle.wtypes.specs.declared.PlainInstr.TheVariants as plain;
@@ -8,13 +8,13 @@ ghost use Rattle.spec_typing.specs.Typing.{of};
 ghost use Rattle.spec_typing.specs.Principal.{guard, arrow, leave, select, plain_step, leads, all_lead, same_result};
 ghost use Rattle.body_typing.specs.Checked.{context_at, Meets};
 
+use crate::lookup::{is_load_aligned, is_store_aligned, label_at, type_at, type_index};
 use crate::operands::Operands;
 use crate::operators;
 use crate::rule::Rule;
 use crate::scope::{Scope, TypeRefusal};
-use module_tree::width::{load_width, store_width};
 use std::alloc::Allocator;
-use wtypes::{FuncType, LoadOp, PlainInstr, StoreOp, ValType};
+use wtypes::{LoadOp, PlainInstr, StoreOp, ValType};
 
 // A place in the code.
 #[derive(Clone, Copy)]
@@ -102,35 +102,6 @@ fn choose<W: Allocator>(ops: &mut Operands<W>, place: Place) -> Result<(), TypeR
         }
     }
     Ok(())
-}
-
-pub fn label_at<W: Allocator>(
-    labels: &Vec<Option<ValType>, W>,
-    label: u32,
-) -> Option<Option<ValType>>
-    ensures { result ≡ slice_get (reverse labels.now.items) label }
-{
-    let label = label as usize;
-    if label < labels.len() {
-        Some(labels[labels.len() - 1 - label])
-    } else {
-        None
-    }
-}
-
-fn type_index<A: Allocator, W: Allocator>(scope: &Scope<A, W>, func: u32) -> Option<u32>
-    ensures { result ≡ slice_get scope.now.spaces.now.funcs.items func }
-{
-    scope.spaces.funcs.get(func as usize).copied()
-}
-
-fn type_at<'s, A: Allocator, W: Allocator>(
-    scope: &'s Scope<A, W>,
-    index: u32,
-) -> Option<&'s FuncType<A>>
-    ensures { option_map (λ t. t.now) result ≡ slice_get scope.now.types.now.items index }
-{
-    scope.types.get(index as usize)
 }
 
 fn call<A: Allocator, W: Allocator>(
@@ -245,14 +216,6 @@ fn global_set<A: Allocator, W: Allocator>(
     }
 }
 
-// Whether two to this power is at most the width.
-fn is_aligned(align: u32, width: u32) -> bool
-    requires { width < 16 }
-    ensures { result ≡ nat_le (2 ^ align) width }
-{
-    align < 4 && (1u32 << align) <= width
-}
-
 fn load<A: Allocator, W: Allocator>(
     ops: &mut Operands<W>,
     scope: &Scope<A, W>,
@@ -266,7 +229,7 @@ fn load<A: Allocator, W: Allocator>(
     if !scope.spaces.has_memory() {
         return Err(refused(place, Rule::NothingThere));
     }
-    if !is_aligned(align, load_width(op)) {
+    if !is_load_aligned(op, align) {
         return Err(refused(place, Rule::Alignment));
     }
     apply(ops, &[ValType::I32], &[operators::load_type(op)], place)
@@ -285,7 +248,7 @@ fn store<A: Allocator, W: Allocator>(
     if !scope.spaces.has_memory() {
         return Err(refused(place, Rule::NothingThere));
     }
-    if !is_aligned(align, store_width(op)) {
+    if !is_store_aligned(op, align) {
         return Err(refused(place, Rule::Alignment));
     }
     apply(ops, &[ValType::I32, operators::store_type(op)], &[], place)

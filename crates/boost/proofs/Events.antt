@@ -14,11 +14,11 @@ use Rattle.spec_ledger.specs.Modes.{Modes, mode_of, touched}
 use Rattle.abstract_locks.specs.Table.{AllShare, asked, others}
 use Rattle.spec_ledger.specs.declared.Op.{Op}
 use Rattle.spec_ledger.specs.declared.Reply.{Reply}
-use Rattle.spec_ledger.specs.declared.Step.{Step}
+use Rattle.spec_ledger.specs.declared.TraceStep.{TraceStep}
 use Rattle.spec_ledger.specs.declared.Outcome.{Outcome}
 use Rattle.spec_ledger.specs.declared.Inverse.{Inverse}
 use Rattle.spec_ledger.specs.Cells.{Cells, lock_of, cells_after, reply_to, inverse_to}
-use Rattle.spec_ledger.specs.Book.{Attempt, Entry, Content, settled, IsLive, IsKept, IsEntry, AreDistinct, call_is_new, IsGranted, extended, after_op, after_undo, after_commit, entry_of, has_returned, back_all, fresh, after_begin, AreSideBySide, AreAllSideBySide}
+use Rattle.spec_ledger.specs.Book.{Attempt, CommittedCall, Content, settled, IsLive, IsKept, IsEntry, AreDistinct, call_is_new, IsGranted, extended, after_op, after_undo, after_commit, entry_of, has_returned, back_all, fresh, after_begin, AreSideBySide, AreAllSideBySide}
 use Rattle.spec_ledger.specs.Events.{HasNoAttempt, IsStale, BeginDone, IsFound, OpDone, IsConflict, UndoDone, CommitDone, IsOther, IsUndoneLast}
 use Rattle.spec_ledger.proofs.Kept.{All-at, All-left, All-right, live_here, live_others, beside, others_apart, IsKept-op, IsKept-undo, IsKept-commit, IsKept-begin}
 use Rattle.spec_ledger.proofs.Traces.{All-weaken}
@@ -27,8 +27,8 @@ use Rattle.std.proofs.Common.{Some, slice_get}
 use Rattle.std.proofs.lemmas.Option.{slice_get-get_or}
 use Rattle.storage.specs.Counts.{opened_all, closed_all, AreUnsettled, AreCounts}
 use Rattle.boost.specs.Counted.{live_counts}
-use Rattle.boost.specs.declared.standing.Standing.{Standing}
-use Rattle.boost.specs.declared.standing.Standing.TheVariants.{Idle, Live, Committed}
+use Rattle.boost.specs.declared.standing.CallState.{CallState}
+use Rattle.boost.specs.declared.standing.CallState.TheVariants.{Idle, Live, Committed}
 use Rattle.boost.specs.Kept.{IsBook, IsPlace, AreStanding, rows_with, committed_with, live_with}
 use Rattle.boost.specs.Numbered.{HasTrace}
 use Rattle.boost.proofs.Held.{AreBelow, no_other, rows_out, rows_with-append, length-rows_with, emptied, empty_row, own_row, share_to, share_from, touched-push}
@@ -39,7 +39,7 @@ use Rattle.boost.proofs.Lists.{set_split, at_split}
 
 -- ---- the table of locks and the standings beside the attempts
 
-module _ (b : Content) (counts : Counts) (rows : List Modes) (standings : List Standing) (book : IsBook b counts rows standings) where
+module _ (b : Content) (counts : Counts) (rows : List Modes) (standings : List CallState) (book : IsBook b counts rows standings) where
   pub length-rows : length rows ≡ length b.begun
   length-rows = ap length book.locked ∙ length-rows_with b.attempts (replicate (length b.begun) empty) ∙ length-replicate (length b.begun) empty
 
@@ -52,10 +52,10 @@ module _ (b : Content) (counts : Counts) (rows : List Modes) (standings : List S
   entries_known : AllByRecursion (λ e. e.call < length b.begun) b.entries
   entries_known = All-weaken (IsEntry b.begun) (λ e. e.call < length b.begun) (λ e h. h.known) b.entries book.kept.each_entry
 
-  pub are_standing : (xs : List Attempt) (s : List Standing) → xs ≡ b.attempts → s ≡ standings → AreStanding xs s
+  pub are_standing : (xs : List Attempt) (s : List CallState) → xs ≡ b.attempts → s ≡ standings → AreStanding xs s
   are_standing xs s e f =
-      let path : ◌≡◌ {A = List Attempt × List Standing} (b.attempts, standings) (xs, s) = λ i. (sym e i, sym f i) in
-      let P : List Attempt × List Standing → Type 0 = λ (ys, t). AreStanding ys t in
+      let path : ◌≡◌ {A = List Attempt × List CallState} (b.attempts, standings) (xs, s) = λ i. (sym e i, sym f i) in
+      let P : List Attempt × List CallState → Type 0 = λ (ys, t). AreStanding ys t in
       subst P path (AreStanding-book (length b.begun) b.attempts b.entries standings book.standing calls_known book.kept.apart)
 
   module _ (p : List Attempt) (a : Attempt) (q : List Attempt) (split : b.attempts ≡ p ++ a ∷ q) where
@@ -79,14 +79,14 @@ module _ (b : Content) (counts : Counts) (rows : List Modes) (standings : List S
         ap (λ x. set x a.call empty) rows_there
         ∙ emptied (rows_with (p ++ q) (replicate (length b.begun) empty)) a.call a.modes (empty_row a.call (length b.begun) (p ++ q) known_there idle_there)
 
-    pub calls_left : (xs : List Attempt) (s : List Standing) → xs ≡ p ++ q → length s ≡ length standings → AllByRecursion (λ c. c.call < length s) xs
+    pub calls_left : (xs : List Attempt) (s : List CallState) → xs ≡ p ++ q → length s ≡ length standings → AllByRecursion (λ c. c.call < length s) xs
     calls_left xs s e f =
         let path : ◌≡◌ {A = ℕ × List Attempt} (length b.begun, p ++ q) (length s, xs) = λ i. (sym (f ∙ length-standings) i, sym e i) in
         let P : ℕ × List Attempt → Type 0 = λ (n, ys). AreBelow n ys in
         subst P path others_known
 
     -- the attempt's call stands otherwise
-    standing_left : (i : ℕ) (v : Standing) → length p ≡ i → live_with i q (set standings a.call v) ≡ live_with 0 (p ++ q) (set (committed_with b.entries (replicate (length b.begun) Idle)) a.call v)
+    standing_left : (i : ℕ) (v : CallState) → length p ≡ i → live_with i q (set standings a.call v) ≡ live_with 0 (p ++ q) (set (committed_with b.entries (replicate (length b.begun) Idle)) a.call v)
     standing_left i v e =
         ap (λ x. live_with i q (set x a.call v)) (book.standing ∙ ap (λ ys. live_with 0 ys (committed_with b.entries (replicate (length b.begun) Idle))) split)
         ∙ left_standing p a q (committed_with b.entries (replicate (length b.begun) Idle)) i v e
@@ -142,7 +142,7 @@ found_not_stale b call number before a later found stale =
 
 -- ---- an attempt at its place
 
-module _ (b : Content) (counts : Counts) (rows : List Modes) (standings : List Standing) (book : IsBook b counts rows standings) (call number i : ℕ) (xs : List Attempt) (same : xs ≡ b.attempts) (place : IsPlace xs i call number) where
+module _ (b : Content) (counts : Counts) (rows : List Modes) (standings : List CallState) (book : IsBook b counts rows standings) (call number i : ℕ) (xs : List Attempt) (same : xs ≡ b.attempts) (place : IsPlace xs i call number) where
   pub here : Attempt
   here = place.attempt
 
@@ -174,7 +174,7 @@ module _ (b : Content) (counts : Counts) (rows : List Modes) (standings : List S
   pub call_standing : call < length standings
   call_standing = subst (λ n. call < n) (sym (length-standings b counts rows standings book)) call_known
 
-  pub later_known : (xs : List Attempt) (s : List Standing) → xs ≡ take i b.attempts ++ drop (i + 1) b.attempts → length s ≡ length standings → AllByRecursion (λ c. c.call < length s) xs
+  pub later_known : (xs : List Attempt) (s : List CallState) → xs ≡ take i b.attempts ++ drop (i + 1) b.attempts → length s ≡ length standings → AllByRecursion (λ c. c.call < length s) xs
   later_known = calls_left b counts rows standings book (take i b.attempts) place.attempt (drop (i + 1) b.attempts) split
 
   pub granted_here : (op : Op) (l : Lock) (m : Mode) → l ≡ lock_of op → m ≡ mode_of op
@@ -205,12 +205,12 @@ module _ (b : Content) (counts : Counts) (rows : List Modes) (standings : List S
       let P : Attempt × List Attempt → Type 0 = λ (a, xs). IsGranted a op xs in
       conflict.refused (subst P path granted)
 
-  pub not_other : (z : Attempt) → z ≡ get_or b.attempts i z → (trace : List Step) → z.trace ≡ trace → ¬ (IsOther b call number trace)
+  pub not_other : (z : Attempt) → z ≡ get_or b.attempts i z → (trace : List TraceStep) → z.trace ≡ trace → ¬ (IsOther b call number trace)
   not_other z z_is trace e other =
       let h = only_here other.before other.attempt other.later other.found in
       other.other_trace (ap (λ (a : Attempt). a.trace) (sym h.1 ∙ at_split b.attempts i place.attempt z below_here z_is split) ∙ e)
 
-  pub trace_at : (z : Attempt) → z ≡ get_or b.attempts i z → (t : List Step) → t ≡ z.trace → HasTrace b call number t
+  pub trace_at : (z : Attempt) → z ≡ get_or b.attempts i z → (t : List TraceStep) → t ≡ z.trace → HasTrace b call number t
   trace_at z z_is t e = record {
     before = take i b.attempts;
     attempt = place.attempt;
@@ -219,7 +219,7 @@ module _ (b : Content) (counts : Counts) (rows : List Modes) (standings : List S
     trace_is = ap (λ (a : Attempt). a.trace) (at_split b.attempts i place.attempt z below_here z_is split) ∙ sym e;
   }
 
-  pub kept_trace : (z : Attempt) → z ≡ get_or b.attempts i z → (trace : List Step) → HasTrace b call number trace → z.trace ≡ trace
+  pub kept_trace : (z : Attempt) → z ≡ get_or b.attempts i z → (trace : List TraceStep) → HasTrace b call number trace → z.trace ≡ trace
   kept_trace z z_is trace h =
       ap (λ (a : Attempt). a.trace) (sym (at_split b.attempts i place.attempt z below_here z_is split) ∙ (only_here h.before h.attempt h.later h.found).1) ∙ h.trace_is
 
@@ -268,7 +268,7 @@ module _ (b : Content) (counts : Counts) (rows : List Modes) (standings : List S
 
     module _ (is : List Inverse) (is_is : is ≡ z.inverses) (counts' : Counts) (counts_is : counts' ≡ closed_all is counts) (rest : List Attempt) (rest_is : rest ≡ take i b.attempts ++ drop (i + 1) b.attempts)
         (rows' : List Modes) (rows_is : rows' ≡ set rows call empty)
-        (v : Standing) (written : List Standing) (written_is : written ≡ set standings call v) (ys : List Attempt) (ys_is : ys ≡ rest) (standings' : List Standing) (standings_is : standings' ≡ live_with i (drop i ys) written) where
+        (v : CallState) (written : List CallState) (written_is : written ≡ set standings call v) (ys : List Attempt) (ys_is : ys ≡ rest) (standings' : List CallState) (standings_is : standings' ≡ live_with i (drop i ys) written) where
       inverses_here : is ≡ place.attempt.inverses
       inverses_here = is_is ∙ ap (λ (a : Attempt). a.inverses) (sym same_here)
 
@@ -309,7 +309,7 @@ module _ (b : Content) (counts : Counts) (rows : List Modes) (standings : List S
         pub UndoDone-undo : UndoDone b (record b { now = now; attempts = rest }) call number
         UndoDone-undo = record { before = take i b.attempts; attempt = place.attempt; later = drop (i + 1) b.attempts; found = found_here; new_is = undone }
 
-      module _ (outcome : Outcome) (e : Entry) (e_is : e ≡ entry_of z outcome) (entries : List Entry) (entries_is : entries ≡ b.entries ++ e ∷ []) (now : Cells) (now_is : now ≡ cond (has_returned outcome) b.now (back_all is b.now)) where
+      module _ (outcome : Outcome) (e : CommittedCall) (e_is : e ≡ entry_of z outcome) (entries : List CommittedCall) (entries_is : entries ≡ b.entries ++ e ∷ []) (now : Cells) (now_is : now ≡ cond (has_returned outcome) b.now (back_all is b.now)) where
         committed : ◌≡◌ {A = Content} (record b { now = now; entries = entries; attempts = rest }) (after_commit b (take i b.attempts) place.attempt (drop (i + 1) b.attempts) outcome)
         committed = λ k. record b {
           now = (now_is ∙ ap (λ x. cond (has_returned outcome) b.now (back_all x b.now)) inverses_here) k;
@@ -318,7 +318,7 @@ module _ (b : Content) (counts : Counts) (rows : List Modes) (standings : List S
         }
 
         call_there : call ≡ e.call
-        call_there = sym (ap (λ (x : Entry). x.call) e_is ∙ ap (λ (x : Attempt). x.call) (sym same_here) ∙ place.call_is)
+        call_there = sym (ap (λ (x : CommittedCall). x.call) e_is ∙ ap (λ (x : Attempt). x.call) (sym same_here) ∙ place.call_is)
 
         pub IsBook-commit : v ≡ Committed → IsBook (record b { now = now; entries = entries; attempts = rest }) counts' rows' standings'
         IsBook-commit done = record {
@@ -334,7 +334,7 @@ module _ (b : Content) (counts : Counts) (rows : List Modes) (standings : List S
               ∙ sym (λ k. live_with 0 (rest_is k) (committed_with (entries_is k) (replicate (length b.begun) Idle)));
         }
 
-        pub CommitDone-commit : (trace : List Step) → z.trace ≡ trace → (position : ℕ) → position ≡ length b.entries → CommitDone b (record b { now = now; entries = entries; attempts = rest }) call number trace outcome position
+        pub CommitDone-commit : (trace : List TraceStep) → z.trace ≡ trace → (position : ℕ) → position ≡ length b.entries → CommitDone b (record b { now = now; entries = entries; attempts = rest }) call number trace outcome position
         CommitDone-commit trace t position p = record {
           before = take i b.attempts;
           attempt = place.attempt;
@@ -345,7 +345,7 @@ module _ (b : Content) (counts : Counts) (rows : List Modes) (standings : List S
           new_is = committed;
         }
 
-    pub other_here : (trace : List Step) → ¬ (z.trace ≡ trace) → IsOther b call number trace
+    pub other_here : (trace : List TraceStep) → ¬ (z.trace ≡ trace) → IsOther b call number trace
     other_here trace other = record {
       before = take i b.attempts;
       attempt = place.attempt;
@@ -354,16 +354,16 @@ module _ (b : Content) (counts : Counts) (rows : List Modes) (standings : List S
       other_trace = λ e. other (ap (λ (a : Attempt). a.trace) (sym same_here) ∙ e);
     }
 
-  pub trace_here : (y z : Attempt) → y ≡ get_or b.attempts i y → z ≡ get_or b.attempts i z → (t u : List Step) → y.trace ≡ t → t ≡ u → z.trace ≡ u
+  pub trace_here : (y z : Attempt) → y ≡ get_or b.attempts i y → z ≡ get_or b.attempts i z → (t u : List TraceStep) → y.trace ≡ t → t ≡ u → z.trace ≡ u
   trace_here y z e f t u is also =
       ap (λ (a : Attempt). a.trace) (sym (at_split b.attempts i place.attempt z below_here f split) ∙ at_split b.attempts i place.attempt y below_here e split) ∙ is ∙ also
 
 -- ---- how many entries there are
 
-call_below : (q : ℕ) (es : List Entry) (begun : List ℕ) → AllByRecursion (IsEntry begun) es → list_any (eqb q) (map (λ (e : Entry). e.call) es) ≡ true → q < length begun
+call_below : (q : ℕ) (es : List CommittedCall) (begun : List ℕ) → AllByRecursion (IsEntry begun) es → list_any (eqb q) (map (λ (e : CommittedCall). e.call) es) ≡ true → q < length begun
 call_below q [] begun h e = absurd (false≢true e)
 call_below q (x ∷ es) begun h e =
-    elim (eqb q x.call) as (λ b. eqb q x.call ≡ b → (b || list_any (eqb q) (map (λ (e : Entry). e.call) es)) ≡ true → q < length begun) [
+    elim (eqb q x.call) as (λ b. eqb q x.call ≡ b → (b || list_any (eqb q) (map (λ (e : CommittedCall). e.call) es)) ≡ true → q < length begun) [
       | true ↦ λ t _. subst (λ y. y < length begun) (sym (eqb-true q x.call t)) h.0.known
       | false ↦ λ _ r. call_below q es begun h.1 r
     ] refl e
@@ -371,11 +371,11 @@ call_below q (x ∷ es) begun h e =
 apart_tells : (x y : ℕ) → y ≢ x → eqb x y ≡ false
 apart_tells x y ne = ⊎_elim (λ h. absurd (ne (sym h.1))) (λ h. h.0) (eqb_tells x y)
 
-calls_apart : (x : ℕ) (es : List Entry) → call_is_new x es → AllByRecursion (λ y. eqb x y ≡ false) (map (λ (e : Entry). e.call) es)
+calls_apart : (x : ℕ) (es : List CommittedCall) → call_is_new x es → AllByRecursion (λ y. eqb x y ≡ false) (map (λ (e : CommittedCall). e.call) es)
 calls_apart x [] h = tt
 calls_apart x (e ∷ es) h = (apart_tells x e.call h.0, calls_apart x es h.1)
 
-distinct_calls : (es : List Entry) → AreDistinct es → IsDistinct eqb (map (λ (e : Entry). e.call) es)
+distinct_calls : (es : List CommittedCall) → AreDistinct es → IsDistinct eqb (map (λ (e : CommittedCall). e.call) es)
 unfolding IsDistinct
 distinct_calls [] h = tt
 distinct_calls (e ∷ es) h = (calls_apart e.call es h.0, distinct_calls es h.1)
@@ -383,18 +383,18 @@ distinct_calls (e ∷ es) h = (calls_apart e.call es h.0, distinct_calls es h.1)
 -- a position fits 32 bits
 pub few_entries : (b : Content) → IsKept b → length b.entries < 2 ^ 32
 few_entries b kept =
-    let most = length-le_from_distinct_below (map (λ (e : Entry). e.call) b.entries) (length b.begun) (distinct_calls b.entries kept.distinct) (λ q e. call_below q b.entries b.begun kept.each_entry e) in
-    let same : length (map (λ (e : Entry). e.call) b.entries) ≡ length b.entries = simp length-map in
+    let most = length-le_from_distinct_below (map (λ (e : CommittedCall). e.call) b.entries) (length b.begun) (distinct_calls b.entries kept.distinct) (λ q e. call_below q b.entries b.begun kept.each_entry e) in
+    let same : length (map (λ (e : CommittedCall). e.call) b.entries) ≡ length b.entries = simp length-map in
     let calls : length b.begun < 2 ^ 32 = kept.calls in
     omega (arith, most, same, calls)
 
 -- ---- a begin
 
-module _ (b : Content) (counts : Counts) (rows : List Modes) (standings : List Standing) (book : IsBook b counts rows standings) (call : ℕ) (below : call < length b.begun) where
+module _ (b : Content) (counts : Counts) (rows : List Modes) (standings : List CallState) (book : IsBook b counts rows standings) (call : ℕ) (below : call < length b.begun) where
   pub standing_below : call < length standings
   standing_below = subst (λ n. call < n) (sym (length-standings b counts rows standings book)) below
 
-  module _ (x : Standing) (x_is : x ≡ get_or standings call x) where
+  module _ (x : CallState) (x_is : x ≡ get_or standings call x) where
     pub idle_before : x ≡ Idle → HasNoAttempt call b.attempts × call_is_new call b.entries
     idle_before e =
         stands_idle (length b.begun) b.attempts b.entries standings book.standing call below x x_is e
@@ -426,7 +426,7 @@ module _ (b : Content) (counts : Counts) (rows : List Modes) (standings : List S
     begins : ◌≡◌ {A = Content} (record b { attempts = attempts; begun = begun }) (after_begin b call)
     begins = λ k. record b { attempts = (e ∙ ap (λ x. b.attempts ++ x ∷ []) (f ∙ ap (fresh call) n)) k; begun = (g ∙ ap (λ x. set b.begun call (x + 1)) n) k }
 
-    pub IsBook-begin : (place : ℕ) → place ≡ length b.attempts → (standings' : List Standing) → standings' ≡ set standings call (Live place) → IsBook (record b { attempts = attempts; begun = begun }) counts rows standings'
+    pub IsBook-begin : (place : ℕ) → place ≡ length b.attempts → (standings' : List CallState) → standings' ≡ set standings call (Live place) → IsBook (record b { attempts = attempts; begun = begun }) counts rows standings'
     IsBook-begin place place_is standings' standings_is =
         let wide : length (set b.begun call (get_or b.begun call 0 + 1)) ≡ length b.begun = length-set b.begun call (get_or b.begun call 0 + 1) in
         record {
@@ -452,7 +452,7 @@ module _ (b : Content) (counts : Counts) (rows : List Modes) (standings : List S
 
 -- ---- the newest attempt undone
 
-module _ (b : Content) (counts : Counts) (rows : List Modes) (standings : List Standing) (book : IsBook b counts rows standings) (p : List Attempt) (a : Attempt) (split : b.attempts ≡ p ++ a ∷ []) where
+module _ (b : Content) (counts : Counts) (rows : List Modes) (standings : List CallState) (book : IsBook b counts rows standings) (p : List Attempt) (a : Attempt) (split : b.attempts ≡ p ++ a ∷ []) where
   rest_is : p ++ [] ≡ p
   rest_is = append-nil p
 
@@ -472,7 +472,7 @@ module _ (b : Content) (counts : Counts) (rows : List Modes) (standings : List S
     last_undone : ◌≡◌ {A = Content} (record b { now = now; attempts = p }) (after_undo b p a [])
     last_undone = λ k. record b { now = (now_is ∙ ap (λ x. back_all x b.now) is_is) k; attempts = sym rest_is k }
 
-    pub IsBook-undo_last : (k : ℕ) → k ≡ a.call → (rows' : List Modes) → rows' ≡ set rows k empty → (standings' : List Standing) → standings' ≡ set standings k Idle → IsBook (record b { now = now; attempts = p }) counts' rows' standings'
+    pub IsBook-undo_last : (k : ℕ) → k ≡ a.call → (rows' : List Modes) → rows' ≡ set rows k empty → (standings' : List CallState) → standings' ≡ set standings k Idle → IsBook (record b { now = now; attempts = p }) counts' rows' standings'
     IsBook-undo_last k k_is rows' rows_is' standings' standings_is = record {
       kept = subst (λ x. IsKept x) (sym last_undone) (IsKept-undo b p a [] book.kept split);
       counted = counts_is ∙ ap (λ x. closed_all x counts) is_is ∙ ap (closed_all a.inverses) last_out ∙ closed_all-opened_all a.inverses _ (AreCounts-live p empty AreCounts-empty);

@@ -6,8 +6,8 @@ use Rattle.std.specs.List.{AllByRecursion}
 use Rattle.std.specs.Ordering.{eq_by_cmp}
 use Rattle.spec_ledger.specs.declared.Lock.{Lock}
 use Rattle.spec_ledger.specs.declared.Mode.{Mode}
-use Rattle.spec_ledger.specs.declared.Step.{Step}
-use Rattle.spec_ledger.specs.declared.Step.TheVariants.{Did}
+use Rattle.spec_ledger.specs.declared.TraceStep.{TraceStep}
+use Rattle.spec_ledger.specs.declared.TraceStep.TheVariants.{Did}
 use Rattle.spec_ledger.specs.declared.Op.{Op}
 use Rattle.spec_ledger.specs.declared.Reply.{Reply}
 use Rattle.spec_ledger.specs.Cells.{lock_cmp, lock_of}
@@ -145,7 +145,7 @@ module _ (n : ℕ) (a : Attempt) (xs : List Attempt) (below : a.call < n) (known
       subst All path (other_rows (Shares a.modes lock mode) n (none_shares a.modes lock mode) a.call xs below h)
 
 -- the modes after one more operation
-pub touched-push : (t : List Step) (op : Op) (r : Reply) → touched (t ++ Did op r ∷ []) ≡ asked (touched t) (lock_of op) (mode_of op)
+pub touched-push : (t : List TraceStep) (op : Op) (r : Reply) → touched (t ++ Did op r ∷ []) ≡ asked (touched t) (lock_of op) (mode_of op)
 touched-push t op r = ap touched_by (ops_of-append t (Did op r ∷ [])) ∙ touched_by-push (ops_of t) op
   where
     touched_by-push : (t : List Op) (s : Op) → touched_by (t ++ s ∷ []) ≡ asked (touched_by t) (lock_of s) (mode_of s)

@@ -4,7 +4,7 @@ use Rattle.std.proofs.lemmas.List.{take-append-drop, set-get_or}
 use Rattle.std.specs.FinMap.{empty}
 use Rattle.spec_ledger.specs.declared.Inverse.{Inverse}
 use Rattle.spec_ledger.specs.declared.Op.{Op}
-use Rattle.spec_ledger.specs.declared.Step.TheVariants.{Opened}
+use Rattle.spec_ledger.specs.declared.TraceStep.TheVariants.{Opened}
 use Rattle.spec_ledger.specs.Cells.{Cells}
 use Rattle.spec_ledger.specs.Modes.{Modes}
 use Rattle.spec_ledger.specs.Book.{Attempt, Content, IsKept, after_leave, back_all, standing_at, with_step}
@@ -13,8 +13,8 @@ use Rattle.spec_ledger.proofs.Kept.{IsKept-enter, IsKept-leave}
 use Rattle.storage.specs.Counts.{Counts, Store, opened_all, closed_all, AreCounts}
 use Rattle.storage.proofs.Counted.{closed_all-opened_all, AreCounts-empty, AreCounts-opened_all}
 use Rattle.boost.specs.Counted.{live_counts}
-use Rattle.boost.specs.declared.standing.Standing.{Standing}
-use Rattle.boost.specs.declared.standing.Standing.TheVariants.{Idle}
+use Rattle.boost.specs.declared.standing.CallState.{CallState}
+use Rattle.boost.specs.declared.standing.CallState.TheVariants.{Idle}
 use Rattle.boost.specs.Kept.{IsBook, IsPlace, rows_with, committed_with, live_with}
 use Rattle.boost.specs.Marks.{IsLeft, since, left_with}
 use Rattle.boost.proofs.Counted.{live_counts_out, AreCounts-live}
@@ -57,7 +57,7 @@ same_rows p a c q rows e f =
 
 -- ---- an attempt at its place
 
-module _ (b : Content) (counts : Counts) (rows : List Modes) (standings : List Standing) (book : IsBook b counts rows standings) (call number i : ℕ) (xs : List Attempt) (same : xs ≡ b.attempts) (place : IsPlace xs i call number) (z : Attempt) (z_is : z ≡ get_or b.attempts i z) where
+module _ (b : Content) (counts : Counts) (rows : List Modes) (standings : List CallState) (book : IsBook b counts rows standings) (call number i : ℕ) (xs : List Attempt) (same : xs ≡ b.attempts) (place : IsPlace xs i call number) (z : Attempt) (z_is : z ≡ get_or b.attempts i z) where
   abbrev before : List Attempt
   before = take i b.attempts
 

@@ -4,8 +4,8 @@ use Rattle.std.proofs.lemmas.List.{reverse-append, length-take-le}
 use Rattle.spec_ledger.specs.declared.Inverse.{Inverse}
 use Rattle.spec_ledger.specs.declared.Op.{Op}
 use Rattle.spec_ledger.specs.declared.Reply.{Reply}
-use Rattle.spec_ledger.specs.declared.Step.{Step}
-use Rattle.spec_ledger.specs.declared.Step.TheVariants.{Did, Opened, Kept, Dropped}
+use Rattle.spec_ledger.specs.declared.TraceStep.{TraceStep}
+use Rattle.spec_ledger.specs.declared.TraceStep.TheVariants.{Did, Opened, Kept, Dropped}
 use Rattle.spec_ledger.specs.Modes.{touched}
 use Rattle.spec_ledger.specs.Book.{Attempt, Marked, kept_at, dropped_at, standing, standing_at, with_step, back_all}
 use Rattle.spec_ledger.proofs.Traces.{IsMark, AreFronts, fronts_of, standing-push, standing_at-push, touched-mark}
@@ -13,11 +13,11 @@ use Rattle.storage.specs.Counts.{Store, closed_all}
 use Rattle.boost.specs.Marks.{IsLeft}
 
 -- an attempt, seen from outside
-abbrev pub seen : ℕ → ℕ → List Step → List Inverse → Attempt
+abbrev pub seen : ℕ → ℕ → List TraceStep → List Inverse → Attempt
 seen call number t is = record { call = call; number = number; trace = t; modes = touched t; inverses = is }
 
 -- with a mark more
-pub with_mark : (call number : ℕ) (t t' : List Step) (is : List Inverse) (s : Step) → IsMark s → t' ≡ t ++ s ∷ [] → seen call number t' is ≡ with_step (seen call number t is) s
+pub with_mark : (call number : ℕ) (t t' : List TraceStep) (is : List Inverse) (s : TraceStep) → IsMark s → t' ≡ t ++ s ∷ [] → seen call number t' is ≡ with_step (seen call number t is) s
 with_mark call number t t' is s mark e =
     let modes : touched t' ≡ touched t = ap touched e ∙ touched-mark t s mark in
     λ i. record { call = call; number = number; trace = e i; modes = modes i; inverses = is }
@@ -42,7 +42,7 @@ innermost_in (x ∷ xs) n ns e =
     let rest : ns ≡ map length xs = cc in
     record { stood = x; outer = xs; entered = refl; number = number; outer_are = rest }
 
-module _ (t t' : List Step) (is is' : List Inverse) (ms ms' : List ℕ) (even : length is ≡ length (standing t)) (are : reverse ms ≡ map length (standing_at t).marks) where
+module _ (t t' : List TraceStep) (is is' : List Inverse) (ms ms' : List ℕ) (even : length is ≡ length (standing t)) (are : reverse ms ≡ map length (standing_at t).marks) where
   -- an operation is done
   module _ (op : Op) (r : Reply) (i : Inverse) (trace : t' ≡ t ++ Did op r ∷ []) (inverses : is' ≡ is ++ i ∷ []) where
     pub did_even : length is' ≡ length (standing t')

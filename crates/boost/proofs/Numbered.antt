@@ -4,7 +4,7 @@ use Rattle.std.proofs.lemmas.List.{append-nil, append_cancel_right, get_or-set_o
 use Rattle.std.proofs.lemmas.Option.{slice_get_within, get_or_from_slice_get}
 use Rattle.std.specs.FinMap.{empty}
 use Rattle.spec_ledger.specs.declared.Inverse.{Inverse}
-use Rattle.spec_ledger.specs.declared.Step.{Step}
+use Rattle.spec_ledger.specs.declared.TraceStep.{TraceStep}
 use Rattle.spec_ledger.specs.Cells.{Cells}
 use Rattle.spec_ledger.specs.Modes.{Modes}
 use Rattle.spec_ledger.specs.Book.{Attempt, Content, settled, IsLive, IsKept, IsEntry, call_is_new, fresh}
@@ -12,8 +12,8 @@ use Rattle.spec_ledger.specs.Events.{HasNoAttempt, BeginDone, IsStale, IsOther}
 use Rattle.spec_ledger.proofs.Kept.{All-both, beside, live_here}
 use Rattle.spec_ledger.proofs.Traces.{All-weaken}
 use Rattle.storage.specs.Counts.{Counts}
-use Rattle.boost.specs.declared.standing.Standing.{Standing}
-use Rattle.boost.specs.declared.standing.Standing.TheVariants.{Idle, Live}
+use Rattle.boost.specs.declared.standing.CallState.{CallState}
+use Rattle.boost.specs.declared.standing.CallState.TheVariants.{Idle, Live}
 use Rattle.boost.specs.Kept.{IsBook, rows_with, committed_with, live_with}
 use Rattle.boost.specs.Numbered.{after_begin_as, BegunAs, HasTrace}
 use Rattle.boost.proofs.Held.{no_other}
@@ -45,7 +45,7 @@ IsKept-count b call n none kept =
       calls = subst (λ m. m < 2 ^ 32) (sym (length-set b.begun call n)) kept.calls;
     }
 
-IsBook-count : (b : Content) (counts : Counts) (rows : List Modes) (standings : List Standing) → IsBook b counts rows standings → (call n : ℕ) → HasNoAttempt call b.attempts → IsBook (with_count b call n) counts rows standings
+IsBook-count : (b : Content) (counts : Counts) (rows : List Modes) (standings : List CallState) → IsBook b counts rows standings → (call n : ℕ) → HasNoAttempt call b.attempts → IsBook (with_count b call n) counts rows standings
 IsBook-count b counts rows standings book call n none = record {
   kept = IsKept-count b call n none book.kept;
   counted = book.counted;
@@ -55,9 +55,9 @@ IsBook-count b counts rows standings book call n none = record {
 
 -- ---- a begin under a number
 
-module _ (b : Content) (counts : Counts) (rows : List Modes) (standings : List Standing) (book : IsBook b counts rows standings) (call : ℕ) (below : call < length b.begun) (none : HasNoAttempt call b.attempts) (new : call_is_new call b.entries)
+module _ (b : Content) (counts : Counts) (rows : List Modes) (standings : List CallState) (book : IsBook b counts rows standings) (call : ℕ) (below : call < length b.begun) (none : HasNoAttempt call b.attempts) (new : call_is_new call b.entries)
     (attempts : List Attempt) (begun : List ℕ) (a : Attempt) (number : ℕ) (f : a ≡ fresh call number) (e : attempts ≡ b.attempts ++ a ∷ []) (g : begun ≡ set b.begun call (number + 1)) where
-  pub IsBook-begin_as : (place : ℕ) → place ≡ length b.attempts → (standings' : List Standing) → standings' ≡ set standings call (Live place) → IsBook (record b { attempts = attempts; begun = begun }) counts rows standings'
+  pub IsBook-begin_as : (place : ℕ) → place ≡ length b.attempts → (standings' : List CallState) → standings' ≡ set standings call (Live place) → IsBook (record b { attempts = attempts; begun = begun }) counts rows standings'
   IsBook-begin_as =
       IsBook-begin (with_count b call number) counts rows standings (IsBook-count b counts rows standings book call number none) call (subst (λ m. call < m) (sym (length-set b.begun call number)) below) none new
       attempts begun a number (sym (get_or-set_same b.begun call number 0 below)) f e (g ∙ sym (set-set b.begun call number (number + 1)))
@@ -90,7 +90,7 @@ split_last xs p o n z wide items value last =
     let here : get_or xs (n - 1) z ≡ z = ap (λ k. get_or xs (k - 1) z) wide ∙ get_or_from_slice_get xs (length xs - 1) z z (sym last) in
     items ∙ ap (λ y. p ++ option_to_list y) (value z (omega (arith, below, wide)) ∙ ap (λ y. Some y) here)
 
-module _ (b : Content) (counts : Counts) (rows : List Modes) (standings : List Standing) (book : IsBook b counts rows standings) (p : List Attempt) (a : Attempt) (split : b.attempts ≡ p ++ a ∷ []) (call number : ℕ) (a_is : a ≡ fresh call number) where
+module _ (b : Content) (counts : Counts) (rows : List Modes) (standings : List CallState) (book : IsBook b counts rows standings) (p : List Attempt) (a : Attempt) (split : b.attempts ≡ p ++ a ∷ []) (call number : ℕ) (a_is : a ≡ fresh call number) where
   of_call : a.call ≡ call
   of_call = ap (λ (x : Attempt). x.call) a_is
 
@@ -107,7 +107,7 @@ module _ (b : Content) (counts : Counts) (rows : List Modes) (standings : List S
       subst P path (no_other a (p ++ []) (beside b p a [] book.kept split))
 
   module _ (count : ℕ) where
-    pub IsBook-unbegin : (rows' : List Modes) → rows' ≡ set rows call empty → (standings' : List Standing) → standings' ≡ set standings call Idle → (begun : List ℕ) → begun ≡ set b.begun call count → IsBook (record b { attempts = p; begun = begun }) counts rows' standings'
+    pub IsBook-unbegin : (rows' : List Modes) → rows' ≡ set rows call empty → (standings' : List CallState) → standings' ≡ set standings call Idle → (begun : List ℕ) → begun ≡ set b.begun call count → IsBook (record b { attempts = p; begun = begun }) counts rows' standings'
     IsBook-unbegin rows' rows_is standings' standings_is begun begun_is =
         let nothing : ◌≡◌ {A = List Inverse} [] a.inverses = ap (λ (x : Attempt). x.inverses) (sym a_is) in
         let undone : IsBook (record b { attempts = p }) counts rows' standings' =
@@ -156,8 +156,8 @@ not_none f b call number h e =
 
 -- ---- the trace of a live attempt
 
-pub trace_not_stale : (b : Content) (call number : ℕ) (trace : List Step) → HasTrace b call number trace → ¬ (IsStale b call number)
+pub trace_not_stale : (b : Content) (call number : ℕ) (trace : List TraceStep) → HasTrace b call number trace → ¬ (IsStale b call number)
 trace_not_stale b call number trace h = found_not_stale b call number h.before h.attempt h.later h.found
 
-pub other_trace : (b : Content) (call number : ℕ) (kept trace : List Step) → HasTrace b call number kept → ¬ (kept ≡ trace) → IsOther b call number trace
+pub other_trace : (b : Content) (call number : ℕ) (kept trace : List TraceStep) → HasTrace b call number kept → ¬ (kept ≡ trace) → IsOther b call number trace
 other_trace b call number kept trace h ne = record { before = h.before; attempt = h.attempt; later = h.later; found = h.found; other_trace = λ e. ne (sym h.trace_is ∙ e) }

@@ -6,8 +6,8 @@ use Rattle.spec_ledger.specs.Cells.{Cells, AreCells}
 use Rattle.spec_ledger.specs.Book.{Content}
 use Rattle.spec_ledger.specs.Modes.{Modes}
 use Rattle.storage.specs.Counts.{Counts}
-use Rattle.boost.specs.declared.standing.Standing.{Standing}
-use Rattle.boost.specs.declared.standing.Standing.TheVariants.{Idle}
+use Rattle.boost.specs.declared.standing.CallState.{CallState}
+use Rattle.boost.specs.declared.standing.CallState.TheVariants.{Idle}
 use Rattle.boost.specs.Kept.{IsBook}
 use Rattle.boost.specs.Play.{opened}
 
@@ -28,10 +28,10 @@ IsBook-alone cells calls are few = record {
   standing = ap (λ n. replicate n Idle) (sym (length-replicate calls 0));
 }
 
-pub IsBook-opened : (b : Content) (counts : Counts) (rows : List Modes) (standings : List Standing) (calls : ℕ) → AreCells b.opening → calls < 2 ^ 32
+pub IsBook-opened : (b : Content) (counts : Counts) (rows : List Modes) (standings : List CallState) (calls : ℕ) → AreCells b.opening → calls < 2 ^ 32
     → b ≡ opened b.opening calls → counts ≡ empty → rows ≡ replicate calls empty → standings ≡ replicate calls Idle → IsBook b counts rows standings
 IsBook-opened b counts rows standings calls are few same none free idle =
-    let path : ◌≡◌ {A = Content × Counts × List Modes × List Standing} (opened b.opening calls, empty, replicate calls empty, replicate calls Idle) (b, counts, rows, standings) =
+    let path : ◌≡◌ {A = Content × Counts × List Modes × List CallState} (opened b.opening calls, empty, replicate calls empty, replicate calls Idle) (b, counts, rows, standings) =
     λ i. (sym same i, sym none i, sym free i, sym idle i) in
-    let P : Content × Counts × List Modes × List Standing → Type 0 = λ (c, m, r, s). IsBook c m r s in
+    let P : Content × Counts × List Modes × List CallState → Type 0 = λ (c, m, r, s). IsBook c m r s in
     subst P path (IsBook-alone b.opening calls are few)

@@ -6,8 +6,8 @@ use Rattle.std.specs.FinMap.{empty}
 use Rattle.spec_ledger.specs.declared.Inverse.{Inverse}
 use Rattle.spec_ledger.specs.declared.Op.{Op}
 use Rattle.spec_ledger.specs.declared.Reply.{Reply}
-use Rattle.spec_ledger.specs.declared.Step.{Step}
-use Rattle.spec_ledger.specs.declared.Step.TheVariants.{Did, Opened, Kept, Dropped}
+use Rattle.spec_ledger.specs.declared.TraceStep.{TraceStep}
+use Rattle.spec_ledger.specs.declared.TraceStep.TheVariants.{Did, Opened, Kept, Dropped}
 use Rattle.spec_ledger.specs.Cells.{Cells}
 use Rattle.spec_ledger.specs.Modes.{Modes, AreCompatible, ops_of, touched, touched_by}
 use Rattle.spec_ledger.specs.Book.{Attempt, Content, GetsRepliesFrom, Marked, IsKept, IsLive, after, kept_at, dropped_at, inverses_of, live_after, ops_after, settled, standing, standing_at, unmarked}
@@ -15,8 +15,8 @@ use Rattle.spec_ledger.proofs.Kept.{All-with, apart_with, beside, live_here, liv
 use Rattle.spec_ledger.proofs.Traces.{All-standing, after-standing, live_after-append, ops_of-append, standing_at-push}
 use Rattle.storage.specs.Counts.{Counts}
 use Rattle.boost.specs.Counted.{live_counts}
-use Rattle.boost.specs.declared.standing.Standing.{Standing}
-use Rattle.boost.specs.declared.standing.Standing.TheVariants.{Idle}
+use Rattle.boost.specs.declared.standing.CallState.{CallState}
+use Rattle.boost.specs.declared.standing.CallState.TheVariants.{Idle}
 use Rattle.boost.specs.Kept.{IsBook, rows_with, committed_with, live_with}
 use Rattle.boost.specs.Numbered.{after_begin_with, BegunAs, BegunWith, marked}
 use Rattle.boost.proofs.Counted.{live_counts_out}
@@ -30,17 +30,17 @@ nothing : (xs : List Op) → AllByRecursion (λ _. ⊥) xs → xs ≡ []
 nothing [] h = refl
 nothing (x ∷ xs) h = absurd h.0
 
-pub standing-marks : (t : List Step) → ops_of t ≡ [] → standing t ≡ []
+pub standing-marks : (t : List TraceStep) → ops_of t ≡ [] → standing t ≡ []
 standing-marks t none = nothing (standing t) (All-standing (λ _. ⊥) t (subst (AllByRecursion (λ _. ⊥)) (sym none) tt))
 
-replies-marks : (t : List Step) (p : Marked Cells) → ops_of t ≡ [] → GetsRepliesFrom t p
+replies-marks : (t : List TraceStep) (p : Marked Cells) → ops_of t ≡ [] → GetsRepliesFrom t p
 replies-marks [] p none = tt
 replies-marks (Did op r ∷ t) p none = absurd (cc)
 replies-marks (Opened ∷ t) p none = replies-marks t _ none
 replies-marks (Kept ∷ t) p none = replies-marks t _ none
 replies-marks (Dropped ∷ t) p none = replies-marks t _ none
 
-after-marks : (t : List Step) (m : Cells) → ops_of t ≡ [] → after t m ≡ m
+after-marks : (t : List TraceStep) (m : Cells) → ops_of t ≡ [] → after t m ≡ m
 after-marks t m none = after-standing t m ∙ ap (λ ops. ops_after ops m) (standing-marks t none)
 
 front_none : (xs ys : List Op) → xs ++ ys ≡ [] → xs ≡ []
@@ -57,7 +57,7 @@ empty_of : (ms : List ℕ) (n : ℕ) → n ≡ length ms → ¬ (0 < n) → ms �
 empty_of [] n wide none = refl
 empty_of (x ∷ ms) n wide none = absurd (none (omega (arith, wide)))
 
-module _ (t : List Step) (s : Step) (none : ops_of (t ++ s ∷ []) ≡ []) (ms ms' : List ℕ) (are : reverse ms ≡ map length (standing_at t).marks) where
+module _ (t : List TraceStep) (s : TraceStep) (none : ops_of (t ++ s ∷ []) ≡ []) (ms ms' : List ℕ) (are : reverse ms ≡ map length (standing_at t).marks) where
   no_ops : ops_of t ≡ []
   no_ops = front_none (ops_of t) (ops_of (s ∷ [])) (sym (ops_of-append t (s ∷ [])) ∙ none)
 
@@ -109,11 +109,11 @@ module _ (t : List Step) (s : Step) (none : ops_of (t ++ s ∷ []) ≡ []) (ms m
 
 -- ---- marks one after another
 
-pub taken_marks : (t : List Step) (i : ℕ) → ops_of t ≡ [] → ops_of (take i t) ≡ []
+pub taken_marks : (t : List TraceStep) (i : ℕ) → ops_of t ≡ [] → ops_of (take i t) ≡ []
 taken_marks t i none = front_none (ops_of (take i t)) (ops_of (drop i t)) (sym (ops_of-append (take i t) (drop i t)) ∙ ap ops_of (take-append-drop i t) ∙ none)
 
-pub one_more : (t : List Step) (i : ℕ) (d : Step) → i < length t → ops_of t ≡ [] → (ms ms' : List ℕ) (trace trace' : List Step) → trace ≡ take i t → trace' ≡ trace ++ get_or t i d ∷ [] → reverse ms ≡ map length (standing_at trace).marks
-    → ((u : List Step) → ops_of (u ++ get_or t i d ∷ []) ≡ [] → reverse ms ≡ map length (standing_at u).marks → reverse ms' ≡ map length (standing_at (u ++ get_or t i d ∷ [])).marks)
+pub one_more : (t : List TraceStep) (i : ℕ) (d : TraceStep) → i < length t → ops_of t ≡ [] → (ms ms' : List ℕ) (trace trace' : List TraceStep) → trace ≡ take i t → trace' ≡ trace ++ get_or t i d ∷ [] → reverse ms ≡ map length (standing_at trace).marks
+    → ((u : List TraceStep) → ops_of (u ++ get_or t i d ∷ []) ≡ [] → reverse ms ≡ map length (standing_at u).marks → reverse ms' ≡ map length (standing_at (u ++ get_or t i d ∷ [])).marks)
     → (trace' ≡ take (i + 1) t) × (reverse ms' ≡ map length (standing_at trace').marks)
 one_more t i d below none ms ms' trace trace' is pushed are step =
     let is' : trace' ≡ take i t ++ get_or t i d ∷ [] = pushed ∙ ap (λ u. u ++ get_or t i d ∷ []) is in
@@ -130,7 +130,7 @@ set_last [] x y (suc n) e = absurd (omega (arith, e))
 set_last (z ∷ xs) x y zero e = absurd (omega (arith, e))
 set_last (z ∷ xs) x y (suc n) e = ap (λ t. z ∷ t) (set_last xs x y n (omega (arith, e)))
 
-module _ (b : Content) (counts : Counts) (rows : List Modes) (standings : List Standing) (book : IsBook b counts rows standings) (p : List Attempt) (call number : ℕ) (old more : List Step) (old_are : ops_of old ≡ []) (more_are : ops_of more ≡ [])
+module _ (b : Content) (counts : Counts) (rows : List Modes) (standings : List CallState) (book : IsBook b counts rows standings) (p : List Attempt) (call number : ℕ) (old more : List TraceStep) (old_are : ops_of old ≡ []) (more_are : ops_of more ≡ [])
     (split : b.attempts ≡ p ++ marked call number old ∷ []) where
   abbrev a : Attempt
   a = marked call number old
@@ -180,7 +180,7 @@ module _ (b : Content) (counts : Counts) (rows : List Modes) (standings : List S
   }
 
 -- the newest attempt's place
-module _ (f b : Content) (call number : ℕ) (old : List Step) (is : b ≡ after_begin_with f call number old) (last n : ℕ) (wide : n ≡ length b.attempts) (before : last ≡ n - 1) where
+module _ (f b : Content) (call number : ℕ) (old : List TraceStep) (is : b ≡ after_begin_with f call number old) (last n : ℕ) (wide : n ≡ length b.attempts) (before : last ≡ n - 1) where
   attempts_are : b.attempts ≡ f.attempts ++ marked call number old ∷ []
   attempts_are = ap (λ (x : Content). x.attempts) is
 
@@ -196,14 +196,14 @@ module _ (f b : Content) (call number : ℕ) (old : List Step) (is : b ≡ after
   pub below_last : last < n
   below_last = omega (arith, here, size)
 
-  module _ (more : List Step) (y : Attempt) (y_is : y ≡ marked call number more) where
+  module _ (more : List TraceStep) (y : Attempt) (y_is : y ≡ marked call number more) where
     remarked : set b.attempts last y ≡ f.attempts ++ marked call number more ∷ []
     remarked = ap (λ xs. set xs last y) attempts_are ∙ set_last f.attempts (marked call number old) y last here ∙ ap (λ x. f.attempts ++ x ∷ []) y_is
 
     pub remarks : ◌≡◌ {A = Content} (record b { attempts = set b.attempts last y }) (after_begin_with f call number more)
     remarks = λ i. record (is i) { attempts = remarked i }
 
-    pub IsBook-remark : (counts : Counts) (rows : List Modes) (standings : List Standing) → ops_of old ≡ [] → ops_of more ≡ [] → IsBook b counts rows standings → IsBook (record b { attempts = set b.attempts last y }) counts rows standings
+    pub IsBook-remark : (counts : Counts) (rows : List Modes) (standings : List CallState) → ops_of old ≡ [] → ops_of more ≡ [] → IsBook b counts rows standings → IsBook (record b { attempts = set b.attempts last y }) counts rows standings
     IsBook-remark counts rows standings old_are more_are book =
         subst (λ xs. IsBook (record b { attempts = xs }) counts rows standings) (sym remarked) (IsBook-remarked b counts rows standings book f.attempts call number old more old_are more_are attempts_are)
 
@@ -211,9 +211,9 @@ module _ (f b : Content) (call number : ℕ) (old : List Step) (is : b ≡ after
 pub with_none : (f b : Content) (call number : ℕ) → BegunAs f b call number → b ≡ after_begin_with f call number []
 with_none f b call number h = h.new_is
 
-pub BegunWith-mark : (f b new : Content) (call number : ℕ) (marks : List Step) → BegunAs f b call number → ops_of marks ≡ [] → new ≡ after_begin_with f call number marks → BegunWith f new call number marks
+pub BegunWith-mark : (f b new : Content) (call number : ℕ) (marks : List TraceStep) → BegunAs f b call number → ops_of marks ≡ [] → new ≡ after_begin_with f call number marks → BegunWith f new call number marks
 BegunWith-mark f b new call number marks h are is =
     record { known = h.known; not_live = h.not_live; not_committed = h.not_committed; not_passed = h.not_passed; are_marks = are; new_is = is }
 
-pub BegunAs-unmark : (f b new : Content) (call number : ℕ) (marks : List Step) → BegunWith f b call number marks → new ≡ after_begin_with f call number [] → BegunAs f new call number
+pub BegunAs-unmark : (f b new : Content) (call number : ℕ) (marks : List TraceStep) → BegunWith f b call number marks → new ≡ after_begin_with f call number [] → BegunAs f new call number
 BegunAs-unmark f b new call number marks h is = record { known = h.known; not_live = h.not_live; not_committed = h.not_committed; not_passed = h.not_passed; new_is = is }

@@ -3,39 +3,39 @@ use Rattle.std.proofs.Common.{◌≡◌, ◌≢◌, ℕ, zero, suc, ◌+◌, ◌
 use Rattle.std.proofs.lemmas.List.{set-set, set_comm, set-get_or, get_or-set_same, get_or-set_other, get_or-replicate, length-set, length-replicate}
 use Rattle.std.proofs.lemmas.Option.{slice_get-get_or, slice_get_within, get_or_from_slice_get}
 use Rattle.std.specs.List.{AllByRecursion}
-use Rattle.spec_ledger.specs.Book.{Attempt, Entry, AreAllSideBySide, call_is_new}
+use Rattle.spec_ledger.specs.Book.{Attempt, CommittedCall, AreAllSideBySide, call_is_new}
 use Rattle.spec_ledger.specs.Events.{HasNoAttempt}
-use Rattle.boost.specs.declared.standing.Standing.{Standing}
-use Rattle.boost.specs.declared.standing.Standing.TheVariants.{Idle, Live, Committed}
+use Rattle.boost.specs.declared.standing.CallState.{CallState}
+use Rattle.boost.specs.declared.standing.CallState.TheVariants.{Idle, Live, Committed}
 use Rattle.boost.specs.Kept.{committed_with, live_with, AreStanding}
 use Rattle.boost.proofs.Held.{AreBelow, no_other}
 
 -- ---- committed calls
 
-pub committed_with-append : (es fs : List Entry) (s : List Standing) → committed_with (es ++ fs) s ≡ committed_with fs (committed_with es s)
+pub committed_with-append : (es fs : List CommittedCall) (s : List CallState) → committed_with (es ++ fs) s ≡ committed_with fs (committed_with es s)
 committed_with-append [] fs s = refl
 committed_with-append (e ∷ es) fs s = committed_with-append es fs (set s e.call Committed)
 
-pub length-committed_with : (es : List Entry) (s : List Standing) → length (committed_with es s) ≡ length s
+pub length-committed_with : (es : List CommittedCall) (s : List CallState) → length (committed_with es s) ≡ length s
 length-committed_with [] s = refl
 length-committed_with (e ∷ es) s = length-committed_with es (set s e.call Committed) ∙ length-set s e.call Committed
 
-uncommitted : (k : ℕ) (es : List Entry) (s : List Standing) (d : Standing) → call_is_new k es → get_or (committed_with es s) k d ≡ get_or s k d
+uncommitted : (k : ℕ) (es : List CommittedCall) (s : List CallState) (d : CallState) → call_is_new k es → get_or (committed_with es s) k d ≡ get_or s k d
 uncommitted k [] s d h = refl
 uncommitted k (e ∷ es) s d h = uncommitted k es (set s e.call Committed) d h.1 ∙ get_or-set_other s e.call k Committed d (λ p. h.0 (sym p))
 
-set_committed : (s : List Standing) (k i : ℕ) (d : Standing) → get_or s k d ≡ Committed → get_or (set s i Committed) k d ≡ Committed
+set_committed : (s : List CallState) (k i : ℕ) (d : CallState) → get_or s k d ≡ Committed → get_or (set s i Committed) k d ≡ Committed
 set_committed [] k i d h = h
 set_committed (x ∷ s) zero zero d h = refl
 set_committed (x ∷ s) zero (suc i) d h = h
 set_committed (x ∷ s) (suc k) zero d h = h
 set_committed (x ∷ s) (suc k) (suc i) d h = set_committed s k i d h
 
-stays_committed : (k : ℕ) (es : List Entry) (s : List Standing) (d : Standing) → get_or s k d ≡ Committed → get_or (committed_with es s) k d ≡ Committed
+stays_committed : (k : ℕ) (es : List CommittedCall) (s : List CallState) (d : CallState) → get_or s k d ≡ Committed → get_or (committed_with es s) k d ≡ Committed
 stays_committed k [] s d h = h
 stays_committed k (e ∷ es) s d h = stays_committed k es (set s e.call Committed) d (set_committed s k e.call d h)
 
-new_idle : (k : ℕ) (es : List Entry) (s : List Standing) (d : Standing) → AllByRecursion (λ e. e.call < length s) es → get_or (committed_with es s) k d ≡ Idle → call_is_new k es
+new_idle : (k : ℕ) (es : List CommittedCall) (s : List CallState) (d : CallState) → AllByRecursion (λ e. e.call < length s) es → get_or (committed_with es s) k d ≡ Idle → call_is_new k es
 new_idle k [] s d known h = tt
 new_idle k (e ∷ es) s d known h = (
   λ same.
@@ -45,7 +45,7 @@ new_idle k (e ∷ es) s d known h = (
   new_idle k es (set s e.call Committed) d (subst (λ n. AllByRecursion (λ f. f.call < n) es) (sym (length-set s e.call Committed)) known.1) h,
 )
 
-unset_live : (s : List Standing) (k i j : ℕ) (d : Standing) → get_or (set s i Committed) k d ≡ Live j → get_or s k d ≡ Live j
+unset_live : (s : List CallState) (k i j : ℕ) (d : CallState) → get_or (set s i Committed) k d ≡ Live j → get_or s k d ≡ Live j
 unset_live [] k i j d h = h
 unset_live (x ∷ s) zero zero j d h = let no : Committed ≡ Live j = h in cc
 unset_live (x ∷ s) zero (suc i) j d h = h
@@ -53,31 +53,31 @@ unset_live (x ∷ s) (suc k) zero j d h = h
 unset_live (x ∷ s) (suc k) (suc i) j d h = unset_live s k i j d h
 
 -- an entry makes no call live
-never_live : (k j : ℕ) (es : List Entry) (s : List Standing) (d : Standing) → get_or (committed_with es s) k d ≡ Live j → get_or s k d ≡ Live j
+never_live : (k j : ℕ) (es : List CommittedCall) (s : List CallState) (d : CallState) → get_or (committed_with es s) k d ≡ Live j → get_or s k d ≡ Live j
 never_live k j [] s d h = h
 never_live k j (e ∷ es) s d h = unset_live s k e.call j d (never_live k j es (set s e.call Committed) d h)
 
 -- ---- live calls
 
-pub live_with-append : (n m : ℕ) (p q : List Attempt) (s : List Standing) → m ≡ n + length p → live_with n (p ++ q) s ≡ live_with m q (live_with n p s)
+pub live_with-append : (n m : ℕ) (p q : List Attempt) (s : List CallState) → m ≡ n + length p → live_with n (p ++ q) s ≡ live_with m q (live_with n p s)
 live_with-append n m [] q s e = ap (λ k. live_with k q s) (omega (arith, e))
 live_with-append n m (a ∷ p) q s e = live_with-append (n + 1) m p q (set s a.call (Live n)) (omega (arith, e))
 
-pub length-live_with : (n : ℕ) (xs : List Attempt) (s : List Standing) → length (live_with n xs s) ≡ length s
+pub length-live_with : (n : ℕ) (xs : List Attempt) (s : List CallState) → length (live_with n xs s) ≡ length s
 length-live_with n [] s = refl
 length-live_with n (a ∷ xs) s = length-live_with (n + 1) xs (set s a.call (Live n)) ∙ length-set s a.call (Live n)
 
 -- the standing of a call that none of these is of
-live_late : (k : ℕ) (v : Standing) (n : ℕ) (xs : List Attempt) (s : List Standing) → HasNoAttempt k xs → live_with n xs (set s k v) ≡ set (live_with n xs s) k v
+live_late : (k : ℕ) (v : CallState) (n : ℕ) (xs : List Attempt) (s : List CallState) → HasNoAttempt k xs → live_with n xs (set s k v) ≡ set (live_with n xs s) k v
 live_late k v n [] s h = refl
 live_late k v n (a ∷ xs) s h = ap (live_with (n + 1) xs) (set_comm s k a.call v (Live n) (λ e. h.0 (sym e))) ∙ live_late k v (n + 1) xs (set s a.call (Live n)) h.1
 
-idle_standing : (k n : ℕ) (xs : List Attempt) (s : List Standing) (d : Standing) → HasNoAttempt k xs → get_or (live_with n xs s) k d ≡ get_or s k d
+idle_standing : (k n : ℕ) (xs : List Attempt) (s : List CallState) (d : CallState) → HasNoAttempt k xs → get_or (live_with n xs s) k d ≡ get_or s k d
 idle_standing k n [] s d h = refl
 idle_standing k n (a ∷ xs) s d h = idle_standing k (n + 1) xs (set s a.call (Live n)) d h.1 ∙ get_or-set_other s a.call k (Live n) d (λ e. h.0 (sym e))
 
 -- places written anew
-places_again : (i m : ℕ) (q : List Attempt) (s : List Standing) → AreAllSideBySide q → live_with i q (live_with m q s) ≡ live_with i q s
+places_again : (i m : ℕ) (q : List Attempt) (s : List CallState) → AreAllSideBySide q → live_with i q (live_with m q s) ≡ live_with i q s
 places_again i m [] s h = refl
 places_again i m (a ∷ q) s h =
     ap (live_with (i + 1) q) (sym (live_late a.call (Live i) (m + 1) q (set s a.call (Live m)) (no_other a q h.0)))
@@ -85,7 +85,7 @@ places_again i m (a ∷ q) s h =
     ∙ ap (live_with (i + 1) q) (set-set s a.call (Live m) (Live i))
 
 -- a live call stands otherwise, and the places after it are written anew
-pub left_standing : (p : List Attempt) (a : Attempt) (q : List Attempt) (s : List Standing) (i : ℕ) (v : Standing) → length p ≡ i → HasNoAttempt a.call p → HasNoAttempt a.call q → AreAllSideBySide q
+pub left_standing : (p : List Attempt) (a : Attempt) (q : List Attempt) (s : List CallState) (i : ℕ) (v : CallState) → length p ≡ i → HasNoAttempt a.call p → HasNoAttempt a.call q → AreAllSideBySide q
     → live_with i q (set (live_with 0 (p ++ a ∷ q) s) a.call v) ≡ live_with 0 (p ++ q) (set s a.call v)
 left_standing p a q s i v e before later apart =
     ap (live_with i q)
@@ -96,13 +96,13 @@ left_standing p a q s i v e before later apart =
     ∙ sym (live_with-append 0 i p q (set s a.call v) (omega (arith, e)))
 
 -- an attempt in the place of another of its call
-pub same_standing : (p : List Attempt) (a b : Attempt) (q : List Attempt) (s : List Standing) → a.call ≡ b.call → live_with 0 (p ++ a ∷ q) s ≡ live_with 0 (p ++ b ∷ q) s
+pub same_standing : (p : List Attempt) (a b : Attempt) (q : List Attempt) (s : List CallState) → a.call ≡ b.call → live_with 0 (p ++ a ∷ q) s ≡ live_with 0 (p ++ b ∷ q) s
 same_standing p a b q s e =
     live_with-append 0 (length p) p (a ∷ q) s (omega arith)
     ∙ ap (λ k. live_with (length p + 1) q (set (live_with 0 p s) k (Live (length p)))) e
     ∙ sym (live_with-append 0 (length p) p (b ∷ q) s (omega arith))
 
-live_at : (n : ℕ) (xs : List Attempt) (s : List Standing) → AreBelow (length s) xs → AreAllSideBySide xs → (i : ℕ) (a : Attempt) → slice_get xs i ≡ Some a → slice_get (live_with n xs s) a.call ≡ Some (Live (n + i))
+live_at : (n : ℕ) (xs : List Attempt) (s : List CallState) → AreBelow (length s) xs → AreAllSideBySide xs → (i : ℕ) (a : Attempt) → slice_get xs i ≡ Some a → slice_get (live_with n xs s) a.call ≡ Some (Live (n + i))
 live_at n [] s known apart i a h = let no : None ≡ Some a = h in cc
 live_at n (x ∷ xs) s known apart zero a h =
     let same : x ≡ a = cc in
@@ -114,7 +114,7 @@ live_at n (x ∷ xs) s known apart (suc i) a h =
     live_at (n + 1) xs (set s x.call (Live n)) (subst (λ m. AreBelow m xs) (sym (length-set s x.call (Live n))) known.1) apart.1 i a h ∙ ap (λ k. Some (Live k)) (omega arith)
 
 -- a call that stands idle has no attempt
-no_place : (k n : ℕ) (xs : List Attempt) (s : List Standing) (d : Standing) → AreBelow (length s) xs → get_or (live_with n xs s) k d ≡ Idle → HasNoAttempt k xs × (get_or s k d ≡ Idle)
+no_place : (k n : ℕ) (xs : List Attempt) (s : List CallState) (d : CallState) → AreBelow (length s) xs → get_or (live_with n xs s) k d ≡ Idle → HasNoAttempt k xs × (get_or s k d ≡ Idle)
 no_place k n [] s d known h = (tt, h)
 no_place k n (x ∷ xs) s d known h =
     let rest = no_place k (n + 1) xs (set s x.call (Live n)) d (subst (λ m. AreBelow m xs) (sym (length-set s x.call (Live n))) known.1) h in
@@ -125,18 +125,18 @@ no_place k n (x ∷ xs) s d known h =
     cc in
     ((other, rest.0), sym (get_or-set_other s x.call k (Live n) d (λ e. other (sym e))) ∙ rest.1)
 
-unset_committed : (s : List Standing) (k i j : ℕ) (d : Standing) → get_or (set s i (Live j)) k d ≡ Committed → get_or s k d ≡ Committed
+unset_committed : (s : List CallState) (k i j : ℕ) (d : CallState) → get_or (set s i (Live j)) k d ≡ Committed → get_or s k d ≡ Committed
 unset_committed [] k i j d h = h
 unset_committed (x ∷ s) zero zero j d h = let no : Live j ≡ Committed = h in cc
 unset_committed (x ∷ s) zero (suc i) j d h = h
 unset_committed (x ∷ s) (suc k) zero j d h = h
 unset_committed (x ∷ s) (suc k) (suc i) j d h = unset_committed s k i j d h
 
-never_committed : (k n : ℕ) (xs : List Attempt) (s : List Standing) (d : Standing) → get_or (live_with n xs s) k d ≡ Committed → get_or s k d ≡ Committed
+never_committed : (k n : ℕ) (xs : List Attempt) (s : List CallState) (d : CallState) → get_or (live_with n xs s) k d ≡ Committed → get_or s k d ≡ Committed
 never_committed k n [] s d h = h
 never_committed k n (x ∷ xs) s d h = unset_committed s k x.call n d (never_committed k (n + 1) xs (set s x.call (Live n)) d h)
 
-set_live : (s : List Standing) (k i n j : ℕ) (d : Standing) → get_or (set s i (Live n)) k d ≡ Live j → (get_or s k d ≡ Live j) ⊎ ((i ≡ k) × (n ≡ j))
+set_live : (s : List CallState) (k i n j : ℕ) (d : CallState) → get_or (set s i (Live n)) k d ≡ Live j → (get_or s k d ≡ Live j) ⊎ ((i ≡ k) × (n ≡ j))
 set_live [] k i n j d h = inl h
 set_live (x ∷ s) zero zero n j d h = inr (refl, cc)
 set_live (x ∷ s) zero (suc i) n j d h = inl h
@@ -151,7 +151,7 @@ record Stands (k j n : ℕ) (xs : List Attempt) : Type 0 where
   is : slice_get xs at ≡ Some attempt
   of_call : attempt.call ≡ k
 
-only_live : (k j n : ℕ) (xs : List Attempt) (s : List Standing) (d : Standing) → get_or (live_with n xs s) k d ≡ Live j → (get_or s k d ≡ Live j) ⊎ (Stands k j n xs)
+only_live : (k j n : ℕ) (xs : List Attempt) (s : List CallState) (d : CallState) → get_or (live_with n xs s) k d ≡ Live j → (get_or s k d ≡ Live j) ⊎ (Stands k j n xs)
 only_live k j n [] s d h = inl h
 only_live k j n (x ∷ xs) s d h =
     ⊎_elim
@@ -160,7 +160,7 @@ only_live k j n (x ∷ xs) s d h =
     (only_live k j (n + 1) xs (set s x.call (Live n)) d h)
 
 -- the standing of a new call written idle
-pub still_idle : (k n : ℕ) (es : List Entry) → k < n → call_is_new k es → set (committed_with es (replicate n Idle)) k Idle ≡ committed_with es (replicate n Idle)
+pub still_idle : (k n : ℕ) (es : List CommittedCall) → k < n → call_is_new k es → set (committed_with es (replicate n Idle)) k Idle ≡ committed_with es (replicate n Idle)
 still_idle k n es below new =
     let idle : get_or (committed_with es (replicate n Idle)) k Idle ≡ Idle = uncommitted k es (replicate n Idle) Idle new ∙ get_or-replicate n k Idle Idle below in
     ap (set (committed_with es (replicate n Idle)) k) (sym idle) ∙ set-get_or (committed_with es (replicate n Idle)) k Idle
@@ -171,7 +171,7 @@ apart_right (a ∷ p) q h = apart_right p q h.1
 
 -- ---- one call of a book
 
-module _ (n : ℕ) (xs : List Attempt) (es : List Entry) (s : List Standing) (s_is : s ≡ live_with 0 xs (committed_with es (replicate n Idle))) where
+module _ (n : ℕ) (xs : List Attempt) (es : List CommittedCall) (s : List CallState) (s_is : s ≡ live_with 0 xs (committed_with es (replicate n Idle))) where
   wide_before : length (committed_with es (replicate n Idle)) ≡ n
   wide_before = length-committed_with es (replicate n Idle) ∙ length-replicate n Idle
 
@@ -199,7 +199,7 @@ module _ (n : ℕ) (xs : List Attempt) (es : List Entry) (s : List Standing) (s_
         ap (λ (x : Attempt). x.call) (sym one) ∙ e.of_call;
   }
 
-  module _ (k : ℕ) (below : k < n) (x : Standing) (x_is : x ≡ get_or s k x) where
+  module _ (k : ℕ) (below : k < n) (x : CallState) (x_is : x ≡ get_or s k x) where
     there : get_or (live_with 0 xs (committed_with es (replicate n Idle))) k x ≡ x
     there = ap (λ y. get_or y k x) (sym s_is) ∙ sym x_is
 
@@ -236,10 +236,10 @@ found_at P [] i below h = absurd (omega (arith, below))
 found_at P (x ∷ xs) zero below h = (x, refl, h.0)
 found_at P (x ∷ xs) (suc i) below h = found_at P xs i (omega (arith, below)) h.1
 
-pub none_there : (xs : List Attempt) (s : List Standing) → AreStanding xs s → (call : ℕ) → ((i : ℕ) → slice_get s call ≢ Some (Live i)) → HasNoAttempt call xs
+pub none_there : (xs : List Attempt) (s : List CallState) → AreStanding xs s → (call : ℕ) → ((i : ℕ) → slice_get s call ≢ Some (Live i)) → HasNoAttempt call xs
 none_there xs s are call h = All-slice_get (λ a. a.call ≢ call) xs (λ i a e same. h i (ap (slice_get s) (sym same) ∙ are.placed i a e))
 
-module _ (xs : List Attempt) (s : List Standing) (are : AreStanding xs s) (call place : ℕ) (lives : slice_get s call ≡ Some (Live place)) where
+module _ (xs : List Attempt) (s : List CallState) (are : AreStanding xs s) (call place : ℕ) (lives : slice_get s call ≡ Some (Live place)) where
   pub place_below : place < length xs
   place_below = are.within call place lives
 

@@ -2,13 +2,13 @@
 use Rattle.std.specs.Prelude.{◌≡◌, ℕ, ◌+◌, ◌≤◌, Bool, true, false, List, [], ◌∷◌, ◌++◌, map, length, reverse, take, drop, Vec, vec_len, vec_capacity}
 use Rattle.spec_ledger.specs.declared.Inverse.{Inverse}
 use Rattle.spec_ledger.specs.declared.Op.{Op}
-use Rattle.spec_ledger.specs.declared.Step.{Step}
-use Rattle.spec_ledger.specs.declared.Step.TheVariants.{Kept, Dropped}
+use Rattle.spec_ledger.specs.declared.TraceStep.{TraceStep}
+use Rattle.spec_ledger.specs.declared.TraceStep.TheVariants.{Kept, Dropped}
 use Rattle.spec_ledger.specs.Book.{Attempt, back_all, standing, standing_at, with_step}
 use Rattle.storage.specs.Counts.{Store, closed_all}
 
 -- each operation that stands has an inverse; each open mark is the number of those before it, the innermost last; and there is room for the marks that close them
-pub record AreMarks {A : Type 0} (trace : Vec Step A) (inverses : List Inverse) (marks : Vec ℕ A) : Type 0 where
+pub record AreMarks {A : Type 0} (trace : Vec TraceStep A) (inverses : List Inverse) (marks : Vec ℕ A) : Type 0 where
   pub even : length inverses ≡ length (standing trace.items)
   pub marks_are : reverse marks.items ≡ map length (standing_at trace.items).marks
   pub room : vec_len trace + vec_len marks ≤ vec_capacity trace

@@ -1,7 +1,7 @@
 -- Events of a book and lists of them, with the answers given. The ticket of an event is that of its call's live attempt.
 use Rattle.std.specs.Prelude.{◌≡◌, ◌⊎◌, ℕ, ◌≤◌, Bool, List, [], ◌∷◌, length, slice_index, replicate}
 use Rattle.spec_ledger.specs.declared.Op.{Op}
-use Rattle.spec_ledger.specs.declared.Step.{Step}
+use Rattle.spec_ledger.specs.declared.TraceStep.{TraceStep}
 use Rattle.spec_ledger.specs.declared.Outcome.{Outcome}
 use Rattle.spec_ledger.specs.Cells.{Cells}
 use Rattle.spec_ledger.specs.Book.{Content, call_is_new}
@@ -22,7 +22,7 @@ pub data Event : Type 0 where
   Enter : (call : ℕ) → Event
   Leave : (call : ℕ) (keep : Bool) → Event
   Undo : (call : ℕ) → Event
-  Commit : (call : ℕ) (trace : List Step) (outcome : Outcome) → Event
+  Commit : (call : ℕ) (trace : List TraceStep) (outcome : Outcome) → Event
 
 -- From old, the event may get this answer and leave new.
 abbrev pub Happens : Content → Event → Answer → Content → Type 0

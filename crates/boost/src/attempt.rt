@@ -2,7 +2,7 @@
 ghost use Rattle.std.specs.Prelude.{◌≡◌, ◌+◌, ◌<◌, ◌≤◌, ℕ, List, ◌∷◌, [], ◌++◌, true, false, IfOk, OnOk, OnErr, IsTrue, ◌↔◌, Some, if◌then◌else◌, length, map, reverse, slice_set};
 ghost use Rattle.spec_ledger.specs.Cells.{reply_to, cells_after, inverse_to};
 ghost use Rattle.spec_ledger.specs.Book.{extended, entry_of, standing_at, with_step, fresh as fresh_of};
-ghost use Rattle.spec_ledger.specs.declared.Step.TheVariants as TheStep;
+ghost use Rattle.spec_ledger.specs.declared.TraceStep.TheVariants as TheStep;
 ghost use Rattle.storage.specs.Counts.{AreCounts, AreUnsettled, Store, opened};
 ghost use Rattle.spec_ledger.specs.Cells.{lock_cmp, lock_of};
 ghost use Rattle.spec_ledger.specs.Modes.{mode_of, ops_of, touched};
@@ -15,7 +15,7 @@ ghost use Rattle.abstract_locks.specs.Table.{asked, row_at};
 
 use crate::trace::same_trace;
 use abstract_locks::{Table, join_to};
-use spec_ledger::{Inverse, Lock, Mode, Op, Outcome, Reply, Step};
+use spec_ledger::{Inverse, Lock, Mode, Op, Outcome, Reply, TraceStep};
 use std::alloc::{Allocator, Global};
 use std::cmp::Ordering;
 use std::marker::Model;
@@ -23,14 +23,14 @@ use storage::{Cells, NoMemory, lock, take_back_to};
 
 /// A committed call.
 #[derive(Drop)]
-pub struct Entry<A: Allocator = Global> {
+pub struct CommittedCall<A: Allocator = Global> {
     pub(crate) call: u32,
-    pub(crate) trace: Vec<Step, A>,
+    pub(crate) trace: Vec<TraceStep, A>,
     pub(crate) outcome: Outcome,
 }
 
-impl<A: Allocator> Model for Entry<A> {
-    ghost use Rattle.spec_ledger.specs.Book.{Entry as TheEntry};
+impl<A: Allocator> Model for CommittedCall<A> {
+    ghost use Rattle.spec_ledger.specs.Book.{CommittedCall as TheEntry};
     ghost use Rattle.spec_ledger.specs.Codes.{coded_entry};
     ghost use Rattle.spec_ledger.specs.Modes.{touched};
 
@@ -41,15 +41,15 @@ impl<A: Allocator> Model for Entry<A> {
     ghost view = { λ e. record { call = e.call; trace = e.trace.items; outcome = e.outcome; modes = touched e.trace.items } };
 }
 
-impl<A: Allocator> Entry<A> {
+impl<A: Allocator> CommittedCall<A> {
     /// The entry of a call that did these operations with these replies, in order, and ended so.
-    pub fn of(call: u32, trace: Vec<Step, A>, outcome: Outcome) -> Self
+    pub fn of(call: u32, trace: Vec<TraceStep, A>, outcome: Outcome) -> Self
         ensures call { result.call ≡ call }
         ensures trace { result.trace ≡ trace.items }
         ensures outcome { result.outcome ≡ outcome }
         ensures modes { result.modes ≡ touched trace.items }
     {
-        Entry {
+        CommittedCall {
             call,
             trace,
             outcome,
@@ -64,14 +64,14 @@ impl<A: Allocator> Entry<A> {
     }
 
     /// The steps of the call, in order: its operations, with their replies, and the marks of its levels.
-    pub fn trace(&self) -> &[Step]
+    pub fn trace(&self) -> &[TraceStep]
         ensures { result.now ≡ self.now.trace }
     {
         &self.trace
     }
 
     /// Whether these are the operations that the call did, with their replies, in order.
-    pub fn has_trace(&self, trace: &[Step]) -> bool
+    pub fn has_trace(&self, trace: &[TraceStep]) -> bool
         ensures { IsTrue result ↔ (self.now.trace ≡ trace.now) }
     {
         same_trace(&self.trace, trace)
@@ -103,30 +103,30 @@ fn is_same_lock(a: Lock, b: Lock) -> bool
 }
 
 /// What is held of a lock after a step of a trace.
-fn asked_at(at: Lock, step: Step, held: Option<Mode>) -> Option<Mode>
+fn asked_at(at: Lock, step: TraceStep, held: Option<Mode>) -> Option<Mode>
     ensures { result ≡ asked_by at step held }
 {
     match step {
-        Step::Did(op, _) if is_same_lock(at, lock(op)) => Some(join_to(mode(op), held)),
+        TraceStep::Did(op, _) if is_same_lock(at, lock(op)) => Some(join_to(mode(op), held)),
         _ => held,
     }
 }
 
 /// Notes a mark in the list of those that are open, before and after which there is nothing to take back.
-fn note_mark<A: Allocator>(noted: &mut Vec<usize, A>, mark: Step) -> Result<(), NoMemory>
-    ensures { OnOk result ((trace : List Step) → ops_of (trace ++ mark ∷ []) ≡ [] → reverse noted.old.items ≡ map length (standing_at trace).marks → reverse noted.new.items ≡ map length (standing_at (trace ++ mark ∷ [])).marks) }
+fn note_mark<A: Allocator>(noted: &mut Vec<usize, A>, mark: TraceStep) -> Result<(), NoMemory>
+    ensures { OnOk result ((trace : List TraceStep) → ops_of (trace ++ mark ∷ []) ≡ [] → reverse noted.old.items ≡ map length (standing_at trace).marks → reverse noted.new.items ≡ map length (standing_at (trace ++ mark ∷ [])).marks) }
 {
     match mark {
-        Step::Did(_, _) => Ok(()),
-        Step::Opened => match noted.push(0) {
+        TraceStep::Did(_, _) => Ok(()),
+        TraceStep::Opened => match noted.push(0) {
             Ok(()) => Ok(()),
             Err(_) => Err(NoMemory),
         },
-        Step::Kept => {
+        TraceStep::Kept => {
             noted.pop();
             Ok(())
         }
-        Step::Dropped => {
+        TraceStep::Dropped => {
             noted.pop();
             Ok(())
         }
@@ -138,7 +138,7 @@ fn note_mark<A: Allocator>(noted: &mut Vec<usize, A>, mark: Step) -> Result<(), 
 pub struct Attempt<A: Allocator = Global> {
     pub(crate) call: u32,
     pub(crate) number: u64,
-    pub(crate) trace: Vec<Step, A>,
+    pub(crate) trace: Vec<TraceStep, A>,
     pub(crate) inverses: Vec<Inverse, A>,
     /// How many inverses there were at each open mark, the innermost last.
     pub(crate) marks: Vec<usize, A>,
@@ -189,7 +189,7 @@ impl<A: Allocator + Copy> Attempt<A> {
         ensures err_cells { OnErr result (cells.new ≡ cells.old) }
         ensures err_locks { OnErr result (locks.new ≡ locks.old) }
     {
-        cells.hold();
+        cells.use_invariant();
         self.trace
             .reserve(1 + self.marks.len())
             .map_err(|_| NoMemory)?;
@@ -199,7 +199,7 @@ impl<A: Allocator + Copy> Attempt<A> {
             cells.take_back(inverse);
             return Err(NoMemory);
         };
-        match self.trace.push(Step::Did(op, reply)) {
+        match self.trace.push(TraceStep::Did(op, reply)) {
             Ok(()) => (),
             Err(_) => unreachable!(),
         }
@@ -230,7 +230,7 @@ impl<A: Allocator + Copy> Attempt<A> {
             .reserve(2 + self.marks.len())
             .map_err(|_| NoMemory)?;
         self.marks.reserve(1).map_err(|_| NoMemory)?;
-        match self.trace.push(Step::Opened) {
+        match self.trace.push(TraceStep::Opened) {
             Ok(()) => (),
             Err(_) => unreachable!(),
         }
@@ -250,7 +250,7 @@ impl<A: Allocator + Copy> Attempt<A> {
         let Some(_mark) = self.marks.pop() else {
             return false;
         };
-        match self.trace.push(Step::Kept) {
+        match self.trace.push(TraceStep::Kept) {
             Ok(()) => (),
             Err(_) => unreachable!(),
         }
@@ -268,7 +268,7 @@ impl<A: Allocator + Copy> Attempt<A> {
             return false;
         };
         take_back_to(cells, &mut self.inverses, mark);
-        match self.trace.push(Step::Dropped) {
+        match self.trace.push(TraceStep::Dropped) {
             Ok(()) => (),
             Err(_) => unreachable!(),
         }
@@ -305,7 +305,7 @@ impl<A: Allocator + Copy> Attempt<A> {
     }
 
     /// The entry of an attempt, and its inverses.
-    pub(crate) fn into_entry(self, outcome: Outcome) -> (Entry<A>, Vec<Inverse, A>)
+    pub(crate) fn into_entry(self, outcome: Outcome) -> (CommittedCall<A>, Vec<Inverse, A>)
         ensures entry { result.0 ≡ entry_of self outcome }
         ensures inverses { result.1.items ≡ self.inverses }
     {
@@ -316,7 +316,7 @@ impl<A: Allocator + Copy> Attempt<A> {
             inverses,
             marks: _,
         } = self;
-        let entry = Entry {
+        let entry = CommittedCall {
             call,
             trace,
             outcome,
@@ -338,7 +338,12 @@ impl<A: Allocator + Copy> Attempt<A> {
     }
 
     /// An attempt that has made these marks of levels and done nothing else, with room for those that close its open levels.
-    pub(crate) fn marked(alloc: A, call: u32, number: u64, marks: &[Step]) -> Result<Self, NoMemory>
+    pub(crate) fn marked(
+        alloc: A,
+        call: u32,
+        number: u64,
+        marks: &[TraceStep],
+    ) -> Result<Self, NoMemory>
         requires { ops_of marks.now ≡ [] }
         ensures { IfOk result (λ attempt. attempt ≡ marked_of call number marks.now) }
     {
@@ -373,7 +378,7 @@ impl<A: Allocator + Copy> Attempt<A> {
         self.number
     }
 
-    pub(crate) fn trace(&self) -> &[Step]
+    pub(crate) fn trace(&self) -> &[TraceStep]
         ensures { result.now ≡ self.now.trace }
     {
         &self.trace

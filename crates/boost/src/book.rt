@@ -9,11 +9,11 @@ ghost use Rattle.boost.specs.Numbered.{BegunAs, BegunWith, HasTrace, IsPassed};
 ghost use Rattle.spec_ledger.specs.Modes.{ops_of};
 ghost use Rattle.std.specs.FinMap as finite;
 
-use crate::attempt::{Attempt, Entry, mode};
-use crate::standing::{Standing, note_places, place_of};
+use crate::attempt::{Attempt, CommittedCall, mode};
+use crate::standing::{CallState, note_places, place_of};
 use crate::trace::same_trace;
 use abstract_locks::Table;
-use spec_ledger::{Lock, Op, Outcome, Reply, Step};
+use spec_ledger::{Lock, Op, Outcome, Reply, TraceStep};
 use std::alloc::{Allocator, Global};
 use std::marker::Model;
 use storage::{Cells, NoMemory, end_all, lock, returned, take_all_back};
@@ -39,7 +39,7 @@ impl Ticket {
 #[derive(Clone, Copy)]
 pub struct Run<'a> {
     /// The operations with their replies, in order.
-    pub trace: &'a [Step],
+    pub trace: &'a [TraceStep],
     /// How it ended.
     pub outcome: Outcome,
 }
@@ -139,7 +139,7 @@ pub struct Closed<A: Allocator = Global> {
     /// The cells after every live call is undone, in which nothing is unsettled.
     pub cells: Cells<A>,
     /// The committed calls in their order.
-    pub entries: Vec<Entry<A>, A>,
+    pub entries: Vec<CommittedCall<A>, A>,
 }
 
 /// The committed calls, which are a serial run from the opening cells, and the live attempts, whose operations go together (Dickerson, Gazzillo, Herlihy, Koskinen, "Adding Concurrency to Smart Contracts", PODC 2017, sections 3 and 4). There is room for the entry of each live attempt, so that a commit takes no memory.
@@ -147,11 +147,11 @@ pub struct Book<A: Allocator = Global> {
     alloc: A,
     opening: Cells<A>,
     cells: Cells<A>,
-    entries: Vec<Entry<A>, A>,
+    entries: Vec<CommittedCall<A>, A>,
     attempts: Vec<Attempt<A>, A>,
     begun: Vec<u64, A>,
     locks: Table<A>,
-    standings: Vec<Standing, A>,
+    standings: Vec<CallState, A>,
 }
 
 impl<A: Allocator> Model for Book<A> {
@@ -172,7 +172,7 @@ impl<A: Allocator> Model for Book<A> {
 /// Where the attempt of a ticket stands, if it lives.
 fn find<A: Allocator + Copy>(
     attempts: &[Attempt<A>],
-    standings: &[Standing],
+    standings: &[CallState],
     ticket: &Ticket,
 ) -> Option<usize>
     requires { AreStanding attempts.now standings.now }
@@ -264,12 +264,12 @@ impl<A: Allocator + Copy> Book<A> {
         let attempt = self.attempts.remove(i);
         take_all_back(&mut self.cells, attempt.into_inverses());
         self.locks.release(ticket.call);
-        self.standings[ticket.call as usize] = Standing::Idle;
+        self.standings[ticket.call as usize] = CallState::Idle;
         note_places(&mut self.standings, &self.attempts, i);
     }
 
     /// The operations that a live attempt did, with their replies, in order. None where the ticket is stale.
-    pub fn trace_of(&self, ticket: &Ticket) -> Option<&[Step]>
+    pub fn trace_of(&self, ticket: &Ticket) -> Option<&[TraceStep]>
         ensures found { IfSome result (λ trace. HasTrace self.now ticket.now.call ticket.now.number trace.now) }
         ensures stale { IfNone result (IsStale self.now ticket.now.call ticket.now.number) }
     {
@@ -281,8 +281,8 @@ impl<A: Allocator + Copy> Book<A> {
 
     /// Commits a live attempt with the trace that the book kept, for which it takes no memory, and answers its position. A stale ticket changes nothing.
     pub fn end(&mut self, ticket: Ticket, outcome: Outcome) -> Result<u32, Ticket>
-        ensures ok { IfOk result (λ position. (trace : List Step) × CommitDone self.old self.new ticket.call ticket.number trace outcome position) }
-        ensures kept { IfOk result (λ position. (trace : List Step) → HasTrace self.old ticket.call ticket.number trace → CommitDone self.old self.new ticket.call ticket.number trace outcome position) }
+        ensures ok { IfOk result (λ position. (trace : List TraceStep) × CommitDone self.old self.new ticket.call ticket.number trace outcome position) }
+        ensures kept { IfOk result (λ position. (trace : List TraceStep) → HasTrace self.old ticket.call ticket.number trace → CommitDone self.old self.new ticket.call ticket.number trace outcome position) }
         ensures stale { (result ≡ Err ticket) ↔ IsStale self.old ticket.call ticket.number }
         ensures ticket { IfErr result (λ back. back ≡ ticket) }
         ensures err { OnErr result (self.new ≡ self.old) }
@@ -295,7 +295,7 @@ impl<A: Allocator + Copy> Book<A> {
         let (entry, inverses) = attempt.into_entry(outcome);
         end_all(&mut self.cells, inverses, returned(outcome));
         self.locks.release(ticket.call);
-        self.standings[ticket.call as usize] = Standing::Committed;
+        self.standings[ticket.call as usize] = CallState::Committed;
         note_places(&mut self.standings, &self.attempts, i);
         match self.entries.push(entry) {
             Ok(()) => Ok(position),
@@ -332,12 +332,12 @@ impl<A: Allocator + Copy> Book<A> {
         ensures attempts { IfOk result (λ book. book.attempts ≡ []) }
         ensures begun { IfOk result (λ book. book.begun ≡ replicate calls 0) }
     {
-        opening.hold();
+        opening.use_invariant();
         let cells = opening.copy(alloc)?;
         let Ok(begun) = vec![in alloc; 0u64; calls as usize] else {
             return Err(NoMemory);
         };
-        let Ok(standings) = vec![in alloc; Standing::Idle; calls as usize] else {
+        let Ok(standings) = vec![in alloc; CallState::Idle; calls as usize] else {
             return Err(NoMemory);
         };
         let locks = Table::open(alloc, calls)?;
@@ -364,7 +364,7 @@ impl<A: Allocator + Copy> Book<A> {
         let call = attempt.call();
         take_all_back(&mut self.cells, attempt.into_inverses());
         self.locks.release(call);
-        self.standings[call as usize] = Standing::Idle;
+        self.standings[call as usize] = CallState::Idle;
         true
     }
 
@@ -416,7 +416,7 @@ impl<A: Allocator + Copy> Book<A> {
     }
 
     /// What the type of a book keeps.
-    pub fn hold(&self)
+    pub fn use_invariant(&self)
         ensures entries { EntriesAreSerialRun self.now }
         ensures cells { CellsAreSettledButForHolders self.now }
         ensures replies { LiveTracesGetReplies self.now }
@@ -464,9 +464,9 @@ impl<A: Allocator + Copy> Book<A> {
             return Err(BeginAsRefusal::NoSuchCall);
         }
         match self.standings[call as usize] {
-            Standing::Idle => (),
-            Standing::Live(_) => return Err(BeginAsRefusal::Live),
-            Standing::Committed => return Err(BeginAsRefusal::Committed),
+            CallState::Idle => (),
+            CallState::Live(_) => return Err(BeginAsRefusal::Live),
+            CallState::Committed => return Err(BeginAsRefusal::Committed),
         }
         if number < self.begun[call as usize] {
             return Err(BeginAsRefusal::Passed);
@@ -487,12 +487,12 @@ impl<A: Allocator + Copy> Book<A> {
             Err(_) => unreachable!(),
         }
         self.begun[call as usize] = number + 1;
-        self.standings[call as usize] = Standing::Live(place);
+        self.standings[call as usize] = CallState::Live(place);
         Ok(Ticket { call, number })
     }
 
     /// Makes these marks of levels in the attempt that was begun last and has done nothing, as one that begins in the midst of a call. The room for the marks that close its open levels is made with them. Where memory is refused, all is as it was.
-    pub fn mark(&mut self, ticket: &Ticket, marks: &[Step]) -> Result<(), NoMemory>
+    pub fn mark(&mut self, ticket: &Ticket, marks: &[TraceStep]) -> Result<(), NoMemory>
         requires newest { (former : Content) × BegunAs former self.old ticket.now.call ticket.now.number }
         requires marks { ops_of marks.now ≡ [] }
         ensures ok { OnOk result ((former : Content) → BegunAs former self.old ticket.now.call ticket.now.number → BegunWith former self.new ticket.now.call ticket.now.number marks.now) }
@@ -508,8 +508,8 @@ impl<A: Allocator + Copy> Book<A> {
 
     /// Takes the marks back that the attempt which was begun last has made, and that are all that it has done.
     pub fn unmark(&mut self, ticket: &Ticket)
-        requires { (former : Content) × (marks : List Step) × BegunWith former self.old ticket.now.call ticket.now.number marks }
-        ensures { (former : Content) → (marks : List Step) → BegunWith former self.old ticket.now.call ticket.now.number marks → BegunAs former self.new ticket.now.call ticket.now.number }
+        requires { (former : Content) × (marks : List TraceStep) × BegunWith former self.old ticket.now.call ticket.now.number marks }
+        ensures { (former : Content) → (marks : List TraceStep) → BegunWith former self.old ticket.now.call ticket.now.number marks → BegunAs former self.new ticket.now.call ticket.now.number }
     {
         let attempt = Attempt::fresh(self.alloc, ticket.call, ticket.number);
         let last = self.attempts.len() - 1;
@@ -535,7 +535,7 @@ impl<A: Allocator + Copy> Book<A> {
         }
         self.attempts.pop();
         self.locks.release(ticket.call);
-        self.standings[ticket.call as usize] = Standing::Idle;
+        self.standings[ticket.call as usize] = CallState::Idle;
         self.begun[ticket.call as usize] = count;
         Ok(())
     }
@@ -559,7 +559,7 @@ impl<A: Allocator> Drop for Book<A> {
 /// The ticket of a call's attempt among these.
 fn ticket_in<A: Allocator + Copy>(
     attempts: &[Attempt<A>],
-    standings: &[Standing],
+    standings: &[CallState],
     call: u32,
 ) -> Option<Ticket>
     requires { AreStanding attempts.now standings.now }

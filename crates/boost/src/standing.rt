@@ -8,7 +8,7 @@ use std::alloc::Allocator;
 
 /// How a call stands.
 #[derive(Clone, Copy)]
-pub(crate) enum Standing {
+pub(crate) enum CallState {
     /// It has no live attempt and no entry.
     Idle,
     /// It has a live attempt, at this place.
@@ -18,22 +18,22 @@ pub(crate) enum Standing {
 }
 
 /// Where the attempt of a call stands, if it lives.
-pub(crate) fn place_of(standings: &[Standing], call: u32) -> Option<usize>
-    ensures found { IfSome result (λ i. slice_get standings.now call ≡ Some (Standing.Live i)) }
-    ensures none { IfNone result ((i : ℕ) → slice_get standings.now call ≢ Some (Standing.Live i)) }
+pub(crate) fn place_of(standings: &[CallState], call: u32) -> Option<usize>
+    ensures found { IfSome result (λ i. slice_get standings.now call ≡ Some (CallState.Live i)) }
+    ensures none { IfNone result ((i : ℕ) → slice_get standings.now call ≢ Some (CallState.Live i)) }
 {
     if call as usize >= standings.len() {
         return None;
     }
     match standings[call as usize] {
-        Standing::Live(place) => Some(place),
-        Standing::Idle | Standing::Committed => None,
+        CallState::Live(place) => Some(place),
+        CallState::Idle | CallState::Committed => None,
     }
 }
 
 /// Notes where the attempts from a place on stand.
 pub(crate) fn note_places<A: Allocator + Copy>(
-    standings: &mut Vec<Standing, A>,
+    standings: &mut Vec<CallState, A>,
     attempts: &[Attempt<A>],
     from: usize,
 )
@@ -41,6 +41,6 @@ pub(crate) fn note_places<A: Allocator + Copy>(
     ensures { standings.new.items ≡ live_with from (drop from attempts.now) standings.old.items }
 {
     for place in from..attempts.len() {
-        standings[attempts[place].call() as usize] = Standing::Live(place);
+        standings[attempts[place].call() as usize] = CallState::Live(place);
     }
 }

@@ -1,9 +1,9 @@
 // Whether two traces are the same.
 ghost use Rattle.std.specs.Prelude.{◌≡◌, IsTrue, ◌↔◌};
 
-use spec_ledger::{Op, Place, Reply, Step};
+use spec_ledger::{CellKey, Op, Reply, TraceStep};
 
-fn same_place(a: &Place, b: &Place) -> bool
+fn same_place(a: &CellKey, b: &CellKey) -> bool
     ensures { IsTrue result ↔ (a.now ≡ b.now) }
 {
     a == b
@@ -22,21 +22,21 @@ fn same_reply(a: &Reply, b: &Reply) -> bool
 }
 
 /// Whether two steps are the same.
-pub fn same_step(a: &Step, b: &Step) -> bool
+pub fn same_step(a: &TraceStep, b: &TraceStep) -> bool
     ensures { IsTrue result ↔ (a.now ≡ b.now) }
 {
     match (a, b) {
-        (Step::Did(op, reply), Step::Did(other, answer)) => {
+        (TraceStep::Did(op, reply), TraceStep::Did(other, answer)) => {
             same_op(op, other) && same_reply(reply, answer)
         }
-        (Step::Opened, Step::Opened) => true,
-        (Step::Kept, Step::Kept) => true,
-        (Step::Dropped, Step::Dropped) => true,
+        (TraceStep::Opened, TraceStep::Opened) => true,
+        (TraceStep::Kept, TraceStep::Kept) => true,
+        (TraceStep::Dropped, TraceStep::Dropped) => true,
         _ => false,
     }
 }
 
-pub(crate) fn same_trace(a: &[Step], b: &[Step]) -> bool
+pub(crate) fn same_trace(a: &[TraceStep], b: &[TraceStep]) -> bool
     ensures { IsTrue result ↔ (a.now ≡ b.now) }
 {
     if a.len() != b.len() {

@@ -4,7 +4,7 @@ use Rattle.std.specs.Prelude.{◌⊎◌, ◌==◌, IsSome, All, length, if◌the
 use Rattle.std.proofs.lemmas.Bool.Decides.{eqb_tells}
 use Rattle.spec_ledger.specs.declared.Inverse.{Inverse}
 use Rattle.spec_ledger.specs.declared.Outcome.{Outcome}
-use Rattle.spec_ledger.specs.declared.Step.{Step}
+use Rattle.spec_ledger.specs.declared.TraceStep.{TraceStep}
 use Rattle.spec_ledger.specs.Cells.{Cells}
 use Rattle.storage.specs.Counts.{Store}
 use Rattle.spec_execution.specs.Configuration.{Setting}
@@ -19,7 +19,7 @@ use Rattle.debugger.specs.declared.kept.Kept.{Kept}
 use Rattle.debugger.specs.Breaks.{is_set_at}
 use Rattle.debugger.specs.Cursors.{HasTurned, HasAnswered, IsAt, IsSameRun, IsCopy}
 use Rattle.debugger.specs.Keeping.{IsOfRun, AreSpaced, last_turns, AreKept, next_turns, IsKept, seen_at, HasNoBreakBetween}
-use Rattle.debugger.specs.Sight.{Sight, IsSight, sight_of, ending_at, break_place_at, break_place_shown}
+use Rattle.debugger.specs.SessionView.{SessionView, IsSessionView, session_view_of, ending_at, break_place_at, break_place_shown}
 use Rattle.debugger.specs.Commands as commands
 use Rattle.debugger.proofs.States.{one_state, IsOnTheWay, earlier}
 use Rattle.debugger.proofs.Turning.{is_sight, ending_is, place_is}
@@ -54,7 +54,7 @@ run_back c d h = record {
 }
 
 -- no run makes more turns than its limit
-within : (setting : Setting) (start : Levels) (limit k : ℕ) (t : List Step) (x : Levels) → Turned setting start limit k t x → k ≤ limit
+within : (setting : Setting) (start : Levels) (limit k : ℕ) (t : List TraceStep) (x : Levels) → Turned setting start limit k t x → k ≤ limit
 within setting start limit k t x (opened y marks f r) = omega arith
 within setting start limit k t x (turned n front steps y z w lt turn) = omega (arith, lt)
 
@@ -104,7 +104,7 @@ module _ {A : Type 0} (here cursor : Cursor A) (h : IsAt here) (k : IsAt cursor)
 abbrev break_place_of : Levels → ContractCall → (turns : ℕ) → Option (ℕ × ℕ)
 break_place_of x call turns = if x.inner.contract.number == call.contract then place_of (shown x.inner.contract call.fuel turns x.inner.config) else None
 
-module _ {A : Type 0} (c d : Cursor A) (k : IsAt d) (run : IsSameRun c d) (u : Sight) (is : IsSight u) (same : commands.IsSameRun (seen_at c) u) where
+module _ {A : Type 0} (c d : Cursor A) (k : IsAt d) (run : IsSameRun c d) (u : SessionView) (is : IsSessionView u) (same : commands.IsSameRun (seen_at c) u) where
   pub same_place : u.turns ≡ d.machine.used → break_place_at u ≡ break_place_shown d.machine
   same_place turns =
       let config_is : u.config ≡ d.machine.config =
@@ -115,8 +115,8 @@ module _ {A : Type 0} (c d : Cursor A) (k : IsAt d) (run : IsSameRun c d) (u : S
 
 -- one turn more, at whose end there is no break
 pub no_break_more : {A : Type 0} (breaks : List (ℕ × ℕ)) (c e : Cursor A) (m n : ℕ) → IsOfRun c e → e.machine.used ≡ n + 1 → is_set_at breaks (break_place_shown e.machine) ≡ false
-    → ((u : Sight) → IsSight u → commands.IsSameRun (seen_at c) u → m < u.turns → u.turns ≤ n → is_set_at breaks (break_place_at u) ≡ false)
-    → (u : Sight) → IsSight u → commands.IsSameRun (seen_at c) u → m < u.turns → u.turns ≤ e.machine.used → is_set_at breaks (break_place_at u) ≡ false
+    → ((u : SessionView) → IsSessionView u → commands.IsSameRun (seen_at c) u → m < u.turns → u.turns ≤ n → is_set_at breaks (break_place_at u) ≡ false)
+    → (u : SessionView) → IsSessionView u → commands.IsSameRun (seen_at c) u → m < u.turns → u.turns ≤ e.machine.used → is_set_at breaks (break_place_at u) ≡ false
 no_break_more breaks c e m n k used none so_far u is same above below = by_test (eqb_tells u.turns e.machine.used)
   where
     by_test : ((u.turns == e.machine.used) ≡ true) × (u.turns ≡ e.machine.used) ⊎ ((u.turns == e.machine.used) ≡ false) × (u.turns ≢ e.machine.used) → is_set_at breaks (break_place_at u) ≡ false
@@ -189,11 +189,11 @@ kept_first {A = A} origin here others h none k no_others last distance = record 
 -- ---- on to a break
 
 -- a break holds in a state where its machine says so
-seen_break : {A : Type 0} (c : Cursor A) (breaks : List (ℕ × ℕ)) → IsAt c → break_place_at (sight_of c.machine c.start.now.cells breaks) ≡ break_place_shown c.machine
+seen_break : {A : Type 0} (c : Cursor A) (breaks : List (ℕ × ℕ)) → IsAt c → break_place_at (session_view_of c.machine c.start.now.cells breaks) ≡ break_place_shown c.machine
 seen_break c breaks at = ap (λ (o : Option (ℕ × ℕ)). if c.machine.config.inner.contract.number == c.machine.call.contract then o else None) (sym (place_is c.machine at.turns.goes_on))
 
 -- the end of a run is seen as its machine shows it
-pub seen_end : {A : Type 0} (P : Type 0) (c : Cursor A) (breaks : List (ℕ × ℕ)) → IsAt c → P ⊎ IsSome (ending c.machine) → P ⊎ IsSome (ending_at (sight_of c.machine c.start.now.cells breaks))
+pub seen_end : {A : Type 0} (P : Type 0) (c : Cursor A) (breaks : List (ℕ × ℕ)) → IsAt c → P ⊎ IsSome (ending c.machine) → P ⊎ IsSome (ending_at (session_view_of c.machine c.start.now.cells breaks))
 seen_end P c breaks at (inl h) = inl h
 seen_end P c breaks at (inr h) = inr (subst (λ (o : Option Outcome). IsSome o) (ending_is c.machine at.turns.goes_on) h)
 
@@ -205,7 +205,7 @@ module _ {A : Type 0} (here start end : Cursor A) (at_here : IsAt here) (at_end 
   no_less (inr h) = omega (arith, ap (λ x. x.machine.used) h.1)
 
   pub continued : (before after : ℕ) → before ≡ here.machine.used → after ≡ end.machine.used
-      → commands.HasContinued (sight_of here.machine here.start.now.cells breaks) (after - before) (sight_of end.machine end.start.now.cells breaks)
+      → commands.HasContinued (session_view_of here.machine here.start.now.cells breaks) (after - before) (session_view_of end.machine end.start.now.cells breaks)
   continued before after before_is after_is =
       let first : start.machine.used ≡ here.machine.used = ap (λ p. p.used) k.machine in
       record {
@@ -221,6 +221,6 @@ module _ {A : Type 0} (here start end : Cursor A) (at_here : IsAt here) (at_end 
       has_moved (inl h) first = inl (omega (arith, h, first, before_is, after_is))
       has_moved (inr h) first = inr (subst (λ (p : Progress). IsSome (ending p)) k.machine h.0)
 
-      stops_at : (is_set_at set (break_place_shown end.machine) ≡ true) ⊎ IsSome (ending end.machine) → commands.IsAtBreak breaks (sight_of end.machine end.start.now.cells breaks) ⊎ IsSome (ending end.machine)
+      stops_at : (is_set_at set (break_place_shown end.machine) ≡ true) ⊎ IsSome (ending end.machine) → commands.IsAtBreak breaks (session_view_of end.machine end.start.now.cells breaks) ⊎ IsSome (ending end.machine)
       stops_at (inl h) = inl (ap (is_set_at breaks) (seen_break end breaks at_end) ∙ ap (λ bs. is_set_at bs (break_place_shown end.machine)) (sym set_is) ∙ h)
       stops_at (inr h) = inr h

@@ -4,8 +4,8 @@ use Rattle.std.specs.Prelude.{◌==◌, ◌&&◌, if◌then◌else◌, IsSome}
 use Rattle.wtypes.specs.declared.Value.{Value}
 use Rattle.wtypes.specs.declared.TrapCode.{TrapCode}
 use Rattle.spec_ledger.specs.declared.Reply.{Reply}
-use Rattle.spec_ledger.specs.declared.Step.{Step}
-use Rattle.spec_ledger.specs.declared.Step.TheVariants.{Kept, Dropped}
+use Rattle.spec_ledger.specs.declared.TraceStep.{TraceStep}
+use Rattle.spec_ledger.specs.declared.TraceStep.TheVariants.{Kept, Dropped}
 use Rattle.spec_ledger.specs.declared.Outcome.TheVariants.{OutOfFuel}
 use Rattle.spec_execution.specs.Configuration.{Setting, Seq, End, State, Config, Running, Trap}
 use Rattle.spec_execution.specs.Reduction.{Of, Ask, Answer, Next, Goes, Traps, Asks, Branches, Returns, Ended, Stuck}
@@ -14,25 +14,25 @@ use Rattle.spec_execution.specs.Levels.{Level, Levels, asked, trap_status, signe
 use Rattle.spec_execution.specs.Turning.{FreeMoves, none, one_more, IsAnswered, not_asked, Rests, to_come, ended, Turned, opened, turned}
 use Rattle.spec_execution.specs.Turning as turning
 use Rattle.spec_execution.specs.Turns.{shown, is_to_come, place_of}
-use Rattle.soundness.specs.Coming.{PlacesAreOfWhatComes}
+use Rattle.laws_soundness.specs.Coming.{PlacesAreOfWhatComes}
 use Rattle.interp.specs.Shown.{ending_by, ending_of}
-use Rattle.debugger.specs.Sight.{StatesHavePlaces}
+use Rattle.debugger.specs.SessionView.{StatesHavePlaces}
 
 -- ---- what a state comes after is reached
 
 module _ (setting : Setting) (start : Levels) (limit : ℕ) where
-  by_free : (trace marks : List Step) (used : ℕ) (a b : Levels) → Reached setting start limit trace used a → used ≤ limit → FreeMoves setting a marks b → Reached setting start limit (trace ++ marks) used b
+  by_free : (trace marks : List TraceStep) (used : ℕ) (a b : Levels) → Reached setting start limit trace used a → used ≤ limit → FreeMoves setting a marks b → Reached setting start limit (trace ++ marks) used b
   by_free trace marks used a b r le (none x) = subst (λ t. Reached setting start limit t used x) (sym (append-nil trace)) r
   by_free trace marks used a b r le (one_more x y z ms steps e f) =
       let made : Reached setting start limit (trace ++ ms) (used + 0) y = moved trace used x 0 ms y r e (omega arith) in
       subst (λ t. Reached setting start limit t used z) (append_assoc trace ms steps)
       (by_free (trace ++ ms) steps used y z (subst (λ n. Reached setting start limit (trace ++ ms) n y) (add-zero used) made) le f)
 
-  by_reply : (trace reply : List Step) (used : ℕ) (a b : Levels) → Reached setting start limit trace used a → IsAnswered setting a reply b → Reached setting start limit (trace ++ reply) used b
+  by_reply : (trace reply : List TraceStep) (used : ℕ) (a b : Levels) → Reached setting start limit trace used a → IsAnswered setting a reply b → Reached setting start limit (trace ++ reply) used b
   by_reply trace reply used a b r (not_asked x) = subst (λ t. Reached setting start limit t used x) (sym (append-nil trace)) r
   by_reply trace reply used a b r (turning.asked x op go answer e is) = replied trace used x op go answer r e is
 
-  pub reached_by : (k : ℕ) (trace : List Step) (a : Levels) → Turned setting start limit k trace a → Reached setting start limit trace k a
+  pub reached_by : (k : ℕ) (trace : List TraceStep) (a : Levels) → Turned setting start limit k trace a → Reached setting start limit trace k a
   reached_by k trace a (opened x marks f rest) = by_free [] marks 0 start x at_first (omega arith) f
   reached_by k trace a (turned n front steps x y t lt turn) =
       let before = reached_by n front x t in
@@ -45,14 +45,14 @@ module _ (setting : Setting) (start : Levels) (limit : ℕ) where
       subst (λ m. Reached setting start limit (front ++ steps) m y) count all
 
 -- a state rests
-rests : (setting : Setting) (start : Levels) (limit k : ℕ) (trace : List Step) (a : Levels) → Turned setting start limit k trace a → Rests setting a
+rests : (setting : Setting) (start : Levels) (limit k : ℕ) (trace : List TraceStep) (a : Levels) → Turned setting start limit k trace a → Rests setting a
 rests setting start limit k trace a (opened x marks f rest) = rest
 rests setting start limit k trace a (turned n front steps x y t lt turn) = turn.at_rest
 
 -- ---- a charged move is one of the innermost level
 
 module _ (setting : Setting) where
-  not_back : (l : Level) (outer : List Level) (s : State) (status : ℕ) (answer : ℤ) (mark : Step) (x : Next) → IsChargedMove (back_by l outer s status answer mark x) → ⊥
+  not_back : (l : Level) (outer : List Level) (s : State) (status : ℕ) (answer : ℤ) (mark : TraceStep) (x : Next) → IsChargedMove (back_by l outer s status answer mark x) → ⊥
   not_back l outer s status answer mark (Asks (Ask n e v) go) h = omega (arith, h)
   not_back l outer s status answer mark (Asks (Of op) go) h = h
   not_back l outer s status answer mark (Asks Answer go) h = h
@@ -63,7 +63,7 @@ module _ (setting : Setting) where
   not_back l outer s status answer mark (Ended vs) h = h
   not_back l outer s status answer mark Stuck h = h
 
-  not_back_to : (l : Level) (outer : List Level) (status : ℕ) (answer : ℤ) (mark : Step) (x : Config) → IsChargedMove (back_to l outer status answer mark x) → ⊥
+  not_back_to : (l : Level) (outer : List Level) (status : ℕ) (answer : ℤ) (mark : TraceStep) (x : Config) → IsChargedMove (back_to l outer status answer mark x) → ⊥
   not_back_to l outer status answer mark (Running s q) h = not_back l outer s status answer mark (next l.contract s q) h
   not_back_to l outer status answer mark (Trap s t) h = h
 

@@ -3,8 +3,8 @@ use Rattle.std.proofs.Common.{◌≡◌, ◌≢◌, inl, inr, ℕ, ◌<◌, true
 use Rattle.std.specs.Prelude.{◌==◌, ◌⊎◌}
 use Rattle.std.proofs.lemmas.Bool.{ne_eqb}
 use Rattle.std.proofs.lemmas.Bool.Decides.{eqb_tells}
-use Rattle.spec_ledger.specs.declared.Step.{Step}
-use Rattle.spec_ledger.specs.declared.Step.TheVariants.{Did, Opened, Kept, Dropped}
+use Rattle.spec_ledger.specs.declared.TraceStep.{TraceStep}
+use Rattle.spec_ledger.specs.declared.TraceStep.TheVariants.{Did, Opened, Kept, Dropped}
 use Rattle.spec_ledger.specs.Cells.{Cells, cells_after}
 use Rattle.spec_ledger.specs.Book.{Marked, unmarked, stepped, GetsReplies, GetsRepliesFrom}
 use Rattle.spec_execution.specs.Configuration.{Setting, Contract}
@@ -30,20 +30,20 @@ one_state setting call cells k a b x y =
 
 -- ---- a turn follows each state but the last
 
-gets_front_from : (t u : List Step) (p : Marked Cells) → GetsRepliesFrom (t ++ u) p → GetsRepliesFrom t p
+gets_front_from : (t u : List TraceStep) (p : Marked Cells) → GetsRepliesFrom (t ++ u) p → GetsRepliesFrom t p
 gets_front_from [] u p h = tt
 gets_front_from (Did op r ∷ t) u p h = (h.0, gets_front_from t u (stepped cells_after (Did op r) p) h.1)
 gets_front_from (Opened ∷ t) u p h = gets_front_from t u (stepped cells_after Opened p) h
 gets_front_from (Kept ∷ t) u p h = gets_front_from t u (stepped cells_after Kept p) h
 gets_front_from (Dropped ∷ t) u p h = gets_front_from t u (stepped cells_after Dropped p) h
 
-gets_front : (t u : List Step) (cells : Cells) → GetsReplies (t ++ u) cells → GetsReplies t cells
+gets_front : (t u : List TraceStep) (cells : Cells) → GetsReplies (t ++ u) cells → GetsReplies t cells
 gets_front t u cells h = gets_front_from t u (unmarked cells) h
 
 -- a state before this one, from which the run goes on
-record IsBefore (setting : Setting) (start : Levels) (limit j : ℕ) (trace : List Step) : Type 0 where
-  pub front : List Step
-  pub more : List Step
+record IsBefore (setting : Setting) (start : Levels) (limit j : ℕ) (trace : List TraceStep) : Type 0 where
+  pub front : List TraceStep
+  pub more : List TraceStep
   pub split : trace ≡ front ++ more
   pub config : Levels
   pub turns : Turned setting start limit j front config
@@ -52,7 +52,7 @@ record IsBefore (setting : Setting) (start : Levels) (limit j : ℕ) (trace : Li
 goes_on : (setting : Setting) (limit j : ℕ) (a b : Levels) → j < limit → move setting a ≡ On 1 [] b → ending_of setting limit j a ≡ None
 goes_on setting limit j a b below e = ap₂ ending_by (ne_eqb j limit (λ h. absurd (omega (arith, below, h)))) e
 
-before : (setting : Setting) (start : Levels) (limit k j : ℕ) (trace : List Step) (a : Levels) → Turned setting start limit k trace a → j < k → IsBefore setting start limit j trace
+before : (setting : Setting) (start : Levels) (limit k j : ℕ) (trace : List TraceStep) (a : Levels) → Turned setting start limit k trace a → j < k → IsBefore setting start limit j trace
 before setting start limit k j trace a (opened x marks f r) below = absurd (omega (arith, below))
 before setting start limit k j trace a (turned n front steps x y w lt turn) below = by_test (eqb_tells j n) (λ h. before setting start limit n j front x w h)
   where
@@ -79,6 +79,6 @@ earlier setting call cells k j a x below =
     let b : IsBefore setting (first_level x.contract x.func call.args) call.fuel j x.trace = before setting (first_level x.contract x.func call.args) call.fuel k j x.trace a x.turns below in
     record {
       config = b.config;
-      state = record { contract = x.contract; func = x.func; starts = x.starts; trace = b.front; turns = b.turns; replies = gets_front b.front b.more cells (subst (λ (t : List Step). GetsReplies t cells) b.split x.replies) };
+      state = record { contract = x.contract; func = x.func; starts = x.starts; trace = b.front; turns = b.turns; replies = gets_front b.front b.more cells (subst (λ (t : List TraceStep). GetsReplies t cells) b.split x.replies) };
       goes_on = b.goes_on;
     }

@@ -5,8 +5,8 @@ use Rattle.std.proofs.lemmas.Bool.{eq-eqb}
 use Rattle.spec_ledger.specs.declared.Op.{Op}
 use Rattle.spec_ledger.specs.declared.Inverse.{Inverse}
 use Rattle.spec_ledger.specs.declared.Reply.{Reply}
-use Rattle.spec_ledger.specs.declared.Step.{Step}
-use Rattle.spec_ledger.specs.declared.Step.TheVariants.{Did, Opened}
+use Rattle.spec_ledger.specs.declared.TraceStep.{TraceStep}
+use Rattle.spec_ledger.specs.declared.TraceStep.TheVariants.{Did, Opened}
 use Rattle.spec_ledger.specs.declared.Outcome.{Outcome}
 use Rattle.spec_ledger.specs.Cells.{Cells, reply_to, cells_after}
 use Rattle.spec_ledger.specs.Book.{unmarked, stepped, folded, GetsReplies}
@@ -23,7 +23,7 @@ use Rattle.interp.specs.Shown.{IsShown, ending, ending_at, ending_of, ending_by,
 use Rattle.interp.specs.Starting.{IsOpened}
 use Rattle.debugger.specs.Cursors.{HasTurned, HasBegun, HasAnswered}
 use Rattle.debugger.specs.Undoing.{GoBack, AreNoted}
-use Rattle.debugger.specs.Sight.{IsSight, sight_of, level_shown}
+use Rattle.debugger.specs.SessionView.{IsSessionView, session_view_of, level_shown}
 
 on_run : (p : Progress) (x : Status) → GoesOn x → IsProgressAt p x → IsOnRun p
 on_run p status.Running g h = h
@@ -83,14 +83,14 @@ pub started : (lent : Setting) (call : ContractCall) (p : Progress) → IsStartO
 started lent call p s m = record {
   opens = (on_run p p.status s.goes_on m.at).opens;
   turned = subst (λ (n : ℕ). Turned p.setting (first_level p.contract p.func p.call.args) p.call.fuel n p.trace p.config) (sym s.used)
-      (subst (λ (t : List Step). Turned p.setting (first_level p.contract p.func p.call.args) p.call.fuel 0 t p.config) (sym s.trace) (opened p.config [] s.frees s.at_rest));
+      (subst (λ (t : List TraceStep). Turned p.setting (first_level p.contract p.func p.call.args) p.call.fuel 0 t p.config) (sym s.trace) (opened p.config [] s.frees s.at_rest));
   goes_on = s.goes_on;
 }
 
-pub answered_none : (t : List Step) (start now : Cells) (is : List Inverse) (ms : List ℕ) → t ≡ [] → now ≡ start → ms ≡ [] → HasAnswered t start now is ms
+pub answered_none : (t : List TraceStep) (start now : Cells) (is : List Inverse) (ms : List ℕ) → t ≡ [] → now ≡ start → ms ≡ [] → HasAnswered t start now is ms
 answered_none t start now is ms no_steps same no_marks = record {
-  replies = subst (λ (u : List Step). GetsReplies u start) (sym no_steps) tt;
-  noted = subst (λ (u : List Step). AreNoted is ms now (folded cells_after u (unmarked start))) (sym no_steps)
+  replies = subst (λ (u : List TraceStep). GetsReplies u start) (sym no_steps) tt;
+  noted = subst (λ (u : List TraceStep). AreNoted is ms now (folded cells_after u (unmarked start))) (sym no_steps)
       (record { now_is = same; back = subst (λ (x : List ℕ). GoBack is (reverse x) now []) (sym no_marks) tt });
 }
 
@@ -104,24 +104,24 @@ is_opened lent call p s m =
 
 -- ---- cells that answer one step more
 
-module _ (t u : List Step) (start now next : Cells) (is js : List Inverse) (ms ns : List ℕ) (h : HasAnswered t start now is ms) where
-  at_end : (s : Step) → u ≡ t ++ s ∷ [] → folded cells_after u (unmarked start) ≡ stepped cells_after s (folded cells_after t (unmarked start))
-  at_end s e = ap (λ (x : List Step). folded cells_after x (unmarked start)) e ∙ folded-append cells_after t (s ∷ []) (unmarked start)
+module _ (t u : List TraceStep) (start now next : Cells) (is js : List Inverse) (ms ns : List ℕ) (h : HasAnswered t start now is ms) where
+  at_end : (s : TraceStep) → u ≡ t ++ s ∷ [] → folded cells_after u (unmarked start) ≡ stepped cells_after s (folded cells_after t (unmarked start))
+  at_end s e = ap (λ (x : List TraceStep). folded cells_after x (unmarked start)) e ∙ folded-append cells_after t (s ∷ []) (unmarked start)
 
   pub did : (op : Op) (r : Reply) → u ≡ t ++ Did op r ∷ [] → r ≡ reply_to op now → AreNoted js ns next (stepped cells_after (Did op r) (folded cells_after t (unmarked start))) → HasAnswered u start next js ns
   did op r e reply noted = record {
-    replies = subst (λ (x : List Step). GetsReplies x start) (sym e) (GetsReplies-push t op r start h.replies (reply ∙ ap (reply_to op) h.noted.now_is));
+    replies = subst (λ (x : List TraceStep). GetsReplies x start) (sym e) (GetsReplies-push t op r start h.replies (reply ∙ ap (reply_to op) h.noted.now_is));
     noted = subst (AreNoted js ns next) (sym (at_end (Did op r) e)) noted;
   }
 
-  pub marked : (s : Step) → IsMark s → u ≡ t ++ s ∷ [] → AreNoted js ns next (stepped cells_after s (folded cells_after t (unmarked start))) → HasAnswered u start next js ns
+  pub marked : (s : TraceStep) → IsMark s → u ≡ t ++ s ∷ [] → AreNoted js ns next (stepped cells_after s (folded cells_after t (unmarked start))) → HasAnswered u start next js ns
   marked s mark e noted = record {
-    replies = subst (λ (x : List Step). GetsReplies x start) (sym e) (GetsReplies-mark t s start mark h.replies);
+    replies = subst (λ (x : List TraceStep). GetsReplies x start) (sym e) (GetsReplies-mark t s start mark h.replies);
     noted = subst (AreNoted js ns next) (sym (at_end s e)) noted;
   }
 
-pub answered_same : (t u : List Step) (start now : Cells) (is : List Inverse) (ms : List ℕ) → HasAnswered t start now is ms → u ≡ t → HasAnswered u start now is ms
-answered_same t u start now is ms h e = subst (λ (x : List Step). HasAnswered x start now is ms) (sym e) h
+pub answered_same : (t u : List TraceStep) (start now : Cells) (is : List Inverse) (ms : List ℕ) → HasAnswered t start now is ms → u ≡ t → HasAnswered u start now is ms
+answered_same t u start now is ms h e = subst (λ (x : List TraceStep). HasAnswered x start now is ms) (sym e) h
 
 pub left_mark : (keep : Bool) → IsMark (mark_of keep)
 left_mark true = tt
@@ -129,27 +129,27 @@ left_mark false = tt
 
 -- ---- moves
 
-frees_on : (setting : Setting) (a b d : Levels) (t u : List Step) → FreeMoves setting a t b → FreeMoves setting b u d → FreeMoves setting a (t ++ u) d
+frees_on : (setting : Setting) (a b d : Levels) (t u : List TraceStep) → FreeMoves setting a t b → FreeMoves setting b u d → FreeMoves setting a (t ++ u) d
 frees_on setting a b d t u (none x) g = g
 frees_on setting a b d t u (one_more x y z marks steps m f) g =
-    subst (λ (s : List Step). FreeMoves setting a s d) (sym (append_assoc marks steps u)) (one_more a y d marks (steps ++ u) m (frees_on setting y b d steps u f g))
+    subst (λ (s : List TraceStep). FreeMoves setting a s d) (sym (append_assoc marks steps u)) (one_more a y d marks (steps ++ u) m (frees_on setting y b d steps u f g))
 
-charged_no_free : (m : Move) (marks : List Step) (b : Levels) → IsChargedMove m → m ≡ On 0 marks b → ⊥
+charged_no_free : (m : Move) (marks : List TraceStep) (b : Levels) → IsChargedMove m → m ≡ On 0 marks b → ⊥
 charged_no_free m marks b h e = let never : 0 ≡ 1 = subst IsChargedMove e h in omega (arith, never)
 
-rests_no_free : (setting : Setting) (a b : Levels) (marks : List Step) → Rests setting a → move setting a ≡ On 0 marks b → ⊥
+rests_no_free : (setting : Setting) (a b : Levels) (marks : List TraceStep) → Rests setting a → move setting a ≡ On 0 marks b → ⊥
 rests_no_free setting a b marks (to_come x charged) e = charged_no_free (move setting a) marks b charged e
 rests_no_free setting a b marks (ended x o at_end) e = let no : Over o ≡ On 0 marks b = sym at_end ∙ e in absurd (cc)
 
-no_first : (setting : Setting) (a b : Levels) (mark : Step) (t : List Step) → FreeMoves setting a t b → t ≡ mark ∷ [] → Rests setting a → ⊥
+no_first : (setting : Setting) (a b : Levels) (mark : TraceStep) (t : List TraceStep) → FreeMoves setting a t b → t ≡ mark ∷ [] → Rests setting a → ⊥
 no_first setting a b mark t (none x) e r = absurd (cc)
 no_first setting a b mark t (one_more x y z marks steps m f) e r = rests_no_free setting a y marks r m
 
-rests_at : (setting : Setting) (start : Levels) (limit k : ℕ) (t : List Step) (a : Levels) → Turned setting start limit k t a → Rests setting a
+rests_at : (setting : Setting) (start : Levels) (limit k : ℕ) (t : List TraceStep) (a : Levels) → Turned setting start limit k t a → Rests setting a
 rests_at setting start limit k t a (opened x marks f r) = r
 rests_at setting start limit k t a (turned n front steps x y w lt turn) = turn.at_rest
 
-rests_of : (setting : Setting) (a : Levels) → Pauses setting a → ((mark : Step) (b : Levels) → move setting a ≡ On 0 (mark ∷ []) b → ⊥) → Rests setting a
+rests_of : (setting : Setting) (a : Levels) → Pauses setting a → ((mark : TraceStep) (b : Levels) → move setting a ≡ On 0 (mark ∷ []) b → ⊥) → Rests setting a
 rests_of setting a (rests x r) h = r
 rests_of setting a (leaves x b mark e) h = absurd (h mark b e)
 
@@ -200,7 +200,7 @@ module _ (p q s : Progress) (op : Op) (r : Reply) (a : HasAsked p op q) (answer 
   replied_is = subst (λ (x : Status). AnsweredAt q r s x) a.asking answer
 
   pub replied_trace : s.trace ≡ p.trace ++ Did op r ∷ []
-  replied_trace = replied_is.trace ∙ ap (λ (t : List Step). t ++ Did op r ∷ []) a.trace
+  replied_trace = replied_is.trace ∙ ap (λ (t : List TraceStep). t ++ Did op r ∷ []) a.trace
 
   goes : GoesOn s.status
   goes = subst GoesOn (sym replied_is.running) tt
@@ -236,7 +236,7 @@ ends_out out (Host op go) e h no_end = absurd h
 ends_out out (Over o) e h no_end = absurd h
 ends_out out Nowhere e h no_end = absurd h
 
-ends_told : (setting : Setting) (limit used : ℕ) (a : Levels) (o : Outcome) (t : List Step) → Ends setting limit used a o t → ending_of setting limit used a ≡ None → ⊥
+ends_told : (setting : Setting) (limit used : ℕ) (a : Levels) (o : Outcome) (t : List TraceStep) → Ends setting limit used a o t → ending_of setting limit used a ≡ None → ⊥
 ends_told setting limit used a o t (over n c outcome e) h = let told : Some outcome ≡ None = ap (ending_by (used == limit)) (sym e) ∙ h in absurd (cc)
 ends_told setting limit used a o t (exhausted c charged) h = ends_out (used == limit) (move setting a) (eq-eqb used limit refl) charged h
 
@@ -274,7 +274,7 @@ module _ (p : Progress) where
 -- ---- a level is left in a turn
 
 module _ (q : Progress) (goes_on : GoesOn q.status) (left : IsLeftNext q) where
-  ends_no_free : (setting : Setting) (limit used : ℕ) (a b : Levels) (mark : Step) (o : Outcome) (t : List Step) → Ends setting limit used a o t → move setting a ≡ On 0 (mark ∷ []) b → ⊥
+  ends_no_free : (setting : Setting) (limit used : ℕ) (a b : Levels) (mark : TraceStep) (o : Outcome) (t : List TraceStep) → Ends setting limit used a o t → move setting a ≡ On 0 (mark ∷ []) b → ⊥
   ends_no_free setting limit used a b mark o t (over n c outcome e) f = let no : Over outcome ≡ On 0 (mark ∷ []) b = sym e ∙ f in absurd (cc)
   ends_no_free setting limit used a b mark o t (exhausted c charged) f = charged_no_free (move setting a) (mark ∷ []) b charged f
 
@@ -306,7 +306,7 @@ module _ (q : Progress) (goes_on : GoesOn q.status) (left : IsLeftNext q) where
 
     pub begun_left : (p : Progress) → HasBegun p q → HasBegun p s
     begun_left p h =
-        let mark : List Step = mark_of keep ∷ [] in
+        let mark : List TraceStep = mark_of keep ∷ [] in
         record {
           same = same_on p q s h.same l.same;
           below = h.below;
@@ -318,7 +318,7 @@ module _ (q : Progress) (goes_on : GoesOn q.status) (left : IsLeftNext q) where
           answer = h.answer;
           marks = h.marks ++ mark;
           free = frees_on p.setting h.replied q.config s.config h.marks mark h.free (subst (λ (ds : Setting). FreeMoves ds q.config mark s.config) h.same.setting back.free);
-          trace = l.trace ∙ ap (λ (t : List Step). t ++ mark) h.trace ∙ append_assoc p.trace (h.reply ++ h.marks) mark ∙ ap (λ (t : List Step). p.trace ++ t) (append_assoc h.reply h.marks mark);
+          trace = l.trace ∙ ap (λ (t : List TraceStep). t ++ mark) h.trace ∙ append_assoc p.trace (h.reply ++ h.marks) mark ∙ ap (λ (t : List TraceStep). p.trace ++ t) (append_assoc h.reply h.marks mark);
           pauses = subst (λ (ds : Setting). Pauses ds s.config) (sym l.same.setting) back.pauses;
           goes_on = back.goes_on;
         }
@@ -326,14 +326,14 @@ module _ (q : Progress) (goes_on : GoesOn q.status) (left : IsLeftNext q) where
 -- ---- a turn
 
 module _ (p q : Progress) (same : IsSameCall p q) where
-  carried : (n : ℕ) (t : List Step) → Turned p.setting (first_level p.contract p.func p.call.args) p.call.fuel n t q.config → q.used ≡ n → q.trace ≡ t → Turned q.setting (first_level q.contract q.func q.call.args) q.call.fuel q.used q.trace q.config
+  carried : (n : ℕ) (t : List TraceStep) → Turned p.setting (first_level p.contract p.func p.call.args) p.call.fuel n t q.config → q.used ≡ n → q.trace ≡ t → Turned q.setting (first_level q.contract q.func q.call.args) q.call.fuel q.used q.trace q.config
   carried n t h used trace =
       subst (λ (ds : Setting). Turned ds (first_level q.contract q.func q.call.args) q.call.fuel q.used q.trace q.config) (sym same.setting)
       (subst (λ (c : Contract). Turned p.setting (first_level c q.func q.call.args) q.call.fuel q.used q.trace q.config) (sym same.contract)
       (subst (λ (f : ℕ). Turned p.setting (first_level p.contract f q.call.args) q.call.fuel q.used q.trace q.config) (sym same.func)
       (subst (λ (k : ContractCall). Turned p.setting (first_level p.contract p.func k.args) k.fuel q.used q.trace q.config) (sym same.call)
       (subst (λ (m : ℕ). Turned p.setting (first_level p.contract p.func p.call.args) p.call.fuel m q.trace q.config) (sym used)
-      (subst (λ (u : List Step). Turned p.setting (first_level p.contract p.func p.call.args) p.call.fuel n u q.config) (sym trace) h)))))
+      (subst (λ (u : List TraceStep). Turned p.setting (first_level p.contract p.func p.call.args) p.call.fuel n u q.config) (sym trace) h)))))
 
   opens_still : opening p.setting p.call ≡ Opens p.contract p.func → opening q.setting q.call ≡ Opens q.contract q.func
   opens_still o = ap₂ opening same.setting same.call ∙ o ∙ ap₂ Opens (sym same.contract) (sym same.func)
@@ -341,7 +341,7 @@ module _ (p q : Progress) (same : IsSameCall p q) where
 -- no level is left next, so the turn is whole
 pub whole : (p q : Progress) → HasTurned p → HasBegun p q → (IsLeftNext q → ⊥) → HasTurned q
 whole p q h b no_more =
-    let steps : List Step = b.reply ++ b.marks in
+    let steps : List TraceStep = b.reply ++ b.marks in
     let turn : IsTurn p.setting p.config steps q.config = record {
       charged = b.charged;
       one = b.one;
@@ -377,5 +377,5 @@ shown_inner (Some r) c e = absurd (cc)
 
 -- ---- what a session shows is the state
 
-abbrev pub is_sight : (p : Progress) (start : Cells) (breaks : List (ℕ × ℕ)) → HasTurned p → GetsReplies p.trace start → IsSight (sight_of p start breaks)
+abbrev pub is_sight : (p : Progress) (start : Cells) (breaks : List (ℕ × ℕ)) → HasTurned p → GetsReplies p.trace start → IsSessionView (session_view_of p start breaks)
 is_sight p start breaks h replies = record { func = p.func; opens = h.opens; state = record { contract = p.contract; func = p.func; starts = h.opens; trace = p.trace; turns = h.turned; replies = replies }; trace_is = refl }

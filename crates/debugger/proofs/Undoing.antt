@@ -8,9 +8,9 @@ use Rattle.spec_ledger.specs.declared.Inverse.{Inverse}
 use Rattle.spec_ledger.specs.declared.Inverse.TheVariants.{Subtract}
 use Rattle.spec_ledger.specs.declared.Op.{Op}
 use Rattle.spec_ledger.specs.declared.Op.TheVariants.{Add}
-use Rattle.spec_ledger.specs.declared.Place.{Place}
+use Rattle.spec_ledger.specs.declared.CellKey.{CellKey}
 use Rattle.spec_ledger.specs.declared.Reply.{Reply}
-use Rattle.spec_ledger.specs.declared.Step.TheVariants.{Did, Opened}
+use Rattle.spec_ledger.specs.declared.TraceStep.TheVariants.{Did, Opened}
 use Rattle.spec_ledger.specs.Cells.{Cells, AreCells, cells_after, inverse_to, back, set_at, counter, counter_at, number}
 use Rattle.spec_ledger.specs.Book.{Marked, kept_at, dropped_at, stepped, back_all}
 use Rattle.spec_ledger.proofs.Ops.{back-inverse}
@@ -34,7 +34,7 @@ back_all-append (i ∷ is) js m = ap (back i) (back_all-append is js m)
 same_sum : (n v w : ℕ) → (w + v) % 2 ^ 64 ≡ 0 → (n + w) % 2 ^ 64 ≡ (n + (2 ^ 64 - v % 2 ^ 64)) % 2 ^ 64
 same_sum n v w h = omega arith
 
-pub subtracting : (p : Place) (v w : ℕ) (m : Cells) → (w + v) % 2 ^ 64 ≡ 0 → cells_after (Add p w) m ≡ back (Subtract p v) m
+pub subtracting : (p : CellKey) (v w : ℕ) (m : Cells) → (w + v) % 2 ^ 64 ≡ 0 → cells_after (Add p w) m ≡ back (Subtract p v) m
 subtracting p v w m h = ap (λ (n : ℕ). set_at m (counter_at p) (counter n)) (same_sum (number (get m (counter_at p))) v w h)
 
 -- ---- inverses more, which lead back to where the first ones are

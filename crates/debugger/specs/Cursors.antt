@@ -1,7 +1,7 @@
 -- What a call that is run turn by turn keeps.
 use Rattle.std.specs.Prelude.{◌≡◌, ℕ, ◌+◌, ◌<◌, List, [], ◌++◌}
 use Rattle.spec_ledger.specs.declared.Inverse.{Inverse}
-use Rattle.spec_ledger.specs.declared.Step.{Step}
+use Rattle.spec_ledger.specs.declared.TraceStep.{TraceStep}
 use Rattle.spec_ledger.specs.Cells.{Cells, cells_after}
 use Rattle.spec_ledger.specs.Book.{unmarked, folded, GetsReplies}
 use Rattle.spec_execution.specs.Configuration.{Setting}
@@ -13,7 +13,7 @@ use Rattle.debugger.specs.declared.cursor.Cursor.{Cursor}
 use Rattle.debugger.specs.Undoing.{AreNoted}
 
 -- Cells that answered the operations of a trace, from these at the start on, and what takes its open levels back: they are those that stand.
-pub record HasAnswered (trace : List Step) (start now : Cells) (inverses : List Inverse) (marks : List ℕ) : Type 0 where
+pub record HasAnswered (trace : List TraceStep) (start now : Cells) (inverses : List Inverse) (marks : List ℕ) : Type 0 where
   pub replies : GetsReplies trace start
   pub noted : AreNoted inverses marks now (folded cells_after trace (unmarked start))
 
@@ -37,10 +37,10 @@ pub record HasBegun (p q : Progress) : Type 0 where
   pub used : q.used ≡ p.used + 1
   pub charged : Levels
   pub one : move p.setting p.config ≡ On 1 [] charged
-  pub reply : List Step
+  pub reply : List TraceStep
   pub replied : Levels
   pub answer : IsAnswered p.setting charged reply replied
-  pub marks : List Step
+  pub marks : List TraceStep
   pub free : FreeMoves p.setting replied marks q.config
   pub trace : q.trace ≡ p.trace ++ (reply ++ marks)
   pub pauses : Pauses q.setting q.config

@@ -2,7 +2,7 @@
 use Rattle.std.specs.Prelude.{◌≡◌, ℕ, ◌+◌, ◌*◌, ◌<◌, ◌≤◌, ◌⊎◌, false, List, [], ◌∷◌, length, All}
 use Rattle.debugger.specs.declared.cursor.Cursor.{Cursor}
 use Rattle.debugger.specs.declared.kept.Kept.{Kept}
-use Rattle.debugger.specs.Sight.{Sight, IsSight, sight_of, break_place_at}
+use Rattle.debugger.specs.SessionView.{SessionView, IsSessionView, session_view_of, break_place_at}
 use Rattle.debugger.specs.Breaks.{is_set_at}
 use Rattle.debugger.specs.Cursors.{IsAt, IsSameRun}
 use Rattle.debugger.specs.Commands as commands
@@ -51,9 +51,9 @@ pub record IsKept {A : Type 0} (origin here : Cursor A) (others : Kept A) : Type
   pub kept : AreKept here others
   pub reached : here.machine.used < next_turns others
 
-abbrev pub seen_at : {A : Type 0} → Cursor A → Sight
-seen_at c = sight_of c.machine c.start.now.cells []
+abbrev pub seen_at : {A : Type 0} → Cursor A → SessionView
+seen_at c = session_view_of c.machine c.start.now.cells []
 
 -- no state of the run after more than m turns and fewer than n has a break at its place
 abbrev pub HasNoBreakBetween : {A : Type 0} → List (ℕ × ℕ) → Cursor A → (m n : ℕ) → Type 0
-HasNoBreakBetween breaks c m n = (u : Sight) → IsSight u → commands.IsSameRun (seen_at c) u → m < u.turns → u.turns < n → is_set_at breaks (break_place_at u) ≡ false
+HasNoBreakBetween breaks c m n = (u : SessionView) → IsSessionView u → commands.IsSameRun (seen_at c) u → m < u.turns → u.turns < n → is_set_at breaks (break_place_at u) ≡ false

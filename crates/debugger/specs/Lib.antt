@@ -1,4 +1,4 @@
-pub mod Sight
+pub mod SessionView
 pub mod Breaks
 pub mod Commands
 pub mod Undoing

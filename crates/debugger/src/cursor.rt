@@ -1,7 +1,7 @@
 // A call that runs alone over cells, after some of its turns.
 ghost use Rattle.std.specs.Prelude.{◌≡◌, ◌+◌, ◌<◌, ◌≤◌, ◌⊎◌, Ok, true, false, None, IsSome, IfOk, IfErr, OnOk};
 ghost use Rattle.spec_execution.specs.Run.{opening};
-ghost use Rattle.interp.specs.Lent.{setting_view};
+ghost use Rattle.interp.specs.Callee.{setting_view};
 ghost use Rattle.interp.specs.Progress.{Progress, GoesOn, IsLeftNext, depth_of};
 ghost use Rattle.interp.specs.Shown.{ending};
 ghost use Rattle.interp.specs.Starting.{IsRefusedFor, HasPlace, wrong_in};

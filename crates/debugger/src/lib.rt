@@ -2,7 +2,7 @@
 //! of each state. A turn is one charged move of whichever level is the innermost, with the free ones that follow it.
 #![tactic(auto)]
 
-ghost use Rattle.debugger.specs.Sight.{StatesHavePlaces};
+ghost use Rattle.debugger.specs.SessionView.{StatesHavePlaces};
 
 mod breaks;
 mod cursor;
@@ -17,5 +17,5 @@ pub use link::deployed::Deployed as Contract;
 pub fn states_have_places()
     ensures { StatesHavePlaces }
 {
-    soundness::places_are_of_what_comes();
+    laws_soundness::places_are_of_what_comes();
 }

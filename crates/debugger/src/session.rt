@@ -4,7 +4,7 @@ ghost use Rattle.interp.specs.Progress.{IsSameCall};
 ghost use Rattle.interp.specs.Shown.{ending, AreReadOf};
 ghost use Rattle.debugger.specs.Breaks.{is_set_at, instr_there};
 ghost use Rattle.debugger.specs.Cursors.{IsAt, IsSameRun};
-ghost use Rattle.debugger.specs.Sight.{break_place_shown, memory_shown};
+ghost use Rattle.debugger.specs.SessionView.{break_place_shown, memory_shown};
 ghost use Rattle.debugger.specs.Keeping.{IsOfRun, AreKept, next_turns, IsEarlier, HasNoBreakBetween};
 
 use crate::Contract;
@@ -80,14 +80,14 @@ pub struct Session<'a, A: Allocator + Copy> {
 }
 
 impl<'a, A: Allocator + Copy> Model for Session<'a, A> {
-    ghost use Rattle.debugger.specs.Sight.{Sight, coded_sight, sight_of};
+    ghost use Rattle.debugger.specs.SessionView.{SessionView, coded_session_view, session_view_of};
     ghost use Rattle.debugger.specs.Keeping.{IsKept};
 
-    ghost Value = { Sight };
+    ghost Value = { SessionView };
 
-    ghost coded = { coded_sight };
+    ghost coded = { coded_session_view };
 
-    ghost view = { λ s. sight_of s.here.machine s.here.start.now.cells s.breaks.items };
+    ghost view = { λ s. session_view_of s.here.machine s.here.start.now.cells s.breaks.items };
 
     ghost invariant = { λ s. IsKept s.origin s.here s.kept };
 }
@@ -207,9 +207,9 @@ fn go_on<'a, A: Allocator + Copy>(
 impl<'a, A: Allocator + Copy> Session<'a, A> {
     ghost use Rattle.std.specs.Prelude.{◌≡◌, IfOk, IfErr};
     ghost use Rattle.spec_execution.specs.Run.{opening};
-    ghost use Rattle.interp.specs.Lent.{setting_view};
+    ghost use Rattle.interp.specs.Callee.{setting_view};
     ghost use Rattle.interp.specs.Starting.{IsRefusedFor, HasPlace, wrong_in};
-    ghost use Rattle.debugger.specs.Sight.{IsSight, ending_at, place_at, contract_at, level_at, asks_at, stack_at, locals_at, globals_at};
+    ghost use Rattle.debugger.specs.SessionView.{IsSessionView, ending_at, place_at, contract_at, level_at, asks_at, stack_at, locals_at, globals_at};
     ghost use Rattle.debugger.specs.Commands.{IsOpened, Steps, GoesBack, Continues, Breaks, Clears, Reads};
 
     /// A session of the call alone over these cells by the rules of this version, before its first turn.
@@ -338,7 +338,7 @@ impl<'a, A: Allocator + Copy> Session<'a, A> {
 
     /// What the session shows is the state after its turns, of the contract that the call opens with.
     pub fn is_sight(&self)
-        ensures { IsSight self.now }
+        ensures { IsSessionView self.now }
     {
         let _ = &self.here;
     }

@@ -3,7 +3,7 @@ ghost use Rattle.std.specs.Prelude.{◌≡◌, [], drop, take, IfOk, OnOk, Match
 ghost use Rattle.spec_execution.specs.Run.{IsReply};
 ghost use Rattle.spec_ledger.specs.Book.{Marked, stepped, back_all};
 ghost use Rattle.spec_ledger.specs.Cells.{Cells as TheCells, back, cells_after, inverse_to, reply_to};
-ghost use Rattle.spec_ledger.specs.declared.Step.TheVariants.{Did, Opened};
+ghost use Rattle.spec_ledger.specs.declared.TraceStep.TheVariants.{Did, Opened};
 ghost use Rattle.interp.specs.Progress.{mark_of};
 ghost use Rattle.debugger.specs.Undoing.{IsNoted};
 
@@ -63,7 +63,7 @@ pub(crate) fn act<A: Allocator + Copy>(
     ensures is_reply { IfOk result (λ reply. IsReply op reply) }
     ensures undo { IfOk result (λ reply. (p : Marked TheCells) → IsNoted undo.old cells.old.cells p → IsNoted undo.new cells.new.cells (stepped cells_after (Did op reply) p)) }
 {
-    cells.hold();
+    cells.use_invariant();
     let (reply, inverse) = do_op(cells, op)?;
     if !undo.marks.is_empty() {
         undo.inverses.push(inverse)?;

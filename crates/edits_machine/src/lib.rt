@@ -1,8 +1,17 @@
-//! What the contracts of the machine, of calls over cells and of the debugger refuse: each function calls one function of these and has its contract.
+//! What the contracts of modules, of the machine, of calls over cells and of the debugger refuse: each function calls one function of these and has its
+//! contract.
 #![tactic(auto)]
 
+pub mod binary;
 pub mod calls;
+pub mod judged;
+pub mod links;
 pub mod loops;
+pub mod memories;
+pub mod numbers;
 pub mod runs;
 pub mod sessions;
-pub mod strides;
+pub mod straight_line;
+pub mod texts;
+pub mod tokens;
+pub mod types;

@@ -3,7 +3,7 @@
 ghost use Rattle.std.specs.Prelude.{◌≡◌, ◌≢◌, ◌++◌, ℕ, List, IsTrue};
 ghost use Rattle.wblock_line.specs.Answers.{Wrote, IsFailing, IsSaid, SaysFile, writes_of, text_of, status_of, why_line};
 
-use codec::Sink;
+use byte_sinks::Sink;
 use wblock_io::Files;
 use wblock_line::{Answer, Status};
 

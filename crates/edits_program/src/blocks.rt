@@ -2,7 +2,7 @@
 
 ghost use Rattle.std.specs.Prelude.{◌≡◌, ◌≤◌, IsTrue, IfOk, IfErr, OnOk, string_bytes};
 ghost use Rattle.wblock_line.specs.Answers.{CountsFault, IsOfFile};
-ghost use Rattle.wblock_inputs.specs.Inputs.{IsNextInput};
+ghost use Rattle.wblock_line.specs.Inputs.{IsNextInput};
 ghost use Rattle.wblock_blocks.specs.Mines.{Mines};
 ghost use Rattle.wblock_blocks.specs.Notes.{Notes};
 

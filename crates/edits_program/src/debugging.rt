@@ -1,7 +1,7 @@
 //! What the debugger prints.
 
 ghost use Rattle.std.specs.Prelude.{IfOk, string_bytes};
-ghost use Rattle.interp.specs.Lent.{setting_view};
+ghost use Rattle.interp.specs.Callee.{setting_view};
 ghost use Rattle.wblock_debug.specs.Prints.{IsDebugged};
 
 use call::Call;

@@ -2,8 +2,8 @@
 
 ghost use Rattle.std.specs.Prelude.{◌≤◌, IfOk, MatchResult, string_bytes, vec_len};
 ghost use Rattle.block_judge.specs.Judging.{told};
-ghost use Rattle.calls_text.specs.Texts.{SpellsCalls};
-ghost use Rattle.wblock_inputs.specs.Inputs.{TellsNoCalls};
+ghost use Rattle.wblock_calls.specs.Texts.{SpellsCalls};
+ghost use Rattle.wblock_line.specs.Inputs.{TellsNoCalls};
 
 use call::Call;
 use std::alloc::{AllocError, Global};
@@ -16,5 +16,5 @@ pub fn judge_calls(
     ensures few { IfOk result (λ read. IfOk read (λ calls. vec_len calls ≤ 65535)) }
     ensures judged { IfOk result (λ read. MatchResult read (λ calls. SpellsCalls text.now calls.items) (λ told. TellsNoCalls text.now (string_bytes told.0))) }
 {
-    wblock_inputs::judge_calls(alloc, text)
+    wblock_line::judge_calls(alloc, text)
 }

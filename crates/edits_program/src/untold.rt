@@ -5,7 +5,7 @@ ghost use Rattle.wblock_commands.specs.Words.{Says};
 ghost use Rattle.wblock_commands.specs.Does.{Does};
 ghost use Rattle.wblock_commands.specs.declared.command.Command.{Command as Asked};
 
-use codec::Sink;
+use byte_sinks::Sink;
 use pace::Pace;
 use std::alloc::Global;
 use std::io::Write;

@@ -3,7 +3,7 @@
 ghost use Rattle.std.specs.Prelude.{◌≤◌, IfOk, length};
 ghost use Rattle.spec_block.specs.Verdicts.{IsVerdictOf};
 ghost use Rattle.world.specs.Views.{world_view};
-ghost use Rattle.validator.specs.Judged.{told_by};
+ghost use Rattle.validator.specs.Judged.{verdict_view};
 
 use call::Call;
 use pace::Pace;
@@ -27,7 +27,7 @@ pub fn validate_in<R: Threads + Wait + Sync, A: Allocator + Copy + Send + Sync, 
 ) -> Result<Verdict<A>, NoMemory>
     requires calls { length calls.now ≤ 65535 }
     requires workers { (1 ≤ workers) × (workers ≤ 64) }
-    ensures verdict { IfOk result (λ verdict. IsVerdictOf (world_view world.now) calls.now block_fuel bytes.now (told_by verdict)) }
+    ensures verdict { IfOk result (λ verdict. IsVerdictOf (world_view world.now) calls.now block_fuel bytes.now (verdict_view verdict)) }
 {
     validator::validate_in(rt, alloc, world, calls, block_fuel, bytes, workers, pace)
 }

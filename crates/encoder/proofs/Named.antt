@@ -6,8 +6,8 @@ use Rattle.std.proofs.lemmas.Str.{IsUtf8-string_bytes, is_utf8-from_IsUtf8}
 use Rattle.spec_syntax.specs.Limits.{both}
 use Rattle.spec_binary.specs.Shortest.{shortest}
 use Rattle.spec_binary.specs.Spells.{Spells}
-use Rattle.spec_module_laws.specs.Modules.{import_is_named, export_is_named}
-use Rattle.spec_module_laws.specs.Whole.{names_are_utf8, shortest_spells}
+use Rattle.laws_modules.specs.Modules.{import_is_named, export_is_named}
+use Rattle.laws_modules.specs.Whole.{names_are_utf8, shortest_spells}
 use Rattle.module_tree.specs.declared.module.Import.{Import}
 use Rattle.module_tree.specs.declared.module.Export.{Export}
 use Rattle.module_tree.specs.declared.module.Module.{Module}

@@ -6,10 +6,10 @@ use Rattle.std.proofs.lemmas.Option.{none-some}
 use Rattle.spec_syntax.specs.Syntax.{Instrs}
 use Rattle.spec_binary.specs.Grammar.{expression}
 use Rattle.spec_binary.specs.Spells.{ExpressionFits}
-use Rattle.spec_binary_laws.specs.ReadingExpressions.{expression_at}
-use Rattle.spec_binary_laws.specs.ExpressionLaws.{FitsIn, expression_reads}
-use Rattle.expr_reader.specs.declared.unread.Unread.{Unread}
-use Rattle.expr_reader.specs.declared.unread.Unread.TheVariants as unread
+use Rattle.laws_modules.specs.ReadingExpressions.{expression_at}
+use Rattle.laws_modules.specs.ExpressionLaws.{FitsIn, expression_reads}
+use Rattle.expr_reader.specs.declared.unread.DecodeFault.{DecodeFault}
+use Rattle.expr_reader.specs.declared.unread.DecodeFault.TheVariants as unread
 use Rattle.expr_reader.specs.Outcome.{Unless, Fails, refusal_before, NoExpression}
 
 front_is : (xs a rest : List ℕ) (m n : ℕ) → take m xs ≡ a ++ rest → n ≡ length a → n ≤ m → take n xs ≡ a
@@ -38,7 +38,7 @@ nothing_found bytes e is a rest fits s parts =
     none-some (is, rest) (sym e ∙ ap (expression_at 129) parts ∙ (expression_reads 129).again is a rest f s)
 
 -- and what a refusal says
-pub told_before : (bytes : List ℕ) (end : ℕ) (e : Unread) → Fails e (expression_at 129 bytes) → Unless (NoExpression bytes) (refusal_before end e)
+pub told_before : (bytes : List ℕ) (end : ℕ) (e : DecodeFault) → Fails e (expression_at 129 bytes) → Unless (NoExpression bytes) (refusal_before end e)
 told_before bytes end unread.NoMemory fails = tt
 told_before bytes end (unread.Malformed left) fails = nothing_found bytes fails
 told_before bytes end (unread.Unsupported left) fails = nothing_found bytes fails

@@ -2,7 +2,7 @@
 use Rattle.std.proofs.Common.{◌≡◌, ℕ, suc, List, [], ◌∷◌, ◌++◌, Some, None, refl, sym, ap, ◌∙◌, append_assoc}
 use Rattle.std.specs.Prelude.{option_map}
 use Rattle.spec_binary.specs.Reading.{Read}
-use Rattle.spec_binary_laws.specs.ReadingExpressions.{items_at}
+use Rattle.laws_modules.specs.ReadingExpressions.{items_at}
 
 -- items with these in front
 abbrev pub front : {X : Type 0} → List X → Read (List X) → Read (List X)

@@ -3,9 +3,9 @@ use Rattle.std.proofs.Common.{◌⊎◌, ⊎_elim, inl, inr, ◌≡◌, ℕ, zer
 use Rattle.std.specs.Prelude.{option_map, ◌==◌, ◌||◌}
 use Rattle.spec_syntax.specs.Syntax as syntax
 use Rattle.spec_binary.specs.Reading.{Read, ◌>>=◌}
-use Rattle.spec_binary_laws.specs.ReadingExpressions.{Body, seq_at, body_at, one_at, one_with, result_at}
-use Rattle.expr_reader.specs.declared.unread.Unread.{Unread}
-use Rattle.expr_reader.specs.declared.unread.Unread.TheVariants.{Malformed, Unsupported, TooLarge, NoMemory}
+use Rattle.laws_modules.specs.ReadingExpressions.{Body, seq_at, body_at, one_at, one_with, result_at}
+use Rattle.expr_reader.specs.declared.unread.DecodeFault.{DecodeFault}
+use Rattle.expr_reader.specs.declared.unread.DecodeFault.TheVariants.{Malformed, Unsupported, TooLarge, NoMemory}
 use Rattle.expr_reader.specs.Outcome.{Fails}
 use Rattle.module_tree.specs.declared.instr.Instr.{Instr}
 use Rattle.module_tree.specs.View.{instr_view, instrs_view}
@@ -106,7 +106,7 @@ module _ {A : Type 0} (whole : Body) (vs : List (Instr A)) (one : ℕ → List �
       )
 
 -- a refusal handed on
-pub hand_on : {X Y : Type 0} (e : Unread) (r : Option X) (q : Option Y) → (r ≡ None → q ≡ None) → Fails e r → Fails e q
+pub hand_on : {X Y : Type 0} (e : DecodeFault) (r : Option X) (q : Option Y) → (r ≡ None → q ≡ None) → Fails e r → Fails e q
 hand_on NoMemory r q f h = tt
 hand_on (Malformed at) r q f h = f h
 hand_on (Unsupported at) r q f h = f h

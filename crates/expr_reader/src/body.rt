@@ -3,12 +3,12 @@ ghost use Rattle.std.specs.Prelude.{◌≡◌, ◌+◌, ◌<◌, ◌≤◌, ◌^
 ghost use Rattle.expr_reader.specs.Outcome.{Gives};
 ghost use Rattle.expr_reader.specs.Numbering.{Numbered};
 ghost use Rattle.spec_binary.specs.Reading.{unsigned_at};
-ghost use Rattle.spec_binary_laws.specs.ReadingExpressions.{items_at, table_at, one_at, body_at};
+ghost use Rattle.laws_modules.specs.ReadingExpressions.{items_at, table_at, one_at, body_at};
 ghost use Rattle.module_tree.specs.View.{instr_view, instrs_view, instr_ordinals, ordinals};
 
 use crate::plain::plain_of;
 use crate::read::{result_of, u32_of};
-use crate::unread::Unread;
+use crate::unread::DecodeFault;
 use module_tree::instr::Instr;
 use module_tree::limit::{LABEL_LIMIT, Limit};
 use std::alloc::Allocator;
@@ -18,7 +18,7 @@ fn labels_of<'b, A: Allocator + Clone>(
     alloc: &A,
     count: u32,
     bytes: &'b [u8],
-) -> Result<(Vec<u32, A>, &'b [u8]), Unread>
+) -> Result<(Vec<u32, A>, &'b [u8]), DecodeFault>
     ensures value { Gives (λ x. (x.0.items, x.1.now)) result (items_at (unsigned_at 32) count bytes.now) }
     ensures shorter { IfOk result (λ x. length x.1.now ≤ length bytes.now) }
 {
@@ -33,19 +33,19 @@ fn labels_of<'b, A: Allocator + Clone>(
 }
 
 // The labels of a `br_table`, and the default label.
-#[tactic(auto, unfolding(spec_binary_laws::specs::ReadingExpressions::table_at))]
+#[tactic(auto, unfolding(laws_modules::specs::ReadingExpressions::table_at))]
 fn table_of<'b, A: Allocator + Clone>(
     alloc: &A,
     bytes: &'b [u8],
     ordinal: u32,
-) -> Result<(Instr<A>, &'b [u8]), Unread>
+) -> Result<(Instr<A>, &'b [u8]), DecodeFault>
     ensures value { Gives (λ x. (instr_view x.0, x.1.now)) result (table_at bytes.now) }
     ensures shorter { IfOk result (λ x. length x.1.now < length bytes.now) }
     ensures numbered { IfOk result (λ x. Numbered ordinal (ordinal + 1) (instr_ordinals x.0)) }
 {
     let (count, rest) = u32_of(bytes)?;
     if count as usize > LABEL_LIMIT {
-        return Err(Unread::TooLarge(Limit::Labels));
+        return Err(DecodeFault::TooLarge(Limit::Labels));
     }
     let (labels, rest) = labels_of(alloc, count, rest)?;
     let (fallback, rest) = u32_of(rest)?;
@@ -59,7 +59,7 @@ pub fn body_of<'b, A: Allocator + Clone>(
     bytes: &'b [u8],
     depth: u32,
     ordinal: u32,
-) -> Result<(Vec<Instr<A>, A>, u8, &'b [u8], u32), Unread>
+) -> Result<(Vec<Instr<A>, A>, u8, &'b [u8], u32), DecodeFault>
     requires deep { 0 < depth }
     requires few { ordinal + length bytes.now < 2 ^ 32 }
     ensures value { Gives (λ x. (instrs_view x.0.items, x.1, x.2.now)) result (body_at depth bytes.now) }
@@ -79,11 +79,11 @@ pub fn body_of<'b, A: Allocator + Clone>(
         rest = after;
         next = following;
     }
-    Err(Unread::Malformed(0))
+    Err(DecodeFault::Malformed(0))
 }
 
 // The instruction whose first byte this is, and the bytes after it. Within it so many levels may stand.
-#[tactic(auto, unfolding(spec_binary_laws::specs::ReadingExpressions::one_with))]
+#[tactic(auto, unfolding(laws_modules::specs::ReadingExpressions::one_with))]
 #[cycle(body)]
 fn instr_of<'b, A: Allocator + Clone>(
     alloc: &A,
@@ -91,7 +91,7 @@ fn instr_of<'b, A: Allocator + Clone>(
     bytes: &'b [u8],
     depth: u32,
     ordinal: u32,
-) -> Result<(Instr<A>, &'b [u8], u32), Unread>
+) -> Result<(Instr<A>, &'b [u8], u32), DecodeFault>
     requires { ordinal + length bytes.now + 1 < 2 ^ 32 }
     ensures value { Gives (λ x. (instr_view x.0, x.1.now)) result (one_at depth first bytes.now) }
     ensures shorter { IfOk result (λ x. length x.1.now ≤ length bytes.now) }
@@ -99,14 +99,14 @@ fn instr_of<'b, A: Allocator + Clone>(
     ensures within { IfOk result (λ x. x.2 + length x.1.now ≤ ordinal + length bytes.now + 1) }
 {
     if depth == 0 && first >= 0x02 && first <= 0x04 {
-        return Err(Unread::TooLarge(Limit::Nesting));
+        return Err(DecodeFault::TooLarge(Limit::Nesting));
     }
     match first {
         0x02 => {
             let (kind, rest) = result_of(bytes)?;
             let (body, closing, rest, next) = body_of(alloc, rest, depth, ordinal + 1)?;
             if closing != 0x0B {
-                return Err(Unread::Malformed(rest.len() + 1));
+                return Err(DecodeFault::Malformed(rest.len() + 1));
             }
             Ok((Instr::Block(ordinal, kind, body), rest, next))
         }
@@ -114,7 +114,7 @@ fn instr_of<'b, A: Allocator + Clone>(
             let (kind, rest) = result_of(bytes)?;
             let (body, closing, rest, next) = body_of(alloc, rest, depth, ordinal + 1)?;
             if closing != 0x0B {
-                return Err(Unread::Malformed(rest.len() + 1));
+                return Err(DecodeFault::Malformed(rest.len() + 1));
             }
             Ok((Instr::Loop(ordinal, kind, body), rest, next))
         }
@@ -127,7 +127,7 @@ fn instr_of<'b, A: Allocator + Clone>(
             }
             let (else_body, closing, rest, next) = body_of(alloc, rest, depth, next)?;
             if closing != 0x0B {
-                return Err(Unread::Malformed(rest.len() + 1));
+                return Err(DecodeFault::Malformed(rest.len() + 1));
             }
             Ok((Instr::If(ordinal, kind, then_body, else_body), rest, next))
         }

@@ -2,7 +2,7 @@
 ghost use Rattle.std.specs.Prelude.{◌≡◌, ◌+◌, ◌<◌, ◌≤◌, ◌^◌, true, length, slice_range, IfOk, IfErr};
 ghost use Rattle.spec_binary.specs.Grammar.{expression};
 ghost use Rattle.spec_binary.specs.Spells.{ExpressionFits};
-ghost use Rattle.spec_binary_laws.specs.ReadingExpressions.{expression_at};
+ghost use Rattle.laws_modules.specs.ReadingExpressions.{expression_at};
 ghost use Rattle.module_tree.specs.View.{instrs_view, ordinals};
 ghost use Rattle.spec_syntax.specs.Limits.{counts_from};
 ghost use Rattle.expr_reader.specs.Numbering.{Numbered};
@@ -10,7 +10,7 @@ ghost use Rattle.expr_reader.specs.Outcome.{Gives, Unless, NoExpression};
 
 use crate::LoadRefusal;
 use crate::body::body_of;
-use crate::unread::Unread;
+use crate::unread::DecodeFault;
 use module_tree::instr::Instr;
 use std::alloc::Allocator;
 
@@ -19,11 +19,11 @@ const LEVELS: u32 = 129;
 
 /// The expression at the front of these bytes, and the bytes after it. Its instructions carry their ordinals. Where it
 /// is refused for another cause than memory, none within the limits on nesting and labels is spelled there.
-#[tactic(auto, unfolding(spec_binary_laws::specs::ReadingExpressions::expression_at))]
+#[tactic(auto, unfolding(laws_modules::specs::ReadingExpressions::expression_at))]
 pub fn expression_of<'b, A: Allocator + Clone>(
     alloc: &A,
     bytes: &'b [u8],
-) -> Result<(Vec<Instr<A>, A>, &'b [u8]), Unread>
+) -> Result<(Vec<Instr<A>, A>, &'b [u8]), DecodeFault>
     requires { length bytes.now < 2 ^ 32 }
     ensures value { Gives (λ x. (instrs_view x.0.items, x.1.now)) result (expression_at 129 bytes.now) }
     ensures numbered { IfOk result (λ x. counts_from 0 (ordinals x.0.items) ≡ true) }
@@ -31,7 +31,7 @@ pub fn expression_of<'b, A: Allocator + Clone>(
 {
     let (body, closing, rest, _next) = body_of(alloc, bytes, LEVELS, 0)?;
     if closing != 0x0B {
-        return Err(Unread::Malformed(rest.len() + 1));
+        return Err(DecodeFault::Malformed(rest.len() + 1));
     }
     Ok((body, rest))
 }

@@ -11,7 +11,7 @@ mod unread;
 pub use expr::{expression_of, read_expr};
 use module_tree::limit::Limit;
 use thiserror::Error;
-pub use unread::Unread;
+pub use unread::DecodeFault;
 
 /// Why bytes were not read.
 #[derive(Clone, Copy, Debug, PartialEq, Eq, Error)]

@@ -1,6 +1,6 @@
 // Instructions by their first byte (Core Specification, 5.4 Instructions).
 ghost use Rattle.std.specs.Prelude.{◌≡◌, ◌+◌, slice_get};
-ghost use Rattle.spec_binary_laws.specs.Opcodes.{compare_ops, numeric_ops, control_at, convert_at, simple_at, load_at, load_ops, store_at, store_ops};
+ghost use Rattle.laws_modules.specs.Opcodes.{compare_ops, numeric_ops, control_at, convert_at, simple_at, load_at, load_ops, store_at, store_ops};
 
 use wtypes::{BinOp, CvtOp, LoadOp, PlainInstr, RelOp, StoreOp, TestOp, UnOp, ValType};
 
@@ -81,7 +81,7 @@ fn convert_of(first: u8) -> Option<PlainInstr>
 }
 
 // The instruction that is this byte alone.
-#[tactic(auto, unfolding(spec_binary_laws::specs::Opcodes::simple_at))]
+#[tactic(auto, unfolding(laws_modules::specs::Opcodes::simple_at))]
 pub fn simple_of(first: u8) -> Option<PlainInstr>
     ensures { result ≡ simple_at first }
 {
@@ -125,7 +125,7 @@ fn narrow_load_of(place: u8) -> Option<LoadOp>
     }
 }
 
-#[tactic(auto, unfolding(spec_binary_laws::specs::Opcodes::load_at))]
+#[tactic(auto, unfolding(laws_modules::specs::Opcodes::load_at))]
 pub fn load_of(first: u8) -> Option<LoadOp>
     ensures { result ≡ load_at first }
 {
@@ -155,7 +155,7 @@ fn narrow_store_of(place: u8) -> Option<StoreOp>
     }
 }
 
-#[tactic(auto, unfolding(spec_binary_laws::specs::Opcodes::store_at))]
+#[tactic(auto, unfolding(laws_modules::specs::Opcodes::store_at))]
 pub fn store_of(first: u8) -> Option<StoreOp>
     ensures { result ≡ store_at first }
 {

@@ -1,16 +1,16 @@
 // Instructions without children, at the front of bytes.
 ghost use Rattle.std.specs.Prelude.{◌≡◌, ◌+◌, ◌<◌, ◌≤◌, length, IfOk};
 ghost use Rattle.expr_reader.specs.Outcome.{Gives};
-ghost use Rattle.spec_binary_laws.specs.ReadingExpressions.{index_at, other_at, plain_at};
+ghost use Rattle.laws_modules.specs.ReadingExpressions.{index_at, other_at, plain_at};
 
 use crate::opcodes::{is_float, load_of, simple_of, store_of};
 use crate::read::{memarg_of, s32_of, s64_of, u32_of, zero_of};
-use crate::unread::Unread;
+use crate::unread::DecodeFault;
 use wtypes::{PlainInstr, Value};
 
 // An instruction with one index.
-#[tactic(auto, unfolding(spec_binary_laws::specs::ReadingExpressions::index_at))]
-fn index_of(first: u8, bytes: &[u8]) -> Result<(PlainInstr, &[u8]), Unread>
+#[tactic(auto, unfolding(laws_modules::specs::ReadingExpressions::index_at))]
+fn index_of(first: u8, bytes: &[u8]) -> Result<(PlainInstr, &[u8]), DecodeFault>
     ensures value { Gives (λ x. (x.0, x.1.now)) result (index_at first bytes.now) }
     ensures shorter { IfOk result (λ x. length x.1.now ≤ length bytes.now) }
 {
@@ -49,16 +49,16 @@ fn index_of(first: u8, bytes: &[u8]) -> Result<(PlainInstr, &[u8]), Unread>
         }
         _ => {
             if is_float(first) {
-                return Err(Unread::Unsupported(bytes.len() + 1));
+                return Err(DecodeFault::Unsupported(bytes.len() + 1));
             }
-            Err(Unread::Malformed(bytes.len() + 1))
+            Err(DecodeFault::Malformed(bytes.len() + 1))
         }
     }
 }
 
 // A constant, an instruction with a zero byte, or one with an index.
-#[tactic(auto, unfolding(spec_binary_laws::specs::ReadingExpressions::other_at))]
-fn other_of(first: u8, bytes: &[u8]) -> Result<(PlainInstr, &[u8]), Unread>
+#[tactic(auto, unfolding(laws_modules::specs::ReadingExpressions::other_at))]
+fn other_of(first: u8, bytes: &[u8]) -> Result<(PlainInstr, &[u8]), DecodeFault>
     ensures value { Gives (λ x. (x.0, x.1.now)) result (other_at first bytes.now) }
     ensures shorter { IfOk result (λ x. length x.1.now ≤ length bytes.now) }
 {
@@ -89,8 +89,8 @@ fn other_of(first: u8, bytes: &[u8]) -> Result<(PlainInstr, &[u8]), Unread>
 }
 
 // The instruction whose first byte this is, and the bytes after it.
-#[tactic(auto, unfolding(spec_binary_laws::specs::ReadingExpressions::plain_at))]
-pub fn plain_of(first: u8, bytes: &[u8]) -> Result<(PlainInstr, &[u8]), Unread>
+#[tactic(auto, unfolding(laws_modules::specs::ReadingExpressions::plain_at))]
+pub fn plain_of(first: u8, bytes: &[u8]) -> Result<(PlainInstr, &[u8]), DecodeFault>
     ensures value { Gives (λ x. (x.0, x.1.now)) result (plain_at first bytes.now) }
     ensures shorter { IfOk result (λ x. length x.1.now ≤ length bytes.now) }
 {

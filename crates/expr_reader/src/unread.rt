@@ -8,9 +8,9 @@ use std::alloc::{AllocError, AllocFailed};
 use thiserror::Error;
 
 /// Why a reader stopped, by how many bytes were left from the first byte of the item at fault on. Where these stand in
-/// the input is not known to it: [`Unread::ending_at`] makes the refusal of it.
+/// the input is not known to it: [`DecodeFault::ending_at`] makes the refusal of it.
 #[derive(Clone, Copy, Debug, PartialEq, Eq, Error)]
-pub enum Unread {
+pub enum DecodeFault {
     /// The grammar has no such form, and so many bytes were left.
     #[error("malformed where {0} bytes are left")]
     Malformed(usize),
@@ -25,48 +25,48 @@ pub enum Unread {
     NoMemory,
 }
 
-impl Unread {
+impl DecodeFault {
     /// The refusal, where the bytes that were read end at this offset.
     pub fn ending_at(self, end: usize) -> LoadRefusal
         ensures { result ≡ refusal_before end self }
     {
         match self {
-            Unread::Malformed(left) => LoadRefusal::Malformed(end.saturating_sub(left)),
-            Unread::Unsupported(left) => LoadRefusal::Unsupported(end.saturating_sub(left)),
-            Unread::TooLarge(limit) => LoadRefusal::TooLarge(limit),
-            Unread::NoMemory => LoadRefusal::NoMemory,
+            DecodeFault::Malformed(left) => LoadRefusal::Malformed(end.saturating_sub(left)),
+            DecodeFault::Unsupported(left) => LoadRefusal::Unsupported(end.saturating_sub(left)),
+            DecodeFault::TooLarge(limit) => LoadRefusal::TooLarge(limit),
+            DecodeFault::NoMemory => LoadRefusal::NoMemory,
         }
     }
 
     /// The same of an enclosure that so many more bytes stand behind.
-    pub fn with_more(self, more: usize) -> Unread
+    pub fn with_more(self, more: usize) -> DecodeFault
         ensures { is_memory result ≡ is_memory self }
     {
         match self {
-            Unread::Malformed(left) => Unread::Malformed(left.saturating_add(more)),
-            Unread::Unsupported(left) => Unread::Unsupported(left.saturating_add(more)),
-            Unread::TooLarge(limit) => Unread::TooLarge(limit),
-            Unread::NoMemory => Unread::NoMemory,
+            DecodeFault::Malformed(left) => DecodeFault::Malformed(left.saturating_add(more)),
+            DecodeFault::Unsupported(left) => DecodeFault::Unsupported(left.saturating_add(more)),
+            DecodeFault::TooLarge(limit) => DecodeFault::TooLarge(limit),
+            DecodeFault::NoMemory => DecodeFault::NoMemory,
         }
     }
 }
 
-impl From<AllocError> for Unread {
-    ghost use Rattle.expr_reader.specs.declared.unread.Unread.TheVariants.{NoMemory};
+impl From<AllocError> for DecodeFault {
+    ghost use Rattle.expr_reader.specs.declared.unread.DecodeFault.TheVariants.{NoMemory};
 
     ghost from_gives = { λ _ e. e ≡ NoMemory };
 
-    fn from(_e: AllocError) -> Unread {
-        Unread::NoMemory
+    fn from(_e: AllocError) -> DecodeFault {
+        DecodeFault::NoMemory
     }
 }
 
-impl<T: Drop> From<AllocFailed<T>> for Unread {
-    ghost use Rattle.expr_reader.specs.declared.unread.Unread.TheVariants.{NoMemory};
+impl<T: Drop> From<AllocFailed<T>> for DecodeFault {
+    ghost use Rattle.expr_reader.specs.declared.unread.DecodeFault.TheVariants.{NoMemory};
 
     ghost from_gives = { λ _ e. e ≡ NoMemory };
 
-    fn from(_e: AllocFailed<T>) -> Unread {
-        Unread::NoMemory
+    fn from(_e: AllocFailed<T>) -> DecodeFault {
+        DecodeFault::NoMemory
     }
 }

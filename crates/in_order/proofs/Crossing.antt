@@ -9,19 +9,19 @@ use Rattle.std.proofs.Crossing as std
 use Rattle.std.proofs.CrossingOver as over
 use Rattle.lock_profile.specs.contracts.Touched as touched_row
 use Rattle.lock_profile.proofs.Held.TheSendSync as held
-use Rattle.spec_footprint.proofs.Access.TheSendSync as access
+use Rattle.spec_execution.proofs.footprints.Access.TheSendSync as access
 use Rattle.spec_ledger.proofs.Version.TheSendSync as version
-use Rattle.serial_block.proofs.Crossing.{crosses, vec_send, contract_sync, contracts_send, cells_sync}
-use Rattle.handover.specs.declared.rule.Fact as fact
-use Rattle.handover.specs.contracts.handover.Handover as line_row
-use Rattle.handover.specs.contracts.pass.Pass as pass_row
-use Rattle.handover.proofs.handover.Handover.TheSendSync as line
-use Rattle.handover.proofs.pass.Pass.TheSendSync as pass
+use Rattle.serial.proofs.Crossing.{crosses, vec_send, contract_sync, contracts_send, cells_sync}
+use Rattle.typed_queue.specs.declared.rule.ItemFact as fact
+use Rattle.typed_queue.specs.contracts.handover.TypedQueue as line_row
+use Rattle.typed_queue.specs.contracts.pass.QueuePass as pass_row
+use Rattle.typed_queue.proofs.handover.TypedQueue.TheSendSync as line
+use Rattle.typed_queue.proofs.pass.QueuePass.TheSendSync as pass
 use Rattle.in_order.specs.contracts.InOrder as job_row
 use Rattle.in_order.specs.contracts.Task as task_row
-use Rattle.in_order.specs.contracts.footprints.Share as share_row
+use Rattle.in_order.specs.contracts.footprints.SpeculativeRuns as share_row
 use Rattle.in_order.specs.contracts.line.Batch as batch_row
-use Rattle.in_order.specs.contracts.post.Post as post_row
+use Rattle.in_order.specs.contracts.post.QueueEnd as post_row
 
 module _ (B : RattleType) (g : Ghosts B.Denot) (send : IsSend B) (sync : IsSync B) (frees : Frees g g.dealloc_token) where
   touched_send : IsSend (touched_row.the_row B g)

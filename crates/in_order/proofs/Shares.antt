@@ -1,13 +1,13 @@
--- Calls that are kept with their footprints.
+-- Calls that are kept with their read-write sets.
 use Rattle.std.proofs.Common.{◌≡◌, ℕ, ◌-◌, ◌≤◌, List, [], ◌∷◌, ◌++◌, length, take, drop, length-append, length-drop, sym, ◌∙◌, ap, subst, arith}
 use Rattle.std.proofs.Math.Seq.{take-append-le, drop-append-le, drop-append_seam, take-length}
 use Rattle.std.proofs.lemmas.List.Elements.{All-append, All-cons, All-nil, All-weaker}
 use Rattle.spec_execution.specs.Configuration.{Setting}
 use Rattle.spec_execution.specs.Run.{ContractCall}
-use Rattle.spec_footprint.specs.declared.Access.{Access}
-use Rattle.footprint.specs.Calls.{IsFootprintOf}
-use Rattle.in_order.specs.declared.footprints.Prepared.{Prepared}
-use Rattle.in_order.specs.Shares.{IsPrepared, AreAllPrepared}
+use Rattle.spec_execution.specs.declared.footprints.Access.{Access}
+use Rattle.speculation.specs.Calls.{IsFootprintOf}
+use Rattle.in_order.specs.declared.footprints.SpeculativeRun.{SpeculativeRun}
+use Rattle.in_order.specs.Shares.{IsSpeculativeRun, AreAllPrepared}
 
 -- a part of a list is the same part of a longer one
 part_kept : {A : Type 0} (xs more : List A) (from until : ℕ) → from ≤ until → until ≤ length xs → take (until - from) (drop from (xs ++ more)) ≡ take (until - from) (drop from xs)
@@ -21,26 +21,26 @@ last_part xs more until is =
     let count : until - length xs ≡ length more = omega (arith, length-append xs more) in
     ap (take (until - length xs)) rest ∙ ap (λ n. take n more) count ∙ take-length more
 
-still_prepared : {A : Type 0} (setting : Setting) (calls : List ContractCall) (accesses more : List Access) (p : Prepared A) → IsPrepared setting calls accesses p → IsPrepared setting calls (accesses ++ more) p
+still_prepared : {A : Type 0} (setting : Setting) (calls : List ContractCall) (accesses more : List Access) (p : SpeculativeRun A) → IsSpeculativeRun setting calls accesses p → IsSpeculativeRun setting calls (accesses ++ more) p
 still_prepared setting calls accesses more p is = record {
   begins = is.begins;
   ends = omega (arith, is.ends, length-append accesses more);
-  footprint = subst (λ own. IsFootprintOf setting calls p.call own p.executed) (sym (part_kept accesses more p.from p.until is.begins is.ends)) is.footprint;
+  read_write_set = subst (λ own. IsFootprintOf setting calls p.call own p.executed) (sym (part_kept accesses more p.from p.until is.begins is.ends)) is.read_write_set;
 }
 
 -- one call more, whose accesses were put behind the others
-pub one_more_prepared : {A : Type 0} (setting : Setting) (calls : List ContractCall) (accesses own now : List Access) (xs zs : List (Prepared A)) (x : Prepared A)
+pub one_more_prepared : {A : Type 0} (setting : Setting) (calls : List ContractCall) (accesses own now : List Access) (xs zs : List (SpeculativeRun A)) (x : SpeculativeRun A)
     → zs ≡ xs ++ x ∷ [] → now ≡ accesses ++ own → AreAllPrepared setting calls accesses xs → x.from ≡ length accesses → x.until ≡ length now → IsFootprintOf setting calls x.call own x.executed
     → AreAllPrepared setting calls now zs
-one_more_prepared setting calls accesses own now xs zs x is behind all from until footprint =
+one_more_prepared setting calls accesses own now xs zs x is behind all from until read_write_set =
     let ends : x.until ≡ length (accesses ++ own) = until ∙ ap length behind in
     let mine : take (x.until - x.from) (drop x.from (accesses ++ own)) ≡ own = ap (λ n. take (x.until - n) (drop n (accesses ++ own))) from ∙ last_part accesses own x.until ends in
-    let one : IsPrepared setting calls (accesses ++ own) x = record {
+    let one : IsSpeculativeRun setting calls (accesses ++ own) x = record {
       begins = omega (arith, from, ends, length-append accesses own);
       ends = omega (arith, ends);
-      footprint = subst (λ part. IsFootprintOf setting calls x.call part x.executed) (sym mine) footprint;
+      read_write_set = subst (λ part. IsFootprintOf setting calls x.call part x.executed) (sym mine) read_write_set;
     } in
-    let others = All-weaker (IsPrepared setting calls accesses) (IsPrepared setting calls (accesses ++ own)) (still_prepared setting calls accesses own) xs all in
+    let others = All-weaker (IsSpeculativeRun setting calls accesses) (IsSpeculativeRun setting calls (accesses ++ own)) (still_prepared setting calls accesses own) xs all in
     subst (λ l. AreAllPrepared setting calls l zs) (sym behind)
     (subst (AreAllPrepared setting calls (accesses ++ own)) (sym is)
-    (All-append (IsPrepared setting calls (accesses ++ own)) xs (x ∷ []) others (All-cons (IsPrepared setting calls (accesses ++ own)) x [] one (All-nil (IsPrepared setting calls (accesses ++ own))))))
+    (All-append (IsSpeculativeRun setting calls (accesses ++ own)) xs (x ∷ []) others (All-cons (IsSpeculativeRun setting calls (accesses ++ own)) x [] one (All-nil (IsSpeculativeRun setting calls (accesses ++ own))))))

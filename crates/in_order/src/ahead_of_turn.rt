@@ -1,12 +1,12 @@
 //! Batches of calls that are run ahead of their turn.
 
 ghost use Rattle.std.specs.Prelude.{◌<◌, IfOk, OnOk};
-ghost use Rattle.in_order.specs.Ran.{IsKnown};
-ghost use Rattle.in_order.specs.Shares.{IsShareOf};
+ghost use Rattle.in_order.specs.Progress.{IsKnown};
+ghost use Rattle.in_order.specs.Shares.{AreSpeculativeRunsOf};
 
-use crate::footprints::{Share, open_share, prepare};
+use crate::footprints::{SpeculativeRuns, open_speculative_runs, run_speculatively};
 use crate::line::Batch;
-use crate::straight::told;
+use crate::straight::must_stop_at;
 use crate::{InOrder, NO_MORE};
 use pace::Pace;
 use spec_ledger::NoMemory;
@@ -34,7 +34,7 @@ pub(crate) fn draw<A: Allocator + Copy, P: Pace>(job: &InOrder<'_, '_, A, P>) ->
 
 /// A batch that was run.
 #[derive(Drop)]
-pub(crate) struct Made<'a, A: Allocator> {
+pub(crate) struct BatchRun<'a, A: Allocator> {
     pub(crate) batch: Batch<'a, A>,
     /// Whether the pace stops the thread.
     pub(crate) stops: bool,
@@ -44,11 +44,11 @@ pub(crate) struct Made<'a, A: Allocator> {
 fn run_calls<A: Allocator + Copy, P: Pace>(
     job: &InOrder<'_, '_, A, P>,
     nth: usize,
-    share: &mut Share<'_, A>,
+    share: &mut SpeculativeRuns<'_, A>,
 ) -> Result<bool, NoMemory>
     requires known { IsKnown job.now }
-    requires share { IsShareOf job.now.task share.old }
-    ensures { OnOk result (IsShareOf job.now.task share.new) }
+    requires share { AreSpeculativeRunsOf job.now.task share.old }
+    ensures { OnOk result (AreSpeculativeRunsOf job.now.task share.new) }
 {
     let size = batch_of(job.order.len());
     for offset in 0..size {
@@ -57,10 +57,10 @@ fn run_calls<A: Allocator + Copy, P: Pace>(
             return Ok(false);
         }
         let call = job.order[position];
-        if told(job.pace, call) {
+        if must_stop_at(job.pace, call) {
             return Ok(true);
         }
-        prepare(job.alloc, &job.task, job.cells, call, share)?;
+        run_speculatively(job.alloc, &job.task, job.cells, call, share)?;
     }
     Ok(false)
 }
@@ -69,14 +69,14 @@ fn run_calls<A: Allocator + Copy, P: Pace>(
 pub(crate) fn run_batch<'a, A: Allocator + Copy, P: Pace>(
     job: &InOrder<'_, 'a, A, P>,
     nth: usize,
-) -> Result<Made<'a, A>, NoMemory>
+) -> Result<BatchRun<'a, A>, NoMemory>
     requires { IsKnown job.now }
-    ensures { IfOk result (λ made. IsShareOf job.now.task made.batch.share) }
+    ensures { IfOk result (λ made. AreSpeculativeRunsOf job.now.task made.batch.share) }
 {
-    let mut share = open_share(job.alloc, job.task, batch_of(job.order.len()))?;
+    let mut share = open_speculative_runs(job.alloc, job.task, batch_of(job.order.len()))?;
     let stops = run_calls(job, nth, &mut share)?;
     share.prepared.reverse();
-    Ok(Made {
+    Ok(BatchRun {
         batch: Batch { nth, share },
         stops,
     })

@@ -1,26 +1,25 @@
-//! Calls that are run ahead of their turn, over cells that are only read, and kept with their footprints until it is their turn.
+//! Calls that are run ahead of their turn, over cells that are only read, and kept with their read-write sets until it is their turn.
 
 ghost use Rattle.std.specs.Prelude.{◌≡◌, ◌<◌, ◌↔◌, [], All, IfOk, IfNone, IfSome, IsSome, OnOk, Some, length, slice_get};
 ghost use Rattle.std.specs.FinMap as finite;
 ghost use Rattle.spec_execution.specs.Exec.{Executes};
 ghost use Rattle.spec_execution.specs.Run.{ContractCall};
-ghost use Rattle.spec_footprint.specs.Footprints.{Agrees};
-ghost use Rattle.interp.specs.Lent.{setting_view};
-ghost use Rattle.in_order.specs.Shares.{IsPrepared, IsShareOf, footprint_of};
+ghost use Rattle.spec_execution.specs.ReadWriteSets.{Agrees};
+ghost use Rattle.interp.specs.Callee.{setting_view};
+ghost use Rattle.in_order.specs.Shares.{IsSpeculativeRun, AreSpeculativeRunsOf, read_write_set_of};
 
 use crate::Task;
-use beside::{Reads, run_beside};
-use footprint::enact;
 use link::deployed::Deployed as Contract;
 use serial::Executed;
-use spec_footprint::Access;
+use spec_execution::Access;
 use spec_ledger::NoMemory;
+use speculation::{Reads, run_over, write_back};
 use std::alloc::Allocator;
 use storage::Cells;
 
-/// A call that was run, and which of the accesses beside it are its footprint.
+/// A call that was run, and which of the accesses beside it are its read-write set.
 #[derive(Drop)]
-pub(crate) struct Prepared<A: Allocator> {
+pub(crate) struct SpeculativeRun<A: Allocator> {
     /// Its number.
     pub(crate) call: u32,
     /// What it came to.
@@ -34,10 +33,10 @@ pub(crate) struct Prepared<A: Allocator> {
 /// Calls that one thread ran, and the contracts that they ran over. (Without the contracts at their side no proof was found that it may go to another
 /// thread.)
 #[derive(Drop)]
-pub(crate) struct Share<'a, A: Allocator> {
+pub(crate) struct SpeculativeRuns<'a, A: Allocator> {
     pub(crate) contracts: &'a [Contract<A>],
     /// The calls that it ran.
-    pub(crate) prepared: Vec<Prepared<A>, A>,
+    pub(crate) prepared: Vec<SpeculativeRun<A>, A>,
     /// What they did with cells, one call's accesses after another's.
     pub(crate) accesses: Vec<Access, A>,
 }
@@ -46,35 +45,35 @@ pub(crate) struct Share<'a, A: Allocator> {
 const ACCESSES: usize = 4;
 
 /// A share of no calls, with room for so many.
-pub(crate) fn open_share<'a, A: Allocator + Copy>(
+pub(crate) fn open_speculative_runs<'a, A: Allocator + Copy>(
     alloc: A,
     task: Task<'a, A>,
     room: usize,
-) -> Result<Share<'a, A>, NoMemory>
-    ensures { IfOk result (IsShareOf task.entry) }
+) -> Result<SpeculativeRuns<'a, A>, NoMemory>
+    ensures { IfOk result (AreSpeculativeRunsOf task.entry) }
 {
-    Ok(Share {
+    Ok(SpeculativeRuns {
         contracts: task.contracts,
         prepared: Vec::with_capacity(alloc, room)?,
         accesses: Vec::with_capacity(alloc, room.saturating_mul(ACCESSES))?,
     })
 }
 
-/// Runs a call over a view of the cells, and puts it with its footprint behind those of the share.
-pub(crate) fn prepare<A: Allocator + Copy, V: Reads>(
+/// Runs a call over a view of the cells, and puts it with its read-write set behind those of the share.
+pub(crate) fn run_speculatively<A: Allocator + Copy, V: Reads>(
     alloc: A,
     task: &Task<'_, A>,
     view: &V,
     call: u32,
-    share: &mut Share<'_, A>,
+    share: &mut SpeculativeRuns<'_, A>,
 ) -> Result<(), NoMemory>
     requires call { call < length task.now.calls.now }
-    requires share { IsShareOf task.now share.old }
-    ensures { OnOk result (IsShareOf task.now share.new) }
+    requires share { AreSpeculativeRunsOf task.now share.old }
+    ensures { OnOk result (AreSpeculativeRunsOf task.now share.new) }
 {
     let calls = task.calls;
     let from = share.accesses.len();
-    let executed = run_beside(
+    let executed = run_over(
         alloc,
         task.contracts,
         &calls[call as usize],
@@ -83,7 +82,7 @@ pub(crate) fn prepare<A: Allocator + Copy, V: Reads>(
         task.version,
     )?;
     let until = share.accesses.len();
-    share.prepared.push(Prepared {
+    share.prepared.push(SpeculativeRun {
         call,
         executed,
         from,
@@ -93,27 +92,27 @@ pub(crate) fn prepare<A: Allocator + Copy, V: Reads>(
 }
 
 /// Does with cells what a call did that was prepared beside these accesses, where they hold what it found, and gives what it came to.
-pub(crate) fn follow<A: Allocator + Copy>(
+pub(crate) fn commit_if_valid<A: Allocator + Copy>(
     task: &Task<'_, A>,
-    prepared: Prepared<A>,
+    prepared: SpeculativeRun<A>,
     accesses: &[Access],
     cells: &mut Cells<A>,
 ) -> Result<Option<Executed<A>>, NoMemory>
-    requires prepared { IsPrepared (setting_view task.now.version task.now.contracts.now) task.now.calls.now accesses.now prepared }
+    requires prepared { IsSpeculativeRun (setting_view task.now.version task.now.contracts.now) task.now.calls.now accesses.now prepared }
     requires settled { cells.old.unsettled ≡ finite.empty }
-    ensures answer { IfOk result (λ o. IsSome o ↔ All (Agrees cells.old.cells) (footprint_of accesses.now prepared)) }
+    ensures answer { IfOk result (λ o. IsSome o ↔ All (Agrees cells.old.cells) (read_write_set_of accesses.now prepared)) }
     ensures executed { IfOk result (λ o. IfSome o (λ e. (call : ContractCall) → slice_get task.now.calls.now prepared.call ≡ Some call → Executes (setting_view task.now.version task.now.contracts.now) call cells.old.cells cells.new.cells e.receipt e.touched)) }
     ensures same { IfOk result (λ o. IfNone o (cells.new ≡ cells.old)) }
     ensures settled { cells.new.unsettled ≡ finite.empty }
 {
-    cells.hold();
-    let Prepared {
+    cells.use_invariant();
+    let SpeculativeRun {
         call: _,
         executed,
         from,
         until,
     } = prepared;
-    if enact(cells, &accesses[from..until])? {
+    if write_back(cells, &accesses[from..until])? {
         Ok(Some(executed))
     } else {
         Ok(None)

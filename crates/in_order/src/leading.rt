@@ -1,19 +1,19 @@
 //! The thread that does the calls in their turn, while others run them ahead.
 
 ghost use Rattle.std.specs.Prelude.{◌≤◌, All, IfOk, IfSome};
-ghost use Rattle.in_order.specs.Ran.{IsKnown, IsRanOf};
-ghost use Rattle.in_order.specs.Handed.{IsPostOf, IsSupplyOf};
-ghost use Rattle.in_order.specs.Shares.{IsShareOf};
+ghost use Rattle.in_order.specs.Progress.{IsKnown, IsProgressOf};
+ghost use Rattle.in_order.specs.Handed.{IsQueueEndOf, IsReorderBufferOf};
+ghost use Rattle.in_order.specs.Shares.{AreSpeculativeRunsOf};
 
-use crate::ahead_of_turn::{Made, batch_of, draw, run_batch};
-use crate::footprints::Share;
-use crate::line::{Line, make_posts};
-use crate::post::Post;
-use crate::straight::{Came, run_straight, run_to};
-use crate::supply::{Supply, keep, open_supply, place, take_in, take_out};
+use crate::ahead_of_turn::{BatchRun, batch_of, draw, run_batch};
+use crate::footprints::SpeculativeRuns;
+use crate::line::{BatchQueue, make_queue_ends};
+use crate::post::QueueEnd;
+use crate::reorder_buffer::{ReorderBuffer, keep, open_reorder_buffer, place, take_in, take_out};
+use crate::straight::{StraightRun, run_straight, run_to};
 use crate::turns::do_next;
 use crate::working::{work, work_all};
-use crate::{InOrder, Ran};
+use crate::{InOrder, OrderProgress};
 use pace::Pace;
 use spec_ledger::NoMemory;
 use std::alloc::Allocator;
@@ -57,16 +57,16 @@ fn note(tally: &mut Tally, calls: u64, ahead: u64) -> bool {
     is_vain
 }
 
-/// Does the calls of a batch by their footprints, and runs those again that found other cells, as long as the order is not stopped.
+/// Does the calls of a batch by their read-write sets, and runs those again that found other cells, as long as the order is not stopped.
 fn do_batch<'a, A: Allocator + Copy, P: Pace>(
     job: &InOrder<'_, 'a, A, P>,
-    mut ran: Ran<A>,
-    share: &mut Share<'a, A>,
-) -> Result<Ran<A>, NoMemory>
+    mut ran: OrderProgress<A>,
+    share: &mut SpeculativeRuns<'a, A>,
+) -> Result<OrderProgress<A>, NoMemory>
     requires known { IsKnown job.now }
-    requires ran { IsRanOf job.now ran }
-    requires share { IsShareOf job.now.task share.old }
-    ensures { IfOk result (IsRanOf job.now) }
+    requires ran { IsProgressOf job.now ran }
+    requires share { AreSpeculativeRunsOf job.now.task share.old }
+    ensures { IfOk result (IsProgressOf job.now) }
 {
     for _position in ran.receipts.len()..job.order.len() {
         if job.is_stopped.load(Ordering::SeqCst) {
@@ -83,17 +83,17 @@ fn do_batch<'a, A: Allocator + Copy, P: Pace>(
 /// Does a batch that has come, and keeps what is left of it.
 fn do_share<'a, A: Allocator + Copy, P: Pace>(
     job: &InOrder<'_, 'a, A, P>,
-    ran: Ran<A>,
-    supply: &mut Supply<'a, A>,
+    ran: OrderProgress<A>,
+    supply: &mut ReorderBuffer<'a, A>,
     tally: &mut Tally,
-    share: Share<'a, A>,
-) -> Result<Came<A>, NoMemory>
+    share: SpeculativeRuns<'a, A>,
+) -> Result<StraightRun<A>, NoMemory>
     requires known { IsKnown job.now }
-    requires ran { IsRanOf job.now ran }
-    requires supply { IsSupplyOf job.now.task supply.old }
-    requires share { IsShareOf job.now.task share }
-    ensures ran { IfOk result (λ came. IsRanOf job.now came.ran) }
-    ensures supply { IsSupplyOf job.now.task supply.new }
+    requires ran { IsProgressOf job.now ran }
+    requires supply { IsReorderBufferOf job.now.task supply.old }
+    requires share { AreSpeculativeRunsOf job.now.task share }
+    ensures ran { IfOk result (λ came. IsProgressOf job.now came.ran) }
+    ensures supply { IsReorderBufferOf job.now.task supply.new }
 {
     let mut share = share;
     let (done, ahead) = (ran.receipts.len(), ran.ahead);
@@ -105,21 +105,21 @@ fn do_share<'a, A: Allocator + Copy, P: Pace>(
         job.close();
         return run_to(job, ran, job.order.len());
     }
-    Ok(Came { ran, stops: false })
+    Ok(StraightRun { ran, stops: false })
 }
 
 /// Takes a batch that another thread has drawn, where it comes soon.
 fn look<'a, A: Allocator + Copy, P: Pace>(
     job: &InOrder<'_, 'a, A, P>,
-    supply: &mut Supply<'a, A>,
-    post: &mut Post<'_, 'a, A>,
+    supply: &mut ReorderBuffer<'a, A>,
+    post: &mut QueueEnd<'_, 'a, A>,
     nth: usize,
-) -> Option<Share<'a, A>>
-    requires supply { IsSupplyOf job.now.task supply.old }
-    requires post { IsPostOf job.now post.old }
-    ensures supply { IsSupplyOf job.now.task supply.new }
-    ensures post { IsPostOf job.now post.new }
-    ensures share { IfSome result (IsShareOf job.now.task) }
+) -> Option<SpeculativeRuns<'a, A>>
+    requires supply { IsReorderBufferOf job.now.task supply.old }
+    requires post { IsQueueEndOf job.now post.old }
+    ensures supply { IsReorderBufferOf job.now.task supply.new }
+    ensures post { IsQueueEndOf job.now post.new }
+    ensures share { IfSome result (AreSpeculativeRunsOf job.now.task) }
 {
     for _ in 0..LOOKS {
         take_in(job, supply, post);
@@ -136,18 +136,18 @@ fn look<'a, A: Allocator + Copy, P: Pace>(
 /// is left to draw and the next one does not come, the calls are run here all the same, and whoever runs them too runs them in vain.
 fn lead_on<'a, A: Allocator + Copy, P: Pace>(
     job: &InOrder<'_, 'a, A, P>,
-    ran: Ran<A>,
-    supply: &mut Supply<'a, A>,
-    post: &mut Post<'_, 'a, A>,
+    ran: OrderProgress<A>,
+    supply: &mut ReorderBuffer<'a, A>,
+    post: &mut QueueEnd<'_, 'a, A>,
     tally: &mut Tally,
-) -> Result<Came<A>, NoMemory>
+) -> Result<StraightRun<A>, NoMemory>
     requires known { IsKnown job.now }
-    requires ran { IsRanOf job.now ran }
-    requires supply { IsSupplyOf job.now.task supply.old }
-    requires post { IsPostOf job.now post.old }
-    ensures ran { IfOk result (λ came. IsRanOf job.now came.ran) }
-    ensures supply { IsSupplyOf job.now.task supply.new }
-    ensures post { IsPostOf job.now post.new }
+    requires ran { IsProgressOf job.now ran }
+    requires supply { IsReorderBufferOf job.now.task supply.old }
+    requires post { IsQueueEndOf job.now post.old }
+    ensures ran { IfOk result (λ came. IsProgressOf job.now came.ran) }
+    ensures supply { IsReorderBufferOf job.now.task supply.new }
+    ensures post { IsQueueEndOf job.now post.new }
 {
     let size = batch_of(job.order.len());
     let position = ran.receipts.len();
@@ -164,9 +164,9 @@ fn lead_on<'a, A: Allocator + Copy, P: Pace>(
         if drawn == nth {
             return run_to(job, ran, end);
         }
-        let Made { batch, stops } = run_batch(job, drawn)?;
+        let BatchRun { batch, stops } = run_batch(job, drawn)?;
         place(job, supply, batch);
-        return Ok(Came { ran, stops });
+        return Ok(StraightRun { ran, stops });
     }
     match look(job, supply, post, nth) {
         Some(share) => do_share(job, ran, supply, tally, share),
@@ -175,20 +175,20 @@ fn lead_on<'a, A: Allocator + Copy, P: Pace>(
 }
 
 /// Does the calls in their turn, batch by batch, until all are done or the order or the thread is stopped.
-fn lead<'a, A: Allocator + Copy, P: Pace>(
+fn commit_in_order<'a, A: Allocator + Copy, P: Pace>(
     job: &InOrder<'_, 'a, A, P>,
-    ran: Ran<A>,
-    mut post: Post<'_, 'a, A>,
-) -> Result<Ran<A>, NoMemory>
+    ran: OrderProgress<A>,
+    mut post: QueueEnd<'_, 'a, A>,
+) -> Result<OrderProgress<A>, NoMemory>
     requires known { IsKnown job.now }
-    requires ran { IsRanOf job.now ran }
-    requires post { IsPostOf job.now post }
-    ensures { IfOk result (IsRanOf job.now) }
+    requires ran { IsProgressOf job.now ran }
+    requires post { IsQueueEndOf job.now post }
+    ensures { IfOk result (IsProgressOf job.now) }
 {
     let places = job.order.len() / batch_of(job.order.len()) + 1;
-    let mut supply = open_supply(job, places)?;
+    let mut supply = open_reorder_buffer(job, places)?;
     let mut tally = NONE;
-    let mut came = Came { ran, stops: false };
+    let mut came = StraightRun { ran, stops: false };
     for _ in 0..2 * job.order.len() + 2 {
         let is_whole = came.ran.receipts.len() >= job.order.len();
         if is_whole || came.stops || job.is_stopped.load(Ordering::SeqCst) {
@@ -202,15 +202,15 @@ fn lead<'a, A: Allocator + Copy, P: Pace>(
 /// Does the calls in their turn. When that ends, nobody begins a further call ahead of its turn.
 fn lead_and_close<'a, A: Allocator + Copy, P: Pace>(
     job: &InOrder<'_, 'a, A, P>,
-    ran: Ran<A>,
-    post: Post<'_, 'a, A>,
-) -> Result<Ran<A>, NoMemory>
+    ran: OrderProgress<A>,
+    post: QueueEnd<'_, 'a, A>,
+) -> Result<OrderProgress<A>, NoMemory>
     requires known { IsKnown job.now }
-    requires ran { IsRanOf job.now ran }
-    requires post { IsPostOf job.now post }
-    ensures { IfOk result (IsRanOf job.now) }
+    requires ran { IsProgressOf job.now ran }
+    requires post { IsQueueEndOf job.now post }
+    ensures { IfOk result (IsProgressOf job.now) }
 {
-    let led = lead(job, ran, post);
+    let led = commit_in_order(job, ran, post);
     job.close();
     led
 }
@@ -219,15 +219,15 @@ fn lead_and_close<'a, A: Allocator + Copy, P: Pace>(
 fn lead_beside<'a, R: Threads + Wait + Sync, A: Allocator + Copy + Send + Sync, P: Pace>(
     rt: &R,
     job: &InOrder<'_, 'a, A, P>,
-    ran: Ran<A>,
-    posts: Vec<Post<'_, 'a, A>, A>,
-    own: Post<'_, 'a, A>,
-) -> Result<Ran<A>, NoMemory>
+    ran: OrderProgress<A>,
+    posts: Vec<QueueEnd<'_, 'a, A>, A>,
+    own: QueueEnd<'_, 'a, A>,
+) -> Result<OrderProgress<A>, NoMemory>
     requires known { IsKnown job.now }
-    requires ran { IsRanOf job.now ran }
-    requires posts { All (IsPostOf job.now) posts.items }
-    requires own { IsPostOf job.now own }
-    ensures { IfOk result (IsRanOf job.now) }
+    requires ran { IsProgressOf job.now ran }
+    requires posts { All (IsQueueEndOf job.now) posts.items }
+    requires own { IsQueueEndOf job.now own }
+    ensures { IfOk result (IsProgressOf job.now) }
 {
     if posts.is_empty() {
         return lead_and_close(job, ran, own);
@@ -235,11 +235,11 @@ fn lead_beside<'a, R: Threads + Wait + Sync, A: Allocator + Copy + Send + Sync, 
     let ((), led) = join(
         rt,
         move ||
-            requires { IsKnown job.now × All (IsPostOf job.now) posts.items }
+            requires { IsKnown job.now × All (IsQueueEndOf job.now) posts.items }
         { work_all(rt, job, posts) },
-        move || -> Result<Ran<A>, NoMemory>
-            requires { IsKnown job.now × IsRanOf job.now ran × IsPostOf job.now own }
-            ensures { IfOk result (IsRanOf job.entry.now) }
+        move || -> Result<OrderProgress<A>, NoMemory>
+            requires { IsKnown job.now × IsProgressOf job.now ran × IsQueueEndOf job.now own }
+            ensures { IfOk result (IsProgressOf job.entry.now) }
         { lead_and_close(job, ran, own) },
     );
     led
@@ -253,12 +253,12 @@ fn join_errand<
     F: FnOnce() -> T + Send,
     W: FnOnce() + Send,
     L: FnOnce() -> X,
->(rt: &R, errand: F, work: W, lead: L) -> (T, X)
+>(rt: &R, errand: F, work: W, commit_in_order: L) -> (T, X)
     requires errand { F.pre errand }
     requires work { W.pre work }
-    requires lead { L.pre lead }
+    requires commit_in_order { L.pre commit_in_order }
     ensures errand { F.post errand result.0 }
-    ensures lead { L.post lead result.1 }
+    ensures commit_in_order { L.post commit_in_order result.1 }
 {
     join(
         rt,
@@ -270,7 +270,7 @@ fn join_errand<
             work();
             told
         },
-        lead,
+        commit_in_order,
     )
 }
 
@@ -285,36 +285,36 @@ fn join_all<
 >(
     rt: &R,
     job: &InOrder<'_, 'a, A, P>,
-    ran: Ran<A>,
-    posts: Vec<Post<'_, 'a, A>, A>,
-    first: Post<'_, 'a, A>,
-    own: Post<'_, 'a, A>,
+    ran: OrderProgress<A>,
+    posts: Vec<QueueEnd<'_, 'a, A>, A>,
+    first: QueueEnd<'_, 'a, A>,
+    own: QueueEnd<'_, 'a, A>,
     errand: F,
-) -> (T, Result<Ran<A>, NoMemory>)
+) -> (T, Result<OrderProgress<A>, NoMemory>)
     requires known { IsKnown job.now }
-    requires ran { IsRanOf job.now ran }
-    requires posts { All (IsPostOf job.now) posts.items }
-    requires first { IsPostOf job.now first }
-    requires own { IsPostOf job.now own }
+    requires ran { IsProgressOf job.now ran }
+    requires posts { All (IsQueueEndOf job.now) posts.items }
+    requires first { IsQueueEndOf job.now first }
+    requires own { IsQueueEndOf job.now own }
     requires errand { F.pre errand }
     ensures errand { F.post errand result.0 }
-    ensures ran { IfOk result.1 (IsRanOf job.now) }
+    ensures ran { IfOk result.1 (IsProgressOf job.now) }
 {
     join_errand(
         rt,
         errand,
         move ||
-            requires { IsKnown job.now × IsPostOf job.now first }
+            requires { IsKnown job.now × IsQueueEndOf job.now first }
         { work(job, first) },
-        move || -> Result<Ran<A>, NoMemory>
-            requires { IsKnown job.now × IsRanOf job.now ran × All (IsPostOf job.now) posts.items × IsPostOf job.now own }
-            ensures { IfOk result (IsRanOf job.entry.now) }
+        move || -> Result<OrderProgress<A>, NoMemory>
+            requires { IsKnown job.now × IsProgressOf job.now ran × All (IsQueueEndOf job.now) posts.items × IsQueueEndOf job.now own }
+            ensures { IfOk result (IsProgressOf job.entry.now) }
         { lead_beside(rt, job, ran, posts, own) },
     )
 }
 
 /// Runs the calls by so many threads, one of which does the errand before.
-pub(crate) fn run_beside<
+pub(crate) fn run_over<
     'a,
     R: Threads + Wait + Sync,
     A: Allocator + Copy + Send + Sync,
@@ -324,30 +324,31 @@ pub(crate) fn run_beside<
 >(
     rt: &R,
     job: &InOrder<'_, 'a, A, P>,
-    ran: Ran<A>,
+    ran: OrderProgress<A>,
     threads: u32,
     errand: F,
-) -> (T, Result<Ran<A>, NoMemory>)
+) -> (T, Result<OrderProgress<A>, NoMemory>)
     requires known { IsKnown job.now }
-    requires ran { IsRanOf job.now ran }
+    requires ran { IsProgressOf job.now ran }
     requires threads { 2 ≤ threads }
     requires errand { F.pre errand }
     ensures errand { F.post errand result.0 }
-    ensures ran { IfOk result.1 (IsRanOf job.now) }
+    ensures ran { IfOk result.1 (IsProgressOf job.now) }
 {
     let size = batch_of(job.order.len());
-    let Ok((line, mut pass)) = Line::open(job.alloc, job.order.len() / size + 2, job.task) else {
+    let Ok((line, mut pass)) = BatchQueue::open(job.alloc, job.order.len() / size + 2, job.task)
+    else {
         return (errand(), Err(NoMemory));
     };
     let line = &line;
-    let own = Post {
+    let own = QueueEnd {
         line,
         pass: line.another(&mut pass),
     };
-    let Ok(posts) = make_posts(job, line, &mut pass, threads - 2) else {
+    let Ok(posts) = make_queue_ends(job, line, &mut pass, threads - 2) else {
         return (errand(), Err(NoMemory));
     };
-    let first = Post { line, pass };
+    let first = QueueEnd { line, pass };
     let begun = ran.receipts.len().div_ceil(size) as u64;
     job.drawn.fetch_add(begun, Ordering::SeqCst);
     let (told, led) = join_all(rt, job, ran, posts, first, own, errand);

@@ -1,7 +1,7 @@
-//! The calls of an order: several threads run them ahead of their turn, over the cells before the first, and one thread does them with the cells in that order,
-//! each by what it found and left when it was run ahead, or by running it again where it found other cells ("speculative execution with in-order commit").
-//! The miner of Dickerson, Gazzillo, Herlihy, Koskinen, "Adding Concurrency to Smart Contracts", PODC 2017, section 4, runs calls speculatively; here the order
-//! is there before they run.
+//! The calls of an order, run ahead of their turn by threads and committed in order by one: the threads run over the cells before the first, and the one
+//! does each call by what it found and left when it was run ahead, or by running it again where it found other cells
+//! ("speculative execution with in-order commit"). The miner of Dickerson, Gazzillo, Herlihy, Koskinen, "Adding Concurrency to Smart
+//! Contracts", PODC 2017, section 4, runs calls speculatively; here the order is there before they run.
 #![tactic(auto)]
 
 mod ahead_of_turn;
@@ -9,15 +9,15 @@ mod footprints;
 mod leading;
 mod line;
 mod post;
+mod reorder_buffer;
 mod straight;
-mod supply;
 mod turns;
 mod working;
 
 ghost use Rattle.std.specs.Prelude.{◌≡◌, ◌+◌, ◌<◌, ◌≤◌, [], IfOk, IfSome, length};
-ghost use Rattle.in_order.specs.Ran.{IsKnown, IsNextRun, IsRanOf};
+ghost use Rattle.in_order.specs.Progress.{IsKnown, IsNextRun, IsProgressOf};
 
-use crate::leading::run_beside;
+use crate::leading::run_over;
 use crate::straight::{Begun, begin_straight, run_straight};
 use crate::turns::do_next;
 use call::Call;
@@ -108,7 +108,7 @@ impl<'s, 'a, A: Allocator, P: Pace> InOrder<'s, 'a, A, P> {
 
 /// What the calls of the first positions came to.
 #[derive(Drop)]
-pub struct Ran<A: Allocator> {
+pub struct OrderProgress<A: Allocator> {
     /// The receipt at each position.
     pub receipts: Vec<Receipt, A>,
     /// The locks that the call at each position asked for, each with the join of its modes.
@@ -124,11 +124,13 @@ pub struct Ran<A: Allocator> {
 /// # Errors
 ///
 /// Memory was refused.
-pub fn begin<A: Allocator + Copy, P: Pace>(job: &InOrder<'_, '_, A, P>) -> Result<Ran<A>, NoMemory>
-    ensures ran { IfOk result (IsRanOf job.now) }
+pub fn begin<A: Allocator + Copy, P: Pace>(
+    job: &InOrder<'_, '_, A, P>,
+) -> Result<OrderProgress<A>, NoMemory>
+    ensures ran { IfOk result (IsProgressOf job.now) }
     ensures none { IfOk result (λ ran. ran.receipts.items ≡ []) }
 {
-    Ok(Ran {
+    Ok(OrderProgress {
         receipts: Vec::new(job.alloc),
         touched: Vec::new(job.alloc),
         cells: job.cells.copy(job.alloc)?,
@@ -144,14 +146,14 @@ pub fn begin<A: Allocator + Copy, P: Pace>(job: &InOrder<'_, '_, A, P>) -> Resul
 /// Memory was refused.
 pub fn go_on<'a, A: Allocator + Copy, P: Pace>(
     job: &InOrder<'_, 'a, A, P>,
-    ran: Ran<A>,
+    ran: OrderProgress<A>,
     run: Option<&Finished<'a, A>>,
-) -> Result<Ran<A>, NoMemory>
+) -> Result<OrderProgress<A>, NoMemory>
     requires known { IsKnown job.now }
-    requires ran { IsRanOf job.now ran }
+    requires ran { IsProgressOf job.now ran }
     requires more { length ran.receipts.items < length job.now.order.now }
     requires run { IfSome run (λ finished. IsNextRun job.now ran finished.now) }
-    ensures ran { IfOk result (IsRanOf job.now) }
+    ensures ran { IfOk result (IsProgressOf job.now) }
     ensures one { IfOk result (λ next. length next.receipts.items ≡ length ran.receipts.items + 1) }
 {
     do_next(job, ran, None, &[], run)
@@ -164,11 +166,11 @@ pub fn go_on<'a, A: Allocator + Copy, P: Pace>(
 /// Memory was refused.
 pub fn complete<A: Allocator + Copy, P: Pace>(
     job: &InOrder<'_, '_, A, P>,
-    mut ran: Ran<A>,
-) -> Result<Ran<A>, NoMemory>
+    mut ran: OrderProgress<A>,
+) -> Result<OrderProgress<A>, NoMemory>
     requires known { IsKnown job.now }
-    requires ran { IsRanOf job.now ran }
-    ensures ran { IfOk result (IsRanOf job.now) }
+    requires ran { IsProgressOf job.now ran }
+    ensures ran { IfOk result (IsProgressOf job.now) }
     ensures whole { IfOk result (λ ran. length ran.receipts.items ≡ length job.now.order.now) }
 {
     for _position in ran.receipts.len()..job.order.len() {
@@ -193,16 +195,16 @@ pub fn run_with<
 >(
     rt: &R,
     job: &InOrder<'_, 'a, A, P>,
-    ran: Ran<A>,
+    ran: OrderProgress<A>,
     workers: u32,
     errand: F,
-) -> (T, Result<Ran<A>, NoMemory>)
+) -> (T, Result<OrderProgress<A>, NoMemory>)
     requires known { IsKnown job.now }
-    requires ran { IsRanOf job.now ran }
+    requires ran { IsProgressOf job.now ran }
     requires workers { 1 ≤ workers }
     requires errand { F.pre errand }
     ensures errand { F.post errand result.0 }
-    ensures ran { IfOk result.1 (IsRanOf job.now) }
+    ensures ran { IfOk result.1 (IsProgressOf job.now) }
 {
     let begun = match begin_straight(job, ran, workers) {
         Ok(begun) => begun,
@@ -210,7 +212,7 @@ pub fn run_with<
     };
     let Begun { ran, threads } = begun;
     if threads >= 2 {
-        return run_beside(rt, job, ran, threads, errand);
+        return run_over(rt, job, ran, threads, errand);
     }
     let told = errand();
     if threads == 0 {

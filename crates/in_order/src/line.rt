@@ -1,18 +1,18 @@
 //! Where threads hand over the batches of calls that they ran ahead of their turn.
 
 ghost use Rattle.std.specs.Prelude.{◌≡◌, All, IfOk, IfSome};
-ghost use Rattle.handover.specs.Passes.{IsPassOf};
-ghost use Rattle.in_order.specs.Handed.{IsPostOf};
-ghost use Rattle.in_order.specs.Shares.{IsShareOf};
+ghost use Rattle.typed_queue.specs.Passes.{IsPassOf};
+ghost use Rattle.in_order.specs.Handed.{IsQueueEndOf};
+ghost use Rattle.in_order.specs.Shares.{AreSpeculativeRunsOf};
 
-use crate::footprints::Share;
-use crate::post::Post;
+use crate::footprints::SpeculativeRuns;
+use crate::post::QueueEnd;
 use crate::{InOrder, Task};
-use handover::{Fact, Handover, Pass};
 use pace::Pace;
 use spec_ledger::NoMemory;
 use std::alloc::Allocator;
 use std::hint::spin_loop;
+use typed_queue::{ItemFact, QueuePass, TypedQueue};
 
 /// How often a thread tries to hand a batch over while another is in the way.
 const TRIES: u32 = 10_000;
@@ -22,33 +22,33 @@ const TRIES: u32 = 10_000;
 pub(crate) struct Batch<'a, A: Allocator> {
     /// How many batches come before it.
     pub(crate) nth: usize,
-    pub(crate) share: Share<'a, A>,
+    pub(crate) share: SpeculativeRuns<'a, A>,
 }
 
 /// Where the threads hand over the batches that they ran.
-pub(crate) type Line<'a, A> = Handover<Task<'a, A>, Batch<'a, A>, Footprints, A>;
+pub(crate) type BatchQueue<'a, A> = TypedQueue<Task<'a, A>, Batch<'a, A>, ReadWriteSets, A>;
 
 /// By what a thread calls there.
-pub(crate) type LinePass<'a, A> = Pass<Task<'a, A>, Batch<'a, A>>;
+pub(crate) type BatchPass<'a, A> = QueuePass<Task<'a, A>, Batch<'a, A>>;
 
-/// That what is handed over are footprints of calls of the task.
-pub(crate) struct Footprints;
+/// That what is handed over are read-write sets of calls of the task.
+pub(crate) struct ReadWriteSets;
 
-impl<'a, A: Allocator> Fact<Task<'a, A>, Batch<'a, A>> for Footprints {
-    ghost use Rattle.in_order.specs.Shares.{IsShareOf};
+impl<'a, A: Allocator> ItemFact<Task<'a, A>, Batch<'a, A>> for ReadWriteSets {
+    ghost use Rattle.in_order.specs.Shares.{AreSpeculativeRunsOf};
 
-    ghost holds = { λ task batch. IsShareOf task batch.share };
+    ghost holds = { λ task batch. AreSpeculativeRunsOf task batch.share };
 }
 
 /// Hands a batch over. It is dropped where another thread is in the way for too long.
 pub(crate) fn hand_over<'a, A: Allocator + Copy, P: Pace>(
     _job: &InOrder<'_, 'a, A, P>,
-    post: &mut Post<'_, 'a, A>,
+    post: &mut QueueEnd<'_, 'a, A>,
     batch: Batch<'a, A>,
 )
-    requires post { IsPostOf _job.now post.old }
-    requires batch { IsShareOf _job.now.task batch.share }
-    ensures { IsPostOf _job.now post.new }
+    requires post { IsQueueEndOf _job.now post.old }
+    requires batch { AreSpeculativeRunsOf _job.now.task batch.share }
+    ensures { IsQueueEndOf _job.now post.new }
 {
     let mut next = batch;
     for _ in 0..TRIES {
@@ -63,31 +63,31 @@ pub(crate) fn hand_over<'a, A: Allocator + Copy, P: Pace>(
 /// Takes a batch that a thread handed over.
 pub(crate) fn receive<'a, A: Allocator + Copy, P: Pace>(
     _job: &InOrder<'_, 'a, A, P>,
-    post: &mut Post<'_, 'a, A>,
+    post: &mut QueueEnd<'_, 'a, A>,
 ) -> Option<Batch<'a, A>>
-    requires { IsPostOf _job.now post.old }
-    ensures post { IsPostOf _job.now post.new }
-    ensures batch { IfSome result (λ batch. IsShareOf _job.now.task batch.share) }
+    requires { IsQueueEndOf _job.now post.old }
+    ensures post { IsQueueEndOf _job.now post.new }
+    ensures batch { IfSome result (λ batch. AreSpeculativeRunsOf _job.now.task batch.share) }
 {
     post.line.take(&mut post.pass)
 }
 
 /// A post for each of so many threads.
-pub(crate) fn make_posts<'l, 'a, A: Allocator + Copy, P: Pace>(
+pub(crate) fn make_queue_ends<'l, 'a, A: Allocator + Copy, P: Pace>(
     job: &InOrder<'_, 'a, A, P>,
-    line: &'l Line<'a, A>,
-    own: &mut LinePass<'a, A>,
+    line: &'l BatchQueue<'a, A>,
+    own: &mut BatchPass<'a, A>,
     count: u32,
-) -> Result<Vec<Post<'l, 'a, A>, A>, NoMemory>
+) -> Result<Vec<QueueEnd<'l, 'a, A>, A>, NoMemory>
     requires task { line.now.key ≡ job.now.task }
     requires own { IsPassOf line.now own.old }
     ensures own { IsPassOf line.now own.new }
-    ensures posts { IfOk result (λ posts. All (IsPostOf job.now) posts.items) }
+    ensures posts { IfOk result (λ posts. All (IsQueueEndOf job.now) posts.items) }
 {
     let mut posts = Vec::new(job.alloc);
     for _ in 0..count {
         let pass = line.another(own);
-        posts.push(Post { line, pass })?;
+        posts.push(QueueEnd { line, pass })?;
     }
     Ok(posts)
 }

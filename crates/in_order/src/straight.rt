@@ -1,12 +1,11 @@
 //! Calls in their turn, which the thread that does them runs straight over the cells.
 
 ghost use Rattle.std.specs.Prelude.{◌≡◌, ◌+◌, ◌≤◌, IfOk, length};
-ghost use Rattle.in_order.specs.Ran.{IsKnown, IsRanOf};
+ghost use Rattle.in_order.specs.Progress.{IsKnown, IsProgressOf};
 
 use crate::turns::do_next;
-use crate::{InOrder, Ran};
-use gain::threads;
-use pace::{Pace, Step};
+use crate::{InOrder, OrderProgress};
+use pace::{Pace, Step, threads};
 use spec_ledger::{NoMemory, Receipt};
 use std::alloc::Allocator;
 use std::sync::atomic::Ordering;
@@ -18,7 +17,7 @@ const FIRST: usize = 16;
 const FEW: usize = 32;
 
 /// Tells the pace the beginning of a call, and asks whether it stops the thread.
-pub(crate) fn told<P: Pace>(pace: &P, call: u32) -> bool {
+pub(crate) fn must_stop_at<P: Pace>(pace: &P, call: u32) -> bool {
     let step = Step::Attempt { call, nth: 0 };
     pace.at(step);
     pace.stops(step)
@@ -26,8 +25,8 @@ pub(crate) fn told<P: Pace>(pace: &P, call: u32) -> bool {
 
 /// What the calls of the first positions came to.
 #[derive(Drop)]
-pub(crate) struct Came<A: Allocator> {
-    pub(crate) ran: Ran<A>,
+pub(crate) struct StraightRun<A: Allocator> {
+    pub(crate) ran: OrderProgress<A>,
     /// Whether the order or the thread was stopped.
     pub(crate) stops: bool,
 }
@@ -35,31 +34,31 @@ pub(crate) struct Came<A: Allocator> {
 /// Runs the next calls straight over the cells, up to a position, as long as neither the order nor the thread is stopped.
 pub(crate) fn run_to<A: Allocator + Copy, P: Pace>(
     job: &InOrder<'_, '_, A, P>,
-    mut ran: Ran<A>,
+    mut ran: OrderProgress<A>,
     end: usize,
-) -> Result<Came<A>, NoMemory>
+) -> Result<StraightRun<A>, NoMemory>
     requires known { IsKnown job.now }
-    requires ran { IsRanOf job.now ran }
-    ensures { IfOk result (λ came. IsRanOf job.now came.ran) }
+    requires ran { IsProgressOf job.now ran }
+    ensures { IfOk result (λ came. IsProgressOf job.now came.ran) }
 {
     let end = end.min(job.order.len());
     for position in ran.receipts.len()..end {
-        if job.is_stopped.load(Ordering::SeqCst) || told(job.pace, job.order[position]) {
-            return Ok(Came { ran, stops: true });
+        if job.is_stopped.load(Ordering::SeqCst) || must_stop_at(job.pace, job.order[position]) {
+            return Ok(StraightRun { ran, stops: true });
         }
         ran = do_next(job, ran, None, &[], None)?;
     }
-    Ok(Came { ran, stops: false })
+    Ok(StraightRun { ran, stops: false })
 }
 
 /// Runs all further calls straight over the cells, as long as neither the order nor the thread is stopped.
 pub(crate) fn run_straight<A: Allocator + Copy, P: Pace>(
     job: &InOrder<'_, '_, A, P>,
-    ran: Ran<A>,
-) -> Result<Ran<A>, NoMemory>
+    ran: OrderProgress<A>,
+) -> Result<OrderProgress<A>, NoMemory>
     requires known { IsKnown job.now }
-    requires ran { IsRanOf job.now ran }
-    ensures { IfOk result (IsRanOf job.now) }
+    requires ran { IsProgressOf job.now ran }
+    ensures { IfOk result (IsProgressOf job.now) }
 {
     let came = run_to(job, ran, job.order.len())?;
     Ok(came.ran)
@@ -77,7 +76,7 @@ fn fuel_from(receipts: &[Receipt], position: usize) -> u64 {
 /// What the first calls came to, and by how many threads the others run.
 #[derive(Drop)]
 pub(crate) struct Begun<A: Allocator> {
-    pub(crate) ran: Ran<A>,
+    pub(crate) ran: OrderProgress<A>,
     /// With the caller's; 0 where it was stopped.
     pub(crate) threads: u32,
 }
@@ -85,19 +84,19 @@ pub(crate) struct Begun<A: Allocator> {
 /// Runs some calls straight, where there are so many that other threads may be wanted, and reckons by them how many threads are.
 pub(crate) fn begin_straight<A: Allocator + Copy, P: Pace>(
     job: &InOrder<'_, '_, A, P>,
-    ran: Ran<A>,
+    ran: OrderProgress<A>,
     workers: u32,
 ) -> Result<Begun<A>, NoMemory>
     requires known { IsKnown job.now }
-    requires ran { IsRanOf job.now ran }
-    ensures ran { IfOk result (λ begun. IsRanOf job.now begun.ran) }
+    requires ran { IsProgressOf job.now ran }
+    ensures ran { IfOk result (λ begun. IsProgressOf job.now begun.ran) }
 {
     let from = ran.receipts.len();
     let left = job.order.len().saturating_sub(from);
     if workers < 2 || left <= FEW {
         return Ok(Begun { ran, threads: 1 });
     }
-    let Came { ran, stops } = run_to(job, ran, from + FIRST)?;
+    let StraightRun { ran, stops } = run_to(job, ran, from + FIRST)?;
     if stops {
         return Ok(Begun { ran, threads: 0 });
     }

@@ -4,16 +4,16 @@ ghost use Rattle.std.specs.Prelude.{◌≡◌, ◌+◌, ◌<◌, IfOk, IfNone, I
 ghost use Rattle.std.specs.FinMap as finite;
 ghost use Rattle.spec_execution.specs.Exec.{Executes};
 ghost use Rattle.spec_execution.specs.Run.{ContractCall};
-ghost use Rattle.interp.specs.Lent.{setting_view};
-ghost use Rattle.in_order.specs.Ran.{IsKnown, IsNextRun, IsRanOf, IsRunOf};
+ghost use Rattle.interp.specs.Callee.{setting_view};
+ghost use Rattle.in_order.specs.Progress.{IsKnown, IsNextRun, IsProgressOf, IsRunOf};
 ghost use Rattle.in_order.specs.Shares.{IsPreparedOf};
 
-use crate::footprints::{Prepared, follow};
-use crate::{InOrder, Ran};
+use crate::footprints::{SpeculativeRun, commit_if_valid};
+use crate::{InOrder, OrderProgress};
 use interp::finished::Finished;
 use pace::Pace;
 use serial::{Executed, execute, replay};
-use spec_footprint::Access;
+use spec_execution::Access;
 use spec_ledger::NoMemory;
 use std::alloc::Allocator;
 use storage::Cells;
@@ -26,11 +26,11 @@ struct Done<A: Allocator> {
     ahead: bool,
 }
 
-/// Executes the call of a number by its footprint, where one is there and the cells hold what it found.
+/// Executes the call of a number by its read-write set, where one is there and the cells hold what it found.
 fn by_footprint<'a, A: Allocator + Copy, P: Pace>(
     job: &InOrder<'_, 'a, A, P>,
     number: u32,
-    prepared: Option<Prepared<A>>,
+    prepared: Option<SpeculativeRun<A>>,
     accesses: &[Access],
     cells: &mut Cells<A>,
 ) -> Result<Option<Executed<A>>, NoMemory>
@@ -46,7 +46,7 @@ fn by_footprint<'a, A: Allocator + Copy, P: Pace>(
     if prepared.call != number {
         return Ok(None);
     }
-    let executed = follow(&job.task, prepared, accesses, cells)?;
+    let executed = commit_if_valid(&job.task, prepared, accesses, cells)?;
     Ok(executed)
 }
 
@@ -74,7 +74,7 @@ fn by_run<'a, A: Allocator + Copy, P: Pace>(
 fn execute_one<'a, A: Allocator + Copy, P: Pace>(
     job: &InOrder<'_, 'a, A, P>,
     number: u32,
-    prepared: Option<Prepared<A>>,
+    prepared: Option<SpeculativeRun<A>>,
     accesses: &[Access],
     run: Option<&Finished<'a, A>>,
     cells: &mut Cells<A>,
@@ -111,20 +111,20 @@ fn execute_one<'a, A: Allocator + Copy, P: Pace>(
 /// Does the next call of the order with the cells, by what was made of it ahead of its turn where that serves.
 pub(crate) fn do_next<'a, A: Allocator + Copy, P: Pace>(
     job: &InOrder<'_, 'a, A, P>,
-    ran: Ran<A>,
-    prepared: Option<Prepared<A>>,
+    ran: OrderProgress<A>,
+    prepared: Option<SpeculativeRun<A>>,
     accesses: &[Access],
     run: Option<&Finished<'a, A>>,
-) -> Result<Ran<A>, NoMemory>
+) -> Result<OrderProgress<A>, NoMemory>
     requires known { IsKnown job.now }
-    requires ran { IsRanOf job.now ran }
+    requires ran { IsProgressOf job.now ran }
     requires more { length ran.receipts.items < length job.now.order.now }
     requires prepared { IfSome prepared (IsPreparedOf job.now.task accesses.now) }
     requires run { IfSome run (λ finished. IsNextRun job.now ran finished.now) }
-    ensures ran { IfOk result (IsRanOf job.now) }
+    ensures ran { IfOk result (IsProgressOf job.now) }
     ensures one { IfOk result (λ next. length next.receipts.items ≡ length ran.receipts.items + 1) }
 {
-    let Ran {
+    let OrderProgress {
         mut receipts,
         mut touched,
         mut cells,
@@ -134,7 +134,7 @@ pub(crate) fn do_next<'a, A: Allocator + Copy, P: Pace>(
     let done = execute_one(job, number, prepared, accesses, run, &mut cells)?;
     receipts.push(done.executed.receipt)?;
     touched.push(done.executed.touched)?;
-    Ok(Ran {
+    Ok(OrderProgress {
         receipts,
         touched,
         cells,

@@ -1,13 +1,13 @@
 //! Threads that run batches of calls ahead of their turn.
 
 ghost use Rattle.std.specs.Prelude.{All};
-ghost use Rattle.in_order.specs.Ran.{IsKnown};
-ghost use Rattle.in_order.specs.Handed.{IsPostOf};
+ghost use Rattle.in_order.specs.Progress.{IsKnown};
+ghost use Rattle.in_order.specs.Handed.{IsQueueEndOf};
 
 use crate::InOrder;
-use crate::ahead_of_turn::{Made, draw, run_batch};
+use crate::ahead_of_turn::{BatchRun, draw, run_batch};
 use crate::line::hand_over;
-use crate::post::Post;
+use crate::post::QueueEnd;
 use pace::Pace;
 use std::alloc::Allocator;
 use std::sync::Wait;
@@ -24,10 +24,10 @@ fn note_want<A: Allocator, P: Pace>(job: &InOrder<'_, '_, A, P>) {
 /// Runs batches and hands them over, until none is left, the pace stops the thread or it is refused memory.
 pub(crate) fn work<'a, A: Allocator + Copy, P: Pace>(
     job: &InOrder<'_, 'a, A, P>,
-    mut post: Post<'_, 'a, A>,
+    mut post: QueueEnd<'_, 'a, A>,
 )
     requires known { IsKnown job.now }
-    requires post { IsPostOf job.now post }
+    requires post { IsQueueEndOf job.now post }
 {
     for _ in 0..job.order.len() {
         let Some(nth) = draw(job) else {
@@ -37,7 +37,7 @@ pub(crate) fn work<'a, A: Allocator + Copy, P: Pace>(
             note_want(job);
             return;
         };
-        let Made { batch, stops } = made;
+        let BatchRun { batch, stops } = made;
         hand_over(job, &mut post, batch);
         if stops {
             return;
@@ -49,16 +49,16 @@ pub(crate) fn work<'a, A: Allocator + Copy, P: Pace>(
 pub(crate) fn work_all<'a, R: Threads + Wait + Sync, A: Allocator + Copy + Send + Sync, P: Pace>(
     rt: &R,
     job: &InOrder<'_, 'a, A, P>,
-    posts: Vec<Post<'_, 'a, A>, A>,
+    posts: Vec<QueueEnd<'_, 'a, A>, A>,
 )
     requires known { IsKnown job.now }
-    requires posts { All (IsPostOf job.now) posts.items }
+    requires posts { All (IsQueueEndOf job.now) posts.items }
 {
     let worked = thread::map_vec(
         rt,
         posts,
-        &|post: Post<A>|
-            requires { IsKnown job.now × IsPostOf job.now post }
+        &|post: QueueEnd<A>|
+            requires { IsKnown job.now × IsQueueEndOf job.now post }
         { work(job, post) },
     );
     if worked.is_err() {

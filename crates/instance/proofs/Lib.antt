@@ -1,3 +1,6 @@
 pub mod Constants
 pub mod Elements
 pub mod Segments
+mod Asking
+pub mod Entering
+mod Finding

@@ -1,6 +1,7 @@
-// Instances of deployed modules.
+//! Instances of deployed modules, and the function that a call or a level enters.
 #![tactic(auto)]
 
+mod opening;
 mod tables;
 
 ghost use Rattle.std.specs.Prelude.{◌≡◌, ℕ, ◌*◌, ◌≤◌, None, map, IfOk};
@@ -16,6 +17,7 @@ ghost use Rattle.memory.specs.Start.{stands, first_bytes};
 ghost use Rattle.link.specs.Parts.{tree_of};
 ghost use Rattle.instance.specs.States.{IsFresh};
 
+pub use crate::opening::{Refusal, asked_entry, entry_of};
 use crate::tables::open_table;
 use link::deployed::Deployed;
 use memory::{Linear, PAGE_LIMIT, Start};

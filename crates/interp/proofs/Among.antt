@@ -2,8 +2,8 @@
 use Rattle.std.proofs.Common.{◌≡◌, ℕ, ℤ, List, [], ◌∷◌, refl, ap}
 use Rattle.wtypes.specs.declared.Value.{Value}
 use Rattle.wtypes.specs.declared.TrapCode.{TrapCode}
-use Rattle.spec_ledger.specs.declared.Step.{Step}
-use Rattle.spec_ledger.specs.declared.Step.TheVariants.{Kept, Dropped}
+use Rattle.spec_ledger.specs.declared.TraceStep.{TraceStep}
+use Rattle.spec_ledger.specs.declared.TraceStep.TheVariants.{Kept, Dropped}
 use Rattle.spec_ledger.specs.declared.Outcome.TheVariants.{Returned, Trapped}
 use Rattle.spec_execution.specs.Configuration.{Setting, State, Config, Running, Trap}
 use Rattle.spec_execution.specs.Reduction.{Of, Ask, Answer, Next, Goes, Traps, Asks, Branches, Returns, Ended, Stuck}
@@ -17,7 +17,7 @@ use Rattle.interp.specs.Progress.{Pauses, rests, leaves, HasMoved}
 -- ---- a level that is at its end is left, where it is not stuck
 
 module _ (setting : Setting) (a : Levels) (safe : move setting a ≡ Nowhere → ⊥) where
-  by_next_around : (l : Level) (outer : List Level) (s : State) (status : ℕ) (answer : ℤ) (mark : Step) (x : Next) → move setting a ≡ back_by l outer s status answer mark x → Pauses setting a
+  by_next_around : (l : Level) (outer : List Level) (s : State) (status : ℕ) (answer : ℤ) (mark : TraceStep) (x : Next) → move setting a ≡ back_by l outer s status answer mark x → Pauses setting a
   by_next_around l outer s status answer mark (Asks (Ask n e v) go) h = leaves a _ mark h
   by_next_around l outer s status answer mark (Asks (Of op) go) h = absurd (safe h)
   by_next_around l outer s status answer mark (Asks Answer go) h = absurd (safe h)
@@ -28,7 +28,7 @@ module _ (setting : Setting) (a : Levels) (safe : move setting a ≡ Nowhere →
   by_next_around l outer s status answer mark (Ended vs) h = absurd (safe h)
   by_next_around l outer s status answer mark Stuck h = absurd (safe h)
 
-  by_config_around : (l : Level) (outer : List Level) (status : ℕ) (answer : ℤ) (mark : Step) (x : Config) → move setting a ≡ back_to l outer status answer mark x → Pauses setting a
+  by_config_around : (l : Level) (outer : List Level) (status : ℕ) (answer : ℤ) (mark : TraceStep) (x : Config) → move setting a ≡ back_to l outer status answer mark x → Pauses setting a
   by_config_around l outer status answer mark (Running s q) h = by_next_around l outer s status answer mark (next l.contract s q) h
   by_config_around l outer status answer mark (Trap s t) h = absurd (safe h)
 

@@ -7,8 +7,7 @@ use Rattle.spec_ledger.specs.declared.Outcome.{Outcome}
 use Rattle.spec_execution.specs.Levels as spec
 use Rattle.interp.specs.declared.turns.Turn.{Turn}
 use Rattle.interp.specs.declared.turns.Turn.TheVariants as turn
-use Rattle.interp.specs.Progress.{LastIs}
-use Rattle.interp.specs.Shown.{last_level}
+use Rattle.interp.specs.Progress.{LastIs, last_level}
 use Rattle.interp.specs.declared.run.Level.{Level}
 use Rattle.interp.specs.Run.{level_of, levels_of, IsAround, AreAround}
 

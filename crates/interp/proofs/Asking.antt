@@ -8,10 +8,10 @@ use Rattle.wtypes.specs.declared.TrapCode.{TrapCode}
 use Rattle.spec_ledger.specs.declared.Op.{Op}
 use Rattle.spec_ledger.specs.declared.Reply.{Reply}
 use Rattle.spec_ledger.specs.declared.Reply.TheVariants as reply
-use Rattle.spec_ledger.specs.declared.Step.{Step}
-use Rattle.spec_ledger.specs.declared.Step.TheVariants.{Did, Opened}
+use Rattle.spec_ledger.specs.declared.TraceStep.{TraceStep}
+use Rattle.spec_ledger.specs.declared.TraceStep.TheVariants.{Did, Opened}
 use Rattle.spec_execution.specs.Configuration.{Setting, Contract, Seq, End, State, Config, Running, Trap}
-use Rattle.spec_execution.specs.Reduction.{Wish, Of, Asks, reduce, wish_of, replied}
+use Rattle.spec_execution.specs.Reduction.{HostEffect, Of, Asks, reduce, effect_of, replied}
 use Rattle.spec_execution.specs.Run.{Reduces, next, IsReply}
 use Rattle.spec_execution.specs.Levels.{Level, Levels, On, by_next, move, Reached}
 use Rattle.spec_execution.proofs.Lifting.{among, lifted, frees_lifted, reached_reduced, reached_replied}
@@ -21,16 +21,16 @@ use Rattle.interp.specs.declared.turns.Turn.{Turn}
 use Rattle.interp.specs.declared.turns.Turn.TheVariants as turn
 use Rattle.interp.specs.declared.turns.Status.{Status}
 use Rattle.interp.specs.declared.turns.Status.TheVariants as status
-use Rattle.sequences.specs.Meaning.{Open, View, listed, put, height, around, state, whole, config, calling, invoking, sequence, IsOrdered, IsFineCall, IsReady, ChargedCall}
-use Rattle.sequences.specs.Calls.{HasEntered}
-use Rattle.sequences.specs.Hosting.{arity_of, host_room, host_asks}
+use Rattle.laws_reduction.specs.Meaning.{Open, View, listed, put, height, around, state, whole, config, calling, invoking, sequence, IsOrdered, IsFineCall, IsReady, ChargedCall}
+use Rattle.laws_reduction.specs.Calls.{HasEntered}
+use Rattle.laws_reduction.specs.Hosting.{arity_of, host_room, host_asks}
 use Rattle.interp.specs.Progress as progress_of
 use Rattle.interp.specs.Progress.{Pauses, IsAsking, HasMoved, HasStepped, HasAsked, HasAnswered, AnsweredAt, NextIs}
 use Rattle.interp.specs.Machine.{Seen, on, first_of, levels, config_of, progress, Reaches, IsWaiting, IsAt, IsMachine, IsCalling, IsStarted, HasStarted, IsAskedFor, HasGoneOn, HasAskedFor, params_of, going_on, value_of_reply}
 use Rattle.interp.specs.Asked.{args_taken}
-use Rattle.sequences.specs.Charging.{Stands_at, put-append}
-use Rattle.sequences.specs.Tails.{joined, with_tail, joined_next}
-use Rattle.sequences.specs.Joining.{reduce_joined, reduces_joined, stuck_joined, at_rest}
+use Rattle.laws_reduction.specs.Charging.{Stands_at, put-append}
+use Rattle.laws_reduction.specs.Tails.{joined, with_tail, joined_next}
+use Rattle.laws_reduction.specs.Joining.{reduce_joined, reduces_joined, stuck_joined, at_rest}
 use Rattle.interp.proofs.Among.{moved_among}
 use Rattle.interp.proofs.Turning.{innermost, live_of, by_frees, never_stuck, below, pauses_live, pauses_of}
 
@@ -85,7 +85,7 @@ call_asked s f w op t running charge asked = subst (λ (x : Status). HasAsked (p
 })
 
 -- a turn of a charged call of `ask` or `answer`
-pub call_gone : (s : Seen) (f : ℕ) (w : View) (marks : List Step) (t : Seen) → ChargedCall s.contract s.view f w → HasGoneOn (record s { used = s.used + 1; view = w }) f marks t → HasMoved s.setting (levels s (with_tail s.tail (config s.view))) marks (progress t).config
+pub call_gone : (s : Seen) (f : ℕ) (w : View) (marks : List TraceStep) (t : Seen) → ChargedCall s.contract s.view f w → HasGoneOn (record s { used = s.used + 1; view = w }) f marks t → HasMoved s.setting (levels s (with_tail s.tail (config s.view))) marks (progress t).config
 call_gone s f w marks t charge gone = record { charged = levels s (with_tail s.tail (calling w f)); one = charged_call s f w charge; free = gone.free; pauses = gone.pauses }
 
 module _ (s : Seen) (f : ℕ) (calls : IsCalling s f) where
@@ -137,10 +137,10 @@ module _ (s : Seen) (f : ℕ) (calls : IsCalling s f) where
     abbrev v : View
     v = s.view
 
-    abbrev wish : Wish
-    wish = wish_of s.contract.number h (drop (length v.stack - arity_of h) v.stack)
+    abbrev wish : HostEffect
+    wish = effect_of s.contract.number h (drop (length v.stack - arity_of h) v.stack)
 
-    taken : (h : HostCall) (xs : List Value) → args_taken (wish_of s.contract.number h xs) ≡ arity_of h
+    taken : (h : HostCall) (xs : List Value) → args_taken (effect_of s.contract.number h xs) ≡ arity_of h
     taken host.Get xs = refl
     taken host.Has xs = refl
     taken host.Put xs = refl
@@ -153,11 +153,11 @@ module _ (s : Seen) (f : ℕ) (calls : IsCalling s f) where
     pub room_of : height v.entries + arity_of h ≤ length v.stack
     room_of = host_room s.contract s.view f h (fine_call s f calls) calls.ordered hosted lt
 
-    pub wish_room : (w : Wish) → w ≡ wish → height v.entries + args_taken w ≤ length v.stack
-    wish_room w e = subst (λ (x : Wish). height v.entries + args_taken x ≤ length v.stack) (sym e) (subst (λ n. height v.entries + n ≤ length v.stack) (sym (taken h (drop (length v.stack - arity_of h) v.stack))) room_of)
+    pub wish_room : (w : HostEffect) → w ≡ wish → height v.entries + args_taken w ≤ length v.stack
+    wish_room w e = subst (λ (x : HostEffect). height v.entries + args_taken x ≤ length v.stack) (sym e) (subst (λ n. height v.entries + n ≤ length v.stack) (sym (taken h (drop (length v.stack - arity_of h) v.stack))) room_of)
 
-    pub wish_asks : (w : Wish) → w ≡ wish → next s.contract (state v) (invoking v f) ≡ Asks w (λ r. whole v.entries (take (length v.stack - args_taken w) v.stack) v.locals (replied r (listed v.code End)))
-    wish_asks w e = subst (λ (x : Wish). next s.contract (state v) (invoking v f) ≡ Asks x (λ r. whole v.entries (take (length v.stack - args_taken x) v.stack) v.locals (replied r (listed v.code End)))) (sym e)
+    pub wish_asks : (w : HostEffect) → w ≡ wish → next s.contract (state v) (invoking v f) ≡ Asks w (λ r. whole v.entries (take (length v.stack - args_taken w) v.stack) v.locals (replied r (listed v.code End)))
+    wish_asks w e = subst (λ (x : HostEffect). next s.contract (state v) (invoking v f) ≡ Asks x (λ r. whole v.entries (take (length v.stack - args_taken x) v.stack) v.locals (replied r (listed v.code End)))) (sym e)
         (host_asks s.contract s.view f h (fine_call s f calls) calls.ordered hosted lt
         ∙ ap (λ n. Asks wish (λ r. whole v.entries (take (length v.stack - n) v.stack) v.locals (replied r (listed v.code End)))) (sym (taken h (drop (length v.stack - arity_of h) v.stack))))
 
@@ -220,12 +220,12 @@ module _ (s : Seen) (op : Op) (r : Reply) (m : IsMachine s) (waits : s.status �
   joined_asks : next s.contract (state s.view) (joined (invoking s.view s.asked) s.tail) ≡ Asks (Of op) (λ x. joined (going_on s.view op x) s.tail)
   joined_asks = reduce_joined s.tail s.contract 0 (state s.view) [] (invoking s.view s.asked) ∙ ap (joined_next s.tail (λ ws. reduce s.contract 0 (state s.view) ws s.tail)) waiting.asks
 
-  module _ (w : View) (tail : Seq) (frees : Frees s.contract (with_tail s.tail (config (record s.view { stack = stack }))) (with_tail tail (config w))) (ordered : IsOrdered w) (ready : IsReady w) (last : w.code ≡ [] → tail ≡ End) (trace : List Step) (recorded : trace ≡ s.trace ++ Did op r ∷ []) where
+  module _ (w : View) (tail : Seq) (frees : Frees s.contract (with_tail s.tail (config (record s.view { stack = stack }))) (with_tail tail (config w))) (ordered : IsOrdered w) (ready : IsReady w) (last : w.code ≡ [] → tail ≡ End) (trace : List TraceStep) (recorded : trace ≡ s.trace ++ Did op r ∷ []) where
     freed : Frees s.contract (Running (state s.view) (joined (going_on s.view op r) s.tail)) (with_tail tail (config w))
     freed = subst (λ (x : Config). Frees s.contract (with_tail s.tail x) (with_tail tail (config w))) same_config frees
 
     come_back : Reached s.setting (first_of s) s.call.fuel trace s.used (levels s (with_tail tail (config w)))
-    come_back = subst (λ (t : List Step). Reached s.setting (first_of s) s.call.fuel t s.used (levels s (with_tail tail (config w)))) (sym recorded)
+    come_back = subst (λ (t : List TraceStep). Reached s.setting (first_of s) s.call.fuel t s.used (levels s (with_tail tail (config w)))) (sym recorded)
         (by_frees s _ s.used _ _ (reached_replied s.setting (innermost s) s.outer (first_of s) s.call.fuel s.trace s.used _ _ op _ r waiting.reached joined_asks fit) waiting.within freed)
 
     abbrev answered_seen : Seen

@@ -8,7 +8,7 @@ use Rattle.wtypes.specs.declared.Value.{Value}
 use Rattle.wtypes.specs.declared.HostCall.{HostCall}
 use Rattle.wtypes.specs.declared.HostCall.TheVariants as host
 use Rattle.spec_ledger.specs.declared.Version.{Version}
-use Rattle.spec_ledger.specs.declared.Step.{Step}
+use Rattle.spec_ledger.specs.declared.TraceStep.{TraceStep}
 use Rattle.spec_ledger.specs.declared.Outcome.TheVariants.{Returned, Trapped}
 use Rattle.spec_syntax.specs.Syntax.{FuncType, Module}
 use Rattle.spec_syntax.specs.Profile.{host_type}
@@ -22,8 +22,8 @@ use Rattle.spec_execution.proofs.Lifting.{frees_lifted, charged_lifted}
 use Rattle.spec_execution.proofs.Lifting.{at as at_level}
 use Rattle.spec_execution.specs.Turns as one
 use Rattle.spec_execution.specs.Turns.{Frees, IsAtRest}
-use Rattle.soundness.specs.Laws.{AreLinked, DeployedCallsAreSafe}
-use Rattle.soundness.proofs.Functions.{starts}
+use Rattle.laws_soundness.specs.Laws.{AreLinked, DeployedCallsAreSafe}
+use Rattle.laws_soundness.proofs.Functions.{starts}
 use Rattle.module_tree.specs.declared.instr.Instr.{Instr}
 use Rattle.module_tree.specs.declared.module.Module as in_memory
 use Rattle.module_tree.specs.Modules.{module_view}
@@ -35,19 +35,19 @@ use Rattle.interp.specs.declared.turns.Status.{Status}
 use Rattle.interp.specs.declared.turns.Status.TheVariants as status
 use Rattle.interp.specs.declared.turns.Turn.{Turn}
 use Rattle.interp.specs.declared.turns.Turn.TheVariants as turn
-use Rattle.sequences.specs.Meaning.{View, frames, state, sequence, config, calling, IsOrdered, IsReady}
-use Rattle.sequences.specs.Tails.{with_tail}
-use Rattle.frames.specs.Waiting.{alone}
-use Rattle.frames.specs.declared.parts.Entry.{Entry}
-use Rattle.frames.specs.declared.parts.Parts.{Parts}
-use Rattle.frames.specs.Steps.{AreNumbered, EachNumbered, IsCounted}
-use Rattle.frames.specs.Views.{opens_of, items_of}
-use Rattle.frames.specs.Views.{view as view_parts}
-use Rattle.interp.specs.Lent.{contract_view, contracts_view}
+use Rattle.laws_reduction.specs.Meaning.{View, frames, state, sequence, config, calling, IsOrdered, IsReady}
+use Rattle.laws_reduction.specs.Tails.{with_tail}
+use Rattle.interp_state.specs.Waiting.{alone}
+use Rattle.interp_state.specs.declared.parts.Entry.{Entry}
+use Rattle.interp_state.specs.declared.parts.Parts.{Parts}
+use Rattle.interp_state.specs.Steps.{AreNumbered, EachNumbered, IsCounted}
+use Rattle.interp_state.specs.Views.{opens_of, items_of}
+use Rattle.interp_state.specs.Views.{view as view_parts}
+use Rattle.interp.specs.Callee.{contract_view, contracts_view}
 use Rattle.interp.specs.Progress.{IsStartOf}
 use Rattle.interp.specs.Machine.{Seen, on, levels, config_of, first_config, progress, first_of, IsAt, IsLive, IsMachine, IsCalling, HasStarted, IsBegunAs, HasBegun}
-use Rattle.sequences.specs.Joining.{stuck_joined, at_rest}
-use Rattle.sequences.specs.Finding.{read_at}
+use Rattle.laws_reduction.specs.Joining.{stuck_joined, at_rest}
+use Rattle.laws_reduction.specs.Finding.{read_at}
 use Rattle.interp.proofs.Turning.{innermost, by_frees, never_stuck}
 use Rattle.interp.proofs.Asking.{same_levels}
 
@@ -228,6 +228,6 @@ firsts_same s contract tail answer outermost =
 
 pub reached_at_first : (s : Seen) → s.trace ≡ [] → s.used ≡ 0 → levels s (first_config s) ≡ first_of s → Reached s.setting (first_of s) s.call.fuel s.trace s.used (levels s (first_config s))
 reached_at_first s trace used firsts =
-    subst (λ (t : List Step). Reached s.setting (first_of s) s.call.fuel t s.used (levels s (first_config s))) (sym trace)
+    subst (λ (t : List TraceStep). Reached s.setting (first_of s) s.call.fuel t s.used (levels s (first_config s))) (sym trace)
     (subst (λ (n : ℕ). Reached s.setting (first_of s) s.call.fuel [] n (levels s (first_config s))) (sym used)
     (subst (λ (a : Levels). Reached s.setting (first_of s) s.call.fuel [] 0 a) (sym firsts) at_first))

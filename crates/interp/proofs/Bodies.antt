@@ -13,7 +13,7 @@ use Rattle.module_tree.specs.ModuleView.{func_type_view, func_view}
 use Rattle.module_tree.specs.Modules.{module_view}
 use Rattle.spec_execution.specs.Configuration.{Defined, function_at}
 use Rattle.spec_execution.specs.Places.{body_of_function}
-use Rattle.sequences.specs.Calling.{function_is}
+use Rattle.laws_reduction.specs.Calling.{function_is}
 
 module _ {A : Type 0} (m : Module A) (hosts : List HostCall) (f : ℕ) (le : length hosts ≤ f) (g : Func A) (e : slice_get m.funcs.items (f - length hosts) ≡ Some g) where
   -- a function of the module's own has its body

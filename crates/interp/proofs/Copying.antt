@@ -3,18 +3,18 @@ use Rattle.std.proofs.Common.{◌≡◌, ℕ, ℤ, ◌+◌, ◌≤◌, List, [],
 use Rattle.std.specs.Prelude.{◌<◌, reverse, Vec, vec_len, vec_capacity}
 use Rattle.std.proofs.lemmas.List.{reverse-append, map-append, take_more}
 use Rattle.wtypes.specs.declared.Value.{Value}
-use Rattle.spec_ledger.specs.declared.Step.{Step}
+use Rattle.spec_ledger.specs.declared.TraceStep.{TraceStep}
 use Rattle.spec_execution.specs.Configuration.{Contract, Seq}
 use Rattle.spec_execution.specs.Reduction.{Ask, Asks, most_pages}
 use Rattle.spec_execution.specs.Run.{next}
 use Rattle.spec_execution.specs.Levels as spec
-use Rattle.operands.specs.declared.lent.Lent.{Lent}
-use Rattle.operands.specs.Lent.{contract_of, base_of}
-use Rattle.frames.specs.Views.{view}
-use Rattle.frames.specs.Waiting.{tail_of, Waits}
-use Rattle.frames.specs.CopyLaws.{same_view, same_counted, same_tail, same_waits, same_place}
-use Rattle.sequences.specs.Meaning.{View, height, calling, invoking, state, IsOrdered}
-use Rattle.sequences.specs.Tails.{with_tail}
+use Rattle.interp_state.specs.declared.callee.Callee.{Callee}
+use Rattle.interp_state.specs.Callee.{contract_of, base_of}
+use Rattle.interp_state.specs.Views.{view}
+use Rattle.interp_state.specs.Waiting.{tail_of, Waits}
+use Rattle.interp_state.specs.CopyLaws.{same_view, same_counted, same_tail, same_waits, same_place}
+use Rattle.laws_reduction.specs.Meaning.{View, height, calling, invoking, state, IsOrdered}
+use Rattle.laws_reduction.specs.Tails.{with_tail}
 use Rattle.interp.specs.declared.turns.Status.{Status}
 use Rattle.interp.specs.declared.turns.Status.TheVariants as status
 use Rattle.interp.specs.declared.run.Level.{Level}
@@ -26,7 +26,7 @@ map-reverse f [] = refl
 map-reverse f (x ∷ xs) = ap (map f) (reverse-append (x ∷ []) xs) ∙ map-append f (reverse xs) (x ∷ []) ∙ ap (λ ys. ys ++ f x ∷ []) (map-reverse f xs) ∙ sym (reverse-append (f x ∷ []) (map f xs))
 
 -- room for one more and the open marks is room at each status
-pub room_for : {A : Type 0} (x : Status) (depth : ℕ) (v : Vec Step A) → vec_len v + depth < vec_capacity v → HasRoom x depth v
+pub room_for : {A : Type 0} (x : Status) (depth : ℕ) (v : Vec TraceStep A) → vec_len v + depth < vec_capacity v → HasRoom x depth v
 room_for status.Running depth v h = omega (arith, h)
 room_for (status.Fallen t) depth v h = omega (arith, h)
 room_for (status.Asking op) depth v h = h
@@ -34,12 +34,12 @@ room_for status.Closing depth v h = omega (arith, h)
 room_for (status.Ended o) depth v h = omega (arith, h)
 room_for status.NoMemory depth v h = tt
 
-pub room_kept : {A : Type 0} (x : Status) (depth : ℕ) (v : Vec Step A) → x ≡ status.Running → HasRoom x depth v → HasRoom status.Running depth v
+pub room_kept : {A : Type 0} (x : Status) (depth : ℕ) (v : Vec TraceStep A) → x ≡ status.Running → HasRoom x depth v → HasRoom status.Running depth v
 room_kept x depth v e h = subst (λ (y : Status). HasRoom y depth v) e h
 
 module _ {A : Type 0} (l c : Level A) (k : IsCopyOf l c) where
   pub view_same : view_of c ≡ view_of l
-  view_same = ap (λ (x : Lent A). view (base_of x) c.parts) k.lent ∙ same_view l.parts c.parts k.parts (base_of l.lent)
+  view_same = ap (λ (x : Callee A). view (base_of x) c.parts) k.lent ∙ same_view l.parts c.parts k.parts (base_of l.lent)
 
   tail_same : (args : List Value) → tail_of (args_of args c.argument) c.waiting ≡ tail_of (args_of args l.argument) l.waiting
   tail_same args = ap (λ (a : Option ℤ). tail_of (args_of args a) c.waiting) k.argument ∙ same_tail (args_of args l.argument) l.waiting c.waiting k.waiting
@@ -57,12 +57,12 @@ module _ {A : Type 0} (l c : Level A) (k : IsCopyOf l c) where
     number = h.number;
     export = h.export;
     value = h.value;
-    asks = subst (λ (x : Lent A). next (contract_of x) (state (view_of c)) (invoking (view_of c) c.asked) ≡ Asks (Ask h.number h.export h.value) (told_on (view_of c))) (sym k.lent)
+    asks = subst (λ (x : Callee A). next (contract_of x) (state (view_of c)) (invoking (view_of c) c.asked) ≡ Asks (Ask h.number h.export h.value) (told_on (view_of c))) (sym k.lent)
         (subst (λ (v : View). next (contract_of l.lent) (state v) (invoking v c.asked) ≡ Asks (Ask h.number h.export h.value) (told_on v)) (sym view_same)
         (subst (λ (f : ℕ). next (contract_of l.lent) (state (view_of l)) (invoking (view_of l) f) ≡ Asks (Ask h.number h.export h.value) (told_on (view_of l))) (sym k.asked) h.asks));
     counted = same_counted l.parts c.parts k.parts h.counted;
-    suits = ap (λ m. m.max) k.parts.instance.memory ∙ h.suits ∙ ap (λ (x : Lent A). most_pages (contract_of x).version (contract_of x).deployed.tree.memories) (sym k.lent);
-    waits = subst (λ (x : Lent A). Waits (contract_of x) (args_of args c.argument) c.waiting) (sym k.lent)
+    suits = ap (λ m. m.max) k.parts.instance.memory ∙ h.suits ∙ ap (λ (x : Callee A). most_pages (contract_of x).version (contract_of x).deployed.tree.memories) (sym k.lent);
+    waits = subst (λ (x : Callee A). Waits (contract_of x) (args_of args c.argument) c.waiting) (sym k.lent)
         (subst (λ (a : Option ℤ). Waits (contract_of l.lent) (args_of args a) c.waiting) (sym k.argument) (same_waits (contract_of l.lent) (args_of args l.argument) l.waiting c.waiting k.waiting h.waits));
     place = same_place l.waiting c.waiting k.waiting h.place;
   }

@@ -4,8 +4,8 @@ use Rattle.module_tree.specs.Modules.{module_view}
 use Rattle.spec_typing.specs.Linking.{IsLinked}
 use Rattle.spec_execution.specs.Configuration.{End, Invoke, arguments, fresh}
 use Rattle.spec_execution.specs.Levels.{no_answer}
-use Rattle.frames.specs.Steps.{IsCounted}
-use Rattle.frames.specs.Waiting.{alone}
+use Rattle.interp_state.specs.Steps.{IsCounted}
+use Rattle.interp_state.specs.Waiting.{alone}
 use Rattle.interp.specs.declared.turns.Status.TheVariants as status
 use Rattle.interp.specs.declared.run.Run.{Run}
 use Rattle.interp.specs.Progress.{IsStartOf}

@@ -3,11 +3,11 @@ use Rattle.std.proofs.Common.{[], ap, ◌∙◌, arith}
 use Rattle.spec_execution.specs.Reduction.{reduce}
 use Rattle.interp.specs.declared.turns.Status.{Status}
 use Rattle.interp.specs.declared.turns.Status.TheVariants as status
-use Rattle.sequences.specs.Meaning.{state, invoking}
+use Rattle.laws_reduction.specs.Meaning.{state, invoking}
 use Rattle.interp.specs.Progress.{IsProgress, IsProgressAt}
 use Rattle.interp.specs.Machine.{Seen, on, progress, IsAt, IsMachine, going_on}
-use Rattle.sequences.specs.Tails.{joined, joined_next}
-use Rattle.sequences.specs.Joining.{reduce_joined}
+use Rattle.laws_reduction.specs.Tails.{joined, joined_next}
+use Rattle.laws_reduction.specs.Joining.{reduce_joined}
 use Rattle.interp.proofs.Asking.{asking_among}
 use Rattle.interp.proofs.Turning.{innermost, pauses_live, pauses_fallen}
 

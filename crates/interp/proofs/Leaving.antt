@@ -4,11 +4,11 @@ use Rattle.wtypes.specs.declared.Value.{Value}
 use Rattle.wtypes.specs.declared.Value.TheVariants as value
 use Rattle.spec_ledger.specs.declared.Reply.{Reply}
 use Rattle.spec_ledger.specs.declared.Reply.TheVariants as reply
-use Rattle.spec_ledger.specs.declared.Step.{Step}
-use Rattle.spec_ledger.specs.declared.Step.TheVariants.{Opened, Kept, Dropped}
+use Rattle.spec_ledger.specs.declared.TraceStep.{TraceStep}
+use Rattle.spec_ledger.specs.declared.TraceStep.TheVariants.{Opened, Kept, Dropped}
 use Rattle.wtypes.specs.declared.TrapCode.{TrapCode}
 use Rattle.spec_execution.specs.Configuration.{Setting, Contract, Seq, End, Invoke, Config, Running, Trap, arguments, fresh}
-use Rattle.spec_execution.specs.Reduction.{Wish, Ask, Asks, reduce, replied}
+use Rattle.spec_execution.specs.Reduction.{HostEffect, Ask, Asks, reduce, replied}
 use Rattle.spec_execution.specs.Run.{next, ContractCall, opening, Opens, Refused, after_start, first, result_of}
 use Rattle.spec_execution.specs.Levels as spec
 use Rattle.spec_execution.specs.Levels.{Level, Levels, Move, On, Nowhere, move, by_next, wished, asked, entering, returned, back_by, back_to, fresh_level, first_level, trap_status, no_answer, Reached, moved, IsSafe}
@@ -17,10 +17,10 @@ use Rattle.spec_execution.specs.Turns.{Frees}
 use Rattle.spec_execution.proofs.Lifting.{frees_lifted}
 use Rattle.interp.specs.declared.turns.Status.{Status}
 use Rattle.interp.specs.declared.turns.Status.TheVariants as status
-use Rattle.sequences.specs.Meaning.{View, listed, height, whole, state, config, calling, invoking, IsOrdered, IsReady}
-use Rattle.sequences.specs.Plain.{onto}
-use Rattle.sequences.specs.Tails.{joined, with_tail, joined_next}
-use Rattle.sequences.specs.Joining.{reduce_joined}
+use Rattle.laws_reduction.specs.Meaning.{View, listed, height, whole, state, config, calling, invoking, IsOrdered, IsReady}
+use Rattle.laws_reduction.specs.Plain.{onto}
+use Rattle.laws_reduction.specs.Tails.{joined, with_tail, joined_next}
+use Rattle.laws_reduction.specs.Joining.{reduce_joined}
 use Rattle.interp.specs.Progress.{Pauses, IsSameCall, HasLeft, mark_of}
 use Rattle.interp.specs.Asked.{args_taken, number_of}
 use Rattle.interp.specs.Machine.{Seen, first_of, first_config, levels, config_at, config_of, progress, IsLive, IsMachine, IsCalling, IsBegunAs, HasGoneOn, IsLeaving, IsToClose, value_of_reply}
@@ -29,23 +29,23 @@ use Rattle.interp.proofs.Around.{IsSome}
 use Rattle.interp.proofs.Asking.{ordered_with, config_with, same_levels}
 
 -- the whole level asks, what waits behind all that is open included
-pub joined_asks : (s : Seen) (f : ℕ) (w : Wish) (go : Reply → Seq) → next s.contract (state s.view) (invoking s.view f) ≡ Asks w go → next s.contract (state s.view) (joined (invoking s.view f) s.tail) ≡ Asks w (λ r. joined (go r) s.tail)
+pub joined_asks : (s : Seen) (f : ℕ) (w : HostEffect) (go : Reply → Seq) → next s.contract (state s.view) (invoking s.view f) ≡ Asks w go → next s.contract (state s.view) (joined (invoking s.view f) s.tail) ≡ Asks w (λ r. joined (go r) s.tail)
 joined_asks s f w go e = reduce_joined s.tail s.contract 0 (state s.view) [] (invoking s.view f) ∙ ap (joined_next s.tail (λ ws. reduce s.contract 0 (state s.view) ws s.tail)) e
 
 -- what the innermost level does that asks
-pub asks_move : (s : Seen) (f : ℕ) (w : Wish) (go : Reply → Seq) → next s.contract (state s.view) (invoking s.view f) ≡ Asks w go →
+pub asks_move : (s : Seen) (f : ℕ) (w : HostEffect) (go : Reply → Seq) → next s.contract (state s.view) (invoking s.view f) ≡ Asks w go →
     move s.setting (levels s (with_tail s.tail (calling s.view f))) ≡ wished s.setting (levels s (with_tail s.tail (calling s.view f))).inner s.outer (state s.view) w (λ r. joined (go r) s.tail)
 asks_move s f w go e = ap (by_next s.setting (levels s (with_tail s.tail (calling s.view f))).inner s.outer (state s.view)) (joined_asks s f w go e)
 
 -- one free move with these marks, and free reductions of the level that it leads to
-module _ (s t : Seen) (a : Levels) (marks : List Step) (x : Config)
+module _ (s t : Seen) (a : Levels) (marks : List TraceStep) (x : Config)
     (first : move s.setting a ≡ On 0 marks (levels t x)) (frees : Frees t.contract x (config_of t)) where
   pub free_then : FreeMoves s.setting a marks (progress t).config
-  free_then = subst (λ (m : List Step). FreeMoves s.setting a m (progress t).config) (append-nil marks)
+  free_then = subst (λ (m : List TraceStep). FreeMoves s.setting a m (progress t).config) (append-nil marks)
       (one_more a (levels t x) (progress t).config marks [] first (frees_lifted s.setting (innermost t) t.outer x (config_of t) frees))
 
 -- the same parts of a call
-pub record IsBeside (s t : Seen) (marks : List Step) : Type 0 where
+pub record IsBeside (s t : Seen) (marks : List TraceStep) : Type 0 where
   pub setting : t.setting ≡ s.setting
   pub call : t.call ≡ s.call
   pub first : t.first ≡ s.first
@@ -54,7 +54,7 @@ pub record IsBeside (s t : Seen) (marks : List Step) : Type 0 where
   pub used : t.used ≡ s.used
 
 -- A run that has come to a configuration whose next move is free comes by it, with these marks, to the innermost level of another state of the machine.
-module _ (s t : Seen) (a : Levels) (marks : List Step) (x : Config) (beside : IsBeside s t marks)
+module _ (s t : Seen) (a : Levels) (marks : List TraceStep) (x : Config) (beside : IsBeside s t marks)
     (reached : Reached s.setting (first_of s) s.call.fuel s.trace s.used a) (within : s.used ≤ s.call.fuel) (first : move s.setting a ≡ On 0 marks (levels t x)) where
   pub within_beside : t.used ≤ t.call.fuel
   within_beside = subst (λ n. n ≤ t.call.fuel) (sym beside.used) (subst (λ (k : ContractCall). s.used ≤ k.fuel) (sym beside.call) within)
@@ -62,7 +62,7 @@ module _ (s t : Seen) (a : Levels) (marks : List Step) (x : Config) (beside : Is
   pub reached_beside : Reached t.setting (first_of t) t.call.fuel t.trace t.used (levels t x)
   reached_beside =
       subst (λ n. Reached t.setting (first_of t) t.call.fuel t.trace n (levels t x)) (sym beside.used)
-      (subst (λ (u : List Step). Reached t.setting (first_of t) t.call.fuel u s.used (levels t x)) (sym beside.trace)
+      (subst (λ (u : List TraceStep). Reached t.setting (first_of t) t.call.fuel u s.used (levels t x)) (sym beside.trace)
       (subst (λ f. Reached t.setting (first_level t.first f t.call.args) t.call.fuel (s.trace ++ marks) s.used (levels t x)) (sym beside.func)
       (subst (λ (c : Contract). Reached t.setting (first_level c s.func t.call.args) t.call.fuel (s.trace ++ marks) s.used (levels t x)) (sym beside.first)
       (subst (λ (k : ContractCall). Reached t.setting (first_level s.first s.func k.args) k.fuel (s.trace ++ marks) s.used (levels t x)) (sym beside.call)
@@ -74,13 +74,13 @@ module _ (s t : Seen) (a : Levels) (marks : List Step) (x : Config) (beside : Is
     pub live_then : IsLive t
     live_then = record { reached = by_frees t t.trace t.used x (with_tail t.tail (config t.view)) reached_beside within_beside frees; ordered = ordered; ready = ready; last = last; within = within_beside }
 
-pub same_call : (s t : Seen) (marks : List Step) → IsBeside s t marks → IsSameCall (progress s) (progress t)
+pub same_call : (s t : Seen) (marks : List TraceStep) → IsBeside s t marks → IsSameCall (progress s) (progress t)
 same_call s t marks b = record { setting = b.setting; call = b.call; contract = b.first; func = b.func }
 
 -- ---- an import that asks for no cell
 
 -- The innermost level has asked for something that the host is not asked for, and goes on with this reply, which a free move gives it.
-module _ (s : Seen) (f : ℕ) (calls : IsCalling s f) (w : Wish) (room : height s.view.entries + args_taken w ≤ length s.view.stack)
+module _ (s : Seen) (f : ℕ) (calls : IsCalling s f) (w : HostEffect) (room : height s.view.entries + args_taken w ≤ length s.view.stack)
     (asks : next s.contract (state s.view) (invoking s.view f) ≡ Asks w (λ r. whole s.view.entries (take (length s.view.stack - args_taken w) s.view.stack) s.view.locals (replied r (listed s.view.code End))))
     (r : Reply) (answer : ℤ) (stack : List Value) (taken : stack ≡ take (length s.view.stack - args_taken w) s.view.stack ++ value_of_reply r)
     (gives : (go : Reply → Seq) → wished s.setting (levels s (with_tail s.tail (calling s.view f))).inner s.outer (state s.view) w go ≡ On 0 [] (record { inner = record { contract = s.contract; config = Running (state s.view) (go r); answer = answer }; outer = s.outer })) where
@@ -164,7 +164,7 @@ leaving_dropped s m code fallen some =
     }
 
 -- what a level does that is left, by those around it
-abbrev left_to : (status : ℕ) (answer : ℤ) (mark : Step) → List Level → Move
+abbrev left_to : (status : ℕ) (answer : ℤ) (mark : TraceStep) → List Level → Move
 left_to status answer mark [] = Nowhere
 left_to status answer mark (l ∷ ls) = back_to l ls status answer mark l.config
 
@@ -178,7 +178,7 @@ module _ (s : Seen) (status_is : ℕ) (answer : ℤ) (keep : Bool) (leaving : Is
   ordered_back = ordered_with v 3 (reply.I32 (pos status_is)) room ordered stack taken
 
   module _ (w : View) (rest : Seq) (frees : Frees c (with_tail tail (config (record v { stack = stack }))) (with_tail rest (config w))) (ordered_w : IsOrdered w) (ready : IsReady w) (last : w.code ≡ [] → rest ≡ End)
-      (trace : List Step) (recorded : trace ≡ s.trace ++ mark_of keep ∷ []) (asked : ℕ) where
+      (trace : List TraceStep) (recorded : trace ≡ s.trace ++ mark_of keep ∷ []) (asked : ℕ) where
     abbrev back_seen : Seen
     back_seen = record s { trace = trace; contract = c; view = w; tail = rest; answer = answer; outer = others; status = status.Running; asked = asked }
 
@@ -218,7 +218,7 @@ module _ (s : Seen) (status_is : ℕ) (answer : ℤ) (keep : Bool) (leaving : Is
 -- the innermost level is left without what it did, and the one around it is the innermost
 module _ (s : Seen) (closes : IsToClose s) (opens : opening s.setting s.call ≡ Opens s.first s.func) (safe : IsSafe s.setting (first_of s) s.call.fuel)
     (c : Contract) (v : View) (tail : Seq) (f : ℕ) (before : ℤ) (others : List Level) (outer_is : s.outer ≡ record { contract = c; config = with_tail tail (calling v f); answer = before } ∷ others)
-    (trace : List Step) (recorded : trace ≡ s.trace ++ Dropped ∷ []) where
+    (trace : List TraceStep) (recorded : trace ≡ s.trace ++ Dropped ∷ []) where
   abbrev closed_seen : Seen
   closed_seen = record s { trace = trace; contract = c; view = v; tail = tail; answer = before; outer = others; status = status.Closing; asked = f }
 

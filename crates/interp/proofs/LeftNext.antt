@@ -4,7 +4,7 @@ use Rattle.std.specs.Prelude.{◌↔◌, IsTrue}
 use Rattle.wtypes.specs.declared.TrapCode.{TrapCode}
 use Rattle.spec_ledger.specs.declared.Outcome.{Outcome}
 use Rattle.spec_ledger.specs.declared.Outcome.TheVariants.{Returned, Trapped}
-use Rattle.spec_ledger.specs.declared.Step.{Step}
+use Rattle.spec_ledger.specs.declared.TraceStep.{TraceStep}
 use Rattle.spec_execution.specs.Configuration.{Setting, State, Config, Running, Trap}
 use Rattle.spec_execution.specs.Reduction.{Of, Ask, Answer, Next, Goes, Traps, Asks, Branches, Returns, Ended, Stuck}
 use Rattle.spec_execution.specs.Run.{next, result_of}
@@ -13,16 +13,16 @@ use Rattle.interp.specs.declared.turns.Status.{Status}
 use Rattle.interp.specs.declared.turns.Status.TheVariants as status
 use Rattle.interp.specs.Progress.{IsLeftNext, IsToStop, GoesOn, mark_of}
 use Rattle.interp.specs.Machine.{Seen, levels, config_at, config_of, progress, IsMachine, IsLeaving}
-use Rattle.sequences.specs.Meaning.{Item, config, state}
-use Rattle.sequences.specs.Plain.{onto}
-use Rattle.sequences.specs.Tails.{with_tail}
+use Rattle.laws_reduction.specs.Meaning.{Item, config, state}
+use Rattle.laws_reduction.specs.Plain.{onto}
+use Rattle.laws_reduction.specs.Tails.{with_tail}
 use Rattle.interp.proofs.Around.{some_around}
 use Rattle.interp.proofs.Turning.{end_values}
 use Rattle.interp.proofs.Leaving.{leaving_kept, leaving_dropped}
 use Rattle.interp.proofs.Outlook.{charged_move}
 
 -- a level that is left, where the one around it is not stuck, leads to another configuration
-module _ (setting : Setting) (a : Levels) (safe : move setting a ≡ Nowhere → ⊥) (l : Level) (outer : List Level) (told : ℕ) (answer : ℤ) (mark : Step) where
+module _ (setting : Setting) (a : Levels) (safe : move setting a ≡ Nowhere → ⊥) (l : Level) (outer : List Level) (told : ℕ) (answer : ℤ) (mark : TraceStep) where
   abbrev IsOn : Type 0
   IsOn = (b : Levels) × (move setting a ≡ On 0 (mark ∷ []) b)
 
@@ -49,7 +49,7 @@ left_next s told answer keep leaving =
 
 -- ---- it is not
 
-charged_no_free : (m : Move) (mark : Step) (b : Levels) → IsChargedMove m → m ≡ On 0 (mark ∷ []) b → ⊥
+charged_no_free : (m : Move) (mark : TraceStep) (b : Levels) → IsChargedMove m → m ≡ On 0 (mark ∷ []) b → ⊥
 charged_no_free m mark b h e = let never : 0 ≡ 1 = subst IsChargedMove e h in omega (arith, never)
 
 -- where an instruction is to come, as `stops_here` of Turning says

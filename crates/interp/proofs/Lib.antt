@@ -1,11 +1,16 @@
+pub mod Going
+pub mod Opened
+pub mod Outlook
+mod LeftNext
+pub mod Unfuelled
+pub mod Bodies
+pub mod OuterLevel
+pub mod Fresh
 pub mod Among
 pub mod Turning
 pub mod Asking
-pub mod Going
-pub mod Opened
 pub mod Beginning
 pub mod Showing
-pub mod Outlook
 pub mod Copying
 pub mod Wanting
 pub mod Stepping
@@ -14,11 +19,6 @@ pub mod Leaving
 pub mod Counting
 pub mod Wishing
 pub mod Pushing
-mod LeftNext
-pub mod Unfuelled
-pub mod Bodies
 pub mod Outermost
-pub mod OuterLevel
-pub mod Fresh
 pub mod Telling
 pub mod Striding

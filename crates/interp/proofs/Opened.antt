@@ -8,7 +8,7 @@ use Rattle.spec_syntax.specs.Syntax.{ExportDesc, ExportFunc, ExportTable, Export
 use Rattle.spec_execution.specs.Configuration.{Setting, Deployed, Contract, Function, Hosted, Defined, function_at}
 use Rattle.spec_execution.specs.Run.{ContractCall, opening, Opens, Refused, by_wrong, by_function, by_export, by_contract, wrong_argument, exported}
 use Rattle.std.proofs.lemmas.Bool.{eqb-true}
-use Rattle.frames.specs.Waiting.{IsEntry}
+use Rattle.interp_state.specs.Waiting.{IsEntry}
 
 wrong_same : (c k : Contract) (f func : ℕ) (o : Option ℕ) → by_wrong c f o ≡ Opens k func → f ≡ func
 wrong_same c k f func None e = cc

@@ -3,8 +3,9 @@ use Rattle.std.proofs.Common.{◌≡◌, List, [], ◌∷◌, Some, None, slice_
 use Rattle.wtypes.specs.declared.Value.{Value}
 use Rattle.spec_execution.specs.Levels as spec
 use Rattle.spec_execution.specs.Turns.{state_of}
-use Rattle.sequences.specs.Meaning.{state}
-use Rattle.interp.specs.Shown.{last_level, outermost}
+use Rattle.laws_reduction.specs.Meaning.{state}
+use Rattle.interp.specs.Progress.{last_level}
+use Rattle.interp.specs.Shown.{outermost}
 use Rattle.interp.specs.declared.run.Level.{Level}
 use Rattle.interp.specs.declared.run.Run.{Run}
 use Rattle.interp.specs.Machine.{progress}

@@ -1,11 +1,15 @@
 -- Whether a level is around the innermost one, by how many are kept.
-use Rattle.std.proofs.Common.{◌≡◌, ℕ, true, false, true≢false, List, [], length, sym, ap, ◌∙◌}
+use Rattle.std.proofs.Common.{◌≡◌, ℕ, true, false, true≢false, List, [], ◌∷◌, length, refl, sym, ap, ◌∙◌, arith}
 use Rattle.std.specs.Prelude.{◌==◌}
+use Rattle.std.proofs.lemmas.Bool.{ne_eqb}
 use Rattle.wtypes.specs.declared.Value.{Value}
 use Rattle.interp.specs.declared.run.Level.{Level}
 use Rattle.interp.specs.Run.{levels_of}
 use Rattle.interp.proofs.Around.{none_kept}
-use Rattle.interp.proofs.Outlook.{no_items}
+
+pub no_items : {X : Type 0} (xs : List X) → (length xs == 0) ≡ true → xs ≡ []
+no_items [] e = refl
+no_items (x ∷ xs) e = absurd (true≢false (sym e ∙ ne_eqb (length (x ∷ xs)) 0 (λ q. omega (arith, q))))
 
 -- none is kept, or some are
 pub none_at : {X : Type 0} (xs : List X) {n : ℕ} → n ≡ length xs → (n == 0) ≡ true → xs ≡ []

@@ -5,30 +5,30 @@ use Rattle.std.proofs.lemmas.Bool.{ne_eqb, eq-eqb}
 use Rattle.wtypes.specs.declared.Value.{Value}
 use Rattle.spec_ledger.specs.declared.Op.{Op}
 use Rattle.spec_ledger.specs.declared.Reply.{Reply}
-use Rattle.spec_ledger.specs.declared.Step.{Step}
-use Rattle.spec_ledger.specs.declared.Step.TheVariants.{Kept, Dropped}
+use Rattle.spec_ledger.specs.declared.TraceStep.{TraceStep}
+use Rattle.spec_ledger.specs.declared.TraceStep.TheVariants.{Kept, Dropped}
 use Rattle.wtypes.specs.declared.TrapCode.{TrapCode}
 use Rattle.spec_ledger.specs.declared.Outcome.{Outcome}
 use Rattle.spec_ledger.specs.declared.Outcome.TheVariants.{Returned, Trapped, OutOfFuel, Rejected}
 use Rattle.spec_execution.specs.Configuration as c
 use Rattle.spec_execution.specs.Configuration.{Setting, Contract, Seq, End, State, Config, Running}
-use Rattle.spec_execution.specs.Reduction.{reduce, Wish, Of, Ask, Answer, Next, Goes, Traps, Asks, Branches, Returns, Ended, Stuck}
+use Rattle.spec_execution.specs.Reduction.{reduce, HostEffect, Of, Ask, Answer, Next, Goes, Traps, Asks, Branches, Returns, Ended, Stuck}
 use Rattle.spec_execution.specs.Run.{next, IsCharged, result_of, Opening, Refused, Opens}
 use Rattle.spec_execution.specs.Levels.{Level, Levels, Move, On, Host, Over, Nowhere, asked, entering, returned, fallen, back_to, back_by, trap_status, signed_of, no_answer, by_next, by_config, move, IsChargedMove, Ends, over, exhausted, IsRun}
 use Rattle.spec_execution.proofs.Lifting.{at, among, charged_lifted}
 use Rattle.spec_execution.specs.Turns.{is_to_come, stack_in, locals_in, place_in, place_of, stack_of, locals_of}
 use Rattle.interp.specs.declared.turns.Status.{Status}
 use Rattle.interp.specs.declared.turns.Status.TheVariants as status
-use Rattle.sequences.specs.Meaning.{Item, config, calling, invoking, sequence, state, listed, height, IsOrdered}
-use Rattle.sequences.specs.Branches.{in_call}
-use Rattle.sequences.specs.Plain.{onto}
+use Rattle.laws_reduction.specs.Meaning.{Item, config, calling, invoking, sequence, state, listed, height, IsOrdered}
+use Rattle.laws_reduction.specs.Branches.{in_call}
+use Rattle.laws_reduction.specs.Plain.{onto}
 use Rattle.interp.specs.Machine.{Seen, on, first_of, levels, progress, IsAt, IsLive, IsWaiting, IsOver, IsMachine}
 use Rattle.interp.specs.Shown.{ending, ending_by, state_alone, shown_at, is_out, leaves_stack, unless_ended, stack_shown, locals_shown, place_shown, is_fallen, IsShown}
-use Rattle.frames.specs.Innermost.{function_in}
-use Rattle.sequences.specs.Charging.{height-le}
-use Rattle.sequences.specs.Rest.{is_charged}
-use Rattle.sequences.specs.Tails.{joined, with_tail, joined_next}
-use Rattle.sequences.specs.Joining.{charged_joined, reduce_joined}
+use Rattle.interp_state.specs.Innermost.{function_in}
+use Rattle.laws_reduction.specs.Charging.{height-le}
+use Rattle.laws_reduction.specs.Rest.{is_charged}
+use Rattle.laws_reduction.specs.Tails.{joined, with_tail, joined_next}
+use Rattle.laws_reduction.specs.Joining.{charged_joined, reduce_joined}
 use Rattle.interp.proofs.Showing.{stack_whole, locals_whole, place_whole, call-le, Stops, IsHidden, hidden_end, hidden_stop, stops_whole}
 use Rattle.interp.proofs.Turning.{innermost, live_of, fine, end_values, end_values_of}
 
@@ -68,7 +68,7 @@ and_false true = refl
 and_false false = refl
 
 -- a level that is left is no end
-back_by_in : (b : Bool) (l : Level) (outer : List Level) (st : State) (status : ℕ) (answer : ℤ) (mark : Step) (n : Next) → ending_by b (back_by l outer st status answer mark n) ≡ None
+back_by_in : (b : Bool) (l : Level) (outer : List Level) (st : State) (status : ℕ) (answer : ℤ) (mark : TraceStep) (n : Next) → ending_by b (back_by l outer st status answer mark n) ≡ None
 back_by_in b l outer st status answer mark (Asks (Ask n e v) go) = ap (λ (t : Bool). if t then Some OutOfFuel else None) (and_false b)
 back_by_in b l outer st status answer mark (Asks (Of op) go) = refl
 back_by_in b l outer st status answer mark (Asks Answer go) = refl
@@ -79,7 +79,7 @@ back_by_in b l outer st status answer mark (Returns charge vs) = refl
 back_by_in b l outer st status answer mark (Ended vs) = refl
 back_by_in b l outer st status answer mark Stuck = refl
 
-back_to_in : (b : Bool) (l : Level) (outer : List Level) (status : ℕ) (answer : ℤ) (mark : Step) (x : Config) → ending_by b (back_to l outer status answer mark x) ≡ None
+back_to_in : (b : Bool) (l : Level) (outer : List Level) (status : ℕ) (answer : ℤ) (mark : TraceStep) (x : Config) → ending_by b (back_to l outer status answer mark x) ≡ None
 back_to_in b l outer status answer mark (Running s q) = back_by_in b l outer s status answer mark (next l.contract s q)
 back_to_in b l outer status answer mark (c.Trap s t) = refl
 
@@ -106,7 +106,7 @@ module _ (setting : Setting) (l : Level) (outer : List Level) (st : State) (b : 
   entering_in go v (Opens k f) = ap (λ (t : Bool). if t then Some OutOfFuel else None) (and_false b)
   entering_in go v (Refused status) = ap (λ (t : Bool). if t then Some OutOfFuel else None) (and_false b)
 
-  asks_in : (w : Wish) (go : Reply → Seq) → (ending_by b (by_next setting l outer st (Asks w go)) ≡ None)
+  asks_in : (w : HostEffect) (go : Reply → Seq) → (ending_by b (by_next setting l outer st (Asks w go)) ≡ None)
   asks_in (Of op) go = refl
   asks_in (Ask n e v) go = entering_in go v (asked setting (length outer) n e)
   asks_in Answer go = ap (λ (t : Bool). if t then Some OutOfFuel else None) (and_false b)
@@ -157,10 +157,6 @@ stack_in_fuel (Some OutOfFuel) h = absurd (true≢false (sym h))
 stack_in_fuel (Some (Rejected n)) h = absurd (true≢false (sym h))
 
 -- ---- how a run ends
-
-pub no_items : {X : Type 0} (xs : List X) → (length xs == 0) ≡ true → xs ≡ []
-no_items [] e = refl
-no_items (x ∷ xs) e = absurd (true≢false (sym e ∙ ne_eqb (length (x ∷ xs)) 0 (λ q. omega (arith, q))))
 
 module _ (s : Seen) (m : IsMachine s) (running : s.status ≡ status.Running) where
   at_end : s.view.code ≡ [] → ending (progress (on s status.Running)) ≡ ending_by (s.used == s.call.fuel) (returned (onto s.view.stack []) s.outer)
@@ -216,7 +212,7 @@ falls_on s t e around = subst (λ (x : Status). ending (progress (on s x)) ≡ N
 
 -- a run never ends as a call that is refused
 module _ (n : ℕ) where
-  not_back_by : (l : Level) (outer : List Level) (st : State) (status : ℕ) (answer : ℤ) (mark : Step) (x : Next) → back_by l outer st status answer mark x ≡ Over (Rejected n) → ⊥
+  not_back_by : (l : Level) (outer : List Level) (st : State) (status : ℕ) (answer : ℤ) (mark : TraceStep) (x : Next) → back_by l outer st status answer mark x ≡ Over (Rejected n) → ⊥
   not_back_by l outer st status answer mark (Asks (Ask k e v) go) h = cc
   not_back_by l outer st status answer mark (Asks (Of op) go) h = cc
   not_back_by l outer st status answer mark (Asks Answer go) h = cc
@@ -227,7 +223,7 @@ module _ (n : ℕ) where
   not_back_by l outer st status answer mark (Ended vs) h = cc
   not_back_by l outer st status answer mark Stuck h = cc
 
-  not_back_to : (l : Level) (outer : List Level) (status : ℕ) (answer : ℤ) (mark : Step) (x : Config) → back_to l outer status answer mark x ≡ Over (Rejected n) → ⊥
+  not_back_to : (l : Level) (outer : List Level) (status : ℕ) (answer : ℤ) (mark : TraceStep) (x : Config) → back_to l outer status answer mark x ≡ Over (Rejected n) → ⊥
   not_back_to l outer status answer mark (Running s q) h = not_back_by l outer s status answer mark (next l.contract s q) h
   not_back_to l outer status answer mark (c.Trap s t) h = cc
 
@@ -264,7 +260,7 @@ module _ (n : ℕ) where
 no_rejection : (s : Seen) → IsMachine s → (n : ℕ) → s.status ≡ status.Ended (Rejected n) → ⊥
 no_rejection s m n e = by_run (over_of s m (Rejected n) e).run
   where
-    no_end : (setting : Setting) (limit used : ℕ) (a : Levels) (o : Outcome) (marks : List Step) → o ≡ Rejected n → Ends setting limit used a o marks → ⊥
+    no_end : (setting : Setting) (limit used : ℕ) (a : Levels) (o : Outcome) (marks : List TraceStep) → o ≡ Rejected n → Ends setting limit used a o marks → ⊥
     no_end setting limit used a o marks is (over u x out h) = not_config n setting x.inner x.outer x.inner.config (h ∙ ap Over is)
     no_end setting limit used a o marks is (exhausted x h) = let no : OutOfFuel ≡ Rejected n = is in cc
 

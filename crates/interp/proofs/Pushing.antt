@@ -5,21 +5,21 @@ use Rattle.std.proofs.lemmas.Bool.{ltb-false}
 use Rattle.wtypes.specs.declared.Value.{Value}
 use Rattle.wtypes.specs.declared.Value.TheVariants.{I64}
 use Rattle.wtypes.specs.declared.HostCall.{HostCall}
-use Rattle.spec_ledger.specs.declared.Step.{Step}
-use Rattle.spec_ledger.specs.declared.Step.TheVariants.{Opened}
+use Rattle.spec_ledger.specs.declared.TraceStep.{TraceStep}
+use Rattle.spec_ledger.specs.declared.TraceStep.TheVariants.{Opened}
 use Rattle.spec_syntax.specs.Syntax.{FuncType, Func}
 use Rattle.spec_execution.specs.Configuration.{Setting, Contract, Function, Hosted, Defined}
 use Rattle.spec_execution.specs.Run.{Opens}
 use Rattle.spec_execution.specs.Levels.{asked, asks_in}
 use Rattle.link.specs.declared.deployed.Deployed.{Deployed}
-use Rattle.opening.specs.Views.{contract_of}
-use Rattle.opening.proofs.Entering.{asked_for}
-use Rattle.frames.specs.Waiting.{IsEntry}
-use Rattle.frames.specs.declared.parts.Parts.{Parts}
-use Rattle.frames.specs.declared.waiting.Waiting.{Waiting}
-use Rattle.operands.specs.declared.lent.Lent.{Lent}
-use Rattle.sequences.specs.Meaning.{calling}
-use Rattle.sequences.specs.Tails.{with_tail}
+use Rattle.instance.specs.Views.{contract_of}
+use Rattle.instance.proofs.Entering.{asked_for}
+use Rattle.interp_state.specs.Waiting.{IsEntry}
+use Rattle.interp_state.specs.declared.parts.Parts.{Parts}
+use Rattle.interp_state.specs.declared.waiting.Waiting.{Waiting}
+use Rattle.interp_state.specs.declared.callee.Callee.{Callee}
+use Rattle.laws_reduction.specs.Meaning.{calling}
+use Rattle.laws_reduction.specs.Tails.{with_tail}
 use Rattle.interp.specs.declared.turns.Status.TheVariants as status
 use Rattle.interp.specs.declared.turns.Turn.TheVariants as turn
 use Rattle.interp.specs.declared.run.Run.{Run}
@@ -48,7 +48,7 @@ entry_own setting level number export k entry e = let f = asked_for k entry sett
 -- ---- what is kept
 
 -- a run that is to call may give up, whatever room was made
-pub begun_of : {A : Type 0} (r : Run A) (f : ℕ) (trace : Vec Step A) (outer : Vec (Level A) A) → IsToCall r f → trace.items ≡ r.trace.items → outer.items ≡ r.outer.items → IsBegun (record r { trace = trace; outer = outer })
+pub begun_of : {A : Type 0} (r : Run A) (f : ℕ) (trace : Vec TraceStep A) (outer : Vec (Level A) A) → IsToCall r f → trace.items ≡ r.trace.items → outer.items ≡ r.outer.items → IsBegun (record r { trace = trace; outer = outer })
 begun_of r f trace outer k e h = record {
   opens = k.calling.opens;
   safe = k.calling.safe;
@@ -60,10 +60,10 @@ begun_of r f trace outer k e h = record {
 }
 
 -- and enters the level from there
-pub pushed_from : {A : Type 0} (r : Run A) (trace : Vec Step A) (outer : Vec (Level A) A) (l : Level A) (t : Run A) → trace.items ≡ r.trace.items → outer.items ≡ r.outer.items → HasPushed (record r { trace = trace; outer = outer }) l t → HasPushed r l t
+pub pushed_from : {A : Type 0} (r : Run A) (trace : Vec TraceStep A) (outer : Vec (Level A) A) (l : Level A) (t : Run A) → trace.items ≡ r.trace.items → outer.items ≡ r.outer.items → HasPushed (record r { trace = trace; outer = outer }) l t → HasPushed r l t
 pushed_from r trace outer l t e h p = record {
   same = p.same;
-  trace = p.trace ∙ ap (λ (u : List Step). u ++ Opened ∷ []) e;
+  trace = p.trace ∙ ap (λ (u : List TraceStep). u ++ Opened ∷ []) e;
   outer = p.outer ∙ ap (λ (ls : List (Level _)). ls ++ waiting_level r ∷ []) h;
   room = p.room;
 }
@@ -74,17 +74,17 @@ same_call_of r t n l pushed h =
     record { setting = same.setting; call = same.call; contract = same.contract; func = same.func }
 
 -- the fields that change places, one after another
-module _ {A : Type 0} (r : Run A) (l : Level A) (lent : Lent A) (argument : Option ℤ) (parts : Parts A) (waiting : Option (Waiting A)) (answer : ℤ) where
+module _ {A : Type 0} (r : Run A) (l : Level A) (lent : Callee A) (argument : Option ℤ) (parts : Parts A) (waiting : Option (Waiting A)) (answer : ℤ) where
   pub waiting_same : lent ≡ r.lent → argument ≡ r.argument → parts ≡ r.parts → waiting ≡ r.waiting → answer ≡ r.answer → (let k : Level A = record { lent = lent; argument = argument; parts = parts; waiting = waiting; asked = r.asked; answer = answer } in k) ≡ waiting_level r
   waiting_same e f g h i =
-      ap₂ (λ (x : Lent A) (y : Option ℤ). let k : Level A = record { lent = x; argument = y; parts = parts; waiting = waiting; asked = r.asked; answer = answer } in k) e f
+      ap₂ (λ (x : Callee A) (y : Option ℤ). let k : Level A = record { lent = x; argument = y; parts = parts; waiting = waiting; asked = r.asked; answer = answer } in k) e f
       ∙ ap₂ (λ (x : Parts A) (y : Option (Waiting A)). let k : Level A = record { lent = r.lent; argument = r.argument; parts = x; waiting = y; asked = r.asked; answer = answer } in k) g h
       ∙ ap (λ (x : ℤ). let k : Level A = record { lent = r.lent; argument = r.argument; parts = r.parts; waiting = r.waiting; asked = r.asked; answer = x } in k) i
 
-  pub pushed_same : (trace : Vec Step A) (outer : Vec (Level A) A) → lent ≡ l.lent → argument ≡ l.argument → parts ≡ l.parts → waiting ≡ l.waiting → answer ≡ l.answer →
+  pub pushed_same : (trace : Vec TraceStep A) (outer : Vec (Level A) A) → lent ≡ l.lent → argument ≡ l.argument → parts ≡ l.parts → waiting ≡ l.waiting → answer ≡ l.answer →
       record r { trace = trace; entered = r.entered + 1; status = status.Running; lent = lent; argument = argument; parts = parts; waiting = waiting; answer = answer; outer = outer } ≡ pushed_run r l trace outer
   pushed_same trace outer e f g h i =
-      ap₂ (λ (x : Lent A) (y : Option ℤ). record r { trace = trace; entered = r.entered + 1; status = status.Running; lent = x; argument = y; parts = parts; waiting = waiting; answer = answer; outer = outer }) e f
+      ap₂ (λ (x : Callee A) (y : Option ℤ). record r { trace = trace; entered = r.entered + 1; status = status.Running; lent = x; argument = y; parts = parts; waiting = waiting; answer = answer; outer = outer }) e f
       ∙ ap₂ (λ (x : Parts A) (y : Option (Waiting A)). record r { trace = trace; entered = r.entered + 1; status = status.Running; lent = l.lent; argument = l.argument; parts = x; waiting = y; answer = answer; outer = outer }) g h
       ∙ ap (λ (x : ℤ). record r { trace = trace; entered = r.entered + 1; status = status.Running; lent = l.lent; argument = l.argument; parts = l.parts; waiting = l.waiting; answer = x; outer = outer }) i
 

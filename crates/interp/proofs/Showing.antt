@@ -5,12 +5,12 @@ use Rattle.wtypes.specs.declared.Value.{Value}
 use Rattle.spec_execution.specs.Configuration as c
 use Rattle.spec_execution.specs.Configuration.{Seq, End, Val, Code}
 use Rattle.spec_execution.specs.Turns.{place_in, stack_in, locals_in}
-use Rattle.sequences.specs.Meaning.{Item, Scope, Block, Loop, Frame, Open, put, outer, item, height, around, whole, Stands, outermost}
-use Rattle.sequences.specs.Branches.{in_call, from_call}
-use Rattle.frames.specs.Innermost.{function_of, function_in}
-use Rattle.sequences.specs.Tails.{joined}
-use Rattle.sequences.specs.Charging.{height-le}
-use Rattle.sequences.specs.Joining.{joined_end}
+use Rattle.laws_reduction.specs.Meaning.{Item, Scope, Block, Loop, Frame, Open, put, outer, item, height, around, whole, Stands, outermost}
+use Rattle.laws_reduction.specs.Branches.{in_call, from_call}
+use Rattle.interp_state.specs.Innermost.{function_of, function_in}
+use Rattle.laws_reduction.specs.Tails.{joined}
+use Rattle.laws_reduction.specs.Charging.{height-le}
+use Rattle.laws_reduction.specs.Joining.{joined_end}
 
 -- ---- values before a sequence
 

@@ -4,12 +4,12 @@ use Rattle.spec_execution.specs.Configuration.{Contract, Seq, End}
 use Rattle.spec_execution.specs.Run.{ContractCall}
 use Rattle.spec_execution.specs.Turns.{Frees}
 use Rattle.spec_execution.specs.Turns as free
-use Rattle.sequences.specs.Meaning.{View, config, IsOrdered, IsReady, Charged}
-use Rattle.sequences.specs.Tails.{with_tail}
-use Rattle.sequences.specs.Rest.{Frees_join}
-use Rattle.sequences.specs.Joining.{frees_joined}
-use Rattle.execute.specs.Strides.{Walks, IsSafeFor}
-use Rattle.execute.specs.Strides as walk
+use Rattle.laws_reduction.specs.Meaning.{View, config, IsOrdered, IsReady, Charged}
+use Rattle.laws_reduction.specs.Tails.{with_tail}
+use Rattle.laws_reduction.specs.Rest.{Frees_join}
+use Rattle.laws_reduction.specs.Joining.{frees_joined}
+use Rattle.interp_steps.specs.StraightLine.{Walks, IsSafeFor}
+use Rattle.interp_steps.specs.StraightLine as walk
 use Rattle.interp.specs.declared.turns.Status.TheVariants as status
 use Rattle.interp.specs.Machine.{Seen, progress, IsMachine}
 use Rattle.interp.specs.Going.{AreSteps}

@@ -4,8 +4,8 @@ use Rattle.std.proofs.lemmas.List.{replicate_more}
 use Rattle.std.specs.Prelude.{replicate}
 use Rattle.wtypes.specs.declared.Value.{Value}
 use Rattle.wtypes.specs.declared.TrapCode.{TrapCode}
-use Rattle.spec_ledger.specs.declared.Step.{Step}
-use Rattle.spec_ledger.specs.declared.Step.TheVariants.{Dropped}
+use Rattle.spec_ledger.specs.declared.TraceStep.{TraceStep}
+use Rattle.spec_ledger.specs.declared.TraceStep.TheVariants.{Dropped}
 use Rattle.spec_ledger.specs.declared.Outcome.{Outcome}
 use Rattle.spec_ledger.specs.declared.Outcome.TheVariants.{Returned, Trapped, OutOfFuel, Rejected}
 use Rattle.spec_execution.specs.Configuration.{Setting, Contract, Seq, End, State, Config, Running, Trap}
@@ -17,13 +17,13 @@ use Rattle.spec_execution.proofs.Lifting.{charged_lifted, reached_reduced, reach
 use Rattle.spec_execution.specs.Turns.{Frees, none, by_trap, state_of}
 use Rattle.interp.specs.declared.turns.Status.{Status}
 use Rattle.interp.specs.declared.turns.Status.TheVariants as status
-use Rattle.sequences.specs.Meaning.{Item, View, config, sequence, state, IsOrdered, IsFine, IsFineAfter, IsSafeAt, IsReady}
-use Rattle.sequences.specs.Plain.{onto}
+use Rattle.laws_reduction.specs.Meaning.{Item, View, config, sequence, state, IsOrdered, IsFine, IsFineAfter, IsSafeAt, IsReady}
+use Rattle.laws_reduction.specs.Plain.{onto}
 use Rattle.interp.specs.Progress.{Pauses, IsSameCall, GoesOn, HasStepped, IsToStop, EndsAt, IsLast, IsDone}
 use Rattle.interp.specs.Machine.{Seen, on, first_of, levels, config_at, config_of, progress, Reaches, IsLive, IsFallen, IsShut, IsAt, IsMachine}
-use Rattle.sequences.specs.Tails.{joined, with_tail}
-use Rattle.sequences.specs.Joining.{joined_end, reduces_joined, stuck_joined, charged_joined, at_rest}
-use Rattle.sequences.specs.Rest.{is_charged, is_ended}
+use Rattle.laws_reduction.specs.Tails.{joined, with_tail}
+use Rattle.laws_reduction.specs.Joining.{joined_end, reduces_joined, stuck_joined, charged_joined, at_rest}
+use Rattle.laws_reduction.specs.Rest.{is_charged, is_ended}
 use Rattle.interp.proofs.Among.{at_rest_pauses, moved_among}
 
 -- its innermost level
@@ -35,10 +35,10 @@ live_of s m e = subst (IsAt s) e m.at
 
 module _ (s : Seen) where
   -- what is reached comes by free reductions to others
-  pub by_frees : (trace : List Step) (used : ℕ) (a b : Config) → Reached s.setting (first_of s) s.call.fuel trace used (levels s a) → used ≤ s.call.fuel → Frees s.contract a b → Reached s.setting (first_of s) s.call.fuel trace used (levels s b)
+  pub by_frees : (trace : List TraceStep) (used : ℕ) (a b : Config) → Reached s.setting (first_of s) s.call.fuel trace used (levels s a) → used ≤ s.call.fuel → Frees s.contract a b → Reached s.setting (first_of s) s.call.fuel trace used (levels s b)
   by_frees trace used a b r le f = reached_by_frees s.setting (innermost s) s.outer (first_of s) s.call.fuel trace used a b r le f
 
-  pub never_stuck : IsSafe s.setting (first_of s) s.call.fuel → (trace : List Step) (used : ℕ) (x : State) (q : Seq) → Reached s.setting (first_of s) s.call.fuel trace used (levels s (Running x q)) → IsStuck (next s.contract x q) → ⊥
+  pub never_stuck : IsSafe s.setting (first_of s) s.call.fuel → (trace : List TraceStep) (used : ℕ) (x : State) (q : Seq) → Reached s.setting (first_of s) s.call.fuel trace used (levels s (Running x q)) → IsStuck (next s.contract x q) → ⊥
   never_stuck safe trace used x q r h = not_stuck s.setting (innermost s) s.outer (first_of s) s.call.fuel safe trace used x q r h
 
   -- where it goes on or has trapped, an instruction is to come, it has ended, or the innermost level is left next
@@ -109,7 +109,7 @@ shut_more s t l shut same outer trace used = record {
       (subst (λ (z : Setting). Reached z (first_of s) s.call.fuel shut.before s.used shut.last) (sym same.setting) shut.reached))));
   out = used ∙ shut.out ∙ ap (λ (k : ContractCall). k.fuel) (sym same.call);
   charged = subst (λ (z : Setting). IsChargedMove (move z shut.last)) (sym same.setting) shut.charged;
-  trace_is = trace ∙ ap (λ (u : List Step). u ++ Dropped ∷ []) shut.trace_is ∙ append_assoc shut.before (replicate shut.inside Dropped) (Dropped ∷ []) ∙ ap (λ (u : List Step). shut.before ++ u) (replicate_push shut.inside);
+  trace_is = trace ∙ ap (λ (u : List TraceStep). u ++ Dropped ∷ []) shut.trace_is ∙ append_assoc shut.before (replicate shut.inside Dropped) (Dropped ∷ []) ∙ ap (λ (u : List TraceStep). shut.before ++ u) (replicate_push shut.inside);
   left = let count = shut.left in omega (arith, count, ap length outer);
 }
 
@@ -244,7 +244,7 @@ module _ (s : Seen) (opens : opening s.setting s.call ≡ Opens s.first s.func) 
     where
       by_status : (x : Status) → IsToStop (progress (on s x)) x → EndsAt (progress (on s x)) OutOfFuel x
       by_status status.Running charged =
-          subst (λ (marks : List Step). Ends s.setting s.call.fuel s.used (progress (on s status.Running)).config OutOfFuel marks) (ap (λ (ls : List Level). replicate (length ls) Dropped) outermost)
+          subst (λ (marks : List TraceStep). Ends s.setting s.call.fuel s.used (progress (on s status.Running)).config OutOfFuel marks) (ap (λ (ls : List Level). replicate (length ls) Dropped) outermost)
           (subst (λ (n : ℕ). Ends s.setting s.call.fuel n (progress (on s status.Running)).config OutOfFuel (closing (progress (on s status.Running)).config)) (sym shut.out) (exhausted (progress (on s status.Running)).config charged))
       by_status (status.Fallen code) never = absurd never
       by_status (status.Asking op) never = absurd never

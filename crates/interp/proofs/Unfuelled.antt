@@ -9,7 +9,7 @@ use Rattle.spec_execution.specs.Reduction.{Next, Goes, Traps, Asks, Branches, Re
 use Rattle.spec_execution.specs.Run.{ContractCall, next, opening, Opens, after_start}
 use Rattle.spec_execution.specs.Levels.{Level, Nowhere, by_next, alone, first_level, IsChargedMove, Reached, at_first, moved, exhausted, IsRun, IsSafe, RunsWith, ran}
 use Rattle.spec_execution.specs.Places.{body_of, body_of_function}
-use Rattle.soundness.proofs.Weighing.{weight, free_weight, Lighter, one}
+use Rattle.laws_soundness.proofs.Weighing.{weight, free_weight, Lighter, one}
 use Rattle.interp.specs.Starting.{first_to_run, HasCode}
 
 -- ---- what comes next is charged, seen from inside

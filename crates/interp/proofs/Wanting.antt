@@ -5,9 +5,9 @@ use Rattle.spec_execution.specs.Configuration as c
 use Rattle.spec_execution.specs.Configuration.{Seq, End, Val, Code}
 use Rattle.interp.specs.declared.turns.Status.{Status}
 use Rattle.interp.specs.declared.turns.Status.TheVariants as status
-use Rattle.sequences.specs.Meaning.{Item, Scope, Block, Loop, Frame, Open, put, outer, item, height, around, whole, sequence, listed}
-use Rattle.sequences.specs.Tails.{joined}
-use Rattle.execute.specs.Steps.{MayTake}
+use Rattle.laws_reduction.specs.Meaning.{Item, Scope, Block, Loop, Frame, Open, put, outer, item, height, around, whole, sequence, listed}
+use Rattle.laws_reduction.specs.Tails.{joined}
+use Rattle.interp_steps.specs.Steps.{MayTake}
 use Rattle.interp.specs.Progress.{instr_in, MayTakeMemory}
 use Rattle.interp.specs.Machine.{Seen, on, progress, IsMachine}
 use Rattle.interp.proofs.Showing.{Stops, stops_whole}

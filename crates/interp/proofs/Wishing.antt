@@ -3,9 +3,9 @@ use Rattle.std.proofs.Common.{◌≡◌, ℕ, ◌<◌, ◌-◌, length, drop, ap
 use Rattle.std.specs.Prelude.{slice_index_or}
 use Rattle.wtypes.specs.declared.HostCall.{HostCall}
 use Rattle.wtypes.specs.declared.HostCall.TheVariants.{Get}
-use Rattle.spec_execution.specs.Reduction.{Wish, wish_of}
-use Rattle.sequences.specs.Finding.{read_at}
-use Rattle.sequences.specs.Hosting.{arity_of}
+use Rattle.spec_execution.specs.Reduction.{HostEffect, effect_of}
+use Rattle.laws_reduction.specs.Finding.{read_at}
+use Rattle.laws_reduction.specs.Hosting.{arity_of}
 use Rattle.interp.specs.declared.turns.Turn.{Turn}
 use Rattle.interp.specs.declared.turns.Turn.TheVariants as turn
 use Rattle.interp.specs.declared.run.Run.{Run}
@@ -27,11 +27,11 @@ to_call r f k = record {
   room = k.room;
 }
 
-pub is_wished : {A : Type 0} (r : Run A) (f : ℕ) → IsToCall r f → f < length r.lent.hosts.now → (w : Wish) → let h : HostCall = slice_index_or r.lent.hosts.now f Get in
-    (n : ℕ) → n ≡ length r.parts.stack.items → w ≡ wish_of r.lent.number h (drop (n - arity_of h) r.parts.stack.items) → IsWished (record r { asked = f }) w
+pub is_wished : {A : Type 0} (r : Run A) (f : ℕ) → IsToCall r f → f < length r.lent.hosts.now → (w : HostEffect) → let h : HostCall = slice_index_or r.lent.hosts.now f Get in
+    (n : ℕ) → n ≡ length r.parts.stack.items → w ≡ effect_of r.lent.number h (drop (n - arity_of h) r.parts.stack.items) → IsWished (record r { asked = f }) w
 is_wished r f k lt w n len e =
     let h : HostCall = slice_index_or r.lent.hosts.now f Get in
-    let same : w ≡ wish_of r.lent.number h (drop (length r.parts.stack.items - arity_of h) r.parts.stack.items) = e ∙ ap (λ m. wish_of r.lent.number h (drop (m - arity_of h) r.parts.stack.items)) len in
+    let same : w ≡ effect_of r.lent.number h (drop (length r.parts.stack.items - arity_of h) r.parts.stack.items) = e ∙ ap (λ m. effect_of r.lent.number h (drop (m - arity_of h) r.parts.stack.items)) len in
     record {
       room = wish_room (seen r) f k.calling h (read_at r.lent.hosts.now f Get lt) lt w same;
       asks = wish_asks (seen r) f k.calling h (read_at r.lent.hosts.now f Get lt) lt w same;

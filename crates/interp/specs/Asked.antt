@@ -3,17 +3,17 @@ use Rattle.std.specs.Prelude.{ℕ, ℤ, pos, Option, Some, None}
 use Rattle.wtypes.specs.declared.Value.{Value}
 use Rattle.spec_execution.specs.Reduction as spec
 use Rattle.spec_execution.specs.Levels.{signed_of}
-use Rattle.interp.specs.declared.replies.Wish.{Wish}
-use Rattle.interp.specs.declared.replies.Wish.TheVariants as wish
+use Rattle.interp.specs.declared.replies.HostEffect.{HostEffect}
+use Rattle.interp.specs.declared.replies.HostEffect.TheVariants as wish
 use Rattle.interp.specs.Machine.{params_of}
 
-abbrev pub wish_of_code : Wish → spec.Wish
-wish_of_code (wish.Of op) = spec.Of op
-wish_of_code (wish.Ask number export argument) = spec.Ask number export argument
-wish_of_code wish.Answer = spec.Answer
+abbrev pub effect_of_code : HostEffect → spec.HostEffect
+effect_of_code (wish.Of op) = spec.Of op
+effect_of_code (wish.Ask number export argument) = spec.Ask number export argument
+effect_of_code wish.Answer = spec.Answer
 
 -- how many arguments it takes
-abbrev pub args_taken : spec.Wish → ℕ
+abbrev pub args_taken : spec.HostEffect → ℕ
 args_taken (spec.Of op) = params_of op
 args_taken (spec.Ask number export argument) = 3
 args_taken spec.Answer = 0

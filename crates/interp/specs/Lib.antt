@@ -1,10 +1,10 @@
+pub mod Starting
+pub mod Shown
 pub mod Codes
 pub mod Played
 pub mod Progress
 pub mod Going
 pub mod Machine
 pub mod Asked
-pub mod Lent
+pub mod Callee
 pub mod Run
-pub mod Starting
-pub mod Shown

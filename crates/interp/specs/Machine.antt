@@ -7,8 +7,8 @@ use Rattle.spec_ledger.specs.declared.Op.{Op}
 use Rattle.spec_ledger.specs.declared.Op.TheVariants.{Get, Has, Put, Del, Add, Total}
 use Rattle.spec_ledger.specs.declared.Reply.{Reply}
 use Rattle.spec_ledger.specs.declared.Reply.TheVariants as reply
-use Rattle.spec_ledger.specs.declared.Step.{Step}
-use Rattle.spec_ledger.specs.declared.Step.TheVariants.{Opened, Dropped}
+use Rattle.spec_ledger.specs.declared.TraceStep.{TraceStep}
+use Rattle.spec_ledger.specs.declared.TraceStep.TheVariants.{Opened, Dropped}
 use Rattle.spec_ledger.specs.declared.Outcome.{Outcome}
 use Rattle.spec_ledger.specs.declared.Outcome.TheVariants.{Returned, Trapped, OutOfFuel, Rejected}
 use Rattle.spec_execution.specs.Configuration.{Setting, Contract, Seq, End, Config, Running, Trap, fresh}
@@ -20,10 +20,10 @@ use Rattle.interp.specs.declared.turns.Status.{Status}
 use Rattle.interp.specs.declared.turns.Status.TheVariants as status
 use Rattle.interp.specs.declared.turns.Turn.{Turn}
 use Rattle.interp.specs.declared.turns.Turn.TheVariants as turn
-use Rattle.sequences.specs.Meaning.{View, height, whole, listed, config, calling, invoking, state, IsOrdered, IsReady}
+use Rattle.laws_reduction.specs.Meaning.{View, height, whole, listed, config, calling, invoking, state, IsOrdered, IsReady}
 use Rattle.interp.specs.Progress.{Progress, Pauses, IsSameCall, GoesOn, IsToStop, mark_of}
 use Rattle.spec_execution.specs.Turning.{FreeMoves}
-use Rattle.sequences.specs.Tails.{with_tail}
+use Rattle.laws_reduction.specs.Tails.{with_tail}
 
 -- the parts of a machine in the words of the definitions
 pub record Seen : Type 0 where
@@ -32,7 +32,7 @@ pub record Seen : Type 0 where
   -- the contract that is called, and the number of the function
   pub first : Contract
   pub func : ℕ
-  pub trace : List Step
+  pub trace : List TraceStep
   pub used : ℕ
   -- the innermost level: its contract, its parts, what waits behind all that is open there, and what `answer` gives
   pub contract : Contract
@@ -125,7 +125,7 @@ IsAtEnd s _ = Unit {0}
 
 -- a run whose fuel was out at a level, of which and of those around it so many are left
 pub record IsShut (s : Seen) : Type 0 where
-  pub before : List Step
+  pub before : List TraceStep
   pub last : Levels
   pub inside : ℕ
   pub reached : Reached s.setting (first_of s) s.call.fuel before s.used last
@@ -210,7 +210,7 @@ pub record IsAskedFor (s : Seen) (f : ℕ) (op : Op) (t : Seen) : Type 0 where
   pub asking : t.status ≡ status.Asking op
 
 -- what comes of another one: free moves with these marks
-pub record HasGoneOn (s : Seen) (f : ℕ) (marks : List Step) (t : Seen) : Type 0 where
+pub record HasGoneOn (s : Seen) (f : ℕ) (marks : List TraceStep) (t : Seen) : Type 0 where
   pub call : IsSameCall (progress s) (progress t)
   pub trace : t.trace ≡ s.trace ++ marks
   pub used : t.used ≡ s.used
@@ -244,7 +244,7 @@ pub record IsToClose (s : Seen) : Type 0 where
   pub stops : IsToStop (progress s) s.status
 
 -- a place for the mark of each level that is open is kept, and one for the step while the host is asked
-abbrev pub HasRoom : {A : Type 0} → Status → (depth : ℕ) → Vec Step A → Type 0
+abbrev pub HasRoom : {A : Type 0} → Status → (depth : ℕ) → Vec TraceStep A → Type 0
 HasRoom (status.Asking op) depth trace = vec_len trace + depth < vec_capacity trace
 HasRoom status.NoMemory depth trace = Unit {0}
 HasRoom _ depth trace = vec_len trace + depth ≤ vec_capacity trace

@@ -1,9 +1,9 @@
 -- What contracts see of a machine: a call over lent contracts, and how far its run is.
 use Rattle.std.specs.Prelude.{◌≡◌, ℕ, ◌+◌, ◌-◌, ◌*◌, ◌<◌, ◌≤◌, Bool, true, false, List, [], ◌∷◌, ◌++◌, ◌⊎◌, length, replicate, Option, Some, None, refl}
 use Rattle.std.specs.Coded.{Coded, code_by, coded×, coded_ℕ, coded_list}
-use Rattle.spec_ledger.specs.contracts.Step as step
-use Rattle.spec_ledger.specs.declared.Step.{Step}
-use Rattle.spec_ledger.specs.declared.Step.TheVariants.{Did, Opened, Kept, Dropped}
+use Rattle.spec_ledger.specs.contracts.TraceStep as step
+use Rattle.spec_ledger.specs.declared.TraceStep.{TraceStep}
+use Rattle.spec_ledger.specs.declared.TraceStep.TheVariants.{Did, Opened, Kept, Dropped}
 use Rattle.spec_ledger.specs.declared.Op.{Op}
 use Rattle.spec_ledger.specs.declared.Reply.{Reply}
 use Rattle.spec_ledger.specs.declared.Outcome.{Outcome}
@@ -14,7 +14,7 @@ use Rattle.spec_execution.specs.Run.{ContractCall, opening, Opens, IsReply}
 use Rattle.spec_execution.specs.Levels.{Level, Levels, On, Host, first_level, move, IsChargedMove, Reached, Ends, IsRun}
 use Rattle.spec_execution.specs.Turns.{state_of}
 use Rattle.spec_execution.specs.Turning.{FreeMoves, Rests}
-use Rattle.operands.specs.Taking.{takes_memory}
+use Rattle.interp_state.specs.Taking.{takes_memory}
 use Rattle.interp.specs.contracts.turns.Status as status_of
 use Rattle.interp.specs.declared.turns.Status.{Status}
 use Rattle.interp.specs.declared.turns.Status.TheVariants as status
@@ -23,20 +23,25 @@ use Rattle.interp.specs.declared.turns.Turn.TheVariants as turn
 use Rattle.interp.specs.Codes.{coded_setting, coded_contract, coded_levels, coded_call}
 use Rattle.interp.specs.Played.{Played}
 
+-- the outer level, in which the others were entered
+abbrev pub last_level : Level → List Level → Level
+last_level l [] = l
+last_level l (k ∷ ks) = last_level k ks
+
 pub record Progress : Type 0 where
   pub setting : Setting
   pub call : ContractCall
   -- the contract that is called, and the number of the function
   pub contract : Contract
   pub func : ℕ
-  pub trace : List Step
+  pub trace : List TraceStep
   pub used : ℕ
   pub config : Levels
   pub status : Status
 
 abbrev pub coded_progress : Coded Progress
 coded_progress =
-    code_by (Setting × (ContractCall × (Contract × (ℕ × (List Step × (ℕ × (Levels × Status)))))))
+    code_by (Setting × (ContractCall × (Contract × (ℕ × (List TraceStep × (ℕ × (Levels × Status)))))))
     (coded× coded_setting (coded× coded_call (coded× coded_contract (coded× coded_ℕ (coded× (coded_list step.the_row.coded) (coded× coded_ℕ (coded× coded_levels status_of.the_row.coded)))))))
     (λ m. (m.setting, (m.call, (m.contract, (m.func, (m.trace, (m.used, (m.config, m.status))))))))
     (λ p. record { setting = p.0; call = p.1.0; contract = p.1.1.0; func = p.1.1.1.0; trace = p.1.1.1.1.0; used = p.1.1.1.1.1.0; config = p.1.1.1.1.1.1.0; status = p.1.1.1.1.1.1.1 }) (λ _. refl)
@@ -57,7 +62,7 @@ pub record IsAsking (setting : Setting) (config : Levels) (op : Op) : Type 0 whe
 -- An instruction is to come or the run has ended; or the innermost level is left next, which is free.
 pub data Pauses (setting : Setting) : Levels → Type 0 where
   rests : (a : Levels) → Rests setting a → Pauses setting a
-  leaves : (a b : Levels) (mark : Step) → move setting a ≡ On 0 (mark ∷ []) b → Pauses setting a
+  leaves : (a b : Levels) (mark : TraceStep) → move setting a ≡ On 0 (mark ∷ []) b → Pauses setting a
 
 -- it has come to this configuration
 abbrev pub IsReached : Progress → Type 0
@@ -65,7 +70,7 @@ IsReached p = Reached p.setting (first_level p.contract p.func p.call.args) p.ca
 
 -- The fuel was out at a level, of which and of those around it so many are left, the innermost first; the outer ones are these.
 pub record IsClosing (p : Progress) : Type 0 where
-  pub before : List Step
+  pub before : List TraceStep
   pub last : Levels
   pub inside : ℕ
   pub reached : Reached p.setting (first_level p.contract p.func p.call.args) p.call.fuel before p.used last
@@ -121,7 +126,7 @@ GoesOn (status.Fallen t) = Unit {0}
 GoesOn _ = ⊥
 
 -- one charged move and free ones with these marks, up to where a level is left or the turn is at its end
-pub record HasMoved (setting : Setting) (a : Levels) (marks : List Step) (b : Levels) : Type 0 where
+pub record HasMoved (setting : Setting) (a : Levels) (marks : List TraceStep) (b : Levels) : Type 0 where
   pub charged : Levels
   pub one : move setting a ≡ On 1 [] charged
   pub free : FreeMoves setting charged marks b
@@ -153,7 +158,7 @@ pub record HasAsked (p : Progress) (op : Op) (q : Progress) : Type 0 where
   pub charged : move p.setting p.config ≡ On 1 [] q.config
   pub asking : q.status ≡ status.Asking op
 
-abbrev pub mark_of : (keep : Bool) → Step
+abbrev pub mark_of : (keep : Bool) → TraceStep
 mark_of true = Kept
 mark_of false = Dropped
 
@@ -218,11 +223,11 @@ NextIs p (turn.Done o) q = IsDone p o q
 
 -- the innermost level is left next, by a free move, since it is at its end or has trapped, and there is one around it
 pub record IsLeftNext (p : Progress) : Type 0 where
-  pub mark : Step
+  pub mark : TraceStep
   pub next : Levels
   pub free : move p.setting p.config ≡ On 0 (mark ∷ []) next
 
--- ---- want of memory, and what was told before
+-- ---- out of memory, and what was told before
 
 -- the instruction to come, in the innermost label or frame
 abbrev pub instr_in : Seq → Option Instr
@@ -256,7 +261,7 @@ abbrev pub LastIs : Turn → Outcome → List Level → Type 0
 LastIs a o [] = a ≡ turn.Done o
 LastIs a o (l ∷ outer) = a ≡ turn.Leave false
 
--- After an end or want of memory the same is told again, and nothing changes. A trap is told once, as the end or as that of its level.
+-- After an end or out of memory the same is told again, and nothing changes. A trap is told once, as the end or as that of its level.
 abbrev pub IsToldAt : Progress → Turn → Progress → Status → Type 0
 IsToldAt p a q (status.Ended o) = (a ≡ turn.Done o) × (q ≡ p)
 IsToldAt p a q (status.Fallen t) = LastIs a (Trapped t) p.config.outer

@@ -6,25 +6,25 @@ use Rattle.module_tree.specs.Modules.{module_view}
 use Rattle.spec_typing.specs.Linking.{IsLinked}
 use Rattle.interp.specs.declared.run.Run.{Run}
 use Rattle.interp.specs.declared.run.Level.{Level}
-use Rattle.opening.specs.Views as opening_views
+use Rattle.instance.specs.Views as opening_views
 use Rattle.link.specs.declared.deployed.Deployed.{Deployed}
-use Rattle.sequences.specs.Meaning.{View, height, whole, listed, calling, invoking, state, IsOrdered}
-use Rattle.sequences.specs.Tails.{with_tail}
+use Rattle.laws_reduction.specs.Meaning.{View, height, whole, listed, calling, invoking, state, IsOrdered}
+use Rattle.laws_reduction.specs.Tails.{with_tail}
 use Rattle.spec_ledger.specs.declared.Reply.{Reply}
-use Rattle.spec_ledger.specs.declared.Step.{Step}
-use Rattle.spec_ledger.specs.declared.Step.TheVariants.{Opened}
+use Rattle.spec_ledger.specs.declared.TraceStep.{TraceStep}
+use Rattle.spec_ledger.specs.declared.TraceStep.TheVariants.{Opened}
 use Rattle.spec_ledger.specs.declared.Version.{Version}
-use Rattle.spec_execution.specs.Reduction.{Wish, Ask, Asks, replied}
+use Rattle.spec_execution.specs.Reduction.{HostEffect, Ask, Asks, replied}
 use Rattle.interp.specs.Asked.{args_taken}
 use Rattle.spec_execution.specs.Run.{next}
 use Rattle.spec_execution.specs.Levels as spec
-use Rattle.frames.specs.Views.{view}
-use Rattle.operands.specs.Lent.{contract_of, base_of}
-use Rattle.frames.specs.Steps.{IsCounted}
-use Rattle.execute.specs.Steps.{Suits}
-use Rattle.interp.specs.Lent.{setting_view}
-use Rattle.frames.specs.Waiting.{alone, tail_of, Waits, HasEach}
-use Rattle.frames.specs.Copies.{IsPartsCopy, IsSameEntry}
+use Rattle.interp_state.specs.Views.{view}
+use Rattle.interp_state.specs.Callee.{contract_of, base_of}
+use Rattle.interp_state.specs.Steps.{IsCounted}
+use Rattle.interp_steps.specs.Steps.{Suits}
+use Rattle.interp.specs.Callee.{setting_view}
+use Rattle.interp_state.specs.Waiting.{alone, tail_of, Waits, HasEach}
+use Rattle.interp_state.specs.Copies.{IsPartsCopy, IsSameEntry}
 use Rattle.interp.specs.declared.turns.Status.TheVariants as status
 use Rattle.spec_execution.specs.Configuration.{Seq, End, Invoke, arguments, fresh}
 use Rattle.spec_execution.specs.Run.{opening, Opens}
@@ -88,7 +88,7 @@ AreAround args [] = Unit {0}
 AreAround args (l ∷ ls) = IsAround args l × AreAround args ls
 
 -- The import that is called asks for this, and the innermost level goes on with the reply in the place of its arguments.
-pub record IsWished {A : Type 0} (r : Run A) (w : Wish) : Type 0 where
+pub record IsWished {A : Type 0} (r : Run A) (w : HostEffect) : Type 0 where
   pub room : height (seen r).view.entries + args_taken w ≤ length (seen r).view.stack
   pub asks : next (seen r).contract (state (seen r).view) (invoking (seen r).view r.asked) ≡
       Asks w (λ reply. whole (seen r).view.entries (take (length (seen r).view.stack - args_taken w) (seen r).view.stack) (seen r).view.locals (replied reply (listed (seen r).view.code End)))
@@ -117,7 +117,7 @@ abbrev pub waiting_level : {A : Type 0} → Run A → Level A
 waiting_level r = record { lent = r.lent; argument = r.argument; parts = r.parts; waiting = r.waiting; asked = r.asked; answer = r.answer }
 
 -- another level is the innermost, with this trace, and with these levels around
-abbrev pub pushed_run : {A : Type 0} → Run A → Level A → Vec Step A → Vec (Level A) A → Run A
+abbrev pub pushed_run : {A : Type 0} → Run A → Level A → Vec TraceStep A → Vec (Level A) A → Run A
 pushed_run r l trace outer = record r { trace = trace; entered = r.entered + 1; status = status.Running; lent = l.lent; argument = l.argument; parts = l.parts; waiting = l.waiting; answer = l.answer; outer = outer }
 
 -- a level that has waited is the innermost one again

@@ -10,7 +10,7 @@ use Rattle.interp.specs.declared.readers.BytesRefusal.{BytesRefusal}
 use Rattle.interp.specs.declared.readers.BytesRefusal.TheVariants as refusal
 use Rattle.interp.specs.declared.turns.Status.{Status}
 use Rattle.interp.specs.declared.turns.Status.TheVariants as status
-use Rattle.interp.specs.Progress.{Progress}
+use Rattle.interp.specs.Progress.{Progress, last_level}
 
 -- how a run has ended, if it has
 abbrev pub ending_by : (out : Bool) → Move → Option Outcome
@@ -73,10 +73,6 @@ is_fallen (status.Fallen t) = true
 is_fallen _ = false
 
 -- the outer level, in which the others were entered
-abbrev pub last_level : Level → List Level → Level
-last_level l [] = l
-last_level l (k ∷ ks) = last_level k ks
-
 abbrev pub outermost : Levels → Level
 outermost c = last_level c.inner c.outer
 

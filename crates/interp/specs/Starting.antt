@@ -5,7 +5,7 @@ use Rattle.spec_ledger.specs.declared.Outcome.TheVariants.{OutOfFuel, Rejected}
 use Rattle.spec_execution.specs.Configuration.{Setting, Contract}
 use Rattle.spec_execution.specs.Run.{ContractCall, Opening, Opens, Refused, opening}
 use Rattle.spec_execution.specs.Places.{body_of}
-use Rattle.opening.specs.Views.{wrong_of}
+use Rattle.instance.specs.Views.{wrong_of}
 use Rattle.interp.specs.declared.start.StartRefusal.{StartRefusal}
 use Rattle.interp.specs.declared.start.StartRefusal.TheVariants.{NoContract, NoExport, NotFunction, ArgCount, ArgType, NoMemory}
 use Rattle.interp.specs.Played.{Played}

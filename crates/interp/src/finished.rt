@@ -4,13 +4,13 @@ ghost use Rattle.spec_execution.specs.Run.{opening};
 ghost use Rattle.spec_execution.specs.Levels.{asks_in};
 ghost use Rattle.interp.specs.Played.{IsPlayed};
 ghost use Rattle.interp.specs.Starting.{IsOpened, IsRejection, LacksFuel, IsWithoutFuel};
-ghost use Rattle.interp.specs.Lent.{setting_view};
+ghost use Rattle.interp.specs.Callee.{setting_view};
 
 use crate::start::{Opened, has_code, open_call};
 use call::Call;
+use laws_soundness::deployed_calls_are_safe;
 use link::deployed::Deployed;
-use soundness::deployed_calls_are_safe;
-use spec_ledger::{Outcome, Step, Version};
+use spec_ledger::{Outcome, TraceStep, Version};
 use std::alloc::Allocator;
 use std::marker::Model;
 
@@ -21,7 +21,7 @@ use std::marker::Model;
 pub struct Finished<'a, A: Allocator> {
     contracts: &'a [Deployed<A>],
     call: &'a Call,
-    trace: Vec<Step, A>,
+    trace: Vec<TraceStep, A>,
     outcome: Outcome,
     used: u64,
     asks: u32,
@@ -32,7 +32,7 @@ impl<'a, A: Allocator> Model for Finished<'a, A> {
     ghost use Rattle.std.specs.Prelude.{◌≡◌};
     ghost use Rattle.spec_execution.specs.Levels.{asks_in};
     ghost use Rattle.interp.specs.Played.{Played, coded_played, IsPlayed};
-    ghost use Rattle.interp.specs.Lent.{setting_view};
+    ghost use Rattle.interp.specs.Callee.{setting_view};
 
     ghost Value = { Played };
 
@@ -48,7 +48,7 @@ impl<'a, A: Allocator + Copy> Finished<'a, A> {
     pub(crate) fn of(
         contracts: &'a [Deployed<A>],
         call: &'a Call,
-        trace: Vec<Step, A>,
+        trace: Vec<TraceStep, A>,
         outcome: Outcome,
         used: u64,
         asks: u32,
@@ -137,7 +137,7 @@ impl<'a, A: Allocator + Copy> Finished<'a, A> {
     }
 
     /// What it asked for, first to last: its operations with their replies, and the marks of the levels that it entered and left.
-    pub fn trace(&self) -> &[Step]
+    pub fn trace(&self) -> &[TraceStep]
         ensures { result.now ≡ self.now.trace }
     {
         self.trace.as_slice()

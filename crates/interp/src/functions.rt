@@ -6,8 +6,8 @@ ghost use Rattle.interp.specs.Run.{seen, IsKept, IsBegun, IsFirst, IsToCall};
 
 use crate::run::Run;
 use crate::turns::{Status, Turn};
-use frames::calls::enter;
-use frames::waiting::settle_all;
+use interp_state::calls::enter;
+use interp_state::waiting::settle_all;
 use spec_ledger::NoMemory;
 use std::alloc::Allocator;
 use wtypes::TrapCode;

@@ -1,17 +1,17 @@
 // Calls of imports.
 ghost use Rattle.std.specs.Prelude.{◌≡◌, ◌<◌, length};
-ghost use Rattle.interp.specs.Asked.{wish_of_code};
+ghost use Rattle.interp.specs.Asked.{effect_of_code};
 ghost use Rattle.interp.specs.Machine.{progress, HasAskedFor};
 ghost use Rattle.interp.specs.Progress.{IsSameCall};
 ghost use Rattle.interp.specs.Run.{seen, IsKept, IsToCall, IsWished};
 
 use crate::functions::give_up;
 use crate::levels::ask_contract;
-use crate::replies::{Wish, wish_for};
+use crate::replies::{HostEffect, effect_for};
 use crate::run::Run;
 use crate::turns::{Status, Turn};
-use frames::waiting::settle_all;
-use operands::values::push;
+use interp_state::values::push;
+use interp_state::waiting::settle_all;
 use spec_ledger::{NoMemory, Op};
 use std::alloc::Allocator;
 use wtypes::Value;
@@ -27,10 +27,10 @@ pub(crate) fn ask<'a, A: Allocator + Copy>(run: &mut Run<'a, A>, func: u32) -> T
 {
     let host = run.lent.hosts[func as usize];
     run.asked = func;
-    match wish_for(run.lent.number, host, &run.parts.stack) {
-        Wish::Of(op) => ask_host(run, op),
-        Wish::Ask(number, export, argument) => ask_contract(run, number, export, argument),
-        Wish::Answer => give_answer(run),
+    match effect_for(run.lent.number, host, &run.parts.stack) {
+        HostEffect::Of(op) => ask_host(run, op),
+        HostEffect::Ask(number, export, argument) => ask_contract(run, number, export, argument),
+        HostEffect::Answer => give_answer(run),
     }
 }
 
@@ -38,7 +38,7 @@ pub(crate) fn ask<'a, A: Allocator + Copy>(run: &mut Run<'a, A>, func: u32) -> T
 #[inline(always)]
 fn ask_host<'a, A: Allocator + Copy>(run: &mut Run<'a, A>, op: Op) -> Turn
     requires call { IsToCall run.old run.old.asked }
-    requires wished { IsWished run.old (wish_of_code (Wish.Of op)) }
+    requires wished { IsWished run.old (effect_of_code (HostEffect.Of op)) }
     ensures kept { IsKept run.new }
     ensures turn { HasAskedFor (seen run.old) run.old.asked result (seen run.new) }
     ensures same { result ≡ Turn.NoMemory → IsSameCall (progress (seen run.old)) (progress (seen run.new)) }
@@ -55,7 +55,7 @@ fn ask_host<'a, A: Allocator + Copy>(run: &mut Run<'a, A>, op: Op) -> Turn
 #[inline(never)]
 fn give_answer<'a, A: Allocator + Copy>(run: &mut Run<'a, A>) -> Turn
     requires call { IsToCall run.old run.old.asked }
-    requires wished { IsWished run.old (wish_of_code Wish.Answer) }
+    requires wished { IsWished run.old (effect_of_code HostEffect.Answer) }
     ensures kept { IsKept run.new }
     ensures turn { HasAskedFor (seen run.old) run.old.asked result (seen run.new) }
     ensures same { result ≡ Turn.NoMemory → IsSameCall (progress (seen run.old)) (progress (seen run.new)) }

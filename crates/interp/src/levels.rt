@@ -1,27 +1,26 @@
 // Levels that are entered and left.
 ghost use Rattle.std.specs.Prelude.{◌≡◌, ◌<◌, ◌≤◌, ◌+◌, ◌-◌, ◌^◌, ◌∷◌, [], false, length, vec_len, vec_capacity, IfOk};
 ghost use Rattle.spec_execution.specs.Levels.{trap_status};
-ghost use Rattle.interp.specs.Asked.{wish_of_code};
-ghost use Rattle.interp.specs.declared.replies.Wish.{Wish};
+ghost use Rattle.interp.specs.Asked.{effect_of_code};
+ghost use Rattle.interp.specs.declared.replies.HostEffect.{HostEffect};
 ghost use Rattle.interp.specs.Machine.{progress, HasAskedFor, HasRoom, IsLeaving, IsToClose};
 ghost use Rattle.wtypes.specs.declared.Value.TheVariants as value;
 ghost use Rattle.interp.specs.Progress.{HasLeft, IsSameCall, mark_of};
 ghost use Rattle.interp.specs.Run.{seen, IsKept, restored_run, IsToCall, IsWished, IsToEnter, HasPushed, IsFreshLevel};
-ghost use Rattle.frames.specs.Waiting.{IsEntry};
+ghost use Rattle.interp_state.specs.Waiting.{IsEntry};
 ghost use Rattle.link.specs.Parts.{hosts_of};
-ghost use Rattle.opening.specs.Views.{contract_of};
+ghost use Rattle.instance.specs.Views.{contract_of};
 
 use crate::functions::{give_up, start_run};
 use crate::replies::{record_step, take_status};
 use crate::run::{Level, Run};
 use crate::turns::{Status, Turn};
-use frames::parts::Parts;
-use frames::waiting::{prepare, settle_all};
-use instance::{Instance, open_instance};
+use instance::{Instance, asked_entry, open_instance};
+use interp_state::callee::Callee;
+use interp_state::parts::Parts;
+use interp_state::waiting::{prepare, settle_all};
 use link::deployed::Deployed;
-use opening::asked_entry;
-use operands::lent::Lent;
-use spec_ledger::{NoMemory, Step, Version};
+use spec_ledger::{NoMemory, TraceStep, Version};
 use std::alloc::{AllocError, Allocator};
 use std::mem;
 use wtypes::{TrapCode, Value};
@@ -35,7 +34,7 @@ pub(crate) fn ask_contract<'a, A: Allocator + Copy>(
     argument: i64,
 ) -> Turn
     requires call { IsToCall run.old run.old.asked }
-    requires wished { IsWished run.old (wish_of_code (Wish.Ask number export argument)) }
+    requires wished { IsWished run.old (effect_of_code (HostEffect.Ask number export argument)) }
     ensures kept { IsKept run.new }
     ensures turn { HasAskedFor (seen run.old) run.old.asked result (seen run.new) }
     ensures same { result ≡ Turn.NoMemory → IsSameCall (progress (seen run.old)) (progress (seen run.new)) }
@@ -92,7 +91,7 @@ fn push_level<'a, A: Allocator + Copy>(run: &mut Run<'a, A>, fresh: Level<'a, A>
     requires place { vec_len run.old.outer < vec_capacity run.old.outer }
     ensures { HasPushed run.old fresh.entry run.new }
 {
-    record_step(&mut run.trace, Step::Opened);
+    record_step(&mut run.trace, TraceStep::Opened);
     run.entered += 1;
     run.outer.push_reserved(Level {
         lent: mem::replace(&mut run.lent, fresh.lent),
@@ -107,7 +106,7 @@ fn push_level<'a, A: Allocator + Copy>(run: &mut Run<'a, A>, fresh: Level<'a, A>
 
 // Room for a level more: for what is kept of it, for its mark and the one that leaves it, and for those of the others.
 fn make_room<'a, A: Allocator + Copy>(
-    trace: &mut Vec<Step, A>,
+    trace: &mut Vec<TraceStep, A>,
     outer: &mut Vec<Level<'a, A>, A>,
 ) -> Result<(), AllocError>
     ensures trace { trace.new.items ≡ trace.old.items }
@@ -132,7 +131,7 @@ fn open_level<'a, A: Allocator + Copy>(
     requires defined { length (hosts_of deployed.now) ≤ entry }
     ensures { IfOk result (λ level. IsFreshLevel version number deployed.now entry argument level) }
 {
-    let lent = Lent {
+    let lent = Callee {
         number,
         module: deployed.module(),
         hosts: deployed.hosts(),
@@ -206,7 +205,7 @@ pub(crate) fn close<'a, A: Allocator + Copy>(run: &mut Run<'a, A>) -> Turn
     ensures turn { HasLeft (progress (seen run.old)) false (progress (seen run.new)) }
 {
     let level = run.outer.take_last();
-    record_step(&mut run.trace, Step::Dropped);
+    record_step(&mut run.trace, TraceStep::Dropped);
     restore(run, level);
     run.status = Status::Closing;
     Turn::Leave(false)
@@ -225,10 +224,14 @@ fn restore<'a, A: Allocator + Copy>(run: &mut Run<'a, A>, level: Level<'a, A>)
 }
 
 // How a level is left, in a trace.
-fn mark(keep: bool) -> Step
+fn mark(keep: bool) -> TraceStep
     ensures { result ≡ mark_of keep }
 {
-    if keep { Step::Kept } else { Step::Dropped }
+    if keep {
+        TraceStep::Kept
+    } else {
+        TraceStep::Dropped
+    }
 }
 
 // What an `ask` gives where the level that it entered traps.

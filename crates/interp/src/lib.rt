@@ -1,4 +1,4 @@
-// A machine that runs calls of contracts.
+//! A machine that runs calls of contracts.
 #![tactic(auto)]
 
 pub mod finished;

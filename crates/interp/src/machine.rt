@@ -6,9 +6,9 @@ ghost use Rattle.interp.specs.Progress.{NextIs, IsSameCall, WantsMemory, IsTold,
 ghost use Rattle.interp.specs.Run.{seen, IsKept};
 ghost use Rattle.interp.specs.Going.{HasTurned};
 ghost use Rattle.link.specs.Parts.{hosts_of};
-ghost use Rattle.opening.specs.Views.{contract_of};
+ghost use Rattle.instance.specs.Views.{contract_of};
 ghost use Rattle.spec_ledger.specs.declared.Version.TheVariants.{Two};
-ghost use Rattle.interp.specs.Lent.{setting_view};
+ghost use Rattle.interp.specs.Callee.{setting_view};
 
 use crate::finished::Finished;
 use crate::functions::start_run;
@@ -19,11 +19,11 @@ use crate::running::{next_turn, turn_on};
 use crate::start::{Opened, StartRefusal, open_call, refusal_of};
 use crate::turns::{Status, Turn};
 use call::Call;
-use frames::waiting::prepare;
 use instance::open_instance;
+use interp_state::callee::Callee;
+use interp_state::waiting::prepare;
+use laws_soundness::deployed_calls_are_safe;
 use link::deployed::Deployed;
-use operands::lent::Lent;
-use soundness::deployed_calls_are_safe;
 use spec_ledger::{NoMemory, Outcome, Reply, Version};
 use std::alloc::Allocator;
 use std::marker::Model;
@@ -139,8 +139,8 @@ impl<'a, A: Allocator + Copy> Machine<'a, A> {
     ghost use Rattle.link.specs.Parts.{hosts_of};
     ghost use Rattle.spec_execution.specs.Run.{opening, Opens};
     ghost use Rattle.spec_ledger.specs.declared.Version.TheVariants.{Two};
-    ghost use Rattle.opening.specs.Views.{contract_of};
-    ghost use Rattle.interp.specs.Lent.{setting_view};
+    ghost use Rattle.instance.specs.Views.{contract_of};
+    ghost use Rattle.interp.specs.Callee.{setting_view};
     ghost use Rattle.interp.specs.Progress.{IsStartOf, IsProgress};
     ghost use Rattle.interp.specs.Starting.{IsRefusedFor, HasPlace, wrong_in};
 
@@ -210,7 +210,7 @@ impl<'a, A: Allocator + Copy> Machine<'a, A> {
         deployed.is_linked();
         let tree = deployed.module();
         let instance = open_instance(alloc, version, deployed)?;
-        let lent = Lent {
+        let lent = Callee {
             number: call.contract(),
             module: tree,
             hosts: deployed.hosts(),

@@ -9,12 +9,12 @@ ghost use Rattle.interp.specs.Shown.{is_out, leaves_stack, ending, stack_shown, 
 use crate::machine::Machine;
 use crate::run::{Level, Run};
 use crate::turns::Status;
-use frames::copies::{copy_parts, copy_waiting};
-use frames::places::{height_of_call, place_in_code};
 use instance::Instance;
+use interp_state::callee::Callee;
+use interp_state::copies::{copy_parts, copy_waiting};
+use interp_state::places::{height_of_call, place_in_code};
 use module_tree::module::Module;
-use operands::lent::Lent;
-use spec_ledger::{NoMemory, Outcome, Step};
+use spec_ledger::{NoMemory, Outcome, TraceStep};
 use std::alloc::Allocator;
 use thiserror::Error;
 use wtypes::Value;
@@ -223,9 +223,9 @@ fn bytes_of_run<'a, A: Allocator + Copy>(
 // The same steps, with room for so many more.
 fn copy_trace<A: Allocator + Copy>(
     alloc: A,
-    trace: &[Step],
+    trace: &[TraceStep],
     more: usize,
-) -> Result<Vec<Step, A>, NoMemory>
+) -> Result<Vec<TraceStep, A>, NoMemory>
     ensures same { IfOk result (λ copy. copy.items ≡ trace.now) }
     ensures room { IfOk result (λ copy. vec_len copy + more ≤ vec_capacity copy) }
 {
@@ -254,10 +254,10 @@ fn copy_level<'a, A: Allocator + Copy>(
 }
 
 // The same contract.
-fn copy_lent<'a, A: Allocator + Copy>(lent: &Lent<'a, A>) -> Lent<'a, A>
+fn copy_lent<'a, A: Allocator + Copy>(lent: &Callee<'a, A>) -> Callee<'a, A>
     ensures { result ≡ lent.now }
 {
-    Lent {
+    Callee {
         number: lent.number,
         module: lent.module,
         hosts: lent.hosts,

@@ -1,24 +1,24 @@
 // What an import asks for, and what goes on with a reply.
 ghost use Rattle.std.specs.Prelude.{◌≡◌, ◌<◌, ◌≤◌, ◌+◌, ◌-◌, ◌%◌, ◌^◌, ◌++◌, ◌∷◌, [], take, drop, pos, vec_len, vec_capacity};
 ghost use Rattle.spec_numeric.specs.Operators.{bits_of};
-ghost use Rattle.spec_execution.specs.Reduction.{wish_of};
-ghost use Rattle.interp.specs.Asked.{wish_of_code};
+ghost use Rattle.spec_execution.specs.Reduction.{effect_of};
+ghost use Rattle.interp.specs.Asked.{effect_of_code};
 ghost use Rattle.interp.specs.Machine.{progress, params_of, value_of_reply};
-ghost use Rattle.sequences.specs.Hosting.{arity_of};
+ghost use Rattle.laws_reduction.specs.Hosting.{arity_of};
 ghost use Rattle.wtypes.specs.declared.Value.TheVariants as value;
 ghost use Rattle.interp.specs.Progress.{IsAwaited, HasAnswered};
 ghost use Rattle.interp.specs.Run.{seen, IsKept};
 
 use crate::run::Run;
 use crate::turns::Status;
-use frames::waiting::settle_all;
-use operands::values::bits;
-use spec_ledger::{Op, Place, Reply, Step};
+use interp_state::values::bits;
+use interp_state::waiting::settle_all;
+use spec_ledger::{CellKey, Op, Reply, TraceStep};
 use std::alloc::Allocator;
 use wtypes::{HostCall, Value};
 
 // What an import asks for, by the values on top.
-pub(crate) enum Wish {
+pub(crate) enum HostEffect {
     // An operation on a cell.
     Of(Op),
     // A run of this export of this contract, with this argument.
@@ -28,28 +28,28 @@ pub(crate) enum Wish {
 }
 
 #[inline(always)]
-pub(crate) fn wish_for<A: Allocator + Copy>(
+pub(crate) fn effect_for<A: Allocator + Copy>(
     contract: u32,
     host: HostCall,
     stack: &Vec<Value, A>,
-) -> Wish
+) -> HostEffect
     requires { arity_of host ≤ vec_len stack.now }
-    ensures { wish_of_code result ≡ wish_of contract host (drop (vec_len stack.now - arity_of host) stack.now.items) }
+    ensures { effect_of_code result ≡ effect_of contract host (drop (vec_len stack.now - arity_of host) stack.now.items) }
 {
     let n = stack.len();
     match host {
-        HostCall::Get => Wish::Of(Op::Get(place(contract, stack[n - 1]))),
-        HostCall::Has => Wish::Of(Op::Has(place(contract, stack[n - 1]))),
-        HostCall::Put => Wish::Of(Op::Put(place(contract, stack[n - 2]), bits(stack[n - 1]))),
-        HostCall::Del => Wish::Of(Op::Del(place(contract, stack[n - 1]))),
-        HostCall::Add => Wish::Of(Op::Add(place(contract, stack[n - 2]), bits(stack[n - 1]))),
-        HostCall::Total => Wish::Of(Op::Total(place(contract, stack[n - 1]))),
-        HostCall::Ask => Wish::Ask(
+        HostCall::Get => HostEffect::Of(Op::Get(place(contract, stack[n - 1]))),
+        HostCall::Has => HostEffect::Of(Op::Has(place(contract, stack[n - 1]))),
+        HostCall::Put => HostEffect::Of(Op::Put(place(contract, stack[n - 2]), bits(stack[n - 1]))),
+        HostCall::Del => HostEffect::Of(Op::Del(place(contract, stack[n - 1]))),
+        HostCall::Add => HostEffect::Of(Op::Add(place(contract, stack[n - 2]), bits(stack[n - 1]))),
+        HostCall::Total => HostEffect::Of(Op::Total(place(contract, stack[n - 1]))),
+        HostCall::Ask => HostEffect::Ask(
             low(bits(stack[n - 3])),
             low(bits(stack[n - 2])),
             bits(stack[n - 1]).cast_signed(),
         ),
-        HostCall::Answer => Wish::Answer,
+        HostCall::Answer => HostEffect::Answer,
     }
 }
 
@@ -60,10 +60,10 @@ fn low(bits: u64) -> u32
     (bits % (1 << 32)) as u32
 }
 
-fn place(contract: u32, key: Value) -> Place
+fn place(contract: u32, key: Value) -> CellKey
     ensures { result ≡ record { contract = contract; key = bits_of key } }
 {
-    Place {
+    CellKey {
         contract,
         key: bits(key),
     }
@@ -93,7 +93,7 @@ pub(crate) fn take_answer<'a, A: Allocator + Copy>(run: &mut Run<'a, A>, reply: 
 {
     if let Status::Asking(op) = run.status {
         take_reply(&mut run.parts.stack, op, reply);
-        record_step(&mut run.trace, Step::Did(op, reply));
+        record_step(&mut run.trace, TraceStep::Did(op, reply));
         run.status = Status::Running;
         settle_all(&mut run.parts, &mut run.waiting);
     }
@@ -130,7 +130,7 @@ fn replace_at<A: Allocator + Copy>(stack: &mut Vec<Value, A>, at: usize, value: 
 }
 
 // Puts a step where there is room.
-pub(crate) fn record_step<A: Allocator + Copy>(trace: &mut Vec<Step, A>, step: Step)
+pub(crate) fn record_step<A: Allocator + Copy>(trace: &mut Vec<TraceStep, A>, step: TraceStep)
     requires { vec_len trace.old < vec_capacity trace.old }
     ensures items { trace.new.items ≡ trace.old.items ++ step ∷ [] }
     ensures capacity { vec_capacity trace.new ≡ vec_capacity trace.old }

@@ -2,17 +2,17 @@
 
 use crate::turns::Status;
 use call::Call;
-use frames::parts::Parts;
-use frames::waiting::Waiting;
+use interp_state::callee::Callee;
+use interp_state::parts::Parts;
+use interp_state::waiting::Waiting;
 use link::deployed::Deployed;
-use operands::lent::Lent;
-use spec_ledger::{Step, Version};
+use spec_ledger::{TraceStep, Version};
 use std::alloc::Allocator;
 
 // A level that waits for the one that it has asked for.
 #[derive(Drop)]
 pub(crate) struct Level<'a, A: Allocator + Copy> {
-    pub(crate) lent: Lent<'a, A>,
+    pub(crate) lent: Callee<'a, A>,
     // What it was asked for with. The outer level has the call's arguments.
     pub(crate) argument: Option<i64>,
     pub(crate) parts: Parts<'a, A>,
@@ -32,11 +32,11 @@ pub(crate) struct Run<'a, A: Allocator + Copy> {
     pub(crate) call: &'a Call,
     pub(crate) deployed: &'a Deployed<A>,
     pub(crate) func: u32,
-    pub(crate) trace: Vec<Step, A>,
+    pub(crate) trace: Vec<TraceStep, A>,
     pub(crate) used: u64,
     pub(crate) entered: u32,
     pub(crate) status: Status,
-    pub(crate) lent: Lent<'a, A>,
+    pub(crate) lent: Callee<'a, A>,
     pub(crate) argument: Option<i64>,
     pub(crate) parts: Parts<'a, A>,
     pub(crate) waiting: Option<Waiting<'a, A>>,

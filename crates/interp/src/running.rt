@@ -11,10 +11,10 @@ use crate::imports::ask;
 use crate::levels::{close, leave, status_of};
 use crate::run::Run;
 use crate::turns::{Status, Turn};
-use execute::steps::execute;
-use execute::strides::stride;
-use frames::waiting::settle_all;
-use operands::plain::After;
+use interp_state::plain::After;
+use interp_state::waiting::settle_all;
+use interp_steps::steps::execute;
+use interp_steps::straight_line::run_straight_line;
 use spec_ledger::{NoMemory, Outcome};
 use std::alloc::Allocator;
 use wtypes::{TrapCode, Value};
@@ -75,7 +75,7 @@ fn make_turns<'a, A: Allocator + Copy>(run: &mut Run<'a, A>) -> Turn
         if run.used == run.call.fuel() {
             return run_out(run);
         }
-        if stride_on(run) {
+        if run_straight_line_on(run) {
             continue;
         }
         match execute(&run.lent, &mut run.parts) {
@@ -109,7 +109,7 @@ fn make_turns<'a, A: Allocator + Copy>(run: &mut Run<'a, A>) -> Turn
 // The run goes on, an instruction is to come, and there is fuel for it: it makes turns at once, and tells whether the run
 // has to be looked at again: its code or its fuel may be at an end.
 #[inline(always)]
-fn stride_on<'a, A: Allocator + Copy>(run: &mut Run<'a, A>) -> bool
+fn run_straight_line_on<'a, A: Allocator + Copy>(run: &mut Run<'a, A>) -> bool
     requires kept { IsKept run.old }
     requires running { run.old.status ≡ Status.Running }
     requires some { run.old.parts.code.now ≢ [] }
@@ -121,7 +121,7 @@ fn stride_on<'a, A: Allocator + Copy>(run: &mut Run<'a, A>) -> bool
     ensures some { result ≡ false → run.new.parts.code.now ≢ [] }
     ensures left { result ≡ false → run.new.used ≢ run.new.call.now.fuel }
 {
-    let made = stride(&run.lent, &mut run.parts, run.call.fuel() - run.used);
+    let made = run_straight_line(&run.lent, &mut run.parts, run.call.fuel() - run.used);
     if made == 0 {
         return false;
     }

@@ -5,16 +5,16 @@ ghost use Rattle.spec_execution.specs.Places.{body_of_function};
 ghost use Rattle.spec_execution.specs.Run.{opening, Opens, Refused};
 ghost use Rattle.module_tree.specs.View.{instrs_view};
 ghost use Rattle.link.specs.Parts.{hosts_of};
-ghost use Rattle.opening.specs.Views as opening_views;
-ghost use Rattle.opening.specs.Views.{code_of, contract_of, deployed_view};
+ghost use Rattle.instance.specs.Views as opening_views;
+ghost use Rattle.instance.specs.Views.{code_of, contract_of, deployed_view};
 ghost use Rattle.spec_ledger.specs.declared.Version.{Version};
-ghost use Rattle.interp.specs.Lent.{setting_view};
+ghost use Rattle.interp.specs.Callee.{setting_view};
 ghost use Rattle.interp.specs.Starting.{IsRefusedFor, HasPlace, HasCode, wrong_in};
 
 use call::Call;
+use instance::{Refusal, entry_of};
 use link::deployed::Deployed;
 use module_tree::instr::Instr;
-use opening::{Refusal, entry_of};
 use std::alloc::Allocator;
 use thiserror::Error;
 

@@ -1,7 +1,12 @@
 pub mod Comments
 pub mod Runs
-pub mod Strings
+pub mod StringReading
 pub mod RunKinds
 pub mod Pieces
 pub mod Lists
 pub mod Spans
+pub mod Decoding
+pub mod Spellings
+pub mod OneWord
+pub mod Halfway
+pub mod Amounts

@@ -9,7 +9,7 @@ use Rattle.lexer.specs.declared.states.Fault.{Fault}
 use Rattle.lexer.specs.declared.states.Fault.TheVariants.{Bad, Unclosed}
 use Rattle.lexer.specs.declared.states.InString.TheVariants.{Plain}
 use Rattle.lexer.specs.Reading.{Read, piece_at, run_at, line_at, bracket_at, as_comment, as_text, as_run, after_run, after_comment, after_string, kind_of}
-use Rattle.lexer.proofs.Strings.{implies, use_implies, not_true, chosen, string_is_read, read_is_string}
+use Rattle.lexer.proofs.StringReading.{implies, use_implies, not_true, chosen, string_is_read, read_is_string}
 use Rattle.lexer.proofs.Comments.{comment_is_read, read_is_comment, body_of}
 use Rattle.lexer.proofs.Runs.{after_longest, parts, front_is}
 use Rattle.lexer.proofs.RunKinds.{kind_is_read, read_kind}

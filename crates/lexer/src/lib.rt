@@ -1,5 +1,15 @@
-//! The tokens of a text in the text format of WebAssembly (Core Specification, 6.2 Lexical Format).
+//! The tokens of a text in the text format of WebAssembly, and its words (Core Specification, 6.2 Lexical Format).
 #![tactic(auto)]
+
+mod list;
+mod numbers;
+mod reading;
+mod refusal;
+mod states;
+mod strings;
+mod tables;
+mod word;
+mod words_reading;
 
 ghost use Rattle.std.specs.Prelude.{◌≡◌, List, ⊤, IfOk, IfErr, length};
 ghost use Rattle.spec_text.specs.Lexical.{Lexes, LexesToOne};
@@ -8,16 +18,17 @@ ghost use Rattle.lexer.specs.declared.LexRefusal.TheVariants.{NoMemory};
 ghost use Rattle.lexer.specs.Refused.{IsRightly};
 ghost use Rattle.lexer.specs.Reading.{IntegerIsTested};
 
-mod list;
-mod reading;
-mod states;
-
 pub use list::{Token, Tokens};
+pub use numbers::{bits_32, bits_64, unsigned_32};
 pub use reading::is_integer;
 use reading::read_piece;
+pub use refusal::TextRefusal;
 use states::Fault;
 use std::alloc::{AllocFailed, Allocator};
+pub use strings::put_string;
 use thiserror::Error;
+pub use word::{Piece, Word};
+pub use words_reading::{no_tokens_are_two_lists_of_words, words};
 
 /// Why a text has no tokens. A place is the number of bytes before it.
 #[derive(Clone, Copy, Debug, PartialEq, Eq, Error)]

@@ -44,6 +44,6 @@ OutAt (refusal.SegmentRange n) place = n ≡ place
 OutAt refusal.NoMemory place = Unit {0}
 OutAt _ place = ⊥
 
--- Want of memory aside, a module has one refusal.
+-- Lack of memory aside, a module has one refusal.
 abbrev pub IsRefusedOnce : Type 0
 IsRefusedOnce = (m : syntax.Module) (e f : LinkRefusal) → e ≢ refusal.NoMemory → f ≢ refusal.NoMemory → Says e m → PassedBefore e m → Says f m → PassedBefore f m → e ≡ f

@@ -141,7 +141,7 @@ fn link_parts<A: Allocator + Clone>(
 /// Links a module that is typed (Core Specification, 4.5.4 Instantiation). What passes is the tree that was handed in,
 /// and is linked by its type. A refused module is handed back, what the refusal says is true of it, and what is judged
 /// before has passed: the imports are judged first, then the segments, the memory and the table. So there is one
-/// answer, want of memory aside (`refused_once`). The list of the host calls is from `alloc`, and so are the bytes that its memory begins with.
+/// answer, lack of memory aside (`refused_once`). The list of the host calls is from `alloc`, and so are the bytes that its memory begins with.
 pub fn deploy<A: Allocator + Clone>(
     alloc: &A,
     valid: Valid<A>,
@@ -157,7 +157,7 @@ pub fn deploy<A: Allocator + Clone>(
     }
 }
 
-/// A law: want of memory aside, what `deploy` says of a module that it refuses holds for one refusal alone.
+/// A law: lack of memory aside, what `deploy` says of a module that it refuses holds for one refusal alone.
 pub fn refused_once()
     ensures { IsRefusedOnce }
 {}

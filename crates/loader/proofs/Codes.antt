@@ -5,7 +5,7 @@ use Rattle.std.specs.Prelude.{option_map}
 use Rattle.wtypes.specs.declared.ValType.{ValType}
 use Rattle.spec_syntax.specs.Syntax.{Instrs, Func}
 use Rattle.spec_binary.specs.Reading.{Read}
-use Rattle.spec_module_laws.specs.ReadingModules.{inside_at, both_at, locals_at, init_at, code_at, codes_at}
+use Rattle.laws_modules.specs.ReadingModules.{inside_at, both_at, locals_at, init_at, code_at, codes_at}
 use Rattle.expr_reader.proofs.Steps.{front}
 use Rattle.loader.proofs.Fronts.{front_append}
 

@@ -2,7 +2,7 @@
 use Rattle.std.proofs.Common.{◌≡◌, ℕ, true, false, Bool, List, Some, None, refl, sym, ap}
 use Rattle.std.specs.Str.{IsUtf8, is_utf8}
 use Rattle.std.proofs.lemmas.Str.{IsUtf8-from_is_utf8, is_utf8-from_IsUtf8}
-use Rattle.spec_module_laws.specs.ReadingModules.{sized_at, name_at}
+use Rattle.laws_modules.specs.ReadingModules.{sized_at, name_at}
 
 pub name_found : (bytes text same rest : List ℕ) → sized_at bytes ≡ Some (text, rest) → IsUtf8 text → same ≡ text → name_at bytes ≡ Some (same, rest)
 unfolding name_at

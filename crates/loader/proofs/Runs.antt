@@ -5,7 +5,7 @@ use Rattle.std.specs.Prelude.{option_map, nat_le}
 use Rattle.std.proofs.lemmas.Bool.{le-leb, lt-leb}
 use Rattle.wtypes.specs.declared.ValType.{ValType}
 use Rattle.spec_binary.specs.Reading.{Read}
-use Rattle.spec_module_laws.specs.ReadingModules.{u32_at, value_type_at, runs_at}
+use Rattle.laws_modules.specs.ReadingModules.{u32_at, value_type_at, runs_at}
 use Rattle.expr_reader.proofs.Steps.{front}
 use Rattle.loader.proofs.Fronts.{front_append}
 

@@ -9,12 +9,12 @@ use Rattle.spec_syntax.specs.Profile.{byte_limit}
 use Rattle.spec_syntax.specs.Limits.{is_byte, module_fits}
 use Rattle.spec_binary.specs.Shortest.{shortest}
 use Rattle.spec_binary.specs.Spells.{Spells}
-use Rattle.spec_binary_laws.specs.ShortestBytes.{all_below}
-use Rattle.spec_module_laws.specs.ReadingModules.{module_at}
-use Rattle.spec_module_laws.specs.OneTree.{module_in, bodies_fit, globals_fit, elements_fit, datas_fit, module_takes, module_again}
-use Rattle.spec_module_laws.specs.Spellings.{spelled_fits, shortest_no_longer}
-use Rattle.expr_reader.specs.declared.unread.Unread.{Unread}
-use Rattle.expr_reader.specs.declared.unread.Unread.TheVariants as unread
+use Rattle.laws_modules.specs.ShortestBytes.{all_below}
+use Rattle.laws_modules.specs.ReadingModules.{module_at}
+use Rattle.laws_modules.specs.OneTree.{module_in, bodies_fit, globals_fit, elements_fit, datas_fit, module_takes, module_again}
+use Rattle.laws_modules.specs.Spellings.{spelled_fits, shortest_no_longer}
+use Rattle.expr_reader.specs.declared.unread.DecodeFault.{DecodeFault}
+use Rattle.expr_reader.specs.declared.unread.DecodeFault.TheVariants as unread
 use Rattle.expr_reader.specs.Outcome.{Unless, Fails, refusal_before}
 use Rattle.loader.specs.Refusals.{NoModule, IsWithin}
 
@@ -51,13 +51,13 @@ pub no_module : (bytes : List ℕ) → module_at bytes ≡ None → NoModule byt
 no_module bytes e m s = none-some m (sym e ∙ module_again m bytes s.grammar (module_in m s.tree_fits))
 
 -- and what a refusal says
-pub told_before : (bytes : List ℕ) (end : ℕ) (e : Unread) → Fails e (module_at bytes) → Unless (NoModule bytes) (refusal_before end e)
+pub told_before : (bytes : List ℕ) (end : ℕ) (e : DecodeFault) → Fails e (module_at bytes) → Unless (NoModule bytes) (refusal_before end e)
 told_before bytes end unread.NoMemory fails = tt
 told_before bytes end (unread.Malformed left) fails = no_module bytes fails
 told_before bytes end (unread.Unsupported left) fails = no_module bytes fails
 told_before bytes end (unread.TooLarge limit) fails = no_module bytes fails
 
-pub told_within : (len end : ℕ) (e : Unread) → end ≤ len → IsWithin len (refusal_before end e)
+pub told_within : (len end : ℕ) (e : DecodeFault) → end ≤ len → IsWithin len (refusal_before end e)
 told_within len end unread.NoMemory le = tt
 told_within len end (unread.Malformed left) le = omega arith
 told_within len end (unread.Unsupported left) le = omega arith

@@ -2,7 +2,7 @@
 use Rattle.std.specs.Prelude.{ℕ, List, [], Option, None, length, ◌==◌, if◌then◌else◌}
 use Rattle.spec_syntax.specs.Syntax.{Func, DataSegment}
 use Rattle.spec_binary.specs.Reading.{◌>>=◌}
-use Rattle.spec_module_laws.specs.ReadingModules.{if_empty, slot_at, list_at, entries_at, data_at}
+use Rattle.laws_modules.specs.ReadingModules.{if_empty, slot_at, list_at, entries_at, data_at}
 
 -- the functions of these type indices and the data segments, behind which nothing is left
 unfoldable pub tail_at : List ℕ → List ℕ → Option (List Func × List DataSegment)

@@ -6,14 +6,14 @@ ghost use Rattle.spec_syntax.specs.Syntax.{Instrs, Func};
 ghost use Rattle.spec_syntax.specs.Profile.{local_limit};
 ghost use Rattle.spec_syntax.specs.Limits.{counts_from};
 ghost use Rattle.expr_reader.specs.Outcome.{Gives};
-ghost use Rattle.spec_module_laws.specs.ReadingModules.{both_at, runs_at, locals_at, init_at, codes_at, entries_at, slot_at};
+ghost use Rattle.laws_modules.specs.ReadingModules.{both_at, runs_at, locals_at, init_at, codes_at, entries_at, slot_at};
 ghost use Rattle.module_tree.specs.View.{instrs_view, ordinals};
 ghost use Rattle.module_tree.specs.ModuleView.{func_view, func_ordinals};
 
 use crate::sections::{inside_of, slot_of};
 use crate::values::{u32_of, value_type_of};
 use crate::vectors::Reader;
-use expr_reader::{Unread, expression_of};
+use expr_reader::{DecodeFault, expression_of};
 use module_tree::instr::Instr;
 use module_tree::limit::{LOCAL_LIMIT, Limit};
 use module_tree::module::Func;
@@ -38,7 +38,7 @@ fn runs_of<'b, A: Allocator + Clone>(
     alloc: &A,
     runs: u32,
     bytes: &'b [u8],
-) -> Result<(Vec<ValType, A>, &'b [u8]), Unread>
+) -> Result<(Vec<ValType, A>, &'b [u8]), DecodeFault>
     ensures value { Gives (λ x. (x.0.items, x.1.now)) result (runs_at local_limit runs bytes.now) }
     ensures shorter { IfOk result (λ x. length x.1.now ≤ length bytes.now) }
 {
@@ -48,7 +48,7 @@ fn runs_of<'b, A: Allocator + Clone>(
     for _i in 0..runs {
         let (count, after) = u32_of(rest)?;
         if count > room {
-            return Err(Unread::TooLarge(Limit::Locals));
+            return Err(DecodeFault::TooLarge(Limit::Locals));
         }
         let (value_type, following) = value_type_of(after)?;
         put_run(&mut locals, count, value_type)?;
@@ -58,11 +58,11 @@ fn runs_of<'b, A: Allocator + Clone>(
     Ok((locals, rest))
 }
 
-#[tactic(auto, unfolding(spec_module_laws::specs::ReadingModules::locals_at))]
+#[tactic(auto, unfolding(laws_modules::specs::ReadingModules::locals_at))]
 fn locals_of<'b, A: Allocator + Clone>(
     alloc: &A,
     bytes: &'b [u8],
-) -> Result<(Vec<ValType, A>, &'b [u8]), Unread>
+) -> Result<(Vec<ValType, A>, &'b [u8]), DecodeFault>
     ensures value { Gives (λ x. (x.0.items, x.1.now)) result (locals_at bytes.now) }
     ensures shorter { IfOk result (λ x. length x.1.now ≤ length bytes.now) }
 {
@@ -88,7 +88,7 @@ impl<A: Allocator + Clone> Reader<A> for Codes {
         &self,
         alloc: &A,
         bytes: &'b [u8],
-    ) -> Result<((Vec<ValType, A>, Vec<Instr<A>, A>), &'b [u8]), Unread> {
+    ) -> Result<((Vec<ValType, A>, Vec<Instr<A>, A>), &'b [u8]), DecodeFault> {
         let (locals, rest) = locals_of(alloc, bytes)?;
         let (body, rest) = expression_of(alloc, rest)?;
         Ok(((locals, body), rest))
@@ -100,7 +100,7 @@ fn codes_of<'b, A: Allocator + Clone>(
     alloc: &A,
     indices: &[u32],
     bytes: &'b [u8],
-) -> Result<(Vec<Func<A>, A>, &'b [u8]), Unread>
+) -> Result<(Vec<Func<A>, A>, &'b [u8]), DecodeFault>
     requires small { length bytes.now < 2 ^ 32 }
     ensures value { Gives (λ x. (map func_view x.0.items, x.1.now)) result (codes_at indices.now bytes.now) }
     ensures shorter { IfOk result (λ x. length x.1.now ≤ length bytes.now) }
@@ -139,11 +139,15 @@ impl<A: Allocator + Clone> Reader<A> for Entries<'_> {
 
     ghost is_numbered = { λ v. list_all (λ f. counts_from 0 (func_ordinals f)) v.items };
 
-    #[tactic(auto, unfolding(spec_module_laws::specs::ReadingModules::entries_at))]
-    fn read<'b>(&self, alloc: &A, bytes: &'b [u8]) -> Result<(Vec<Func<A>, A>, &'b [u8]), Unread> {
+    #[tactic(auto, unfolding(laws_modules::specs::ReadingModules::entries_at))]
+    fn read<'b>(
+        &self,
+        alloc: &A,
+        bytes: &'b [u8],
+    ) -> Result<(Vec<Func<A>, A>, &'b [u8]), DecodeFault> {
         let (count, rest) = u32_of(bytes)?;
         if count as usize != self.indices.len() {
-            return Err(Unread::Malformed(bytes.len()));
+            return Err(DecodeFault::Malformed(bytes.len()));
         }
         codes_of(alloc, self.indices, rest)
     }
@@ -154,7 +158,7 @@ pub fn funcs_of<'b, A: Allocator + Clone>(
     alloc: &A,
     indices: &[u32],
     bytes: &'b [u8],
-) -> Result<(Vec<Func<A>, A>, &'b [u8]), Unread>
+) -> Result<(Vec<Func<A>, A>, &'b [u8]), DecodeFault>
     requires small { length bytes.now < 2 ^ 32 }
     ensures value { Gives (λ x. (map func_view x.0.items, x.1.now)) result (slot_at 10 (entries_at indices.now) [] bytes.now) }
     ensures shorter { IfOk result (λ x. length x.1.now ≤ length bytes.now) }

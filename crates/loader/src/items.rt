@@ -4,7 +4,7 @@ ghost use Rattle.wtypes.specs.declared.ValType.{ValType};
 ghost use Rattle.expr_reader.specs.Outcome.{Gives};
 ghost use Rattle.spec_syntax.specs.Syntax as syntax;
 ghost use Rattle.spec_syntax.specs.Limits.{counts_from};
-ghost use Rattle.spec_module_laws.specs.ReadingModules.{u32_at, sized_at, value_type_at, func_type_at, import_at, table_type_at, limits_at, init_at, global_at, export_at, element_at, data_at, indices_at, made_at};
+ghost use Rattle.laws_modules.specs.ReadingModules.{u32_at, sized_at, value_type_at, func_type_at, import_at, table_type_at, limits_at, init_at, global_at, export_at, element_at, data_at, indices_at, made_at};
 ghost use Rattle.module_tree.specs.View.{instrs_view, ordinals};
 ghost use Rattle.module_tree.specs.ModuleView.{func_type_view, limits_view, import_view, global_view, export_view, element_view, data_view, global_ordinals, element_ordinals, data_ordinals};
 
@@ -13,21 +13,21 @@ use crate::values::{
     value_type_of,
 };
 use crate::vectors::{Reader, items_of, vector_of};
-use expr_reader::{Unread, expression_of};
+use expr_reader::{DecodeFault, expression_of};
 use module_tree::limit::{FUNCTION_LIMIT, Limit};
 use module_tree::module::{DataSegment, Element, Export, Global, Import};
 use std::alloc::Allocator;
 use wtypes::{FuncType, Limits, ValType};
 
 // A count, and that many bytes. Bytes are no item: where there are fewer, their end is at fault.
-#[tactic(auto, unfolding(spec_module_laws::specs::ReadingModules::sized_at))]
-fn content_of(bytes: &[u8]) -> Result<(&[u8], &[u8]), Unread>
+#[tactic(auto, unfolding(laws_modules::specs::ReadingModules::sized_at))]
+fn content_of(bytes: &[u8]) -> Result<(&[u8], &[u8]), DecodeFault>
     ensures value { Gives (λ x. (x.0.now, x.1.now)) result (sized_at bytes.now) }
     ensures shorter { IfOk result (λ x. length x.1.now < length bytes.now) }
 {
     let (count, rest) = u32_of(bytes)?;
     if count as usize > rest.len() {
-        return Err(Unread::Malformed(0));
+        return Err(DecodeFault::Malformed(0));
     }
     Ok(rest.split_at(count as usize))
 }
@@ -46,7 +46,7 @@ impl<A: Allocator + Clone> Reader<A> for ValTypes {
 
     ghost is_numbered = { λ _. true };
 
-    fn read<'b>(&self, _alloc: &A, bytes: &'b [u8]) -> Result<(ValType, &'b [u8]), Unread> {
+    fn read<'b>(&self, _alloc: &A, bytes: &'b [u8]) -> Result<(ValType, &'b [u8]), DecodeFault> {
         value_type_of(bytes)
     }
 }
@@ -65,7 +65,7 @@ impl<A: Allocator + Clone> Reader<A> for Indices {
 
     ghost is_numbered = { λ _. true };
 
-    fn read<'b>(&self, _alloc: &A, bytes: &'b [u8]) -> Result<(u32, &'b [u8]), Unread> {
+    fn read<'b>(&self, _alloc: &A, bytes: &'b [u8]) -> Result<(u32, &'b [u8]), DecodeFault> {
         u32_of(bytes)
     }
 }
@@ -84,16 +84,16 @@ impl<A: Allocator + Clone> Reader<A> for FuncTypes {
 
     ghost is_numbered = { λ _. true };
 
-    #[tactic(auto, unfolding(spec_module_laws::specs::ReadingModules::func_type_at, spec_binary_laws::specs::ReadingExpressions::byte_at))]
-    fn read<'b>(&self, alloc: &A, bytes: &'b [u8]) -> Result<(FuncType<A>, &'b [u8]), Unread> {
+    #[tactic(auto, unfolding(laws_modules::specs::ReadingModules::func_type_at, laws_modules::specs::ReadingExpressions::byte_at))]
+    fn read<'b>(&self, alloc: &A, bytes: &'b [u8]) -> Result<(FuncType<A>, &'b [u8]), DecodeFault> {
         match bytes {
-            [] => Err(Unread::Malformed(0)),
+            [] => Err(DecodeFault::Malformed(0)),
             [0x60, rest @ ..] => {
                 let (params, rest) = vector_of(alloc, &ValTypes, rest)?;
                 let (results, rest) = vector_of(alloc, &ValTypes, rest)?;
                 Ok((FuncType { params, results }, rest))
             }
-            [_, ..] => Err(Unread::Malformed(bytes.len())),
+            [_, ..] => Err(DecodeFault::Malformed(bytes.len())),
         }
     }
 }
@@ -112,8 +112,8 @@ impl<A: Allocator + Clone> Reader<A> for Imports {
 
     ghost is_numbered = { λ _. true };
 
-    #[tactic(auto, unfolding(spec_module_laws::specs::ReadingModules::import_at))]
-    fn read<'b>(&self, alloc: &A, bytes: &'b [u8]) -> Result<(Import<A>, &'b [u8]), Unread> {
+    #[tactic(auto, unfolding(laws_modules::specs::ReadingModules::import_at))]
+    fn read<'b>(&self, alloc: &A, bytes: &'b [u8]) -> Result<(Import<A>, &'b [u8]), DecodeFault> {
         let (from_module, rest) = name_of(alloc, bytes)?;
         let (name, rest) = name_of(alloc, rest)?;
         let (desc, rest) = import_desc_of(rest)?;
@@ -140,7 +140,7 @@ impl<A: Allocator + Clone> Reader<A> for Tables {
 
     ghost is_numbered = { λ _. true };
 
-    fn read<'b>(&self, _alloc: &A, bytes: &'b [u8]) -> Result<(Limits, &'b [u8]), Unread> {
+    fn read<'b>(&self, _alloc: &A, bytes: &'b [u8]) -> Result<(Limits, &'b [u8]), DecodeFault> {
         table_type_of(bytes)
     }
 }
@@ -159,7 +159,7 @@ impl<A: Allocator + Clone> Reader<A> for Memories {
 
     ghost is_numbered = { λ _. true };
 
-    fn read<'b>(&self, _alloc: &A, bytes: &'b [u8]) -> Result<(Limits, &'b [u8]), Unread> {
+    fn read<'b>(&self, _alloc: &A, bytes: &'b [u8]) -> Result<(Limits, &'b [u8]), DecodeFault> {
         limits_of(bytes)
     }
 }
@@ -178,8 +178,8 @@ impl<A: Allocator + Clone> Reader<A> for Globals {
 
     ghost is_numbered = { λ g. counts_from 0 (global_ordinals g) };
 
-    #[tactic(auto, unfolding(spec_module_laws::specs::ReadingModules::global_at))]
-    fn read<'b>(&self, alloc: &A, bytes: &'b [u8]) -> Result<(Global<A>, &'b [u8]), Unread> {
+    #[tactic(auto, unfolding(laws_modules::specs::ReadingModules::global_at))]
+    fn read<'b>(&self, alloc: &A, bytes: &'b [u8]) -> Result<(Global<A>, &'b [u8]), DecodeFault> {
         let (global_type, rest) = global_type_of(bytes)?;
         let (init, rest) = expression_of(alloc, rest)?;
         Ok((Global { global_type, init }, rest))
@@ -200,8 +200,8 @@ impl<A: Allocator + Clone> Reader<A> for Exports {
 
     ghost is_numbered = { λ _. true };
 
-    #[tactic(auto, unfolding(spec_module_laws::specs::ReadingModules::export_at))]
-    fn read<'b>(&self, alloc: &A, bytes: &'b [u8]) -> Result<(Export<A>, &'b [u8]), Unread> {
+    #[tactic(auto, unfolding(laws_modules::specs::ReadingModules::export_at))]
+    fn read<'b>(&self, alloc: &A, bytes: &'b [u8]) -> Result<(Export<A>, &'b [u8]), DecodeFault> {
         let (name, rest) = name_of(alloc, bytes)?;
         let (desc, rest) = export_desc_of(rest)?;
         Ok((Export { name, desc }, rest))
@@ -222,8 +222,8 @@ impl<A: Allocator + Clone> Reader<A> for Elements {
 
     ghost is_numbered = { λ e. counts_from 0 (element_ordinals e) };
 
-    #[tactic(auto, unfolding(spec_module_laws::specs::ReadingModules::element_at))]
-    fn read<'b>(&self, alloc: &A, bytes: &'b [u8]) -> Result<(Element<A>, &'b [u8]), Unread> {
+    #[tactic(auto, unfolding(laws_modules::specs::ReadingModules::element_at))]
+    fn read<'b>(&self, alloc: &A, bytes: &'b [u8]) -> Result<(Element<A>, &'b [u8]), DecodeFault> {
         let (table, rest) = u32_of(bytes)?;
         let (offset, rest) = expression_of(alloc, rest)?;
         let (funcs, rest) = vector_of(alloc, &Indices, rest)?;
@@ -250,8 +250,12 @@ impl<A: Allocator + Clone> Reader<A> for Datas {
 
     ghost is_numbered = { λ d. counts_from 0 (data_ordinals d) };
 
-    #[tactic(auto, unfolding(spec_module_laws::specs::ReadingModules::data_at))]
-    fn read<'b>(&self, alloc: &A, bytes: &'b [u8]) -> Result<(DataSegment<A>, &'b [u8]), Unread> {
+    #[tactic(auto, unfolding(laws_modules::specs::ReadingModules::data_at))]
+    fn read<'b>(
+        &self,
+        alloc: &A,
+        bytes: &'b [u8],
+    ) -> Result<(DataSegment<A>, &'b [u8]), DecodeFault> {
         let (memory, rest) = u32_of(bytes)?;
         let (offset, rest) = expression_of(alloc, rest)?;
         let (content, rest) = content_of(rest)?;
@@ -279,11 +283,11 @@ impl<A: Allocator + Clone> Reader<A> for TypeIndices {
 
     ghost is_numbered = { λ _. true };
 
-    #[tactic(auto, unfolding(spec_module_laws::specs::ReadingModules::indices_at))]
-    fn read<'b>(&self, alloc: &A, bytes: &'b [u8]) -> Result<(Vec<u32, A>, &'b [u8]), Unread> {
+    #[tactic(auto, unfolding(laws_modules::specs::ReadingModules::indices_at))]
+    fn read<'b>(&self, alloc: &A, bytes: &'b [u8]) -> Result<(Vec<u32, A>, &'b [u8]), DecodeFault> {
         let (count, rest) = u32_of(bytes)?;
         if count as usize > FUNCTION_LIMIT {
-            return Err(Unread::TooLarge(Limit::Functions));
+            return Err(DecodeFault::TooLarge(Limit::Functions));
         }
         items_of(alloc, &Indices, count, rest)
     }
@@ -303,7 +307,11 @@ impl<A: Allocator + Clone> Reader<A> for Start {
 
     ghost is_numbered = { λ _. true };
 
-    fn read<'b>(&self, _alloc: &A, bytes: &'b [u8]) -> Result<(Option<u32>, &'b [u8]), Unread> {
+    fn read<'b>(
+        &self,
+        _alloc: &A,
+        bytes: &'b [u8],
+    ) -> Result<(Option<u32>, &'b [u8]), DecodeFault> {
         let (start, rest) = u32_of(bytes)?;
         Ok((Some(start), rest))
     }

@@ -3,7 +3,7 @@ ghost use Rattle.std.specs.Prelude.{◌≡◌, ◌<◌, ◌≤◌, ◌^◌, map,
 ghost use Rattle.std.specs.List.{list_all};
 ghost use Rattle.spec_syntax.specs.Limits.{counts_from};
 ghost use Rattle.spec_syntax.specs.Profile.{byte_limit};
-ghost use Rattle.spec_module_laws.specs.ReadingModules.{header_at, module_at};
+ghost use Rattle.laws_modules.specs.ReadingModules.{header_at, module_at};
 ghost use Rattle.module_tree.specs.ModuleView.{func_view, data_view, func_ordinals, data_ordinals};
 ghost use Rattle.module_tree.specs.Modules.{module_view};
 ghost use Rattle.spec_binary.specs.Spells.{Spells};
@@ -18,22 +18,22 @@ use crate::items::{
     Datas, Elements, Exports, FuncTypes, Globals, Imports, Memories, Start, Tables, TypeIndices,
 };
 use crate::sections::{list_of, skip_customs, slot_of};
-use expr_reader::{LoadRefusal, Unread};
+use expr_reader::{DecodeFault, LoadRefusal};
 use module_tree::limit::{BYTE_LIMIT, Limit};
 use module_tree::module::{DataSegment, Func, Module};
 use std::alloc::Allocator;
 
 // What is behind the header. Its two parts are items.
-#[tactic(auto, unfolding(spec_module_laws::specs::ReadingModules::header_at, spec_binary_laws::specs::ReadingExpressions::byte_at))]
-fn header_of(bytes: &[u8]) -> Result<&[u8], Unread>
+#[tactic(auto, unfolding(laws_modules::specs::ReadingModules::header_at, laws_modules::specs::ReadingExpressions::byte_at))]
+fn header_of(bytes: &[u8]) -> Result<&[u8], DecodeFault>
     ensures value { Gives (λ x. x.now) result (header_at bytes.now) }
     ensures shorter { IfOk result (λ x. length x.now ≤ length bytes.now) }
 {
     let [0x00, 0x61, 0x73, 0x6D, rest @ ..] = bytes else {
-        return Err(Unread::Malformed(bytes.len()));
+        return Err(DecodeFault::Malformed(bytes.len()));
     };
     let [0x01, 0x00, 0x00, 0x00, after @ ..] = rest else {
-        return Err(Unread::Malformed(rest.len()));
+        return Err(DecodeFault::Malformed(rest.len()));
     };
     Ok(after)
 }
@@ -44,7 +44,7 @@ fn tail_of<A: Allocator + Clone>(
     alloc: &A,
     indices: &[u32],
     bytes: &[u8],
-) -> Result<(Vec<Func<A>, A>, Vec<DataSegment<A>, A>), Unread>
+) -> Result<(Vec<Func<A>, A>, Vec<DataSegment<A>, A>), DecodeFault>
     requires small { length bytes.now < 2 ^ 32 }
     ensures value { Gives (λ x. (map func_view x.0.items, map data_view x.1.items)) result (tail_at indices.now bytes.now) }
     ensures funcs_numbered { IfOk result (λ x. list_all (λ f. counts_from 0 (func_ordinals f)) x.0.items ≡ true) }
@@ -55,17 +55,17 @@ fn tail_of<A: Allocator + Clone>(
     match rest {
         [] => {
             if funcs.len() != indices.len() {
-                return Err(Unread::Malformed(0));
+                return Err(DecodeFault::Malformed(0));
             }
             Ok((funcs, datas))
         }
-        [_, ..] => Err(Unread::Malformed(rest.len())),
+        [_, ..] => Err(DecodeFault::Malformed(rest.len())),
     }
 }
 
 // The module that all of the bytes spell.
-#[tactic(auto, unfolding(spec_module_laws::specs::ReadingModules::module_at))]
-fn module_of<A: Allocator + Clone>(alloc: &A, bytes: &[u8]) -> Result<Module<A>, Unread>
+#[tactic(auto, unfolding(laws_modules::specs::ReadingModules::module_at))]
+fn module_of<A: Allocator + Clone>(alloc: &A, bytes: &[u8]) -> Result<Module<A>, DecodeFault>
     requires small { length bytes.now ≤ byte_limit }
     ensures value { Gives module_view result (module_at bytes.now) }
 {

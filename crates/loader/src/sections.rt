@@ -2,11 +2,11 @@
 ghost use Rattle.std.specs.Prelude.{◌≡◌, ℕ, ◌<◌, ◌≤◌, ◌^◌, [], map, true, length, IfOk};
 ghost use Rattle.std.specs.List.{list_all};
 ghost use Rattle.expr_reader.specs.Outcome.{Gives};
-ghost use Rattle.spec_module_laws.specs.ReadingModules.{inside_at, whole_at, skip, slot_at, list_at};
+ghost use Rattle.laws_modules.specs.ReadingModules.{inside_at, whole_at, skip, slot_at, list_at};
 
 use crate::values::{sized_of, text_of};
 use crate::vectors::{Reader, VectorOf};
-use expr_reader::Unread;
+use expr_reader::DecodeFault;
 use std::alloc::Allocator;
 
 // What all of the bytes are read as.
@@ -14,7 +14,7 @@ fn whole_of<A: Allocator + Clone, R: Reader<A>>(
     alloc: &A,
     reader: &R,
     bytes: &[u8],
-) -> Result<R::Item, Unread>
+) -> Result<R::Item, DecodeFault>
     requires small { length bytes.now < 2 ^ 32 }
     ensures value { Gives R.view result (whole_at (R.reading reader.now) bytes.now) }
     ensures numbered { IfOk result (λ x. R.is_numbered x ≡ true) }
@@ -22,7 +22,7 @@ fn whole_of<A: Allocator + Clone, R: Reader<A>>(
     let (item, left) = reader.read(alloc, bytes)?;
     match left {
         [] => Ok(item),
-        [_, ..] => Err(Unread::Malformed(left.len())),
+        [_, ..] => Err(DecodeFault::Malformed(left.len())),
     }
 }
 
@@ -31,7 +31,7 @@ pub fn inside_of<'b, A: Allocator + Clone, R: Reader<A>>(
     alloc: &A,
     reader: &R,
     bytes: &'b [u8],
-) -> Result<(R::Item, &'b [u8]), Unread>
+) -> Result<(R::Item, &'b [u8]), DecodeFault>
     requires small { length bytes.now < 2 ^ 32 }
     ensures value { Gives (λ x. (R.view x.0, x.1.now)) result (inside_at (R.reading reader.now) bytes.now) }
     ensures shorter { IfOk result (λ x. length x.1.now < length bytes.now) }
@@ -45,7 +45,7 @@ pub fn inside_of<'b, A: Allocator + Clone, R: Reader<A>>(
 }
 
 // What is left behind the custom sections at the front.
-pub fn skip_customs(bytes: &[u8]) -> Result<&[u8], Unread>
+pub fn skip_customs(bytes: &[u8]) -> Result<&[u8], DecodeFault>
     ensures value { Gives (λ x. x.now) result (skip bytes.now) }
     ensures shorter { IfOk result (λ x. length x.now ≤ length bytes.now) }
 {
@@ -64,14 +64,14 @@ pub fn skip_customs(bytes: &[u8]) -> Result<&[u8], Unread>
 }
 
 // The section of this id, if it is the next, and the custom sections behind it; else what an absent one stands for.
-#[tactic(auto, unfolding(spec_module_laws::specs::ReadingModules::slot_at))]
+#[tactic(auto, unfolding(laws_modules::specs::ReadingModules::slot_at))]
 pub fn slot_of<'b, A: Allocator + Clone, R: Reader<A>>(
     alloc: &A,
     reader: &R,
     id: u8,
     absent: R::Item,
     bytes: &'b [u8],
-) -> Result<(R::Item, &'b [u8]), Unread>
+) -> Result<(R::Item, &'b [u8]), DecodeFault>
     requires small { length bytes.now < 2 ^ 32 }
     requires absent_numbered { R.is_numbered absent ≡ true }
     ensures value { Gives (λ x. (R.view x.0, x.1.now)) result (slot_at id (R.reading reader.now) (R.view absent) bytes.now) }
@@ -95,7 +95,7 @@ pub fn list_of<'b, A: Allocator + Clone, R: Reader<A>>(
     reader: &R,
     id: u8,
     bytes: &'b [u8],
-) -> Result<(Vec<R::Item, A>, &'b [u8]), Unread>
+) -> Result<(Vec<R::Item, A>, &'b [u8]), DecodeFault>
     requires small { length bytes.now < 2 ^ 32 }
     ensures value { Gives (λ x. (map R.view x.0.items, x.1.now)) result (list_at id (R.reading reader.now) bytes.now) }
     ensures shorter { IfOk result (λ x. length x.1.now ≤ length bytes.now) }

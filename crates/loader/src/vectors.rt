@@ -3,10 +3,10 @@ ghost use Rattle.std.specs.Prelude.{◌≡◌, ℕ, ◌<◌, ◌≤◌, ◌^◌,
 ghost use Rattle.std.specs.List.{list_all};
 ghost use Rattle.expr_reader.specs.Outcome.{Gives};
 ghost use Rattle.spec_binary.specs.Reading.{Read};
-ghost use Rattle.spec_binary_laws.specs.ReadingExpressions.{items_at, vector_at};
+ghost use Rattle.laws_modules.specs.ReadingExpressions.{items_at, vector_at};
 
 use crate::values::u32_of;
-use expr_reader::Unread;
+use expr_reader::DecodeFault;
 use std::alloc::Allocator;
 
 // How one kind of thing is read.
@@ -24,7 +24,7 @@ pub trait Reader<A: Allocator + Clone> {
     // whether the ordinals of its expression, if it has one, count from 0
     ghost is_numbered: { Self.Item → Bool };
 
-    fn read<'b>(&self, alloc: &A, bytes: &'b [u8]) -> Result<(Self::Item, &'b [u8]), Unread>
+    fn read<'b>(&self, alloc: &A, bytes: &'b [u8]) -> Result<(Self::Item, &'b [u8]), DecodeFault>
         requires small { length bytes.now < 2 ^ 32 }
         ensures value { Gives (λ x. (view x.0, x.1.now)) result (reading self.now bytes.now) }
         ensures shorter { IfOk result (λ x. length x.1.now ≤ length bytes.now) }
@@ -37,7 +37,7 @@ pub fn items_of<'b, A: Allocator + Clone, R: Reader<A>>(
     reader: &R,
     count: u32,
     bytes: &'b [u8],
-) -> Result<(Vec<R::Item, A>, &'b [u8]), Unread>
+) -> Result<(Vec<R::Item, A>, &'b [u8]), DecodeFault>
     requires small { length bytes.now < 2 ^ 32 }
     ensures value { Gives (λ x. (map R.view x.0.items, x.1.now)) result (items_at (R.reading reader.now) count bytes.now) }
     ensures shorter { IfOk result (λ x. length x.1.now ≤ length bytes.now) }
@@ -54,12 +54,12 @@ pub fn items_of<'b, A: Allocator + Clone, R: Reader<A>>(
 }
 
 // A count, and that many items.
-#[tactic(auto, unfolding(spec_binary_laws::specs::ReadingExpressions::vector_at))]
+#[tactic(auto, unfolding(laws_modules::specs::ReadingExpressions::vector_at))]
 pub fn vector_of<'b, A: Allocator + Clone, R: Reader<A>>(
     alloc: &A,
     reader: &R,
     bytes: &'b [u8],
-) -> Result<(Vec<R::Item, A>, &'b [u8]), Unread>
+) -> Result<(Vec<R::Item, A>, &'b [u8]), DecodeFault>
     requires small { length bytes.now < 2 ^ 32 }
     ensures value { Gives (λ x. (map R.view x.0.items, x.1.now)) result (vector_at (R.reading reader.now) bytes.now) }
     ensures shorter { IfOk result (λ x. length x.1.now ≤ length bytes.now) }
@@ -84,7 +84,11 @@ impl<A: Allocator + Clone, R: Reader<A>> Reader<A> for VectorOf<'_, R> {
 
     ghost is_numbered = { λ v. list_all R.is_numbered v.items };
 
-    fn read<'b>(&self, alloc: &A, bytes: &'b [u8]) -> Result<(Vec<R::Item, A>, &'b [u8]), Unread> {
+    fn read<'b>(
+        &self,
+        alloc: &A,
+        bytes: &'b [u8],
+    ) -> Result<(Vec<R::Item, A>, &'b [u8]), DecodeFault> {
         vector_of(alloc, self.0, bytes)
     }
 }

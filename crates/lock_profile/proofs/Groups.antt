@@ -1,6 +1,5 @@
--- The groups after a position's entries.
-use Rattle.std.proofs.Common.{◌≡◌, ℕ, ◌+◌, ◌<◌, Bool, true, false, cond, ◌&&◌, T, Option, Some, None, List, [], ◌∷◌, ◌++◌, map, length, take, get_or, refl, sym, ◌∙◌, ap}
-use Rattle.std.proofs.lemmas.List.{take_more}
+-- The turns of a position's holders, and the groups after them.
+use Rattle.std.proofs.Common.{◌≡◌, ℕ, ◌+◌, Bool, true, false, cond, ◌&&◌, T, Option, Some, None, List, [], ◌∷◌, ◌++◌, map, length, arith, refl, sym, ◌∙◌, ap}
 use Rattle.std.specs.declared.cmp.Ordering.{Ordering}
 use Rattle.std.specs.declared.cmp.Ordering.TheVariants.{Less, Equal, Greater}
 use Rattle.std.specs.Ordering.{eq_by_cmp, is_eq, is_lt}
@@ -12,21 +11,8 @@ use Rattle.spec_ledger.specs.declared.Mode.{Mode}
 use Rattle.spec_ledger.specs.Cells.{lock_cmp}
 use Rattle.spec_ledger.proofs.Maps.{lock_cmp_total, lock_cmp-IsAntisymmetric, is_key}
 use Rattle.spec_ledger.specs.declared.Entry.{Entry}
-use Rattle.lock_profile.specs.declared.Held.{Held}
 use Rattle.lock_profile.specs.declared.Group.{Group}
-use Rattle.lock_profile.specs.Groups.{latest, entry_of, pairs, pair_of, group_of, turn_next}
-
-pub latest-push : (q : Lock) (es : List Entry) (e : Entry) (old : Option Group)
-    → latest q (es ++ e ∷ []) old ≡ cond (eq_by_cmp lock_cmp e.lock q) (Some (record { mode = e.mode; turn = e.turn })) (latest q es old)
-latest-push q [] e old = refl
-latest-push q (x ∷ es) e old = latest-push q es e (cond (eq_by_cmp lock_cmp x.lock q) (Some (record { mode = x.mode; turn = x.turn })) old)
-
-pub groups_more : (es : List Entry) (i : ℕ) (d : Entry) (q : Lock) (old found next : Option Group) → i < length es → found ≡ latest q (take i es) old
-    → next ≡ cond (eq_by_cmp lock_cmp (get_or es i d).lock q) (Some (record { mode = (get_or es i d).mode; turn = (get_or es i d).turn })) found
-    → next ≡ latest q (take (i + 1) es) old
-groups_more es i d q old found next below e f =
-    f ∙ ap (cond (eq_by_cmp lock_cmp (get_or es i d).lock q) (Some (record { mode = (get_or es i d).mode; turn = (get_or es i d).turn }))) e
-    ∙ sym (ap (λ x. latest q x old) (take_more es i d below) ∙ latest-push q (take i es) (get_or es i d) old)
+use Rattle.lock_profile.specs.Groups.{group_of, turn_next, groups_with, turns_from, with_turns, numbered}
 
 turned : (q k : Lock) (b : Bool) → eq_by_cmp lock_cmp q k ≡ b → eq_by_cmp lock_cmp k q ≡ b
 turned q k b e = (eq_by_cmp_equiv lock_cmp_total).symm k q ∙ e
@@ -64,44 +50,59 @@ module _ {X : Type 0} where
       ] refl)) in
       λ i. head i ∷ rest i
 
-module _ (last : Lock → Option Group) where
-  latest_none : (q : Lock) (hs : List Held) (old : Option Group) → find lock_cmp q (pairs hs) ≡ None → latest q (map (entry_of last) hs) old ≡ old
-  latest_none q [] old e = refl
-  latest_none q (h ∷ hs) old e =
-      elim (eq_by_cmp lock_cmp q h.lock) as (λ b. eq_by_cmp lock_cmp q h.lock ≡ b → cond b (Some h.mode) (find lock_cmp q (pairs hs)) ≡ None
-      → latest q (map (entry_of last) hs) (cond (eq_by_cmp lock_cmp h.lock q) (Some (record { mode = h.mode; turn = turn_next (last h.lock) h.mode })) old) ≡ old) [
-        | true ↦ λ t is. cc
-        | false ↦ λ t is.
-            ap (λ b. latest q (map (entry_of last) hs) (cond b (Some (record { mode = h.mode; turn = turn_next (last h.lock) h.mode })) old)) (turned q h.lock false t)
-            ∙ latest_none q hs old is
-      ] refl e
+-- the groups after the first holder, at the other locks of a list in order
+groups_elsewhere : (last : Lock → Option Group) (e : Lock × Mode) (es : List (Lock × Mode)) → T (below_all lock_cmp e.0 es) → (q : Lock) (v : Mode) → find lock_cmp q es ≡ Some v → groups_with last e q ≡ last q
+groups_elsewhere last e es above q v is =
+    elim (eq_by_cmp lock_cmp e.0 q) as (λ b. eq_by_cmp lock_cmp e.0 q ≡ b → cond b (Some (record { mode = e.1; turn = turn_next (last e.0) e.1 })) (last q) ≡ last q) [
+      | true ↦ λ t.
+          let none : find lock_cmp q es ≡ None = ap (λ k. find lock_cmp k es) (sym (is_key lock_cmp_total lock_cmp-IsAntisymmetric e.0 q t)) ∙ find_below e.0 es above in
+          let no : None ≡ Some v = sym none ∙ is in cc
+      | false ↦ λ t. refl
+    ] refl
 
-  pub groups_placed : (q : Lock) (hs : List Held) → T (is_sorted lock_cmp (pairs hs))
-      → latest q (map (entry_of last) hs) (last q) ≡ group_of (last q) (find lock_cmp q (pairs hs))
-  groups_placed q [] s = refl
-  groups_placed q (h ∷ hs) s =
-      elim (eq_by_cmp lock_cmp q h.lock) as (λ b. eq_by_cmp lock_cmp q h.lock ≡ b
-      → latest q (map (entry_of last) hs) (cond (eq_by_cmp lock_cmp h.lock q) (Some (record { mode = h.mode; turn = turn_next (last h.lock) h.mode })) (last q))
-      ≡ group_of (last q) (cond b (Some h.mode) (find lock_cmp q (pairs hs)))) [
-        | true ↦ λ t.
-            let same : q ≡ h.lock = is_key lock_cmp_total lock_cmp-IsAntisymmetric q h.lock t in
-            let none : find lock_cmp q (pairs hs) ≡ None = ap (λ k. find lock_cmp k (pairs hs)) same ∙ find_below h.lock (pairs hs) (left _ _ s) in
-            ap (λ b. latest q (map (entry_of last) hs) (cond b (Some (record { mode = h.mode; turn = turn_next (last h.lock) h.mode })) (last q))) (turned q h.lock true t)
-            ∙ latest_none q hs _ none
-            ∙ ap (λ k. Some (record { mode = h.mode; turn = turn_next (last k) h.mode })) (sym same)
-        | false ↦ λ t.
-            ap (λ b. latest q (map (entry_of last) hs) (cond b (Some (record { mode = h.mode; turn = turn_next (last h.lock) h.mode })) (last q))) (turned q h.lock false t)
-            ∙ groups_placed q hs (right _ _ s)
-      ] refl
+groups_both : (last : Lock → Option Group) (e : Lock × Mode) (es : List (Lock × Mode)) → T (below_all lock_cmp e.0 es) → (q : Lock)
+    → group_of (groups_with last e q) (find lock_cmp q es) ≡ group_of (last q) (find lock_cmp q (e ∷ es))
+groups_both last e es above q =
+    elim (eq_by_cmp lock_cmp e.0 q) as (λ b. eq_by_cmp lock_cmp e.0 q ≡ b
+    → group_of (cond b (Some (record { mode = e.1; turn = turn_next (last e.0) e.1 })) (last q)) (find lock_cmp q es) ≡ group_of (last q) (find lock_cmp q (e ∷ es))) [
+      | true ↦ λ t.
+          let same : e.0 ≡ q = is_key lock_cmp_total lock_cmp-IsAntisymmetric e.0 q t in
+          let none : find lock_cmp q es ≡ None = ap (λ k. find lock_cmp k es) (sym same) ∙ find_below e.0 es above in
+          ap (group_of (Some (record { mode = e.1; turn = turn_next (last e.0) e.1 }))) none
+          ∙ ap (λ k. Some (record { mode = e.1; turn = turn_next (last k) e.1 })) same
+          ∙ sym (ap (λ b. group_of (last q) (cond b (Some e.1) (find lock_cmp q es))) (turned e.0 q true t))
+      | false ↦ λ t. sym (ap (λ b. group_of (last q) (cond b (Some e.1) (find lock_cmp q es))) (turned e.0 q false t))
+    ] refl
 
-  same_below : (x : Lock) (hs : List Held) → below_all lock_cmp x (pairs hs) ≡ below_all lock_cmp x (map (λ e. (e.lock, e)) (map (entry_of last) hs))
-  same_below x [] = refl
-  same_below x (h ∷ hs) = ap (λ b. is_lt (lock_cmp x h.lock) && b) (same_below x hs)
+-- the turns of a call's holders, and of those after it
+pub call_turns : (es rest : List (Lock × Mode)) (last : Lock → Option Group) → T (is_sorted lock_cmp es)
+    → turns_from last (es ++ rest) ≡ map (λ e. turn_next (last e.0) e.1) es ++ turns_from (λ q. group_of (last q) (find lock_cmp q es)) rest
+call_turns [] rest last s = refl
+call_turns (e ∷ es) rest last s =
+    let same_turns : map (λ (d : Lock × Mode). turn_next (groups_with last e d.0) d.1) es ≡ map (λ (d : Lock × Mode). turn_next (last d.0) d.1) es =
+    map_found _ _ es (right _ _ s) (λ q v is. ap (λ g. turn_next g v) (groups_elsewhere last e es (left _ _ s) q v is)) in
+    ap (λ ts. turn_next (last e.0) e.1 ∷ ts) (
+    call_turns es rest (groups_with last e) (right _ _ s)
+    ∙ (λ i. same_turns i ++ turns_from (λ q. groups_both last e es (left _ _ s) q i) rest))
 
-  pub same_sorted : (hs : List Held) → is_sorted lock_cmp (pairs hs) ≡ is_sorted lock_cmp (map (λ e. (e.lock, e)) (map (entry_of last) hs))
-  same_sorted [] = refl
-  same_sorted (h ∷ hs) = λ i. same_below h.lock hs i && same_sorted hs i
+pub with_call : (f : Lock × Mode → ℕ) (es : List (Lock × Mode)) (rest : List ℕ) → with_turns es (map f es ++ rest) ≡ map (λ e. record { lock = e.0; mode = e.1; turn = f e }) es
+with_call f [] rest = refl
+with_call f (e ∷ es) rest = ap (λ xs. record { lock = e.0; mode = e.1; turn = f e } ∷ xs) (with_call f es rest)
 
-pub map_pairs : {Y : Type 0} (f : Lock × Mode → Y) (hs : List Held) → map (λ h. f (pair_of h)) hs ≡ map f (pairs hs)
-map_pairs f [] = refl
-map_pairs f (h ∷ hs) = ap (λ ys. f (pair_of h) ∷ ys) (map_pairs f hs)
+both_hold : (a b : Bool) → T a → T b → T (a && b)
+both_hold true b p q = q
+both_hold false b p q = p
+
+below_with : (x : Lock) (es : List (Lock × Mode)) (ts : List ℕ) → T (below_all lock_cmp x es) → T (below_all lock_cmp x (map (λ (e : Entry). (e.lock, e)) (with_turns es ts)))
+below_with x [] ts h = tt
+below_with x (e ∷ es) [] h = tt
+below_with x (e ∷ es) (t ∷ ts) h = both_hold (is_lt (lock_cmp x e.0)) _ (left _ _ h) (below_with x es ts (right _ _ h))
+
+pub sorted_with : (es : List (Lock × Mode)) (ts : List ℕ) → T (is_sorted lock_cmp es) → T (is_sorted lock_cmp (map (λ (e : Entry). (e.lock, e)) (with_turns es ts)))
+sorted_with [] ts h = tt
+sorted_with (e ∷ es) [] h = tt
+sorted_with (e ∷ es) (t ∷ ts) h = both_hold (below_all lock_cmp e.0 (map (λ (d : Entry). (d.lock, d)) (with_turns es ts))) _ (below_with e.0 es ts (left _ _ h)) (sorted_with es ts (right _ _ h))
+
+pub numbered-append : (n : ℕ) (xs ys : List (Lock × Mode)) → numbered n (xs ++ ys) ≡ numbered n xs ++ numbered (n + length xs) ys
+numbered-append n [] ys = ap (λ k. numbered k ys) (omega arith)
+numbered-append n (x ∷ xs) ys = ap (λ hs. record { lock = x.0; mode = x.1; number = n } ∷ hs) (numbered-append (n + 1) xs ys ∙ ap (λ k. numbered (n + 1) xs ++ numbered k ys) (omega arith))

@@ -1,3 +1,5 @@
 pub mod Groups
 pub mod Orders
 pub mod Rises
+pub mod Dealt
+pub mod Steps

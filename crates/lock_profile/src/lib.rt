@@ -2,15 +2,13 @@
 //! Koskinen, "Adding Concurrency to Smart Contracts", PODC 2017, section 4).
 #![tactic(auto)]
 
-ghost use Rattle.std.specs.Prelude.{◌≡◌, ◌+◌, ◌<◌, ◌≤◌, ◌^◌, ◌↔◌, ℕ, Some, None, OnOk, IfOk, IfSome, IsSome, Option, map, length, List, take, if◌then◌else◌, IsTrue};
-ghost use Rattle.std.specs.Ordering.{eq_by_cmp, is_lt};
-ghost use Rattle.std.specs.BTreeMap.{get};
+ghost use Rattle.std.specs.Prelude.{◌≡◌, ◌+◌, ◌<◌, ◌≤◌, ◌^◌, ◌↔◌, ℕ, None, OnOk, IfOk, IfSome, IsSome, length, drop, ◌++◌, IsTrue};
+ghost use Rattle.std.specs.Ordering.{is_lt};
 ghost use Rattle.std.specs.FinMap as finite;
 ghost use Rattle.spec_ledger.specs.Cells.{lock_cmp};
-ghost use Rattle.spec_ledger.specs.Modes.{goes_with, Modes};
-ghost use Rattle.spec_ledger.specs.declared.Entry.{Entry};
+ghost use Rattle.spec_ledger.specs.Modes.{goes_with};
 ghost use Rattle.lock_profile.specs.Turns.{AreTurns, IsProfile};
-ghost use Rattle.lock_profile.specs.Groups.{turn_next, entry_of, pairs, pair_of, written, group_of, GroupsOf, latest, is_below_next, is_next_above};
+ghost use Rattle.lock_profile.specs.Groups.{turn_next, pairs, is_below_next, is_next_above, group_there, entry_next, numbered, all_held, AllFit, turns_after, turns_from, with_turns};
 
 mod laws;
 
@@ -18,7 +16,6 @@ pub use laws::neighbours_decide;
 use spec_ledger::{Entry, Lock, Mode};
 use std::alloc::{Allocator, Global};
 use std::cmp::Ordering;
-use std::collections::BTreeMap;
 use std::marker::Model;
 use wtypes::NoMemory;
 
@@ -118,7 +115,7 @@ impl<A: Allocator> Profile<A> {
     }
 
     /// What the type keeps: the locks strictly rise.
-    pub fn hold(&self)
+    pub fn use_invariant(&self)
         ensures { IsProfile self.now }
     {
         let _entries = &self.entries;
@@ -190,12 +187,33 @@ fn go_together(a: Mode, b: Mode) -> bool
     matches!((a, b), (Mode::Read, Mode::Read) | (Mode::Add, Mode::Add))
 }
 
-fn group_at<A: Allocator>(groups: &BTreeMap<Lock, Group, A>, lock: Lock) -> Option<Group>
-    ensures { result ≡ get lock_cmp groups.now lock }
+/// A lock that a call of an order holds.
+#[derive(Clone, Copy, Debug, PartialEq, Eq)]
+pub struct Holder {
+    /// The lock.
+    pub lock: Lock,
+    /// How the call holds it.
+    pub mode: Mode,
+    /// How many locks the order's calls hold before it.
+    pub number: usize,
+}
+
+/// The last group of a lock's holders, where the holder before has this entry and no later lock is below its own.
+fn group_at(before: Option<Entry>, lock: Lock) -> Option<Group>
+    ensures { result ≡ group_there before lock }
 {
-    match groups.get(&lock) {
+    match before {
+        Some(entry) => {
+            if entry.lock.cmp(&lock).is_eq() {
+                Some(Group {
+                    mode: entry.mode,
+                    turn: entry.turn,
+                })
+            } else {
+                None
+            }
+        }
         None => None,
-        Some(group) => Some(*group),
     }
 }
 
@@ -216,68 +234,112 @@ fn next_turn(last: Option<Group>, mode: Mode) -> u32
     }
 }
 
-/// The entries of a call that comes after these groups.
-fn entries_after<A: Allocator + Copy>(
-    alloc: A,
-    groups: &BTreeMap<Lock, Group, A>,
-    held: &[Held],
-) -> Result<Vec<Entry, A>, NoMemory>
-    requires { (lock : Lock) (mode : Mode) → turn_next (get lock_cmp groups.now lock) mode < 2 ^ 32 }
-    ensures { IfOk result (λ es. es.items ≡ map (entry_of (get lock_cmp groups.now)) held.now) }
+/// The entry of a holder that comes after this one in the order of locks.
+fn next_entry(before: Option<Entry>, holder: Holder) -> Entry
+    requires { turn_next (group_there before holder.lock) holder.mode < 2 ^ 32 }
+    ensures { result ≡ entry_next before holder }
 {
-    let mut entries = Vec::new(alloc);
+    Entry {
+        lock: holder.lock,
+        mode: holder.mode,
+        turn: next_turn(group_at(before, holder.lock), holder.mode),
+    }
+}
+
+/// Adds the holders of a call.
+fn add_holders<A: Allocator + Copy>(
+    holders: &mut Vec<Holder, A>,
+    held: &[Held],
+) -> Result<(), NoMemory>
+    ensures { OnOk result (holders.new.items ≡ holders.old.items ++ numbered (length holders.old.items) (pairs held.now)) }
+{
     for one in held {
-        let turn = next_turn(group_at(groups, one.lock), one.mode);
-        entries.push(Entry {
+        let number = holders.len();
+        holders.push(Holder {
             lock: one.lock,
             mode: one.mode,
-            turn,
+            number,
         })?;
-    }
-    Ok(entries)
-}
-
-fn write_group<A: Allocator + Copy>(
-    groups: &mut BTreeMap<Lock, Group, A>,
-    entry: Entry,
-) -> Result<(), NoMemory>
-    ensures { OnOk result ((q : Lock) → get lock_cmp groups.new q ≡ (if eq_by_cmp lock_cmp entry.lock q then Some (record { mode = entry.mode; turn = entry.turn }) else get lock_cmp groups.old q)) }
-{
-    let group = Group {
-        mode: entry.mode,
-        turn: entry.turn,
-    };
-    match groups.insert(entry.lock, group) {
-        Ok(_) => Ok(()),
-        Err(_) => Err(NoMemory),
-    }
-}
-
-/// Writes the groups that a call's entries are in.
-fn write_groups<A: Allocator + Copy>(
-    groups: &mut BTreeMap<Lock, Group, A>,
-    entries: &[Entry],
-) -> Result<(), NoMemory>
-    ensures { OnOk result ((q : Lock) → get lock_cmp groups.new q ≡ latest q entries.now (get lock_cmp groups.old q)) }
-{
-    for entry in entries {
-        write_group(groups, *entry)?;
     }
     Ok(())
 }
 
-/// The profile of the next call of an order, and the groups after it.
-fn profile_after<A: Allocator + Copy>(
+/// The holders of an order, in its order.
+fn all_holders<A: Allocator + Copy>(
     alloc: A,
-    groups: &mut BTreeMap<Lock, Group, A>,
-    touched: &Touched<A>,
-) -> Result<Profile<A>, NoMemory>
-    requires { (lock : Lock) (mode : Mode) → turn_next (get lock_cmp groups.old lock) mode < 2 ^ 32 }
-    ensures ok { IfOk result (λ p. p ≡ written (get lock_cmp groups.old) touched.now) }
-    ensures groups { OnOk result ((q : Lock) → get lock_cmp groups.new q ≡ group_of (get lock_cmp groups.old q) (finite.get touched.now q)) }
+    touched: &[Touched<A>],
+) -> Result<Vec<Holder, A>, NoMemory>
+    ensures { IfOk result (λ holders. holders.items ≡ numbered 0 (all_held touched.now)) }
 {
-    let entries = entries_after(alloc, groups, touched.held())?;
-    write_groups(groups, &entries)?;
+    let mut holders = Vec::new(alloc);
+    for one in touched {
+        add_holders(&mut holders, one.held())?;
+    }
+    Ok(holders)
+}
+
+/// Writes the turns of holders in the order of locks at their numbers.
+fn write_turns(turns: &mut [u32], holders: &[Holder])
+    requires { AllFit None holders.now (length turns.old) }
+    ensures { turns.new ≡ turns_after None holders.now turns.old }
+{
+    let mut before = None;
+    for holder in holders {
+        let entry = next_entry(before, *holder);
+        turns[holder.number] = entry.turn;
+        before = Some(entry);
+    }
+}
+
+/// The turns of an order's holders, in its order.
+fn turns_in_order<A: Allocator + Copy>(
+    alloc: A,
+    touched: &[Touched<A>],
+) -> Result<Vec<u32, A>, NoMemory>
+    requires { length touched.now < 2 ^ 16 }
+    ensures { IfOk result (λ turns. turns.items ≡ turns_from (λ _. None) (all_held touched.now)) }
+{
+    let mut holders = all_holders(alloc, touched)?;
+    let mut turns = Vec::from_elem(alloc, 0, holders.len())?;
+    holders.sort_by_key(|holder| holder.lock)?;
+    write_turns(&mut turns, &holders);
+    Ok(turns)
+}
+
+/// The entries of a call whose turns begin at this place.
+fn entries_with<A: Allocator + Copy>(
+    alloc: A,
+    held: &[Held],
+    turns: &[u32],
+    start: usize,
+) -> Result<Vec<Entry, A>, NoMemory>
+    requires { start + length held.now ≤ length turns.now }
+    ensures { IfOk result (λ entries. entries.items ≡ with_turns (pairs held.now) (drop start turns.now)) }
+{
+    let mut entries = Vec::new(alloc);
+    let mut place = start;
+    for one in held {
+        entries.push(Entry {
+            lock: one.lock,
+            mode: one.mode,
+            turn: turns[place],
+        })?;
+        place += 1;
+    }
+    Ok(entries)
+}
+
+/// The profile of a call whose turns begin at this place.
+fn profile_with<A: Allocator + Copy>(
+    alloc: A,
+    touched: &Touched<A>,
+    turns: &[u32],
+    start: usize,
+) -> Result<Profile<A>, NoMemory>
+    requires { start + length (finite.entries touched.now) ≤ length turns.now }
+    ensures { IfOk result (λ profile. profile ≡ with_turns (finite.entries touched.now) (drop start turns.now)) }
+{
+    let entries = entries_with(alloc, touched.held(), turns, start)?;
     Ok(Profile { entries })
 }
 
@@ -291,10 +353,12 @@ pub fn turns<A: Allocator + Copy>(
     requires { length touched.now < 2 ^ 16 }
     ensures { IfOk result (λ profiles. AreTurns touched.now profiles.items) }
 {
-    let mut groups = BTreeMap::new(alloc);
+    let turns = turns_in_order(alloc, touched)?;
     let mut profiles = Vec::new(alloc);
+    let mut start = 0;
     for one in touched {
-        let profile = profile_after(alloc, &mut groups, one)?;
+        let profile = profile_with(alloc, one, &turns, start)?;
+        start += one.held().len();
         profiles.push(profile)?;
     }
     Ok(profiles)

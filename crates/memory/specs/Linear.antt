@@ -16,13 +16,13 @@ pub record Memory : Type 0 where
 abbrev pub pages : Memory → ℕ
 pages memory = length memory.bytes / page_size
 
--- These bytes are written from an address on, exactly where all of them lie in memory. A refusal changes nothing, and one for want of memory comes only in range.
+-- These bytes are written from an address on, exactly where all of them lie in memory. A refusal changes nothing, and one for lack of memory comes only in range.
 abbrev pub Stored : {U : Type 0} → Result U StoreRefusal → Memory → ℕ → List ℕ → Memory → Type 0
 Stored (Ok u) old at bytes new = (at + length bytes ≤ length old.bytes) × (new ≡ record old { bytes = written at bytes old.bytes })
 Stored (Err (refusal.Trap code)) old at bytes new = (code ≡ MemoryOutOfBounds) × (length old.bytes < at + length bytes) × (new ≡ old)
 Stored (Err refusal.NoMemory) old at bytes new = (at + length bytes ≤ length old.bytes) × (new ≡ old)
 
--- So many pages of zeros are added and the old size is answered, exactly where the greatest size is not passed; else the answer is -1. Want of memory is no answer.
+-- So many pages of zeros are added and the old size is answered, exactly where the greatest size is not passed; else the answer is -1. Out of memory is no answer.
 abbrev pub Grown : Result ℤ NoMemory → Memory → ℕ → Memory → Type 0
 Grown (Ok (pos n)) old delta new =
     (pages old + delta ≤ old.max) × (n ≡ pages old) × (new ≡ record old { bytes = old.bytes ++ replicate (page_size * delta) 0 })

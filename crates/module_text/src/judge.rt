@@ -10,8 +10,8 @@ use crate::names::FuncName;
 use crate::refusal::TextRefusal;
 use assembler::{AsmRefusal, assemble};
 use encoder::encode;
+use laws_modules::one_tree;
 use module_tree::module::Module;
-use spec_module_laws::one_tree;
 use std::alloc::{Allocator, Global};
 use wtypes::NoMemory;
 

@@ -1,7 +1,16 @@
-//! The steps of a call's way through the threads that run calls at once, told to whoever wants to know them or to hold a thread at one of them.
+//! The steps of a call's way through the threads, told to whoever wants to know them or to hold a thread at one of them: also how many threads pay, and
+//! brief locks.
 #![tactic(auto)]
 
+mod policy;
+mod spin_lock;
+#[cfg(test)]
+mod tests;
+
 ghost use Rattle.std.specs.Prelude.{◌≡◌, Bool, true, false};
+
+pub use crate::policy::{digesters, threads};
+pub use crate::spin_lock::acquire;
 
 /// A step of a call. Calls are named by their number; tries and operations count from 0.
 #[derive(Clone, Copy, Debug, PartialEq, Eq)]

@@ -13,12 +13,12 @@ use Rattle.storage.specs.Counts.{Counts}
 use Rattle.spec_execution.specs.Configuration.{Setting}
 use Rattle.spec_execution.specs.Run.{ContractCall}
 use Rattle.spec_execution.specs.Exec.{Executes}
-use Rattle.spec_execution.specs.Serial.{Ran, Serial}
-use Rattle.serial.specs.Positions.{positions}
-use Rattle.serial.proofs.Orders.{Serial-push, positions-push}
-use Rattle.publish.specs.Publication.{Publication, limits, fuel_used, IsSerialOrder, MayFollow, HasTaken, HasGoneOn, is_marked, IsKept}
+use Rattle.spec_execution.specs.Serial.{CallResult, Serial}
+use Rattle.serial.specs.Positions.{results_of}
+use Rattle.serial.proofs.Orders.{Serial-push, results_of-push}
+use Rattle.publish.specs.Publication.{Publication, limits, fuel_of_results, IsSerialOrder, MayFollow, HasTaken, HasGoneOn, is_marked, IsKept}
 use Rattle.serial.proofs.Limits.{limit_at, executes_within}
-use Rattle.publish.proofs.Limits.{limits_of-push, fuel_used-push}
+use Rattle.publish.proofs.Limits.{limits_of-push, fuel_of_results-push}
 use Rattle.publish.proofs.Marks.{marks_none, marks_more, unmarked_new, new_unmarked}
 
 -- a position of an order with one call more: an old one, or the last
@@ -32,7 +32,7 @@ last_or_before order n position call at =
       | inr z ↦ inl (z.1, slice_get-get_or order position 0 z.1 ∙ ap (λ x. Some x) (sym (get_or_append_left order (n ∷ []) 0 position z.1) ∙ is))
     ]
 
-module _ (p : Publication) (n : ℕ) (call : ContractCall) (at : slice_get p.calls n ≡ Some call) (follows : MayFollow p n) (next : Cells) (r : Ran)
+module _ (p : Publication) (n : ℕ) (call : ContractCall) (at : slice_get p.calls n ≡ Some call) (follows : MayFollow p n) (next : Cells) (r : CallResult)
     (executed : Executes p.setting call p.cells next r.receipt r.touched) (o : IsSerialOrder p) where
   abbrev followed : Publication
   followed = record p { order = p.order ++ n ∷ []; ran = p.ran ++ r ∷ []; cells = next }
@@ -60,7 +60,7 @@ module _ (p : Publication) (n : ℕ) (call : ContractCall) (at : slice_get p.cal
   }
 
 -- the parts of what is kept beside
-pub record Beside : Type 0 where
+pub record WalkState : Type 0 where
   pub order : List ℕ
   pub receipts : List Receipt
   pub touched : List Modes
@@ -69,10 +69,10 @@ pub record Beside : Type 0 where
   pub used : ℕ
   pub counts : Counts
 
-abbrev pub with_parts : Publication → Cells → Beside → Publication
-with_parts p cells b = record p { order = b.order; ran = positions b.receipts b.touched; cells = cells }
+abbrev pub with_parts : Publication → Cells → WalkState → Publication
+with_parts p cells b = record p { order = b.order; ran = results_of b.receipts b.touched; cells = cells }
 
-abbrev pub IsKeptWith : Publication → Cells → Beside → Type 0
+abbrev pub IsKeptWith : Publication → Cells → WalkState → Type 0
 IsKeptWith p cells b = IsKept (with_parts p cells b) b.receipts b.touched b.marks b.remaining b.used b.counts
 
 -- nothing is published
@@ -93,14 +93,14 @@ module _ (setting : Setting) (calls : List ContractCall) (opening : Cells) (fuel
     settled = settled;
   }
 
-  pub kept_opened : (b : Beside) (current : Cells) → length calls < 2 ^ 32 → current ≡ opening → b.order ≡ [] → b.receipts ≡ [] → b.touched ≡ [] → b.marks ≡ replicate (length calls) false → b.remaining ≡ fuel → b.used ≡ 0 → b.counts ≡ empty → IsKeptWith opened current b
+  pub kept_opened : (b : WalkState) (current : Cells) → length calls < 2 ^ 32 → current ≡ opening → b.order ≡ [] → b.receipts ≡ [] → b.touched ≡ [] → b.marks ≡ replicate (length calls) false → b.remaining ≡ fuel → b.used ≡ 0 → b.counts ≡ empty → IsKeptWith opened current b
   kept_opened b current few cells order receipts touched marks remaining used counts =
-      let none : Beside = record { order = []; receipts = []; touched = []; marks = replicate (length calls) false; remaining = fuel; used = 0; counts = empty } in
+      let none : WalkState = record { order = []; receipts = []; touched = []; marks = replicate (length calls) false; remaining = fuel; used = 0; counts = empty } in
       let is : b ≡ none = λ k. record { order = order k; receipts = receipts k; touched = touched k; marks = marks k; remaining = remaining k; used = used k; counts = counts k } in
       subst (λ x. IsKeptWith opened x b) (sym cells) (subst (IsKeptWith opened opening) (sym is) (kept_none empty few refl))
 
 -- one call more
-module _ (p : Publication) (b : Beside) (n limit : ℕ) (call : ContractCall) (next : Cells) (r : Receipt) (m : Modes) (kept : IsKeptWith p p.cells b)
+module _ (p : Publication) (b : WalkState) (n limit : ℕ) (call : ContractCall) (next : Cells) (r : Receipt) (m : Modes) (kept : IsKeptWith p p.cells b)
     (at : slice_get p.calls n ≡ Some call) (limit_is : limit ≡ call.fuel) (follows : MayFollow (with_parts p p.cells b) n)
     (executed : Executes p.setting call p.cells next r m) where
   pub fits : limit ≤ b.remaining
@@ -111,15 +111,15 @@ module _ (p : Publication) (b : Beside) (n limit : ℕ) (call : ContractCall) (n
       let within = executes_within p.setting call p.cells next r m executed in
       let f = fits in let rest = kept.rest in let used = kept.used_within in omega arith
 
-  abbrev pub more : Beside
+  abbrev pub more : WalkState
   more = record { order = b.order ++ n ∷ []; receipts = b.receipts ++ r ∷ []; touched = b.touched ++ m ∷ []; marks = slice_set b.marks n true; remaining = b.remaining - limit; used = b.used + r.used; counts = empty }
 
   pub kept_more : IsKeptWith p next more
   kept_more =
-      let pushed = positions-push b.receipts b.touched r m kept.even in
+      let pushed = results_of-push b.receipts b.touched r m kept.even in
       let limits_more = limits_of-push (limits p.calls) b.order n in
       let limit_of = limit_at p.calls n call at in
-      let used_more = fuel_used-push (positions b.receipts b.touched) (record { receipt = r; touched = m }) in
+      let used_more = fuel_of_results-push (results_of b.receipts b.touched) (record { receipt = r; touched = m }) in
       let rest = kept.rest in
       let within = executes_within p.setting call p.cells next r m executed in
       record {
@@ -129,14 +129,14 @@ module _ (p : Publication) (b : Beside) (n limit : ℕ) (call : ContractCall) (n
         marks_are = marks_more b.marks b.order n kept.marks_are (let size = kept.size in let known = follows.known in omega arith);
         size = length-set b.marks n true ∙ kept.size;
         rest = let f = fits in omega arith;
-        used_is = ap (λ k. k + r.used) kept.used_is ∙ sym used_more ∙ ap fuel_used (sym pushed);
+        used_is = ap (λ k. k + r.used) kept.used_is ∙ sym used_more ∙ ap fuel_of_results (sym pushed);
         used_within = let u = kept.used_within in omega arith;
         numbered = kept.numbered;
         settled = refl;
       }
 
   -- by room that was made before
-  pub is_more : (room after : Beside) → room.order ≡ b.order → room.receipts ≡ b.receipts → room.touched ≡ b.touched → room.marks ≡ b.marks → room.remaining ≡ b.remaining → room.used ≡ b.used
+  pub is_more : (room after : WalkState) → room.order ≡ b.order → room.receipts ≡ b.receipts → room.touched ≡ b.touched → room.marks ≡ b.marks → room.remaining ≡ b.remaining → room.used ≡ b.used
       → after.order ≡ room.order ++ n ∷ [] → after.receipts ≡ room.receipts ++ r ∷ [] → after.touched ≡ room.touched ++ m ∷ [] → after.marks ≡ slice_set room.marks n true → after.remaining ≡ room.remaining - limit → after.used ≡ room.used + r.used → after.counts ≡ empty
       → after ≡ more
   is_more room after o rs ms marks rest used o' rs' ms' marks' rest' used' counts = λ k. record {
@@ -149,20 +149,20 @@ module _ (p : Publication) (b : Beside) (n limit : ℕ) (call : ContractCall) (n
     counts = counts k;
   }
 
-  pub kept_after : (after : Beside) → after ≡ more → IsKeptWith p next after
+  pub kept_after : (after : WalkState) → after ≡ more → IsKeptWith p next after
   kept_after after is = subst (IsKeptWith p next) (sym is) kept_more
 
-  pub taken_after : (after : Beside) → after ≡ more → HasTaken (with_parts p p.cells b) n (with_parts p next after)
+  pub taken_after : (after : WalkState) → after ≡ more → HasTaken (with_parts p p.cells b) n (with_parts p next after)
   taken_after after is = record {
     call = call;
     ran = record { receipt = r; touched = m };
     at = at;
     executed = executed;
-    is = ap (with_parts p next) is ∙ ap (λ ran. record p { order = b.order ++ n ∷ []; ran = ran; cells = next }) (positions-push b.receipts b.touched r m kept.even);
+    is = ap (with_parts p next) is ∙ ap (λ ran. record p { order = b.order ++ n ∷ []; ran = ran; cells = next }) (results_of-push b.receipts b.touched r m kept.even);
   }
 
 -- whether a call may follow, by what is kept
-pub may_follow : (p : Publication) (b : Beside) (n : ℕ) (call : ContractCall) → IsKeptWith p p.cells b → slice_get p.calls n ≡ Some call → (answer : Bool) → IsTrue answer ↔ ((is_marked b.marks n ≡ false) × (call.fuel ≤ b.remaining)) → IsTrue answer ↔ MayFollow (with_parts p p.cells b) n
+pub may_follow : (p : Publication) (b : WalkState) (n : ℕ) (call : ContractCall) → IsKeptWith p p.cells b → slice_get p.calls n ≡ Some call → (answer : Bool) → IsTrue answer ↔ ((is_marked b.marks n ≡ false) × (call.fuel ≤ b.remaining)) → IsTrue answer ↔ MayFollow (with_parts p p.cells b) n
 may_follow p b n call kept at answer says =
     let l = limit_at p.calls n call at in
     let rest = kept.rest in (
@@ -191,19 +191,19 @@ gone_further p q r n g t = record {
 
 -- ---- how much there is
 
-serial_length : (setting : Setting) (calls : List ContractCall) (order : List ℕ) (cells last : Cells) (rs : List Ran) → Serial setting calls order cells rs last → length rs ≡ length order
+serial_length : (setting : Setting) (calls : List ContractCall) (order : List ℕ) (cells last : Cells) (rs : List CallResult) → Serial setting calls order cells rs last → length rs ≡ length order
 serial_length setting calls [] cells last [] s = refl
 serial_length setting calls [] cells last (x ∷ rs) s = absurd s
 serial_length setting calls (n ∷ order) cells last [] s = absurd s
 serial_length setting calls (n ∷ order) cells last (x ∷ rs) s = ap (λ k. suc k) (serial_length setting calls order s.1 last rs s.4)
 
-positions_length : (rs : List Receipt) (ms : List Modes) → length rs ≡ length ms → length (positions rs ms) ≡ length rs
+positions_length : (rs : List Receipt) (ms : List Modes) → length rs ≡ length ms → length (results_of rs ms) ≡ length rs
 positions_length [] ms e = refl
 positions_length (r ∷ rs) [] e = absurd (omega (arith, e))
 positions_length (r ∷ rs) (m ∷ ms) e = ap (λ k. suc k) (positions_length rs ms (omega (arith, e)))
 
-pub as_many : (p : Publication) (b : Beside) → IsKeptWith p p.cells b → (length b.receipts ≡ length b.order) × (length b.touched ≡ length b.order)
+pub as_many : (p : Publication) (b : WalkState) → IsKeptWith p p.cells b → (length b.receipts ≡ length b.order) × (length b.touched ≡ length b.order)
 as_many p b kept =
-    let all = serial_length p.setting p.calls b.order p.opening p.cells (positions b.receipts b.touched) kept.order.serial in
+    let all = serial_length p.setting p.calls b.order p.opening p.cells (results_of b.receipts b.touched) kept.order.serial in
     let receipts = positions_length b.receipts b.touched kept.even in
     let even = kept.even in (omega arith, omega arith)

@@ -5,29 +5,29 @@ use Rattle.std.specs.FinMap.{empty}
 use Rattle.std.proofs.lemmas.List.{append-nil, drop_more, drop_all, take_all}
 use Rattle.std.proofs.lemmas.Option.{slice_get_within}
 use Rattle.spec_ledger.specs.declared.Receipt.{Receipt}
-use Rattle.spec_ledger.specs.Book.{Entry, GetsReplies, IsDefined, after, has_returned, settled, settled_by}
+use Rattle.spec_ledger.specs.Book.{CommittedCall, GetsReplies, IsDefined, after, has_returned, settled, settled_by}
 use Rattle.spec_ledger.specs.Cells.{Cells}
 use Rattle.spec_ledger.specs.Modes.{Modes}
 use Rattle.spec_execution.specs.Configuration.{Setting}
 use Rattle.spec_execution.specs.Run.{ContractCall}
 use Rattle.spec_execution.specs.Levels.{RunsWith, asks_in}
 use Rattle.spec_execution.specs.Exec.{Executes}
-use Rattle.serial.specs.Positions.{positions}
-use Rattle.serial.proofs.Orders.{positions-push}
-use Rattle.publish.specs.declared.adopting.MadeRun.{MadeRun}
+use Rattle.serial.specs.Positions.{results_of}
+use Rattle.serial.proofs.Orders.{results_of-push}
+use Rattle.publish.specs.declared.adopting.CallRun.{CallRun}
 use Rattle.publish.specs.Publication.{Publication, limits, HasRoom, MayFollow, is_marked}
 use Rattle.publish.specs.Adoption.{IsMade, AreMade, IsRunOf, MayFollowBy, ran_by}
-use Rattle.publish.proofs.Keeping.{Beside, with_parts, IsKeptWith, opened, fits, fits_used, more, kept_more, is_more, may_follow}
+use Rattle.publish.proofs.Keeping.{WalkState, with_parts, IsKeptWith, opened, fits, fits_used, more, kept_more, is_more, may_follow}
 
 -- ---- how many there are
 
-pub as_many_locks : {A : Type 0} (setting : Setting) (calls : List ContractCall) (rs : List (MadeRun A)) (ms : List Modes) → AreMade setting calls rs ms → length ms ≡ length rs
+pub as_many_locks : {A : Type 0} (setting : Setting) (calls : List ContractCall) (rs : List (CallRun A)) (ms : List Modes) → AreMade setting calls rs ms → length ms ≡ length rs
 as_many_locks setting calls [] [] made = refl
 as_many_locks setting calls [] (m ∷ ms) made = absurd made
 as_many_locks setting calls (r ∷ rs) [] made = absurd made
 as_many_locks setting calls (r ∷ rs) (m ∷ ms) made = let h = as_many_locks setting calls rs ms made.1 in omega arith
 
-pub as_many_entries : {A : Type 0} (limits : List ℕ) (fuel : ℕ) (order : List ℕ) (es : List Entry) (rs : List (MadeRun A)) → MayFollowBy limits fuel order es rs → length es ≡ length rs
+pub as_many_entries : {A : Type 0} (limits : List ℕ) (fuel : ℕ) (order : List ℕ) (es : List CommittedCall) (rs : List (CallRun A)) → MayFollowBy limits fuel order es rs → length es ≡ length rs
 as_many_entries limits fuel order [] [] f = refl
 as_many_entries limits fuel order [] (r ∷ rs) f = absurd f
 as_many_entries limits fuel order (e ∷ es) [] f = absurd f
@@ -35,18 +35,18 @@ as_many_entries limits fuel order (e ∷ es) (r ∷ rs) f = let h = as_many_entr
 
 -- ---- what is gone over, and what is left to go over
 
-pub record IsWalked {A : Type 0} (p : Publication) (es : List Entry) (rs : List (MadeRun A)) (ms : List Modes) (b : Beside) (es' : List Entry) (rs' : List (MadeRun A)) (ms' : List Modes) : Type 0 where
+pub record IsWalked {A : Type 0} (p : Publication) (es : List CommittedCall) (rs : List (CallRun A)) (ms : List Modes) (b : WalkState) (es' : List CommittedCall) (rs' : List (CallRun A)) (ms' : List Modes) : Type 0 where
   pub now : Cells
   pub kept : IsKeptWith p now b
   pub defined : IsDefined now es'
   pub last : settled now es' ≡ settled p.opening es
-  pub order : b.order ++ map (λ (e : Entry). e.call) es' ≡ map (λ (e : Entry). e.call) es
-  pub ran : positions b.receipts b.touched ++ ran_by rs' ms' ≡ ran_by rs ms
+  pub order : b.order ++ map (λ (e : CommittedCall). e.call) es' ≡ map (λ (e : CommittedCall). e.call) es
+  pub ran : results_of b.receipts b.touched ++ ran_by rs' ms' ≡ ran_by rs ms
   pub made : AreMade p.setting p.calls rs' ms'
   pub follow : MayFollowBy (limits p.calls) p.fuel b.order es' rs' ↔ MayFollowBy (limits p.calls) p.fuel [] es rs
 
 -- nothing yet
-pub walked_none : {A : Type 0} (setting : Setting) (calls : List ContractCall) (opening : Cells) (fuel : ℕ) (es : List Entry) (rs : List (MadeRun A)) (ms : List Modes) (b : Beside)
+pub walked_none : {A : Type 0} (setting : Setting) (calls : List ContractCall) (opening : Cells) (fuel : ℕ) (es : List CommittedCall) (rs : List (CallRun A)) (ms : List Modes) (b : WalkState)
     → IsKeptWith (opened setting calls opening fuel) opening b → b.order ≡ [] → b.receipts ≡ [] → IsDefined opening es → AreMade setting calls rs ms
     → IsWalked (opened setting calls opening fuel) es rs ms b es rs ms
 walked_none setting calls opening fuel es rs ms b kept order receipts defined made = record {
@@ -54,16 +54,16 @@ walked_none setting calls opening fuel es rs ms b kept order receipts defined ma
   kept = kept;
   defined = defined;
   last = refl;
-  order = ap (λ xs. xs ++ map (λ (e : Entry). e.call) es) order;
-  ran = ap (λ xs. positions xs b.touched ++ ran_by rs ms) receipts;
+  order = ap (λ xs. xs ++ map (λ (e : CommittedCall). e.call) es) order;
+  ran = ap (λ xs. results_of xs b.touched ++ ran_by rs ms) receipts;
   made = made;
   follow = (λ f. subst (λ o. MayFollowBy (limits calls) fuel o es rs) order f, λ f. subst (λ o. MayFollowBy (limits calls) fuel o es rs) (sym order) f);
 }
 
 -- what an entry leaves is what its run leaves
-pub executed_by : {A : Type 0} (setting : Setting) (calls : List ContractCall) (e : Entry) (r : MadeRun A) (m : Modes) (now : Cells)
+pub executed_by : {A : Type 0} (setting : Setting) (calls : List ContractCall) (e : CommittedCall) (r : CallRun A) (m : Modes) (now : Cells)
     → IsMade setting calls r m → IsRunOf e r → RunsWith r.finished.setting r.finished.call r.finished.trace r.finished.outcome r.finished.used
-    → (es : List Entry) → IsDefined now (e ∷ es) → Executes setting r.finished.call now (settled_by e now) (record { outcome = r.finished.outcome; used = r.finished.used; asks = asks_in r.finished.trace }) m
+    → (es : List CommittedCall) → IsDefined now (e ∷ es) → Executes setting r.finished.call now (settled_by e now) (record { outcome = r.finished.outcome; used = r.finished.used; asks = asks_in r.finished.trace }) m
 executed_by setting calls e r m now made is run es defined = record {
   trace = r.finished.trace;
   run = subst (λ cs. RunsWith cs r.finished.call r.finished.trace r.finished.outcome r.finished.used) made.lent run;
@@ -74,7 +74,7 @@ executed_by setting calls e r m now made is run es defined = record {
 }
 
 -- one entry more
-module _ {A : Type 0} (p : Publication) (es : List Entry) (rs : List (MadeRun A)) (ms : List Modes) (b : Beside) (e : Entry) (es' : List Entry) (r : MadeRun A) (rs' : List (MadeRun A)) (m : Modes) (ms' : List Modes)
+module _ {A : Type 0} (p : Publication) (es : List CommittedCall) (rs : List (CallRun A)) (ms : List Modes) (b : WalkState) (e : CommittedCall) (es' : List CommittedCall) (r : CallRun A) (rs' : List (CallRun A)) (m : Modes) (ms' : List Modes)
     (w : IsWalked p es rs ms b (e ∷ es') (r ∷ rs') (m ∷ ms')) where
   abbrev here : Publication
   here = record p { cells = w.now }
@@ -120,8 +120,8 @@ module _ {A : Type 0} (p : Publication) (es : List Entry) (rs : List (MadeRun A)
           kept = kept_more here b r.call limit r.finished.call (settled_by e w.now) receipt m w.kept w.made.0.call_is limit_is follows executed;
           defined = w.defined.1;
           last = w.last;
-          order = append_assoc b.order (r.call ∷ []) (map (λ (x : Entry). x.call) es') ∙ ap (λ n. b.order ++ n ∷ map (λ (x : Entry). x.call) es') is.call ∙ w.order;
-          ran = ap (λ xs. xs ++ ran_by rs' ms') (positions-push b.receipts b.touched receipt m w.kept.even) ∙ append_assoc (positions b.receipts b.touched) (record { receipt = receipt; touched = m } ∷ []) (ran_by rs' ms') ∙ w.ran;
+          order = append_assoc b.order (r.call ∷ []) (map (λ (x : CommittedCall). x.call) es') ∙ ap (λ n. b.order ++ n ∷ map (λ (x : CommittedCall). x.call) es') is.call ∙ w.order;
+          ran = ap (λ xs. xs ++ ran_by rs' ms') (results_of-push b.receipts b.touched receipt m w.kept.even) ∙ append_assoc (results_of b.receipts b.touched) (record { receipt = receipt; touched = m } ∷ []) (ran_by rs' ms') ∙ w.ran;
           made = w.made.1;
           follow = (
             λ f. w.follow.0 (is, (room, subst (λ o. MayFollowBy (limits p.calls) p.fuel o es' rs') same f)),
@@ -130,7 +130,7 @@ module _ {A : Type 0} (p : Publication) (es : List Entry) (rs : List (MadeRun A)
         }
 
 -- one index more
-module _ {A : Type 0} (p : Publication) (es : List Entry) (rs : List (MadeRun A)) (ms : List Modes) (b : Beside) (i : ℕ) (e : Entry) (r : MadeRun A) (below : i < length rs) (even : length es ≡ length rs) (locked : length ms ≡ length rs)
+module _ {A : Type 0} (p : Publication) (es : List CommittedCall) (rs : List (CallRun A)) (ms : List Modes) (b : WalkState) (i : ℕ) (e : CommittedCall) (r : CallRun A) (below : i < length rs) (even : length es ≡ length rs) (locked : length ms ≡ length rs)
     (e_is : e ≡ get_or es i e) (r_is : r ≡ get_or rs i r) (w : IsWalked p es rs ms b (drop i es) (drop i rs) (drop i ms)) where
   pub next_is : IsWalked p es rs ms b (e ∷ drop (i + 1) es) (r ∷ drop (i + 1) rs) (get_or ms i empty ∷ drop (i + 1) ms)
   next_is =
@@ -161,7 +161,7 @@ module _ {A : Type 0} (p : Publication) (es : List Entry) (rs : List (MadeRun A)
     pub used_next : p.fuel < 2 ^ 64 → b.used + r.finished.used < 2 ^ 64
     used_next = used_here p es rs ms b e (drop (i + 1) es) r (drop (i + 1) rs) (get_or ms i empty) (drop (i + 1) ms) next_is limit limit_is follows is run
 
-    pub walked_on : (room after : Beside) → room.order ≡ b.order → room.receipts ≡ b.receipts → room.touched ≡ b.touched → room.marks ≡ b.marks → room.remaining ≡ b.remaining → room.used ≡ b.used
+    pub walked_on : (room after : WalkState) → room.order ≡ b.order → room.receipts ≡ b.receipts → room.touched ≡ b.touched → room.marks ≡ b.marks → room.remaining ≡ b.remaining → room.used ≡ b.used
         → after.order ≡ room.order ++ r.call ∷ [] → after.receipts ≡ room.receipts ++ record { outcome = r.finished.outcome; used = r.finished.used; asks = asks_in r.finished.trace } ∷ [] → after.touched ≡ room.touched ++ get_or ms i empty ∷ [] → after.marks ≡ slice_set room.marks r.call true
         → after.remaining ≡ room.remaining - limit → after.used ≡ room.used + r.finished.used → after.counts ≡ empty
         → IsWalked p es rs ms after (drop (i + 1) es) (drop (i + 1) rs) (drop (i + 1) ms)
@@ -176,7 +176,7 @@ module _ {A : Type 0} (p : Publication) (es : List Entry) (rs : List (MadeRun A)
         (walked_more p es rs ms b e (drop (i + 1) es) r (drop (i + 1) rs) m (drop (i + 1) ms) w' limit limit_is follows is run)
 
 -- all is gone over
-module _ {A : Type 0} (p : Publication) (es : List Entry) (rs : List (MadeRun A)) (ms : List Modes) (b : Beside) (i : ℕ) (all : length rs ≤ i) (even : length es ≡ length rs) (locked : length ms ≡ length rs)
+module _ {A : Type 0} (p : Publication) (es : List CommittedCall) (rs : List (CallRun A)) (ms : List Modes) (b : WalkState) (i : ℕ) (all : length rs ≤ i) (even : length es ≡ length rs) (locked : length ms ≡ length rs)
     (touched_is : b.touched ≡ take i ms) (w : IsWalked p es rs ms b (drop i es) (drop i rs) (drop i ms)) where
   no_entry : drop i es ≡ []
   no_entry = drop_all i es (omega arith)
@@ -187,11 +187,11 @@ module _ {A : Type 0} (p : Publication) (es : List Entry) (rs : List (MadeRun A)
   pub all_touched : b.touched ≡ ms
   all_touched = touched_is ∙ take_all i ms (omega arith)
 
-  pub all_order : b.order ≡ map (λ (e : Entry). e.call) es
-  all_order = sym (append-nil b.order) ∙ ap (λ xs. b.order ++ map (λ (e : Entry). e.call) xs) (sym no_entry) ∙ w.order
+  pub all_order : b.order ≡ map (λ (e : CommittedCall). e.call) es
+  all_order = sym (append-nil b.order) ∙ ap (λ xs. b.order ++ map (λ (e : CommittedCall). e.call) xs) (sym no_entry) ∙ w.order
 
-  pub all_ran : positions b.receipts ms ≡ ran_by rs ms
-  all_ran = sym (append-nil (positions b.receipts ms)) ∙ ap (λ x. positions b.receipts x ++ []) (sym all_touched) ∙ ap (λ xs. positions b.receipts b.touched ++ ran_by xs (drop i ms)) (sym no_run) ∙ w.ran
+  pub all_ran : results_of b.receipts ms ≡ ran_by rs ms
+  all_ran = sym (append-nil (results_of b.receipts ms)) ∙ ap (λ x. results_of b.receipts x ++ []) (sym all_touched) ∙ ap (λ xs. results_of b.receipts b.touched ++ ran_by xs (drop i ms)) (sym no_run) ∙ w.ran
 
   pub all_follow : MayFollowBy (limits p.calls) p.fuel [] es rs
   all_follow = w.follow.0 (subst (λ xs. MayFollowBy (limits p.calls) p.fuel b.order xs (drop i rs)) (sym no_entry) (subst (λ ys. MayFollowBy (limits p.calls) p.fuel b.order [] ys) (sym no_run) tt))

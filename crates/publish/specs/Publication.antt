@@ -13,7 +13,7 @@ use Rattle.storage.specs.Counts.{Counts}
 use Rattle.spec_execution.specs.Configuration.{Setting}
 use Rattle.spec_execution.specs.Run.{ContractCall}
 use Rattle.spec_execution.specs.Exec.{Executes}
-use Rattle.spec_execution.specs.Serial.{Ran, Serial}
+use Rattle.spec_execution.specs.Serial.{CallResult, Serial}
 use Rattle.interp.specs.Codes.{coded_setting, coded_call}
 
 -- Calls over contracts, from the opening cells on, with this fuel for all of them; and so far: the order, what the call at each position came to, and the cells.
@@ -23,15 +23,15 @@ pub record Publication : Type 0 where
   pub opening : Cells
   pub fuel : ℕ
   pub order : List ℕ
-  pub ran : List Ran
+  pub ran : List CallResult
   pub cells : Cells
 
-abbrev pub coded_ran : Coded Ran
+abbrev pub coded_ran : Coded CallResult
 coded_ran = code_by (Receipt × Modes) (coded× receipt.the_row.coded coded_modes) (λ r. (r.receipt, r.touched)) (λ p. record { receipt = p.0; touched = p.1 }) (λ _. refl)
 
 abbrev pub coded_publication : Coded Publication
 coded_publication =
-    code_by (Setting × (List ContractCall × (Cells × (ℕ × (List ℕ × (List Ran × Cells))))))
+    code_by (Setting × (List ContractCall × (Cells × (ℕ × (List ℕ × (List CallResult × Cells))))))
     (coded× coded_setting (coded× (coded_list coded_call) (coded× coded_cells (coded× coded_ℕ (coded× (coded_list coded_ℕ) (coded× (coded_list coded_ran) coded_cells))))))
     (λ p. (p.setting, (p.calls, (p.opening, (p.fuel, (p.order, (p.ran, p.cells)))))))
     (λ p. record { setting = p.0; calls = p.1.0; opening = p.1.1.0; fuel = p.1.1.1.0; order = p.1.1.1.1.0; ran = p.1.1.1.1.1.0; cells = p.1.1.1.1.1.1 }) (λ _. refl)
@@ -41,8 +41,8 @@ abbrev pub limits : List ContractCall → List ℕ
 limits calls = map (λ (c : ContractCall). c.fuel) calls
 
 -- the fuel that calls used
-abbrev pub fuel_used : List Ran → ℕ
-fuel_used ran = sum (map (λ (r : Ran). r.receipt.used) ran)
+abbrev pub fuel_of_results : List CallResult → ℕ
+fuel_of_results ran = sum (map (λ (r : CallResult). r.receipt.used) ran)
 
 -- what is published is a serial execution of distinct calls, whose limits are together within the fuel
 pub record IsSerialOrder (p : Publication) : Type 0 where
@@ -64,7 +64,7 @@ pub record MayFollow (p : Publication) (call : ℕ) : Type 0 where
 -- a call is published: it was executed over the cells, and it stands last
 pub record HasTaken (p : Publication) (number : ℕ) (q : Publication) : Type 0 where
   pub call : ContractCall
-  pub ran : Ran
+  pub ran : CallResult
   pub at : slice_get p.calls number ≡ Some call
   pub executed : Executes p.setting call p.cells q.cells ran.receipt ran.touched
   pub is : q ≡ record p { order = p.order ++ number ∷ []; ran = p.ran ++ ran ∷ []; cells = q.cells }
@@ -81,7 +81,7 @@ pub record HasGoneOn (p q : Publication) : Type 0 where
   pub same : IsSameJob p q
   pub more : List ℕ
   pub order : q.order ≡ p.order ++ more
-  pub more_ran : List Ran
+  pub more_ran : List CallResult
   pub ran : q.ran ≡ p.ran ++ more_ran
 
 -- The calls below a number, gone over in rising number from an order on: each that has room is put last.
@@ -116,7 +116,7 @@ pub record IsKept (p : Publication) (receipts : List Receipt) (touched : List Mo
   pub marks_are : AreMarked marks p.order
   pub size : length marks ≡ length p.calls
   pub rest : remaining + limits_of (limits p.calls) p.order ≡ p.fuel
-  pub used_is : used ≡ fuel_used p.ran
+  pub used_is : used ≡ fuel_of_results p.ran
   pub used_within : used ≤ limits_of (limits p.calls) p.order
   pub numbered : length p.calls < 2 ^ 32
   pub settled : unsettled ≡ empty

@@ -13,26 +13,26 @@ ghost use Rattle.spec_ledger.specs.Book.{GetsReplies, IsDefined, settled};
 ghost use Rattle.spec_ledger.specs.Order.{IsAdmissible};
 ghost use Rattle.spec_execution.specs.Serial.{Serial};
 ghost use Rattle.spec_ledger.specs.declared.Version.TheVariants.{Two};
-ghost use Rattle.interp.specs.Lent.{setting_view};
-ghost use Rattle.serial.specs.Positions.{positions};
-ghost use Rattle.publish.specs.Publication.{IsSerialOrder, MayFollow, HasTaken, IsSameJob, HasGoneOn, Sweep, AreLeft, limits, fuel_used};
-ghost use Rattle.footprint.specs.Calls.{IsFootprintOf};
-ghost use Rattle.spec_footprint.specs.Footprints.{Agrees};
+ghost use Rattle.interp.specs.Callee.{setting_view};
+ghost use Rattle.serial.specs.Positions.{results_of};
+ghost use Rattle.publish.specs.Publication.{IsSerialOrder, MayFollow, HasTaken, IsSameJob, HasGoneOn, Sweep, AreLeft, limits, fuel_of_results};
+ghost use Rattle.speculation.specs.Calls.{IsFootprintOf};
+ghost use Rattle.spec_execution.specs.ReadWriteSets.{Agrees};
 ghost use Rattle.publish.specs.Adoption.{AreMade, MayFollowBy, ran_by};
 
-pub use crate::adopting::MadeRun;
-use crate::adopting::walk;
+pub use crate::adopting::CallRun;
+use crate::adopting::adopt_entries;
 pub use crate::laws::one_sweep;
 use crate::so_far::{SoFar, unmarked};
 use boost::book::Closed;
 use call::Call;
-use footprint::enact;
 use interp::finished::Finished;
 use link::deployed::Deployed as Contract;
 use lock_profile::Touched;
 use serial::{Executed, execute, replay};
-use spec_footprint::Access;
+use spec_execution::Access;
 use spec_ledger::{NoMemory, Receipt, Version};
+use speculation::write_back;
 use std::alloc::{Allocator, Global};
 use std::marker::Model;
 use storage::Cells;
@@ -52,17 +52,17 @@ pub struct Publishing<'a, A: Allocator + Copy> {
 
 impl<'a, A: Allocator + Copy> Model for Publishing<'a, A> {
     ghost use Rattle.spec_ledger.specs.declared.Version.TheVariants.{Two};
-    ghost use Rattle.interp.specs.Lent.{setting_view};
-    ghost use Rattle.serial.specs.Positions.{positions};
+    ghost use Rattle.interp.specs.Callee.{setting_view};
+    ghost use Rattle.serial.specs.Positions.{results_of};
     ghost use Rattle.publish.specs.Publication.{Publication, coded_publication, IsKept};
 
     ghost Value = { Publication };
 
     ghost coded = { coded_publication };
 
-    ghost view = { λ p. record { setting = setting_view Two p.contracts.now; calls = p.calls.now; opening = p.opening.now.cells; fuel = p.fuel; order = p.so_far.order.items; ran = positions p.so_far.receipts.items p.so_far.touched.items; cells = p.cells.cells } };
+    ghost view = { λ p. record { setting = setting_view Two p.contracts.now; calls = p.calls.now; opening = p.opening.now.cells; fuel = p.fuel; order = p.so_far.order.items; ran = results_of p.so_far.receipts.items p.so_far.touched.items; cells = p.cells.cells } };
 
-    ghost invariant = { λ p. IsKept (record { setting = setting_view Two p.contracts.now; calls = p.calls.now; opening = p.opening.now.cells; fuel = p.fuel; order = p.so_far.order.items; ran = positions p.so_far.receipts.items p.so_far.touched.items; cells = p.cells.cells }) p.so_far.receipts.items p.so_far.touched.items p.so_far.marks.items p.so_far.remaining p.so_far.used p.cells.unsettled };
+    ghost invariant = { λ p. IsKept (record { setting = setting_view Two p.contracts.now; calls = p.calls.now; opening = p.opening.now.cells; fuel = p.fuel; order = p.so_far.order.items; ran = results_of p.so_far.receipts.items p.so_far.touched.items; cells = p.cells.cells }) p.so_far.receipts.items p.so_far.touched.items p.so_far.marks.items p.so_far.remaining p.so_far.used p.cells.unsettled };
 }
 
 /// What was published.
@@ -120,14 +120,14 @@ impl<'a, A: Allocator + Copy> Publishing<'a, A> {
     /// # Errors
     ///
     /// Memory was refused.
-    pub fn adopt(
+    pub fn adopt_closed_book(
         alloc: A,
         contracts: &'a [Contract<A>],
         calls: &'a [Call],
         cells: &'a Cells<A>,
         fuel: u64,
         closed: Closed<A>,
-        runs: &[MadeRun<'a, A>],
+        runs: &[CallRun<'a, A>],
         touched: Vec<Touched<A>, A>,
     ) -> Result<Option<Publishing<'a, A>>, NoMemory>
         requires calls { length calls.now < 2 ^ 32 }
@@ -143,7 +143,7 @@ impl<'a, A: Allocator + Copy> Publishing<'a, A> {
             cells: last,
             entries,
         } = closed;
-        let Some(so_far) = walk(
+        let Some(so_far) = adopt_entries(
             alloc, contracts, calls, cells, fuel, &entries, runs, touched,
         )?
         else {
@@ -161,7 +161,7 @@ impl<'a, A: Allocator + Copy> Publishing<'a, A> {
     }
 
     /// What the type keeps.
-    pub fn hold(&self)
+    pub fn use_invariant(&self)
         ensures { IsSerialOrder self.now }
     {
         let _fuel = self.fuel;
@@ -203,13 +203,13 @@ impl<'a, A: Allocator + Copy> Publishing<'a, A> {
         Ok(true)
     }
 
-    /// Publishes a call by a footprint of it that was taken elsewhere, where the call may be published next and the cells now hold what it found. Answers
+    /// Publishes a call by a read-write set of it that was taken elsewhere, where the call may be published next and the cells now hold what it found. Answers
     /// whether the call was taken, with all that is published.
     ///
     /// # Errors
     ///
     /// Memory was refused. Nothing is published any more.
-    pub fn take_footprint(
+    pub fn commit_if_valid(
         self,
         call: u32,
         executed: Executed<A>,
@@ -234,8 +234,8 @@ impl<'a, A: Allocator + Copy> Publishing<'a, A> {
             mut cells,
         } = self;
         so_far.reserve()?;
-        cells.hold();
-        if !enact(&mut cells, accesses)? {
+        cells.use_invariant();
+        if !write_back(&mut cells, accesses)? {
             let published = Publishing {
                 alloc,
                 contracts,
@@ -303,7 +303,7 @@ impl<'a, A: Allocator + Copy> Publishing<'a, A> {
         for call in 0..self.count() {
             self.take_alone(call)?;
         }
-        self.hold();
+        self.use_invariant();
         Ok(())
     }
 
@@ -320,13 +320,13 @@ impl<'a, A: Allocator + Copy> Publishing<'a, A> {
     ///
     /// Memory was refused.
     pub fn finish(mut self) -> Result<Published<A>, NoMemory>
-        ensures serial { IfOk result (λ published. Serial self.entry.setting self.entry.calls published.order.items self.entry.opening (positions published.receipts.items published.touched.items) published.cells.cells) }
+        ensures serial { IfOk result (λ published. Serial self.entry.setting self.entry.calls published.order.items self.entry.opening (results_of published.receipts.items published.touched.items) published.cells.cells) }
         ensures admissible { IfOk result (λ published. IsAdmissible (limits self.entry.calls) published.order.items self.entry.fuel) }
         ensures swept { IfOk result (λ published. Sweep (limits self.entry.calls) self.entry.fuel self.entry.order (length self.entry.calls) published.order.items) }
         ensures receipts { IfOk result (λ published. length published.receipts.items ≡ length published.order.items) }
         ensures touched { IfOk result (λ published. length published.touched.items ≡ length published.order.items) }
         ensures settled { IfOk result (λ published. published.cells.unsettled ≡ finite.empty) }
-        ensures fuel { IfOk result (λ published. published.fuel ≡ fuel_used (positions published.receipts.items published.touched.items)) }
+        ensures fuel { IfOk result (λ published. published.fuel ≡ fuel_of_results (results_of published.receipts.items published.touched.items)) }
         ensures left { IfOk result (λ published. AreLeft published.order.items (length self.entry.calls) published.left.items) }
     {
         self.fill()?;
@@ -341,13 +341,13 @@ impl<'a, A: Allocator + Copy> Publishing<'a, A> {
     /// Memory was refused.
     pub fn close(self) -> Result<Published<A>, NoMemory>
         ensures order { IfOk result (λ published. published.order.items ≡ self.entry.order) }
-        ensures ran { IfOk result (λ published. positions published.receipts.items published.touched.items ≡ self.entry.ran) }
+        ensures ran { IfOk result (λ published. results_of published.receipts.items published.touched.items ≡ self.entry.ran) }
         ensures receipts { IfOk result (λ published. length published.receipts.items ≡ length self.entry.order) }
         ensures touched { IfOk result (λ published. length published.touched.items ≡ length self.entry.order) }
         ensures cells { IfOk result (λ published. published.cells.cells ≡ self.entry.cells) }
         ensures settled { IfOk result (λ published. published.cells.unsettled ≡ finite.empty) }
-        ensures serial { IfOk result (λ published. Serial self.entry.setting self.entry.calls published.order.items self.entry.opening (positions published.receipts.items published.touched.items) published.cells.cells) }
-        ensures fuel { IfOk result (λ published. published.fuel ≡ fuel_used self.entry.ran) }
+        ensures serial { IfOk result (λ published. Serial self.entry.setting self.entry.calls published.order.items self.entry.opening (results_of published.receipts.items published.touched.items) published.cells.cells) }
+        ensures fuel { IfOk result (λ published. published.fuel ≡ fuel_of_results self.entry.ran) }
         ensures left { IfOk result (λ published. AreLeft published.order.items (length self.entry.calls) published.left.items) }
     {
         let left = unmarked(self.alloc, &self.so_far.marks)?;

@@ -43,7 +43,7 @@ impl<A: Allocator> Position<A> {
         ensures is { IfSome result (λ p. p ≡ record { call = call; receipt = receipt; profile = profile }) }
     {
         note_entries(profile.entries());
-        profile.hold();
+        profile.use_invariant();
         lock_profile::neighbours_decide();
         if !has_bytes(receipt) || profile.entries().len() > u32::MAX as usize {
             return None;
@@ -77,7 +77,7 @@ impl<A: Allocator> Position<A> {
     }
 
     /// What the type keeps: it has a spelling.
-    pub fn hold(&self)
+    pub fn use_invariant(&self)
         ensures { IsPosition self.now }
     {
         let _call = self.call;
@@ -124,7 +124,7 @@ pub fn append_position<A: Allocator>(
     ensures bytes { OnOk result (out.new.items ≡ out.old.items ++ position_bytes version position.now) }
     ensures front { take (length out.old.items) out.new.items ≡ out.old.items }
 {
-    position.hold();
+    position.use_invariant();
     append_u32(out, position.call())?;
     append_receipt(version, out, position.receipt())?;
     append_profile(out, position.profile())?;

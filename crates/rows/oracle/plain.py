@@ -1,4 +1,4 @@
-"""Runs calls and judges blocks by hand: what the contracts of `crates/samples` do one instruction after another, the bytes of worlds, calls and blocks as
+"""Runs calls and judges blocks by hand: what the contracts of `crates/test_support` do one instruction after another, the bytes of worlds, calls and blocks as
 docs/REFERENCE.md has them, and the nine reasons against a block one after another. Nothing here comes from the program that is tested.
 
 A cell is (contract, kind, key), where the kind is MAP or COUNTER. A call is a Call. A block is a Block of Places, which need not be the block of an order.

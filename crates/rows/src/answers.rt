@@ -1,7 +1,7 @@
 //! The kinds that libraries answer.
 
 use crate::{kept, words};
-use row_script::Kinds;
+use rows_script::Kinds;
 use std::alloc::Global;
 
 /// Asks one library after another.
@@ -16,22 +16,22 @@ impl Kinds for Libraries {
 
 /// What a kind makes of these bytes, as a text; None where no library has it, or memory is refused.
 fn answer_of(alloc: Global, kind: &str, input: &[u8]) -> Option<String> {
-    if let Some(answer) = text_rows::answer(alloc, kind, input) {
+    if let Some(answer) = rows_texts::answer(alloc, kind, input) {
         return Some(answer);
     }
-    if let Some(answer) = module_rows::answer(alloc, kind, input) {
+    if let Some(answer) = rows_texts::module_answer(alloc, kind, input) {
         return Some(answer);
     }
-    if let Some(answer) = machine_rows::answer(alloc, kind, input) {
+    if let Some(answer) = rows_machine::answer(alloc, kind, input) {
         return Some(answer);
     }
-    if let Some(answer) = book_rows::answer(alloc, kind, input) {
+    if let Some(answer) = rows_books::answer(alloc, kind, input) {
         return Some(answer);
     }
-    if let Some(answer) = file_rows::answer(alloc, kind, input) {
+    if let Some(answer) = rows_files::answer(alloc, kind, input) {
         return Some(answer);
     }
-    if let Some(answer) = block_rows::answer(alloc, kind, input) {
+    if let Some(answer) = rows_blocks::answer(alloc, kind, input) {
         return Some(answer);
     }
     if let Some(answer) = words::answer(alloc, kind, input) {

@@ -1,7 +1,7 @@
 //! Files in memory: what each call on them answers.
 
-use codec::Failures;
-use row_script::cut;
+use byte_sinks::Failures;
+use rows_script::cut;
 use std::alloc::Global;
 use std::str::from_utf8;
 use wblock_io::{Files, MemoryFiles, write_file};

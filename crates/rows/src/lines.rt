@@ -1,9 +1,9 @@
 //! Steps that are lines of words.
 
 use crate::paces::{Ahead, Clash, Gather, Uneven};
-use codec::MemorySink;
+use byte_sinks::MemorySink;
 use pace::{NoPace, Pace};
-use row_script::{Came, Fails, cut};
+use rows_script::{Came, Fails, cut};
 use std::alloc::Global;
 use std::sync::Wait;
 use std::thread::Threads;

@@ -10,7 +10,7 @@ mod words;
 
 use crate::answers::Libraries;
 use crate::lines::do_step;
-use row_script::Script;
+use rows_script::Script;
 use std::alloc::Global;
 use std::str::from_utf8;
 use std::sync::Wait;

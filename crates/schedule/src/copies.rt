@@ -10,7 +10,7 @@ use wtypes::NoMemory;
 fn profile_of<A: Allocator + Copy>(alloc: A, profile: &Profile<A>) -> Result<Profile<A>, NoMemory>
     ensures { IfOk result (λ copy. copy ≡ profile.now) }
 {
-    profile.hold();
+    profile.use_invariant();
     let entries = Vec::from_slice(alloc, profile.entries())?;
     let Some(copy) = Profile::from_sorted(entries) else {
         unreachable!()

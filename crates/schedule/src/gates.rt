@@ -112,7 +112,7 @@ fn behind_of<A: Allocator + Copy>(
 {
     let mut behind = Vec::new(alloc);
     for (position, profile) in profiles.iter().enumerate() {
-        profile.hold();
+        profile.use_invariant();
         put_profile(
             alloc,
             numbers,
@@ -158,7 +158,7 @@ fn holds_of<A: Allocator + Copy>(
 {
     let mut holds = Vec::new(alloc);
     for profile in profiles {
-        profile.hold();
+        profile.use_invariant();
         let gates = next_gates(alloc, numbers, profile.entries())?;
         holds.push(Numbers::from_list(rising(gates)))?;
     }

@@ -83,7 +83,7 @@ pub fn waves_of<A: Allocator + Copy>(
     let mut least = BTreeMap::new(alloc);
     let mut waves = Vec::new(alloc);
     for profile in profiles {
-        profile.hold();
+        profile.use_invariant();
         let entries = profile.entries();
         let wave = wave_of(&least, entries);
         raise(&mut least, entries, wave + 1)?;

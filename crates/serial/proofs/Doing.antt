@@ -3,8 +3,8 @@ use Rattle.std.proofs.Common.{◌≡◌, List, [], ◌∷◌, ◌++◌, refl, sy
 use Rattle.spec_ledger.specs.declared.Inverse.{Inverse}
 use Rattle.spec_ledger.specs.declared.Op.{Op}
 use Rattle.spec_ledger.specs.declared.Reply.{Reply}
-use Rattle.spec_ledger.specs.declared.Step.{Step}
-use Rattle.spec_ledger.specs.declared.Step.TheVariants.{Did}
+use Rattle.spec_ledger.specs.declared.TraceStep.{TraceStep}
+use Rattle.spec_ledger.specs.declared.TraceStep.TheVariants.{Did}
 use Rattle.spec_ledger.specs.Cells.{cells_after, reply_to, inverse_to}
 use Rattle.spec_ledger.specs.Book.{after, standing, GetsReplies, inverses_of}
 use Rattle.spec_ledger.proofs.Traces.{after-push, GetsReplies-push, standing-push, after-standing, inverses_of-append}
@@ -16,7 +16,7 @@ use Rattle.serial.specs.Playing.{AreDone}
 pub done_none : (start : Store) → AreDone start [] start []
 done_none start = record { replies = tt; cells = refl; inverses_are = refl; unsettled = refl }
 
-module _ (start now next : Store) (t u : List Step) (is js : List Inverse) (op : Op) (r : Reply) (d : AreDone start t now is)
+module _ (start now next : Store) (t u : List TraceStep) (is js : List Inverse) (op : Op) (r : Reply) (d : AreDone start t now is)
     (trace : u ≡ t ++ Did op r ∷ []) (reply : r ≡ reply_to op now.cells)
     (cells : next.cells ≡ cells_after op now.cells) (unsettled : next.unsettled ≡ opened (inverse_to op now.cells) now.unsettled)
     (inverses : js ≡ is ++ inverse_to op now.cells ∷ []) where

@@ -5,7 +5,7 @@ use Rattle.std.specs.FinMap.{empty}
 use Rattle.spec_ledger.specs.declared.Inverse.{Inverse}
 use Rattle.spec_ledger.specs.declared.Outcome.{Outcome}
 use Rattle.spec_ledger.specs.declared.Receipt.{Receipt}
-use Rattle.spec_ledger.specs.declared.Step.{Step}
+use Rattle.spec_ledger.specs.declared.TraceStep.{TraceStep}
 use Rattle.spec_ledger.specs.Cells.{Cells, AreCells}
 use Rattle.spec_ledger.specs.Modes.{Modes, touched}
 use Rattle.spec_ledger.specs.Book.{after, standing, inverses_of, back_all, has_returned}
@@ -20,7 +20,7 @@ use Rattle.spec_execution.specs.Exec.{Executes}
 use Rattle.interp.specs.Played.{Played, IsPlayed}
 use Rattle.serial.specs.Playing.{AreDone, IsPlayedOver}
 
-module _ (start now : Store) (t : List Step) (is : List Inverse) (d : AreDone start t now is) (settled : start.unsettled ≡ empty) where
+module _ (start now : Store) (t : List TraceStep) (is : List Inverse) (d : AreDone start t now is) (settled : start.unsettled ≡ empty) where
   counted : now.unsettled ≡ opened_all is empty
   counted = d.unsettled ∙ ap (opened_all is) settled
 
@@ -47,7 +47,7 @@ module _ (start now : Store) (t : List Step) (is : List Inverse) (d : AreDone st
 
 module _ (lent : Setting) (call : ContractCall) (start now : Store) (f : Played) (is : List Inverse) (p : IsPlayedOver lent call start f now is) (run : IsPlayed f) (settled : start.unsettled ≡ empty) (are : AreCells start.cells) where
   pub executed : (o : Outcome) → o ≡ f.outcome → (used : ℕ) → used ≡ f.used → (asks : ℕ) → asks ≡ asks_in f.trace → (stand : Bool) → stand ≡ has_returned o → (later : Cells) → later ≡ cond stand now.cells (back_all is now.cells)
-      → (t : List Step) → t ≡ f.trace → (locks : Modes) → locks ≡ touched t → Executes lent call start.cells later (record { outcome = o; used = used; asks = asks }) locks
+      → (t : List TraceStep) → t ≡ f.trace → (locks : Modes) → locks ≡ touched t → Executes lent call start.cells later (record { outcome = o; used = used; asks = asks }) locks
   executed o o_is used used_is asks asks_are stand stand_is later later_is t t_is locks locks_are = record {
     trace = f.trace;
     run = subst (λ x. RunsWith lent call f.trace x used) (sym o_is) (subst (λ n. RunsWith lent call f.trace f.outcome n) (sym used_is)

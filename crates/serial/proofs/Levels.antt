@@ -6,8 +6,8 @@ use Rattle.std.specs.FinMap.{empty}
 use Rattle.spec_ledger.specs.declared.Inverse.{Inverse}
 use Rattle.spec_ledger.specs.declared.Op.{Op}
 use Rattle.spec_ledger.specs.declared.Reply.{Reply}
-use Rattle.spec_ledger.specs.declared.Step.{Step}
-use Rattle.spec_ledger.specs.declared.Step.TheVariants.{Did, Opened, Kept, Dropped}
+use Rattle.spec_ledger.specs.declared.TraceStep.{TraceStep}
+use Rattle.spec_ledger.specs.declared.TraceStep.TheVariants.{Did, Opened, Kept, Dropped}
 use Rattle.spec_ledger.specs.Cells.{AreCells, cells_after, reply_to, inverse_to}
 use Rattle.spec_ledger.specs.Book.{Marked, kept_at, dropped_at, stepped, noted, ops_after, back_all, standing, standing_at, GetsReplies, inverses_of}
 use Rattle.spec_ledger.proofs.Traces.{IsMark, AreFronts, fronts_of, standing_at-push, after-standing, back_all-inverses, inverses_of-append, inverses_of-length, GetsReplies-mark, AreCells-ops, ops_after-append}
@@ -20,23 +20,23 @@ use Rattle.serial.proofs.Doing.{done_none, done_more}
 pub none_in_levels : (start : Store) → start.unsettled ≡ empty → AreCells start.cells → AreDoneInLevels start [] start [] []
 none_in_levels start settled are = record { settled = settled; are = are; done = done_none start; marks_are = refl }
 
-pub some_done : (start : Store) (t : List Step) (now : Store) (is : List Inverse) (ms : List ℕ) → AreDoneInLevels start t now is ms → AreSomeDone start now is
+pub some_done : (start : Store) (t : List TraceStep) (now : Store) (is : List Inverse) (ms : List ℕ) → AreDoneInLevels start t now is ms → AreSomeDone start now is
 some_done start t now is ms d = record { trace = t; done = d.done }
 
-pub may_be_left : (start : Store) (t : List Step) (now : Store) (is : List Inverse) (ms : List ℕ) → AreDoneInLevels start t now is ms → MayBeLeft now is ms
+pub may_be_left : (start : Store) (t : List TraceStep) (now : Store) (is : List Inverse) (ms : List ℕ) → AreDoneInLevels start t now is ms → MayBeLeft now is ms
 may_be_left start t now is ms d = record { start = start; trace = t; done = d }
 
-pub same_in_levels : (start now next : Store) (t u : List Step) (is js : List Inverse) (ms ns : List ℕ) → u ≡ t → next ≡ now → js ≡ is → ns ≡ ms → AreDoneInLevels start t now is ms → AreDoneInLevels start u next js ns
+pub same_in_levels : (start now next : Store) (t u : List TraceStep) (is js : List Inverse) (ms ns : List ℕ) → u ≡ t → next ≡ now → js ≡ is → ns ≡ ms → AreDoneInLevels start t now is ms → AreDoneInLevels start u next js ns
 same_in_levels start now next t u is js ms ns trace e f g d =
     subst (λ x. AreDoneInLevels start x next js ns) (sym trace)
     (subst (λ x. AreDoneInLevels start t x js ns) (sym e) (subst (λ x. AreDoneInLevels start t now x ns) (sym f) (subst (λ x. AreDoneInLevels start t now is x) (sym g) d)))
 
-pushed : (t u : List Step) (s : Step) → u ≡ t ++ s ∷ [] → standing_at u ≡ stepped noted s (standing_at t)
+pushed : (t u : List TraceStep) (s : TraceStep) → u ≡ t ++ s ∷ [] → standing_at u ≡ stepped noted s (standing_at t)
 pushed t u s e = ap standing_at e ∙ standing_at-push t s
 
 -- ---- an operation
 
-module _ (start now next : Store) (t u : List Step) (is js : List Inverse) (ms : List ℕ) (op : Op) (r : Reply) (d : AreDoneInLevels start t now is ms)
+module _ (start now next : Store) (t u : List TraceStep) (is js : List Inverse) (ms : List ℕ) (op : Op) (r : Reply) (d : AreDoneInLevels start t now is ms)
     (trace : u ≡ t ++ Did op r ∷ []) (reply : r ≡ reply_to op now.cells) (cells : next.cells ≡ cells_after op now.cells)
     (unsettled : next.unsettled ≡ opened (inverse_to op now.cells) now.unsettled) (inverses : js ≡ is ++ inverse_to op now.cells ∷ []) where
   pub did_one : AreDoneInLevels start u next js ms
@@ -50,7 +50,7 @@ module _ (start now next : Store) (t u : List Step) (is js : List Inverse) (ms :
 -- ---- marks
 
 -- a mark that leaves what stands
-mark_more : (start now : Store) (t u : List Step) (s : Step) (is : List Inverse) → IsMark s → u ≡ t ++ s ∷ [] → standing u ≡ standing t → AreDone start t now is → AreDone start u now is
+mark_more : (start now : Store) (t u : List TraceStep) (s : TraceStep) (is : List Inverse) → IsMark s → u ≡ t ++ s ∷ [] → standing u ≡ standing t → AreDone start t now is → AreDone start u now is
 mark_more start now t u s is mark e same d = record {
   replies = subst (λ x. GetsReplies x start.cells) (sym e) (GetsReplies-mark t s start.cells mark d.replies);
   cells = d.cells ∙ after-standing t start.cells ∙ ap (λ ops. ops_after ops start.cells) (sym same) ∙ sym (after-standing u start.cells);
@@ -58,7 +58,7 @@ mark_more start now t u s is mark e same d = record {
   unsettled = d.unsettled;
 }
 
-as_many : (start now : Store) (t : List Step) (is : List Inverse) → AreDone start t now is → length is ≡ length (standing t)
+as_many : (start now : Store) (t : List TraceStep) (is : List Inverse) → AreDone start t now is → length is ≡ length (standing t)
 as_many start now t is d = ap length d.inverses_are ∙ inverses_of-length (standing t) start.cells
 
 reverse_last : (ms rest : List ℕ) (n : ℕ) → ms ≡ rest ++ n ∷ [] → reverse ms ≡ n ∷ reverse rest
@@ -98,9 +98,9 @@ none_left : (ms : List ℕ) (n : ℕ) → n ≡ length ms → n ≡ 0 → ms ≡
 none_left [] n size none = refl
 none_left (m ∷ ms) n size none = absurd (omega (arith, size, none))
 
-module _ (start now : Store) (t : List Step) (is : List Inverse) (ms : List ℕ) (d : AreDoneInLevels start t now is ms) where
+module _ (start now : Store) (t : List TraceStep) (is : List Inverse) (ms : List ℕ) (d : AreDoneInLevels start t now is ms) where
   -- a level is entered
-  pub entered : (u : List Step) → u ≡ t ++ Opened ∷ [] → (n : ℕ) → n ≡ length is → (ns : List ℕ) → ns ≡ ms ++ n ∷ [] → AreDoneInLevels start u now is ns
+  pub entered : (u : List TraceStep) → u ≡ t ++ Opened ∷ [] → (n : ℕ) → n ≡ length is → (ns : List ℕ) → ns ≡ ms ++ n ∷ [] → AreDoneInLevels start u now is ns
   entered u e n size ns marks =
       let at = pushed t u Opened e in
       record {

@@ -7,3 +7,9 @@ pub mod Limits
 pub mod Modes
 pub mod Orders
 pub mod Redoing
+pub mod Going
+pub mod Causes
+pub mod Copies
+pub mod Crossing
+pub mod BlocksLimits
+pub mod BlocksOrders

@@ -4,7 +4,7 @@ use Rattle.std.specs.Prelude.{slice_index}
 use Rattle.std.proofs.lemmas.Option.{slice_get-map, get_or_from_slice_get}
 use Rattle.spec_ledger.specs.declared.Outcome.{Outcome}
 use Rattle.spec_ledger.specs.declared.Receipt.{Receipt}
-use Rattle.spec_ledger.specs.declared.Step.{Step}
+use Rattle.spec_ledger.specs.declared.TraceStep.{TraceStep}
 use Rattle.spec_ledger.specs.Cells.{Cells}
 use Rattle.spec_ledger.specs.Modes.{Modes}
 use Rattle.spec_execution.specs.Configuration.{Setting}
@@ -18,12 +18,12 @@ limit_at calls n call at =
     (slice_get-map (λ (c : ContractCall). c.fuel) calls n ∙ ap (option_map (λ (c : ContractCall). c.fuel)) at)
 
 module _ (setting : Setting) (start : Levels) (limit : ℕ) where
-  reached_within : (trace : List Step) (used : ℕ) (last : Levels) → Reached setting start limit trace used last → used ≤ limit
+  reached_within : (trace : List TraceStep) (used : ℕ) (last : Levels) → Reached setting start limit trace used last → used ≤ limit
   reached_within trace used last at_first = omega arith
   reached_within trace used last (moved t u a charge marks b r e h) = h
   reached_within trace used last (replied t u a op go r reached asks fits) = reached_within t u a reached
 
-runs_within : (setting : Setting) (call : ContractCall) (trace : List Step) (o : Outcome) (used : ℕ) → RunsWith setting call trace o used → used ≤ call.fuel
+runs_within : (setting : Setting) (call : ContractCall) (trace : List TraceStep) (o : Outcome) (used : ℕ) → RunsWith setting call trace o used → used ≤ call.fuel
 runs_within setting call trace o used (refused code e) = omega arith
 runs_within setting call trace o used (ran c func t p f e run) = reached_within setting _ call.fuel run.before f run.last run.reached
 

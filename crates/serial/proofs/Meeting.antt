@@ -3,20 +3,20 @@ use Rattle.std.proofs.Common.{◌≡◌, ℕ, ◌+◌, ◌-◌, ◌*◌, ◌<◌
 use Rattle.spec_ledger.specs.declared.Inverse.{Inverse}
 use Rattle.spec_ledger.specs.declared.Op.{Op}
 use Rattle.spec_ledger.specs.declared.Reply.{Reply}
-use Rattle.spec_ledger.specs.declared.Step.TheVariants.{Did}
+use Rattle.spec_ledger.specs.declared.TraceStep.TheVariants.{Did}
 use Rattle.spec_ledger.specs.Cells.{cells_after, reply_to, inverse_to}
 use Rattle.spec_execution.specs.Run.{ContractCall}
 use Rattle.storage.specs.Counts.{Store, opened}
 use Rattle.interp.specs.declared.turns.Status.{Status}
 use Rattle.interp.specs.declared.turns.Status.TheVariants as status
 use Rattle.interp.specs.Progress.{Progress, IsSameCall, HasReplied, HasAnswered, AnsweredAt, GoesOn, IsFree, left_of, mark_of}
-use Rattle.turn_loop.specs.declared.Wish.{Wish}
-use Rattle.turn_loop.specs.Going.{HasComeTo, HasAskedFor, HasEntered, HasLeft, MayGoOn}
+use Rattle.serial.specs.declared.turn_loop.HostRequest.{HostRequest}
+use Rattle.serial.specs.Going.{HasComeTo, HasAskedFor, HasEntered, HasLeft, MayGoOn}
 use Rattle.serial.specs.Playing.{AreDoneInLevels, IsOnItsWay}
 use Rattle.serial.proofs.Levels.{did_one, entered}
 
 -- what the loop over turns answered
-pub came_to : (p q : Progress) (o : Option Wish) (w : Wish) → o ≡ Some w → IfSome o (λ x. HasComeTo p x q) → HasComeTo p w q
+pub came_to : (p q : Progress) (o : Option HostRequest) (w : HostRequest) → o ≡ Some w → IfSome o (λ x. HasComeTo p x q) → HasComeTo p w q
 came_to p q o w is come = subst (λ x. IfSome x (λ y. HasComeTo p y q)) is come
 
 pub replied_to : (p q s : Progress) (op : Op) (r : Reply) → HasAskedFor p op q → HasAnswered q r s → HasReplied q op r s

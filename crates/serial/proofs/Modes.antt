@@ -9,9 +9,9 @@ use Rattle.std.specs.FinMap.{get, entries, get-insert, get-entries, get-from_ent
 use Rattle.std.specs.FinMap.Entries.{below_all}
 use Rattle.spec_ledger.specs.declared.Lock.{Lock}
 use Rattle.spec_ledger.specs.declared.Mode.{Mode}
-use Rattle.spec_ledger.specs.declared.Step.{Step}
+use Rattle.spec_ledger.specs.declared.TraceStep.{TraceStep}
 use Rattle.spec_ledger.specs.Cells.{lock_cmp, lock_of}
-use Rattle.spec_ledger.specs.declared.Step.TheVariants.{Did, Opened, Kept, Dropped}
+use Rattle.spec_ledger.specs.declared.TraceStep.TheVariants.{Did, Opened, Kept, Dropped}
 use Rattle.spec_ledger.specs.declared.Op.{Op}
 use Rattle.spec_ledger.specs.declared.Reply.{Reply}
 use Rattle.spec_ledger.specs.Modes.{Modes, mode_of, join_held, mode_at, ops_of, touched_by, touched}
@@ -33,16 +33,16 @@ touched_by-push t s = same_map lock_cmp_total lock_cmp-IsAntisymmetric _ _ (λ q
     ] refl
     ∙ sym (get-insert lock_cmp_total (touched_by t) (lock_of s) (join_held (mode_of s) (get (touched_by t) (lock_of s))) q))
 
-pub touched-push : (t : List Step) (op : Op) (r : Reply) → touched (t ++ Did op r ∷ []) ≡ asked (touched t) op
+pub touched-push : (t : List TraceStep) (op : Op) (r : Reply) → touched (t ++ Did op r ∷ []) ≡ asked (touched t) op
 touched-push t op r = ap touched_by (ops_of-append t (Did op r ∷ [])) ∙ touched_by-push (ops_of t) op
 
-touched_step : (t : List Step) (s : Step) → touched (t ++ s ∷ []) ≡ asked_by (touched t) s
+touched_step : (t : List TraceStep) (s : TraceStep) → touched (t ++ s ∷ []) ≡ asked_by (touched t) s
 touched_step t (Did op r) = touched-push t op r
 touched_step t Opened = touched-mark t Opened tt
 touched_step t Kept = touched-mark t Kept tt
 touched_step t Dropped = touched-mark t Dropped tt
 
-pub touched_more : (t : List Step) (i : ℕ) (d : Step) (held next : Modes) → i < length t → held ≡ touched (take i t) → next ≡ asked_by held (get_or t i d) → next ≡ touched (take (i + 1) t)
+pub touched_more : (t : List TraceStep) (i : ℕ) (d : TraceStep) (held next : Modes) → i < length t → held ≡ touched (take i t) → next ≡ asked_by held (get_or t i d) → next ≡ touched (take (i + 1) t)
 touched_more t i d held next below e f =
     f ∙ ap (λ m. asked_by m (get_or t i d)) e ∙ sym (ap touched (take_more t i d below) ∙ touched_step (take i t) (get_or t i d))
 

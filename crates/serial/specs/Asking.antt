@@ -4,8 +4,8 @@ use Rattle.std.specs.FinMap.{get, insert, from_entries}
 use Rattle.spec_ledger.specs.declared.Lock.{Lock}
 use Rattle.spec_ledger.specs.declared.Mode.{Mode}
 use Rattle.spec_ledger.specs.declared.Op.{Op}
-use Rattle.spec_ledger.specs.declared.Step.{Step}
-use Rattle.spec_ledger.specs.declared.Step.TheVariants.{Did, Opened, Kept, Dropped}
+use Rattle.spec_ledger.specs.declared.TraceStep.{TraceStep}
+use Rattle.spec_ledger.specs.declared.TraceStep.TheVariants.{Did, Opened, Kept, Dropped}
 use Rattle.spec_ledger.specs.Cells.{lock_of}
 use Rattle.spec_ledger.specs.Modes.{Modes, mode_of, join_held}
 
@@ -18,7 +18,7 @@ abbrev pub asked : Modes → Op → Modes
 asked held op = insert held (lock_of op) (join_held (mode_of op) (get held (lock_of op)))
 
 -- so does a step that is one, and a mark asks for nothing
-abbrev pub asked_by : Modes → Step → Modes
+abbrev pub asked_by : Modes → TraceStep → Modes
 asked_by held (Did op r) = asked held op
 asked_by held Opened = held
 asked_by held Kept = held

@@ -1,3 +1,5 @@
 pub mod Asking
 pub mod Playing
 pub mod Positions
+pub mod Going
+pub mod Ordered

@@ -10,10 +10,10 @@ use Rattle.spec_execution.specs.Configuration.{Setting}
 use Rattle.spec_execution.specs.Run.{ContractCall}
 use Rattle.interp.specs.Played.{Played}
 use Rattle.interp.specs.Progress.{Progress}
-use Rattle.spec_ledger.specs.declared.Step.{Step}
+use Rattle.spec_ledger.specs.declared.TraceStep.{TraceStep}
 
 -- the steps of a trace got their replies from the cells at the start, which they made these, and the inverses of what stands are these
-pub record AreDone (start : Store) (trace : List Step) (now : Store) (inverses : List Inverse) : Type 0 where
+pub record AreDone (start : Store) (trace : List TraceStep) (now : Store) (inverses : List Inverse) : Type 0 where
   pub replies : GetsReplies trace start.cells
   pub cells : now.cells ≡ after trace start.cells
   pub inverses_are : inverses ≡ inverses_of (standing trace) start.cells
@@ -21,11 +21,11 @@ pub record AreDone (start : Store) (trace : List Step) (now : Store) (inverses :
 
 -- some operations were done on the cells at the start, which have these inverses
 pub record AreSomeDone (start now : Store) (inverses : List Inverse) : Type 0 where
-  pub trace : List Step
+  pub trace : List TraceStep
   pub done : AreDone start trace now inverses
 
 -- The same, over cells in which nothing was unsettled. The marks are how many inverses there were where each open level was entered, the innermost last.
-pub record AreDoneInLevels (start : Store) (trace : List Step) (now : Store) (inverses : List Inverse) (marks : List ℕ) : Type 0 where
+pub record AreDoneInLevels (start : Store) (trace : List TraceStep) (now : Store) (inverses : List Inverse) (marks : List ℕ) : Type 0 where
   pub settled : start.unsettled ≡ empty
   pub are : AreCells start.cells
   pub done : AreDone start trace now inverses
@@ -34,7 +34,7 @@ pub record AreDoneInLevels (start : Store) (trace : List Step) (now : Store) (in
 -- some steps were done, which have these inverses and marks
 pub record MayBeLeft (now : Store) (inverses : List Inverse) (marks : List ℕ) : Type 0 where
   pub start : Store
-  pub trace : List Step
+  pub trace : List TraceStep
   pub done : AreDoneInLevels start trace now inverses marks
 
 abbrev pub IsOnItsWay : Store → Progress → Store → List Inverse → List ℕ → Type 0

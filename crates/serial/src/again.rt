@@ -5,7 +5,7 @@ ghost use Rattle.spec_ledger.specs.Book.{GetsReplies};
 ghost use Rattle.serial.specs.Playing.{AreDone, AreSomeDone};
 
 use crate::steps::{act, leave};
-use spec_ledger::{Inverse, NoMemory, Reply, Step};
+use spec_ledger::{Inverse, NoMemory, Reply, TraceStep};
 use std::alloc::Allocator;
 use storage::Cells;
 
@@ -21,7 +21,7 @@ pub(crate) fn act_again<A: Allocator + Copy>(
     alloc: A,
     cells: &mut Cells<A>,
     inverses: &mut Vec<Inverse, A>,
-    trace: &[Step],
+    trace: &[TraceStep],
 ) -> Result<bool, NoMemory>
     requires none { inverses.old.items ≡ [] }
     requires settled { cells.old.unsettled ≡ finite.empty }
@@ -29,20 +29,20 @@ pub(crate) fn act_again<A: Allocator + Copy>(
     ensures other { result ≡ Ok false → ¬ (GetsReplies trace.now cells.old.cells) }
     ensures some { AreSomeDone cells.old cells.new inverses.new.items }
 {
-    cells.hold();
+    cells.use_invariant();
     // how many inverses there were at each open mark, the innermost last
     let mut marks = Vec::new(alloc);
     for step in trace {
         match *step {
-            Step::Did(op, reply) => {
+            TraceStep::Did(op, reply) => {
                 let again = act(cells, inverses, op)?;
                 if !is_same(again, reply) {
                     return Ok(false);
                 }
             }
-            Step::Opened => marks.push(inverses.len())?,
-            Step::Kept => leave(cells, inverses, &mut marks, true),
-            Step::Dropped => leave(cells, inverses, &mut marks, false),
+            TraceStep::Opened => marks.push(inverses.len())?,
+            TraceStep::Kept => leave(cells, inverses, &mut marks, true),
+            TraceStep::Dropped => leave(cells, inverses, &mut marks, false),
         }
     }
     Ok(true)

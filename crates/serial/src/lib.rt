@@ -1,11 +1,15 @@
-//! Serial execution: calls run one after another over boosted storage (Dickerson, Gazzillo, Herlihy, Koskinen, "Adding
-//! Concurrency to Smart Contracts", PODC 2017, section 4: the serial order that a miner publishes).
+//! Serial execution of calls, the requests of a run to its host, and the block of an order: calls run one after another over boosted storage (Dickerson,
+//! Gazzillo, Herlihy, Koskinen, "Adding Concurrency to Smart Contracts", PODC 2017, section 4: the serial order that a miner publishes).
 #![tactic(auto)]
 
 mod again;
+mod blocks;
+mod contracts;
 mod locks;
 mod playing;
+mod positions;
 mod steps;
+mod turn_loop;
 
 ghost use Rattle.std.specs.Prelude.{◌≡◌, ◌<◌, ◌↔◌, IfOk, OnErr, IfSome, IfNone, IsSome, length};
 ghost use Rattle.std.specs.List.{All};
@@ -15,17 +19,21 @@ ghost use Rattle.spec_ledger.specs.Book.{back_all, GetsReplies};
 ghost use Rattle.storage.specs.Counts.{AreUnsettled, Store, closed_all};
 ghost use Rattle.spec_execution.specs.Exec.{Executes};
 ghost use Rattle.spec_execution.specs.Serial.{Serial};
-ghost use Rattle.interp.specs.Lent.{setting_view};
+ghost use Rattle.interp.specs.Callee.{setting_view};
 ghost use Rattle.serial.specs.Playing.{AreDone};
-ghost use Rattle.serial.specs.Positions.{positions};
+ghost use Rattle.serial.specs.Positions.{results_of};
 
 use crate::again::act_again;
+pub use crate::blocks::{build_block, run, run_as};
 pub use crate::locks::touched_by;
 use crate::playing::play;
+pub use crate::turn_loop::{HostRequest, next_request};
 use call::Call;
+pub use contracts::copied;
 use interp::finished::Finished;
 use link::deployed::Deployed as Contract;
 use lock_profile::Touched;
+pub use positions::positions_of;
 use spec_ledger::{Inverse, NoMemory, Receipt, Version};
 use std::alloc::{Allocator, Global};
 use storage::{Cells, end_all, returned};
@@ -50,7 +58,7 @@ pub struct Executed<A: Allocator = Global> {
     pub touched: Touched<A>,
 }
 
-/// Ends a run whose operations were done on the cells: they stand if it returned, and else are taken back. After want of
+/// Ends a run whose operations were done on the cells: they stand if it returned, and else are taken back. After a refusal of
 /// memory they are taken back.
 fn conclude<A: Allocator + Copy>(
     alloc: A,
@@ -94,7 +102,7 @@ pub fn execute<A: Allocator + Copy>(
     ensures settled { cells.new.unsettled ≡ finite.empty }
     ensures err { OnErr result (cells.new ≡ cells.old) }
 {
-    cells.hold();
+    cells.use_invariant();
     let (finished, inverses) = play(alloc, contracts, call, cells, version)?;
     conclude(alloc, &finished, cells, inverses)
 }
@@ -117,7 +125,7 @@ pub fn run_alone<'a, A: Allocator + Copy>(
     ensures replies { IfOk result (λ finished. GetsReplies finished.trace cells.old.cells) }
     ensures cells { cells.new ≡ cells.old }
 {
-    cells.hold();
+    cells.use_invariant();
     let (finished, done) = play(alloc, contracts, call, cells, version)?;
     end_all(cells, done, false);
     Ok(finished)
@@ -141,7 +149,7 @@ pub fn replay<A: Allocator + Copy>(
     ensures settled { cells.new.unsettled ≡ finite.empty }
     ensures err { OnErr result (cells.new ≡ cells.old) }
 {
-    cells.hold();
+    cells.use_invariant();
     let mut inverses = Vec::new(alloc);
     match act_again(alloc, cells, &mut inverses, finished.trace()) {
         Ok(true) => Ok(Some(conclude(alloc, finished, cells, inverses)?)),
@@ -172,7 +180,7 @@ pub fn serial_core<A: Allocator + Copy>(
     version: Version,
 ) -> Result<Core<A>, NoMemory>
     requires { All (λ number. number < length calls.now) order.now }
-    ensures serial { IfOk result (λ core. Serial (setting_view version contracts.now) calls.now order.now cells.now.cells (positions core.receipts.items core.touched.items) core.cells.cells) }
+    ensures serial { IfOk result (λ core. Serial (setting_view version contracts.now) calls.now order.now cells.now.cells (results_of core.receipts.items core.touched.items) core.cells.cells) }
     ensures receipts { IfOk result (λ core. length core.receipts.items ≡ length order.now) }
     ensures touched { IfOk result (λ core. length core.touched.items ≡ length order.now) }
     ensures settled { IfOk result (λ core. core.cells.unsettled ≡ finite.empty) }

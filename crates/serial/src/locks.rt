@@ -5,7 +5,7 @@ ghost use Rattle.serial.specs.Asking.{modes_in, asked, asked_by};
 
 use abstract_locks::join_to;
 use lock_profile::{Held, Touched};
-use spec_ledger::{Lock, Mode, NoMemory, Op, Step};
+use spec_ledger::{Lock, Mode, NoMemory, Op, TraceStep};
 use std::alloc::Allocator;
 use std::collections::BTreeMap;
 use storage::{lock, mode};
@@ -25,13 +25,13 @@ fn ask<A: Allocator + Copy>(held: &mut BTreeMap<Lock, Mode, A>, op: Op) -> Resul
 /// Joins what a step asks for to what is held: a mark asks for nothing.
 fn ask_at<A: Allocator + Copy>(
     held: &mut BTreeMap<Lock, Mode, A>,
-    step: Step,
+    step: TraceStep,
 ) -> Result<(), NoMemory>
     ensures { OnOk result (modes_in held.new.entries ≡ asked_by (modes_in held.old.entries) step) }
 {
     match step {
-        Step::Did(op, _) => ask(held, op),
-        Step::Opened | Step::Kept | Step::Dropped => Ok(()),
+        TraceStep::Did(op, _) => ask(held, op),
+        TraceStep::Opened | TraceStep::Kept | TraceStep::Dropped => Ok(()),
     }
 }
 
@@ -57,7 +57,10 @@ fn listed<A: Allocator + Copy>(
 /// # Errors
 ///
 /// Memory was refused.
-pub fn touched_by<A: Allocator + Copy>(alloc: A, trace: &[Step]) -> Result<Touched<A>, NoMemory>
+pub fn touched_by<A: Allocator + Copy>(
+    alloc: A,
+    trace: &[TraceStep],
+) -> Result<Touched<A>, NoMemory>
     ensures { IfOk result (λ locks. locks ≡ touched trace.now) }
 {
     let mut held = BTreeMap::new(alloc);

@@ -3,13 +3,14 @@ ghost use Rattle.std.specs.Prelude.{◌≡◌, [], Ok, true, false, IfOk, OnOk, 
 ghost use Rattle.std.specs.FinMap as finite;
 ghost use Rattle.spec_execution.specs.Run.{opening};
 ghost use Rattle.storage.specs.Counts.{Store};
-ghost use Rattle.interp.specs.Lent.{setting_view};
+ghost use Rattle.interp.specs.Callee.{setting_view};
 ghost use Rattle.interp.specs.Starting.{IsOpened, IsRejection};
 ghost use Rattle.interp.specs.Progress.{IsFree, IsSameCall};
-ghost use Rattle.turn_loop.specs.Going.{MayGoOn, IsEnded};
+ghost use Rattle.serial.specs.Going.{MayGoOn, IsEnded};
 ghost use Rattle.serial.specs.Playing.{IsOnItsWay, IsPlayedOver, AreDone, AreSomeDone, MayBeLeft};
 
 use crate::steps::{act, leave};
+use crate::{HostRequest, next_request};
 use call::Call;
 use interp::finished::Finished;
 use interp::machine::Machine;
@@ -18,7 +19,6 @@ use link::deployed::Deployed as Contract;
 use spec_ledger::{Inverse, NoMemory, Version};
 use std::alloc::Allocator;
 use storage::{Cells, end_all};
-use turn_loop::{Wish, next_wish};
 
 /// Goes on to the next operation, or to the next level that is entered or left, and does it. Answers whether there was one. How many inverses there were
 /// where each open level was entered is noted by the marks, the innermost last.
@@ -37,20 +37,20 @@ fn do_next<'a, A: Allocator + Copy>(
     ensures err { OnErr result (cells.new ≡ cells.old) }
     ensures err_inverses { OnErr result (inverses.new.items ≡ inverses.old.items) }
 {
-    let Some(wish) = next_wish(machine)? else {
+    let Some(wish) = next_request(machine)? else {
         return Ok(false);
     };
     match wish {
-        Wish::Do(op) => {
+        HostRequest::Do(op) => {
             let reply = act(cells, inverses, op)?;
             machine.answer(reply);
             Ok(true)
         }
-        Wish::Enter => {
+        HostRequest::Enter => {
             marks.push(inverses.len())?;
             Ok(true)
         }
-        Wish::Leave(keep) => {
+        HostRequest::Leave(keep) => {
             leave(cells, inverses, marks, keep);
             Ok(true)
         }
@@ -73,7 +73,7 @@ fn run_on<'a, A: Allocator + Copy>(
     ensures done { OnOk result (AreDone cells.old machine.new.trace cells.new inverses.new.items) }
     ensures err { OnErr result (AreSomeDone cells.old cells.new inverses.new.items) }
 {
-    cells.hold();
+    cells.use_invariant();
     let mut marks = Vec::new(alloc);
     'operations: while do_next(machine, cells, inverses, &mut marks)? {}
     Ok(())
@@ -91,7 +91,7 @@ fn run<'a, A: Allocator + Copy>(
     ensures ok { IfOk result (λ r. IsPlayedOver machine.entry.setting machine.entry.call cells.old r.0 cells.new r.1.items) }
     ensures err { OnErr result (cells.new ≡ cells.old) }
 {
-    cells.hold();
+    cells.use_invariant();
     let mut inverses = Vec::new(alloc);
     let Ok(()) = run_on(alloc, &mut machine, cells, &mut inverses) else {
         end_all(cells, inverses, false);
@@ -119,7 +119,7 @@ fn rejected<'a, A: Allocator + Copy>(
     }
 }
 
-/// Runs a call over the cells by the rules of this version, and answers its run with the inverses of its operations, first to last. After want of
+/// Runs a call over the cells by the rules of this version, and answers its run with the inverses of its operations, first to last. After a refusal of
 /// memory the cells are as they were. A call without fuel for its first instruction is answered before an instance is made.
 pub(crate) fn play<'a, A: Allocator + Copy>(
     alloc: A,

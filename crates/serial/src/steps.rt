@@ -2,7 +2,7 @@
 ghost use Rattle.std.specs.Prelude.{◌≡◌, ◌∷◌, ◌++◌, [], List, IfOk, OnOk, OnErr};
 ghost use Rattle.spec_execution.specs.Run.{IsReply};
 ghost use Rattle.spec_ledger.specs.Cells.{cells_after, inverse_to, reply_to};
-ghost use Rattle.spec_ledger.specs.declared.Step.{Step};
+ghost use Rattle.spec_ledger.specs.declared.TraceStep.{TraceStep};
 ghost use Rattle.storage.specs.Counts.{Store, opened};
 ghost use Rattle.interp.specs.Progress.{mark_of};
 ghost use Rattle.serial.specs.Playing.{AreDoneInLevels, MayBeLeft};
@@ -25,7 +25,7 @@ pub(crate) fn act<A: Allocator + Copy>(
     ensures err { OnErr result (cells.new ≡ cells.old) }
     ensures err_inverses { OnErr result (inverses.new.items ≡ inverses.old.items) }
 {
-    cells.hold();
+    cells.use_invariant();
     inverses.reserve(1)?;
     let (reply, inverse) = cells.apply(op)?;
     inverses.push_reserved(inverse);
@@ -41,7 +41,7 @@ pub(crate) fn leave<A: Allocator + Copy>(
     keep: bool,
 )
     requires { MayBeLeft cells.old inverses.old.items marks.old.items }
-    ensures { (start : Store) (trace : List Step) → AreDoneInLevels start trace cells.old inverses.old.items marks.old.items → AreDoneInLevels start (trace ++ mark_of keep ∷ []) cells.new inverses.new.items marks.new.items }
+    ensures { (start : Store) (trace : List TraceStep) → AreDoneInLevels start trace cells.old inverses.old.items marks.old.items → AreDoneInLevels start (trace ++ mark_of keep ∷ []) cells.new inverses.new.items marks.new.items }
 {
     let Some(mark) = marks.pop() else {
         return;

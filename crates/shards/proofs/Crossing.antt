@@ -3,8 +3,8 @@ use denote.RattleType.{RattleType}
 use denote.Ref.{NamedLft}
 use denote.Param.Send.{Frees, IsSend, IsSync, sendable}
 use Rattle.std.specs.declared.alloc.Allocator.{Ghosts}
-use Rattle.journal.specs.contracts.Journal as journal_row
-use Rattle.shard.specs.contracts.shard.Shard as shard_row
+use Rattle.sharding.specs.contracts.journal.Journal as journal_row
+use Rattle.sharding.specs.contracts.shard.Shard as shard_row
 use Rattle.storage.specs.contracts.Cells as cells_row
 use Rattle.shards.specs.contracts.sharded.Shards as book_row
 use Rattle.std.proofs.Crossing as std

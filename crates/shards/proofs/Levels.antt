@@ -1,8 +1,8 @@
 -- What one mark more does to the levels of an attempt.
 use Rattle.std.proofs.Common.{◌≡◌, ℕ, ◌+◌, ◌-◌, ◌<◌, Bool, true, false, List, [], ◌∷◌, ◌++◌, length, refl, sym, ◌∙◌, ap, arith}
 use Rattle.spec_ledger.specs.declared.Op.{Op}
-use Rattle.spec_ledger.specs.declared.Step.{Step}
-use Rattle.spec_ledger.specs.declared.Step.TheVariants.{Opened, Kept, Dropped}
+use Rattle.spec_ledger.specs.declared.TraceStep.{TraceStep}
+use Rattle.spec_ledger.specs.declared.TraceStep.TheVariants.{Opened, Kept, Dropped}
 use Rattle.spec_ledger.specs.Modes.{ops_of}
 use Rattle.spec_ledger.specs.Book.{Marked, kept_at, dropped_at, standing, standing_at}
 use Rattle.spec_ledger.proofs.Traces.{ops_of-append, standing_at-push}
@@ -28,7 +28,7 @@ dropped_less : (now : List Op) (xs : List (List Op)) (n : ℕ) → n ≡ length 
 dropped_less now [] n counted = omega (arith, counted)
 dropped_less now (x ∷ xs) n counted = omega (arith, counted)
 
-module _ (t t' : List Step) (none : ops_of t ≡ []) (n : ℕ) (counted : n ≡ length (standing_at t).marks) where
+module _ (t t' : List TraceStep) (none : ops_of t ≡ []) (n : ℕ) (counted : n ≡ length (standing_at t).marks) where
   module _ (is : t' ≡ t ++ Opened ∷ []) where
     pub opened_none : ops_of t' ≡ []
     opened_none = ap ops_of is ∙ ops_of-append t (Opened ∷ []) ∙ ap (λ xs. xs ++ []) none
@@ -45,5 +45,5 @@ module _ (t t' : List Step) (none : ops_of t ≡ []) (n : ℕ) (counted : n ≡ 
   closed_counted false is = dropped_less (standing t) (standing_at t).marks n counted ∙ sym (ap (λ x. length (standing_at x).marks) is ∙ ap (λ (p : Marked (List Op)). length p.marks) (standing_at-push t Dropped))
 
   -- by the mark
-  pub closed : (keep : Bool) (s : Step) → s ≡ closing keep → t' ≡ t ++ s ∷ [] → (ops_of t' ≡ []) × (n - 1 ≡ length (standing_at t').marks)
+  pub closed : (keep : Bool) (s : TraceStep) → s ≡ closing keep → t' ≡ t ++ s ∷ [] → (ops_of t' ≡ []) × (n - 1 ≡ length (standing_at t').marks)
   closed keep s is more = let e : t' ≡ t ++ closing keep ∷ [] = more ∙ ap (λ x. t ++ x ∷ []) is in (closed_none keep e, closed_counted keep e)

@@ -2,3 +2,5 @@ pub mod Crossing
 mod Levels
 mod Strays
 mod Takings
+pub mod SharedBookCrossing
+mod SharedBookTakings

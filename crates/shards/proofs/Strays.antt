@@ -6,19 +6,19 @@ use Rattle.std.proofs.lemmas.Nat.{mod_below}
 use Rattle.spec_ledger.specs.declared.Lock.{Lock}
 use Rattle.spec_ledger.specs.declared.Op.{Op}
 use Rattle.spec_ledger.specs.declared.Reply.{Reply}
-use Rattle.spec_ledger.specs.declared.Step.{Step}
-use Rattle.spec_ledger.specs.declared.Step.TheVariants.{Did, Opened, Kept, Dropped}
+use Rattle.spec_ledger.specs.declared.TraceStep.{TraceStep}
+use Rattle.spec_ledger.specs.declared.TraceStep.TheVariants.{Did, Opened, Kept, Dropped}
 use Rattle.spec_ledger.specs.Cells.{lock_of}
 use Rattle.spec_ledger.specs.Modes.{ops_of}
-use Rattle.spec_shards.specs.Shards.{part, shard_of}
-use Rattle.shard_parts.specs.Steps.{asks_at}
+use Rattle.spec_ledger.specs.Shards.{part, shard_of}
+use Rattle.sharding.specs.Steps.{asks_at}
 use Rattle.shards.specs.Marks.{marks_of}
 
-still_some : (b : Bool) (op : Op) (r : Reply) (t : List Step) → ¬ ([] ≡ ops_of t) → ¬ ([] ≡ ops_of (cond b (Did op r ∷ t) t))
+still_some : (b : Bool) (op : Op) (r : Reply) (t : List TraceStep) → ¬ ([] ≡ ops_of t) → ¬ ([] ≡ ops_of (cond b (Did op r ∷ t) t))
 still_some true op r t some none = cc none
 still_some false op r t some none = some none
 
-pub asked_in : (home : Lock → ℕ) (i : ℕ) (trace : List Step) (k : ℕ) (d : Step) → k < length trace → asks_at home i (get_or trace k d) ≡ true → ¬ ([] ≡ ops_of (part home i trace))
+pub asked_in : (home : Lock → ℕ) (i : ℕ) (trace : List TraceStep) (k : ℕ) (d : TraceStep) → k < length trace → asks_at home i (get_or trace k d) ≡ true → ¬ ([] ≡ ops_of (part home i trace))
 asked_in home i [] k d below asks none = absurd (omega (arith, below))
 asked_in home i (Did op r ∷ t) zero d below asks none =
     let some : [] ≡ op ∷ ops_of (part home i t) = none ∙ ap (λ b. ops_of (cond b (Did op r ∷ part home i t) (part home i t))) asks in
@@ -43,7 +43,7 @@ module _ (shards : ℕ) (some : 0 < shards) where
       ]
 
   -- so that its part of a trace has the marks alone
-  pub marks_alone : (t : List Step) → part (shard_of shards) shards t ≡ marks_of t
+  pub marks_alone : (t : List TraceStep) → part (shard_of shards) shards t ≡ marks_of t
   marks_alone [] = refl
   marks_alone (Did op r ∷ t) = ap (λ b. cond b (Did op r ∷ part (shard_of shards) shards t) (part (shard_of shards) shards t)) (none_there (lock_of op)) ∙ marks_alone t
   marks_alone (Opened ∷ t) = ap (λ x. Opened ∷ x) (marks_alone t)

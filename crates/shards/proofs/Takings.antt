@@ -2,8 +2,8 @@
 use Rattle.std.proofs.Common.{◌≡◌, IfOk, sym, subst}
 use Rattle.std.specs.declared.result.Result.{Result}
 use Rattle.std.specs.declared.result.Result.TheVariants.{Ok, Err}
-use Rattle.journal.specs.Journals.{IsJournal, Journal}
-use Rattle.shard.specs.Shard.{Shard}
+use Rattle.sharding.specs.Journals.{IsJournal, Journal}
+use Rattle.sharding.specs.Shard.{Shard}
 use Rattle.shards.specs.Taking.{HoldsOfAShard, HoldsOfTheJournal, IsLawful}
 
 -- `seen` is what was looked at, `old` the same as the event found it

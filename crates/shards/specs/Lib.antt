@@ -1,3 +1,4 @@
 pub mod Marks
 pub mod Shards
 pub mod Taking
+pub mod SharedBookTaking

@@ -1,10 +1,10 @@
 // The marks of an attempt's levels.
 ghost use Rattle.std.specs.Prelude.{◌≡◌, ◌++◌, ◌∷◌, [], true, false, IsTrue, OnOk, OnErr, ◌↔◌};
 ghost use Rattle.spec_ledger.specs.Modes.{ops_of};
-ghost use Rattle.spec_ledger.specs.declared.Step.TheVariants as TheStep;
+ghost use Rattle.spec_ledger.specs.declared.TraceStep.TheVariants as TheStep;
 ghost use Rattle.shards.specs.Marks.{IsOutside, closing};
 
-use spec_ledger::Step;
+use spec_ledger::TraceStep;
 use std::alloc::{Allocator, Global};
 use std::marker::Model;
 use storage::NoMemory;
@@ -12,14 +12,14 @@ use storage::NoMemory;
 /// The marks of the levels that an attempt has entered and left, in order, with room for those that close what is open.
 #[derive(Debug, Drop)]
 pub struct Marks<A: Allocator = Global> {
-    steps: Vec<Step, A>,
+    steps: Vec<TraceStep, A>,
     // (how many levels are entered and not left)
     entered: usize,
 }
 
 impl<A: Allocator> Model for Marks<A> {
     ghost use Rattle.std.specs.Prelude.{List};
-    ghost use Rattle.spec_ledger.specs.declared.Step.{Step as TheStep};
+    ghost use Rattle.spec_ledger.specs.declared.TraceStep.{TraceStep as TheStep};
     ghost use Rattle.shards.specs.Marks.{AreLevels, marks_code};
 
     ghost Value = { List TheStep };
@@ -32,10 +32,14 @@ impl<A: Allocator> Model for Marks<A> {
 }
 
 /// The mark that closes a level whose changes stand, or are taken back.
-fn closing_mark(keep: bool) -> Step
+fn closing_mark(keep: bool) -> TraceStep
     ensures { result ≡ closing keep }
 {
-    if keep { Step::Kept } else { Step::Dropped }
+    if keep {
+        TraceStep::Kept
+    } else {
+        TraceStep::Dropped
+    }
 }
 
 impl<A: Allocator + Copy> Marks<A> {
@@ -50,7 +54,7 @@ impl<A: Allocator + Copy> Marks<A> {
     }
 
     /// The marks, in order.
-    pub(crate) fn steps(&self) -> &[Step]
+    pub(crate) fn steps(&self) -> &[TraceStep]
         ensures steps { result.now ≡ self.now }
         ensures are_marks { ops_of result.now ≡ [] }
     {
@@ -70,7 +74,7 @@ impl<A: Allocator + Copy> Marks<A> {
         ensures err { OnErr result (self.new ≡ self.old) }
     {
         self.steps.reserve(2 + self.entered).map_err(|_| NoMemory)?;
-        match self.steps.push(Step::Opened) {
+        match self.steps.push(TraceStep::Opened) {
             Ok(()) => (),
             Err(_) => unreachable!(),
         }

@@ -2,8 +2,7 @@
 ghost use Rattle.std.specs.Prelude.{◌≡◌, ◌<◌, ◌≤◌, IfOk, vec_len};
 ghost use Rattle.std.specs.FinMap as finite;
 
-use shard::Shard;
-use shard_parts::{Part, home};
+use sharding::{Part, Shard, home};
 use std::alloc::Allocator;
 use std::sync::Mutex;
 use storage::{Cells, NoMemory};
@@ -24,7 +23,7 @@ fn own_cells<A: Allocator + Copy>(
 ) -> Result<Cells<A>, NoMemory>
     requires { 0 < shards }
 {
-    opening.hold();
+    opening.use_invariant();
     let mut own = Cells::new(alloc);
     for (lock, value) in opening.entries() {
         if home(lock, shards) != shard {

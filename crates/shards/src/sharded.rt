@@ -6,11 +6,11 @@ ghost use Rattle.spec_ledger.specs.Book.{AreDistinct, Content, IsDefined, call_i
 ghost use Rattle.spec_ledger.specs.Cells.{lock_of};
 ghost use Rattle.spec_ledger.specs.Events.{EnterDone, IsNotEntered, IsOther, IsStale, LeaveDone, OpDone, UndoDone};
 ghost use Rattle.spec_ledger.specs.Modes.{ops_of, touched};
-ghost use Rattle.spec_ledger.specs.declared.Step.TheVariants as TheStep;
-ghost use Rattle.spec_shards.specs.Shards.{part, shard_of};
-ghost use Rattle.shard_parts.specs.Steps.{asks_at};
-ghost use Rattle.journal.specs.Journals.{Begins, Commits, IsJournal, IsLive, Journal as TheJournal, after_undo};
-ghost use Rattle.shard.specs.Shard.{HasToWait, IsOver, IsReady, Shard as TheShard};
+ghost use Rattle.spec_ledger.specs.declared.TraceStep.TheVariants as TheStep;
+ghost use Rattle.spec_ledger.specs.Shards.{part, shard_of};
+ghost use Rattle.sharding.specs.Steps.{asks_at};
+ghost use Rattle.sharding.specs.Journals.{Begins, Commits, IsJournal, IsLive, Journal as TheJournal, after_undo};
+ghost use Rattle.sharding.specs.Shard.{HasToWait, IsOver, IsReady, Shard as TheShard};
 ghost use Rattle.shards.specs.Taking.{HasOtherSteps, HasStrayed, HoldsOfAShard, HoldsOfTheJournal, IsLawful};
 ghost use Rattle.shards.specs.Marks.{IsOutside, closing, marks_of};
 
@@ -20,11 +20,9 @@ use crate::ticket::Ticket;
 use boost::book::{
     BeginRefusal, Closed, CommitRefusal, EnterRefusal, LeaveRefusal, OpRefusal, Run,
 };
-use brief_lock::acquire;
-use journal::Journal;
-use shard::Shard;
-use shard_parts::{CloseRefusal, close, home, is_part};
-use spec_ledger::{Op, Outcome, Reply, Step};
+use pace::acquire;
+use sharding::{CloseRefusal, Journal, Shard, close, home, is_part};
+use spec_ledger::{Op, Outcome, Reply, TraceStep};
 use std::alloc::{Allocator, Global};
 use std::marker::Model;
 use std::sync::{Mutex, Wait};
@@ -64,14 +62,14 @@ impl<'g, G: Gate, A: Allocator> Model for Shards<'g, G, A> {
 fn look_at_journal<A: Allocator + Copy>(journal: &Journal<A>)
     ensures { IsJournal journal.now }
 {
-    journal.hold();
+    journal.use_invariant();
 }
 
 /// What is known of a shard that was found under its lock.
 fn look_at_shard<A: Allocator + Copy>(shard: &Shard<A>)
     ensures { IsLawful shard.now }
 {
-    shard.hold();
+    shard.use_invariant();
 }
 
 /// Undoes an attempt in the journal that was found under its lock.
@@ -79,14 +77,14 @@ fn undo_in_journal<A: Allocator + Copy>(journal: &mut Journal<A>, call: u32, num
     ensures lawful { IsJournal journal.old }
     ensures done { (IsLive journal.old call number × (journal.new ≡ after_undo journal.old call)) ⊎ (¬ (IsLive journal.old call number) × (journal.new ≡ journal.old)) }
 {
-    journal.hold();
+    journal.use_invariant();
     if journal.is_live(call, number) {
         journal.undo(call, number);
     }
 }
 
 /// A copy of a trace.
-fn copied<A: Allocator + Copy>(alloc: A, trace: &[Step]) -> Result<Vec<Step, A>, NoMemory>
+fn copied<A: Allocator + Copy>(alloc: A, trace: &[TraceStep]) -> Result<Vec<TraceStep, A>, NoMemory>
     ensures { IfOk result (λ steps. steps.items ≡ trace.now) }
 {
     let mut steps = Vec::new(alloc);
@@ -97,18 +95,18 @@ fn copied<A: Allocator + Copy>(alloc: A, trace: &[Step]) -> Result<Vec<Step, A>,
 }
 
 /// Whether a step is an operation in a shard that an attempt has not touched.
-fn strays<A: Allocator + Copy>(ticket: &Ticket<A>, step: Step, shards: u32) -> bool
+fn strays<A: Allocator + Copy>(ticket: &Ticket<A>, step: TraceStep, shards: u32) -> bool
     requires { 0 < shards }
     ensures { IsTrue result → (shard : ℕ) × (slice_index_or ticket.now.touched shard false ≡ false) × (asks_at (shard_of shards) shard step ≡ true) }
 {
     match step {
-        Step::Did(op, _) => !ticket.has_touched(home(lock(op), shards) as usize),
-        Step::Opened | Step::Kept | Step::Dropped => false,
+        TraceStep::Did(op, _) => !ticket.has_touched(home(lock(op), shards) as usize),
+        TraceStep::Opened | TraceStep::Kept | TraceStep::Dropped => false,
     }
 }
 
 /// Whether a trace has an operation in a shard that an attempt has not touched.
-fn has_strayed<A: Allocator + Copy>(ticket: &Ticket<A>, trace: &[Step], shards: u32) -> bool
+fn has_strayed<A: Allocator + Copy>(ticket: &Ticket<A>, trace: &[TraceStep], shards: u32) -> bool
     requires { 0 < shards }
     ensures { IsTrue result → HasStrayed shards ticket.now.touched trace.now }
 {
@@ -121,7 +119,7 @@ fn has_strayed<A: Allocator + Copy>(ticket: &Ticket<A>, trace: &[Step], shards: 
 }
 
 /// Whether a trace has the marks of an attempt's levels, and no others.
-fn has_marks<A: Allocator + Copy>(ticket: &Ticket<A>, trace: &[Step], shards: u32) -> bool
+fn has_marks<A: Allocator + Copy>(ticket: &Ticket<A>, trace: &[TraceStep], shards: u32) -> bool
     requires { 0 < shards }
     ensures { IsTrue result ↔ (ticket.now.marks ≡ marks_of trace.now) }
 {
@@ -196,7 +194,7 @@ impl<'g, G: Gate, A: Allocator + Copy> Shards<'g, G, A> {
         shard: u32,
         call: u32,
         number: u64,
-        marks: &[Step],
+        marks: &[TraceStep],
         op: Op,
     ) -> Result<Reply, OpRefusal>
         requires shard { shard < self.now.shards }
@@ -415,7 +413,7 @@ impl<'g, G: Gate, A: Allocator + Copy> Shards<'g, G, A> {
         rt: &impl Wait,
         shard: usize,
         ticket: &Ticket<A>,
-        trace: &[Step],
+        trace: &[TraceStep],
     ) -> Result<(), CommitRefusal>
         requires { shard < self.now.shards }
         ensures stale { result ≡ Err CommitRefusal.Stale → HoldsOfAShard (λ old. IsStale old.book ticket.now.call ticket.now.number) }
@@ -435,7 +433,12 @@ impl<'g, G: Gate, A: Allocator + Copy> Shards<'g, G, A> {
 
     /// Looks at each shard that an attempt has touched, in rising number: that it lives there with the shard's part of the run's trace; and that the trace
     /// has no operation in another shard, and the marks of the ticket.
-    fn look(&self, rt: &impl Wait, ticket: &Ticket<A>, trace: &[Step]) -> Result<(), CommitRefusal>
+    fn look(
+        &self,
+        rt: &impl Wait,
+        ticket: &Ticket<A>,
+        trace: &[TraceStep],
+    ) -> Result<(), CommitRefusal>
         ensures stale { result ≡ Err CommitRefusal.Stale → HoldsOfAShard (λ old. IsStale old.book ticket.now.call ticket.now.number) }
         ensures differs { result ≡ Err CommitRefusal.Differs → HasOtherSteps self.now.shards ticket.now.call ticket.now.number ticket.now.touched ticket.now.marks trace.now }
         ensures marks { OnOk result (ticket.now.marks ≡ marks_of trace.now) }

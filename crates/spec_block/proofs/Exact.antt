@@ -12,7 +12,7 @@ use Rattle.spec_ledger.specs.Order.{limits_of, turn_at}
 use Rattle.spec_ledger.specs.declared.Version.{Version}
 use Rattle.spec_block.specs.Worlds.{Call, World, Position, Block, order_of, profiles_of, limits, held_in}
 use Rattle.spec_block.proofs.Given.{RunsAreUnique}
-use Rattle.spec_execution.specs.Serial.{Ran}
+use Rattle.spec_execution.specs.Serial.{CallResult}
 use Rattle.spec_block.specs.Serial.{Serial}
 use Rattle.spec_block.specs.Bytes.{world_bytes, calls_bytes, SpellsBlock}
 use Rattle.spec_block.specs.Blocks.{Admissible, block_of, positions, all_touched, fuel_of, world_after, profile_at}
@@ -44,9 +44,9 @@ stable_turns ps n (e ∷ es) nn =
     (stable_number _ _ (λ ne. nn (λ h. ne h.0)), stable_turns ps n es (λ ne. nn (λ h. ne h.1)))
 
 -- where every position agrees with the run, the published modes are the run's
-held_alike : (ps : List Position) (rs : List Ran) → length rs ≡ length ps
-    → ((i : ℕ) (p : Position) (r : Ran) → slice_get ps i ≡ Some p → slice_get rs i ≡ Some r → Agrees p r)
-    → map (λ (p : Position). held_in p.profile) ps ≡ map (λ (r : Ran). entries r.touched) rs
+held_alike : (ps : List Position) (rs : List CallResult) → length rs ≡ length ps
+    → ((i : ℕ) (p : Position) (r : CallResult) → slice_get ps i ≡ Some p → slice_get rs i ≡ Some r → Agrees p r)
+    → map (λ (p : Position). held_in p.profile) ps ≡ map (λ (r : CallResult). entries r.touched) rs
 held_alike [] [] e agree = refl
 held_alike [] (r ∷ rs) e agree = absurd (omega arith)
 held_alike (p ∷ ps) [] e agree = absurd (omega arith)
@@ -57,7 +57,7 @@ held_alike (p ∷ ps) (r ∷ rs) e agree =
 module _ (world : World) (calls : List Call) (fuel : ℕ) where
   -- ---- from a verdict to a block
 
-  module _ (b : Block) (ran : List Ran) (last : Cells) (run : Serial b.version world calls (order_of b) world.cells ran last)
+  module _ (b : Block) (ran : List CallResult) (last : Cells) (run : Serial b.version world calls (order_of b) world.cells ran last)
       (none : (v : Verdict) → place v < 10 → ¬ (HoldsOf world calls fuel b v)) where
     in_order : (position n : ℕ) → ¬ (IsBadNumber calls (order_of b) position)
     in_order position n = none_at_all (IsBadNumber calls (order_of b)) (λ p least. none (BadOrder p) (omega arith) least) position
@@ -73,7 +73,7 @@ module _ (world : World) (calls : List Call) (fuel : ℕ) where
           (cases_lt (fuel - limits_of (limits calls) (order_of b)) (slice_index (limits calls) call));
     }
 
-    agrees : (i : ℕ) (p : Position) (r : Ran) → slice_get b.positions i ≡ Some p → slice_get ran i ≡ Some r → Agrees p r
+    agrees : (i : ℕ) (p : Position) (r : CallResult) → slice_get b.positions i ≡ Some p → slice_get ran i ≡ Some r → Agrees p r
     agrees i p r at at' =
         let never : ¬ ¬ (Agrees p r) = λ other. none_at_all (IsOther b.positions ran) (λ n least. none (Deviates n) (omega arith) (ran, last, run, least)) i (p, r, at, at', other) in
         (stable_receipt p.receipt r.receipt (λ ne. never (λ a. ne a.0)), stable_held (held_in p.profile) (entries r.touched) (λ ne. never (λ a. ne a.1)))
@@ -90,7 +90,7 @@ module _ (world : World) (calls : List Call) (fuel : ℕ) where
     weaken P Q f [] a = tt
     weaken P Q f (e ∷ es) a = (f e a.0, weaken P Q f es a.1)
 
-    made : (i : ℕ) (p : Position) (r : Ran) → slice_get b.positions i ≡ Some p → slice_get ran i ≡ Some r → IsMade (all_touched ran) (0 + i) p r
+    made : (i : ℕ) (p : Position) (r : CallResult) → slice_get b.positions i ≡ Some p → slice_get ran i ≡ Some r → IsMade (all_touched ran) (0 + i) p r
     made i p r at at' =
         let a = agrees i p r at at' in
         let alike = held_alike b.positions ran lengths agrees in
@@ -110,11 +110,11 @@ module _ (world : World) (calls : List Call) (fuel : ℕ) where
 
   -- ---- from a block to a verdict
 
-  module _ (unique : RunsAreUnique) (version : Version) (order : List ℕ) (ran : List Ran) (last : Cells) (run : Serial version world calls order world.cells ran last) (fits : Admissible calls order fuel) where
+  module _ (unique : RunsAreUnique) (version : Version) (order : List ℕ) (ran : List CallResult) (last : Cells) (run : Serial version world calls order world.cells ran last) (fits : Admissible calls order fuel) where
     made_order : order_of (block_of version world calls order ran last) ≡ order
     made_order = order_again (all_touched ran) 0 order ran (as_many version world calls order world.cells ran last run)
 
-    same_run : (rs : List Ran) (l : Cells) → Serial version world calls (order_of (block_of version world calls order ran last)) world.cells rs l → (rs ≡ ran) × (l ≡ last)
+    same_run : (rs : List CallResult) (l : Cells) → Serial version world calls (order_of (block_of version world calls order ran last)) world.cells rs l → (rs ≡ ran) × (l ≡ last)
     same_run rs l s = serial_once unique version world calls order world.cells rs ran l last (subst (λ (o : List ℕ). Serial version world calls o world.cells rs l) made_order s) run
 
     no_bad : (position : ℕ) → ¬ (IsBadNumber calls order position)
@@ -143,10 +143,10 @@ module _ (world : World) (calls : List Call) (fuel : ℕ) where
         at_of (p ∷ ps) zero es at = (p, refl, sym (some_is _ es at))
         at_of (p ∷ ps) (suc i) es at = at_of ps i es at
 
-    no_other : (rs : List Ran) → rs ≡ ran → (i : ℕ) → ¬ (IsOther (positions order ran) rs i)
+    no_other : (rs : List CallResult) → rs ≡ ran → (i : ℕ) → ¬ (IsOther (positions order ran) rs i)
     no_other rs e i other =
         let m = made_at (all_touched ran) 0 order ran i other.0 other.2 in
-        let same : other.1 ≡ m.0 = some_is other.1 m.0 (sym other.3 ∙ (ap (λ (l : List Ran). slice_get l i) e ∙ m.1)) in
+        let same : other.1 ≡ m.0 = some_is other.1 m.0 (sym other.3 ∙ (ap (λ (l : List CallResult). slice_get l i) e ∙ m.1)) in
         let held : held_in (other.0).profile ≡ entries (m.0).touched = ap held_in (m.2).profile ∙ held_again (all_touched ran) (0 + i) (m.0).touched in
         other.4 (subst (Agrees other.0) (sym same) ((m.2).receipt, held))
 

@@ -3,7 +3,7 @@ use Rattle.std.proofs.Common.{◌≡◌, ℕ, List, refl, sym, ap, subst, ◌∙
 use Rattle.std.proofs.lemmas.Bool.{cases_lt}
 use Rattle.spec_block.specs.Worlds.{Call, World, Block, order_of, profiles_of}
 use Rattle.spec_block.proofs.Given.{RunsAreUnique}
-use Rattle.spec_execution.specs.Serial.{Ran}
+use Rattle.spec_execution.specs.Serial.{CallResult}
 use Rattle.spec_block.specs.Blocks.{world_after}
 use Rattle.spec_block.specs.Verdicts.{Verdict, Malformed, WrongWorld, WrongCalls, BadOrder, OverBudget, RoomLeft, BadTurns, Deviates, WrongEnd, Accept, place, IsLeast, IsBadNumber, HasRoom, HasOtherTurns, IsOther, HoldsOf, Holds, IsVerdictOf}
 use Rattle.spec_block.proofs.OneToOne.{one_block}
@@ -99,7 +99,7 @@ module _ (unique : RunsAreUnique) (world : World) (calls : List Call) (fuel : �
       let h = subst (λ (c : Block). HoldsOf world calls fuel c (Deviates m)) block a.2 in
       let k = b.2 in
       let run = serial_once unique b.0.version world calls (order_of b.0) world.cells h.0 k.0 h.1 k.1 h.2 k.2 in
-      ap Deviates (one_least (IsOther (b.0).positions k.0) m n (subst (λ (r : List Ran). IsLeast (IsOther (b.0).positions r) m) run.0 h.3) k.3)
+      ap Deviates (one_least (IsOther (b.0).positions k.0) m n (subst (λ (r : List CallResult). IsLeast (IsOther (b.0).positions r) m) run.0 h.3) k.3)
   same (Deviates m) WrongEnd e a b = absurd (omega (arith, e))
   same (Deviates m) (Accept n) e a b = absurd (omega (arith, e))
   same WrongEnd Malformed e a b = absurd (omega (arith, e))

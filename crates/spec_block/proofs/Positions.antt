@@ -10,7 +10,7 @@ use Rattle.spec_ledger.specs.Cells.{lock_cmp}
 use Rattle.spec_ledger.specs.Modes.{Modes}
 use Rattle.spec_ledger.specs.Order.{turn_by, turn_at, groups_before_last}
 use Rattle.spec_block.specs.Worlds.{Position, held_in}
-use Rattle.spec_execution.specs.Serial.{Ran}
+use Rattle.spec_execution.specs.Serial.{CallResult}
 use Rattle.spec_block.specs.Blocks.{profile_at, positions_from, all_touched}
 use Rattle.spec_block.specs.Verdicts.{mode_in}
 
@@ -25,20 +25,20 @@ through g f (suc n) [] = refl
 through g f (suc n) (x ∷ xs) = ap (cons_option (f (g x))) (through g f n xs)
 
 -- where the published modes are those of the run, so are the turns
-pub same_turns : (lock : Lock) (n : ℕ) (ps : List Position) (rs : List Ran) → map (λ (p : Position). held_in p.profile) ps ≡ map (λ (r : Ran). entries r.touched) rs
+pub same_turns : (lock : Lock) (n : ℕ) (ps : List Position) (rs : List CallResult) → map (λ (p : Position). held_in p.profile) ps ≡ map (λ (r : CallResult). entries r.touched) rs
     → turn_by (mode_in lock) (profile_list ps) n ≡ turn_at (all_touched rs) n lock
 same_turns lock n ps rs e =
     ap groups_before_last
     (through (λ (p : Position). p.profile) (mode_in lock) (n + 1) ps
     ∙ (sym (through (λ (p : Position). held_in p.profile) (finite.find lock_cmp lock) (n + 1) ps)
     ∙ (ap (λ (hs : List (List (Lock × Mode))). filter_map (finite.find lock_cmp lock) (take (n + 1) hs)) e
-    ∙ (through (λ (r : Ran). entries r.touched) (finite.find lock_cmp lock) (n + 1) rs
-    ∙ (sym (ap (λ (f : Ran → Option Mode). filter_map f (take (n + 1) rs)) (λ i r. get-entries r.touched lock i))
-    ∙ sym (through (λ (r : Ran). r.touched) (λ (m : Modes). get m lock) (n + 1) rs))))))
+    ∙ (through (λ (r : CallResult). entries r.touched) (finite.find lock_cmp lock) (n + 1) rs
+    ∙ (sym (ap (λ (f : CallResult → Option Mode). filter_map f (take (n + 1) rs)) (λ i r. get-entries r.touched lock i))
+    ∙ sym (through (λ (r : CallResult). r.touched) (λ (m : Modes). get m lock) (n + 1) rs))))))
 
 -- ---- a position that is made from a run
 
-pub record IsMade (all : List Modes) (place : ℕ) (p : Position) (r : Ran) : Type 0 where
+pub record IsMade (all : List Modes) (place : ℕ) (p : Position) (r : CallResult) : Type 0 where
   pub receipt : p.receipt ≡ r.receipt
   pub profile : p.profile ≡ profile_at all place r.touched
 
@@ -59,8 +59,8 @@ profile_made all n es m held turns = made_from (turn_at all n) es turns ∙ ap (
 
 -- ---- all positions
 
-pub rebuilt : (all : List Modes) (k : ℕ) (ps : List Position) (rs : List Ran) → length rs ≡ length ps
-    → ((i : ℕ) (p : Position) (r : Ran) → slice_get ps i ≡ Some p → slice_get rs i ≡ Some r → IsMade all (k + i) p r)
+pub rebuilt : (all : List Modes) (k : ℕ) (ps : List Position) (rs : List CallResult) → length rs ≡ length ps
+    → ((i : ℕ) (p : Position) (r : CallResult) → slice_get ps i ≡ Some p → slice_get rs i ≡ Some r → IsMade all (k + i) p r)
     → ps ≡ positions_from all k (map (λ (p : Position). p.call) ps) rs
 rebuilt all k [] [] e made = refl
 rebuilt all k [] (r ∷ rs) e made = absurd (omega arith)
@@ -70,13 +70,13 @@ rebuilt all k (p ∷ ps) (r ∷ rs) e made =
     let rest = rebuilt all (k + 1) ps rs (omega arith) (λ i q s at at'. subst (λ (n : ℕ). IsMade all n q s) (let z : k + suc i ≡ (k + 1) + i = omega arith in z) (made (suc i) q s at at')) in
     λ i. record { call = p.call; receipt = first.receipt i; profile = first.profile i } ∷ rest i
 
-pub order_again : (all : List Modes) (k : ℕ) (order : List ℕ) (rs : List Ran) → length rs ≡ length order → map (λ (p : Position). p.call) (positions_from all k order rs) ≡ order
+pub order_again : (all : List Modes) (k : ℕ) (order : List ℕ) (rs : List CallResult) → length rs ≡ length order → map (λ (p : Position). p.call) (positions_from all k order rs) ≡ order
 order_again all k [] rs e = refl
 order_again all k (n ∷ order) [] e = absurd (omega arith)
 order_again all k (n ∷ order) (r ∷ rs) e = ap (λ (t : List ℕ). n ∷ t) (order_again all (k + 1) order rs (omega arith))
 
-pub held_lists : (all : List Modes) (k : ℕ) (order : List ℕ) (rs : List Ran) → length rs ≡ length order
-    → map (λ (p : Position). held_in p.profile) (positions_from all k order rs) ≡ map (λ (r : Ran). entries r.touched) rs
+pub held_lists : (all : List Modes) (k : ℕ) (order : List ℕ) (rs : List CallResult) → length rs ≡ length order
+    → map (λ (p : Position). held_in p.profile) (positions_from all k order rs) ≡ map (λ (r : CallResult). entries r.touched) rs
 held_lists all k [] [] e = refl
 held_lists all k [] (r ∷ rs) e = absurd (omega arith)
 held_lists all k (n ∷ order) [] e = absurd (omega arith)
@@ -86,8 +86,8 @@ some_is : {A : Type 0} (x y : A) → Some x ≡ Some y → x ≡ y
 some_is x y e = cc e
 
 -- what stands at a position was made from the run there
-pub made_at : (all : List Modes) (k : ℕ) (order : List ℕ) (rs : List Ran) (i : ℕ) (p : Position) → slice_get (positions_from all k order rs) i ≡ Some p
-    → (r : Ran) × (slice_get rs i ≡ Some r) × IsMade all (k + i) p r
+pub made_at : (all : List Modes) (k : ℕ) (order : List ℕ) (rs : List CallResult) (i : ℕ) (p : Position) → slice_get (positions_from all k order rs) i ≡ Some p
+    → (r : CallResult) × (slice_get rs i ≡ Some r) × IsMade all (k + i) p r
 made_at all k [] rs i p at = absurd (cc at)
 made_at all k (n ∷ order) [] i p at = absurd (cc at)
 made_at all k (n ∷ order) (r ∷ rs) zero p at =

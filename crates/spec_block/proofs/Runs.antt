@@ -5,12 +5,12 @@ use Rattle.spec_ledger.specs.Modes.{touched}
 use Rattle.spec_ledger.specs.Book.{after, has_returned}
 use Rattle.spec_block.specs.Worlds.{Call, World}
 use Rattle.spec_block.proofs.Given.{RunsAreUnique}
-use Rattle.spec_execution.specs.Serial.{Ran}
+use Rattle.spec_execution.specs.Serial.{CallResult}
 use Rattle.spec_ledger.specs.declared.Version.{Version}
 use Rattle.spec_execution.specs.Levels.{asks_in}
 use Rattle.spec_block.specs.Serial.{Executed, Serial, setting_of}
 
-pub executed_once : RunsAreUnique → (version : Version) (world : World) (call : Call) (cells : Cells) (r s : Ran) (l m : Cells) → Executed version world call cells r l → Executed version world call cells s m → (r ≡ s) × (l ≡ m)
+pub executed_once : RunsAreUnique → (version : Version) (world : World) (call : Call) (cells : Cells) (r s : CallResult) (l m : Cells) → Executed version world call cells r l → Executed version world call cells s m → (r ≡ s) × (l ≡ m)
 executed_once unique version world call cells r s l m a b =
     let u = unique (setting_of version world) call cells a.trace b.trace r.receipt.outcome s.receipt.outcome r.receipt.used s.receipt.used a.replies b.replies a.run b.run in
     let asks : r.receipt.asks ≡ s.receipt.asks = a.asks ∙ ap asks_in u.0 ∙ sym b.asks in
@@ -22,7 +22,7 @@ executed_once unique version world call cells r s l m a b =
 some_is : {A : Type 0} (x y : A) → Some x ≡ Some y → x ≡ y
 some_is x y e = cc e
 
-pub serial_once : RunsAreUnique → (version : Version) (world : World) (calls : List Call) (order : List ℕ) (cells : Cells) (rs ss : List Ran) (l m : Cells) → Serial version world calls order cells rs l → Serial version world calls order cells ss m → (rs ≡ ss) × (l ≡ m)
+pub serial_once : RunsAreUnique → (version : Version) (world : World) (calls : List Call) (order : List ℕ) (cells : Cells) (rs ss : List CallResult) (l m : Cells) → Serial version world calls order cells rs l → Serial version world calls order cells ss m → (rs ≡ ss) × (l ≡ m)
 serial_once unique version world calls [] cells [] [] l m a b = (refl, a ∙ sym b)
 serial_once unique version world calls [] cells [] (s ∷ ss) l m a b = absurd b
 serial_once unique version world calls [] cells (r ∷ rs) ss l m a b = absurd a
@@ -36,7 +36,7 @@ serial_once unique version world calls (n ∷ order) cells (r ∷ rs) (s ∷ ss)
     let rest = serial_once unique version world calls order a.1 rs ss l m a.4 (subst Q (sym one.1) b.4) in
     ((λ i. one.0 i ∷ rest.0 i), rest.1)
 
-pub as_many : (version : Version) (world : World) (calls : List Call) (order : List ℕ) (cells : Cells) (rs : List Ran) (l : Cells) → Serial version world calls order cells rs l → length rs ≡ length order
+pub as_many : (version : Version) (world : World) (calls : List Call) (order : List ℕ) (cells : Cells) (rs : List CallResult) (l : Cells) → Serial version world calls order cells rs l → length rs ≡ length order
 as_many version world calls [] cells [] l s = refl
 as_many version world calls [] cells (r ∷ rs) l s = absurd s
 as_many version world calls (n ∷ order) cells [] l s = absurd s

@@ -9,7 +9,7 @@ use Rattle.spec_ledger.specs.declared.Entry.{Entry}
 use Rattle.spec_ledger.specs.Cells.{Cells, lock_cmp}
 use Rattle.spec_ledger.specs.Order.{turn_by, limits_of}
 use Rattle.spec_block.specs.Worlds.{Call, World, Position, Block, order_of, profiles_of, limits, held_in}
-use Rattle.spec_execution.specs.Serial.{Ran}
+use Rattle.spec_execution.specs.Serial.{CallResult}
 use Rattle.spec_block.specs.Serial.{Serial}
 use Rattle.spec_block.specs.Bytes.{world_bytes, calls_bytes, SpellsBlock}
 use Rattle.spec_block.specs.Blocks.{fuel_of, world_after}
@@ -64,15 +64,15 @@ abbrev pub HasOtherTurns : List (List Entry) → ℕ → Type 0
 HasOtherTurns profiles position = (profile : List Entry) × (slice_get profiles position ≡ Some profile) × ¬ (AllByRecursion (HasTurn profiles position) profile)
 
 -- a position's receipt, and its locks and modes, are those of the run
-abbrev pub Agrees : Position → Ran → Type 0
+abbrev pub Agrees : Position → CallResult → Type 0
 Agrees p r = (p.receipt ≡ r.receipt) × (held_in p.profile ≡ entries r.touched)
 
-abbrev pub IsOther : List Position → List Ran → ℕ → Type 0
+abbrev pub IsOther : List Position → List CallResult → ℕ → Type 0
 IsOther positions ran position =
-    (p : Position) × (r : Ran) × (slice_get positions position ≡ Some p) × (slice_get ran position ≡ Some r) × ¬ (Agrees p r)
+    (p : Position) × (r : CallResult) × (slice_get positions position ≡ Some p) × (slice_get ran position ≡ Some r) × ¬ (Agrees p r)
 
 -- the serial run of a block's order
-abbrev pub RunOf : World → List Call → Block → List Ran → Cells → Type 0
+abbrev pub RunOf : World → List Call → Block → List CallResult → Cells → Type 0
 RunOf world calls b ran last = Serial b.version world calls (order_of b) world.cells ran last
 
 -- what a reason says of the block that the bytes spell
@@ -85,11 +85,11 @@ HoldsOf world calls fuel b OverBudget = fuel < limits_of (limits calls) (order_o
 HoldsOf world calls fuel b (RoomLeft call) = IsLeast (HasRoom calls fuel (order_of b)) call
 HoldsOf world calls fuel b (BadTurns position) = IsLeast (HasOtherTurns (profiles_of b)) position
 HoldsOf world calls fuel b (Deviates position) =
-    (ran : List Ran) × (last : Cells) × RunOf world calls b ran last × IsLeast (IsOther b.positions ran) position
+    (ran : List CallResult) × (last : Cells) × RunOf world calls b ran last × IsLeast (IsOther b.positions ran) position
 HoldsOf world calls fuel b WrongEnd =
-    (ran : List Ran) × (last : Cells) × RunOf world calls b ran last × ((b.fuel ≢ fuel_of ran) ⊎ (b.after ≢ sha256 (world_bytes (world_after world last))))
+    (ran : List CallResult) × (last : Cells) × RunOf world calls b ran last × ((b.fuel ≢ fuel_of ran) ⊎ (b.after ≢ sha256 (world_bytes (world_after world last))))
 HoldsOf world calls fuel b (Accept next) =
-    (ran : List Ran) × (last : Cells) × RunOf world calls b ran last × (next ≡ world_after world last)
+    (ran : List CallResult) × (last : Cells) × RunOf world calls b ran last × (next ≡ world_after world last)
 
 -- where a reason holds
 abbrev pub Holds : World → List Call → ℕ → List ℕ → Verdict → Type 0

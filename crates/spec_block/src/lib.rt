@@ -9,7 +9,7 @@ ghost use Rattle.spec_ledger.specs.declared.Mode.{Mode};
 ghost use Rattle.spec_ledger.specs.Cells.{Cells};
 ghost use Rattle.spec_ledger.specs.Order.{AreGroups, groups_before, groups_before_last};
 ghost use Rattle.spec_block.specs.Worlds.{Block, Call, World, profiles_of};
-ghost use Rattle.spec_execution.specs.Serial.{Ran};
+ghost use Rattle.spec_execution.specs.Serial.{CallResult};
 ghost use Rattle.spec_block.specs.Serial.{Serial};
 ghost use Rattle.spec_block.specs.Bytes.{IsCall, SpellsBlock, SpellsWorld, calls_bytes};
 ghost use Rattle.spec_block.specs.Verdicts.{IsVerdictOf, Verdict};
@@ -22,13 +22,13 @@ pub fn one_block_a_spelling()
     ensures calls { (xs ys : List Call) → length xs ≤ 65535 → length ys ≤ 65535 → AllByRecursion IsCall xs → AllByRecursion IsCall ys → calls_bytes xs ≡ calls_bytes ys → xs ≡ ys }
     ensures worlds { (bytes : List ℕ) (v w : World) → SpellsWorld bytes v → SpellsWorld bytes w → v ≡ w }
 {
-    spec_module_laws::one_tree();
+    laws_modules::one_tree();
     spec_typing::resolved_once();
 }
 
 /// An order has one serial run.
 pub fn one_serial_run()
-    ensures one { (version : Version) (world : World) (calls : List Call) (order : List ℕ) (cells : Cells) (rs ss : List Ran) (l m : Cells) → Serial version world calls order cells rs l → Serial version world calls order cells ss m → (rs ≡ ss) × (l ≡ m) }
+    ensures one { (version : Version) (world : World) (calls : List Call) (order : List ℕ) (cells : Cells) (rs ss : List CallResult) (l m : Cells) → Serial version world calls order cells rs l → Serial version world calls order cells ss m → (rs ≡ ss) × (l ≡ m) }
 {
     spec_execution::runs_are_unique();
 }

@@ -18,7 +18,7 @@ use Rattle.spec_numeric.specs.Storage.{load_type, load_width, extended, store_wi
 use Rattle.spec_numeric.specs.Memory.{load, store}
 use Rattle.spec_execution.specs.Configuration.{Contract, Function, Hosted, Defined, function_at, function_type, Seq, End, Val, Code, Free, Label, Frame, Invoke, code, values, State}
 use Rattle.spec_syntax.specs.Profile.{frame_limit}
-use Rattle.spec_execution.specs.Reduction.{Next, Goes, Traps, Asks, Branches, Returns, Ended, Stuck, with_number, with_value, with_values, found, answered, loaded, stored, grown, most_pages, pages, same_function_type, wish_of, zero_of, indirect, replied, invoke, execute_plain, execute, in_label, in_frame, reduce}
+use Rattle.spec_execution.specs.Reduction.{Next, Goes, Traps, Asks, Branches, Returns, Ended, Stuck, with_number, with_value, with_values, found, answered, loaded, stored, grown, most_pages, pages, same_function_type, effect_of, zero_of, indirect, replied, invoke, execute_plain, execute, in_label, in_frame, reduce}
 use Rattle.spec_execution.specs.Numbers.{forget, forget_next, NumbersTakeNoPart}
 
 -- forgetting twice is forgetting once
@@ -169,7 +169,7 @@ one_reply (reply.I32 x) a = ap (Val (value.I32 x)) (twice a)
 one_reply (reply.I64 x) a = ap (Val (value.I64 x)) (twice a)
 
 one_invoke : (c : Contract) (frames : ℕ) (s : State) (f : ℕ) (g : Function) (args vs : List Value) (a : Seq) → SameNext (invoke c frames s f g args vs a) (invoke c frames s f g args vs (forget a))
-one_invoke c frames s f (Hosted h) args vs a = record { is = ap (Asks (wish_of c.number h args)) (fun_ext (λ r. under vs _ _ (one_reply r a))) }
+one_invoke c frames s f (Hosted h) args vs a = record { is = ap (Asks (effect_of c.number h args)) (fun_ext (λ r. under vs _ _ (one_reply r a))) }
 one_invoke c frames s f (Defined t g) args vs a =
     let n = length t.results in
     let locals = args ++ map zero_of g.locals in

@@ -9,8 +9,8 @@ use Rattle.wtypes.specs.declared.HostCall.TheVariants as host
 use Rattle.spec_syntax.specs.Syntax.{Instr, Plain, instrs_of, Func, ExportFunc}
 use Rattle.spec_ledger.specs.declared.Op.TheVariants as op
 use Rattle.spec_ledger.specs.declared.Reply.TheVariants as reply
-use Rattle.spec_ledger.specs.declared.Step.{Step}
-use Rattle.spec_ledger.specs.declared.Step.TheVariants.{Did, Opened, Kept, Dropped}
+use Rattle.spec_ledger.specs.declared.TraceStep.{TraceStep}
+use Rattle.spec_ledger.specs.declared.TraceStep.TheVariants.{Did, Opened, Kept, Dropped}
 use Rattle.spec_ledger.specs.declared.Outcome.{Outcome}
 use Rattle.spec_ledger.specs.declared.Outcome.TheVariants.{Returned, OutOfFuel}
 use Rattle.spec_execution.specs.Configuration.{Deployed}
@@ -36,10 +36,10 @@ asking = record {
   hosts = host.Add ∷ host.Ask ∷ host.Answer ∷ [];
 }
 
-abbrev adding : ℕ → Step
+abbrev adding : ℕ → TraceStep
 adding n = Did (op.Add (record { contract = 0; key = 7 }) n) reply.Nothing
 
-abbrev gives : List ℕ → ℕ → List Value → Outcome → ℕ → List Step → Type 0
+abbrev gives : List ℕ → ℕ → List Value → Outcome → ℕ → List TraceStep → Type 0
 gives entry limit args outcome fuel trace = report 300 (over_these (asking ∷ [])) five (record { contract = 0; entry = entry; args = args; fuel = limit }) ≡ record { at_end = true; outcome = outcome; fuel = fuel; trace = trace }
 
 asks_one : gives (3 ∷ []) 100 (I32 (pos 0) ∷ I64 (pos 7) ∷ []) (Returned (Some (I64 (pos 7)))) 13 (adding 10 ∷ Opened ∷ adding 1 ∷ Kept ∷ [])
@@ -51,7 +51,7 @@ unfolding walk reduce execute execute_plain
 asks_bad = refl
 
 -- what the level that trapped did is not kept
-abbrev kept_in : List Step → ℕ
+abbrev kept_in : List TraceStep → ℕ
 kept_in [] = 0
 kept_in (Kept ∷ t) = 1 + kept_in t
 kept_in (_ ∷ t) = kept_in t

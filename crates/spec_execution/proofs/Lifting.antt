@@ -4,8 +4,8 @@ use Rattle.wtypes.specs.declared.Value.{Value}
 use Rattle.wtypes.specs.declared.TrapCode.{TrapCode}
 use Rattle.spec_ledger.specs.declared.Op.{Op}
 use Rattle.spec_ledger.specs.declared.Reply.{Reply}
-use Rattle.spec_ledger.specs.declared.Step.{Step}
-use Rattle.spec_ledger.specs.declared.Step.TheVariants.{Did}
+use Rattle.spec_ledger.specs.declared.TraceStep.{TraceStep}
+use Rattle.spec_ledger.specs.declared.TraceStep.TheVariants.{Did}
 use Rattle.spec_ledger.specs.declared.Outcome.{Outcome}
 use Rattle.spec_ledger.specs.declared.Outcome.TheVariants.{Returned, Trapped, OutOfFuel}
 use Rattle.spec_execution.specs.Configuration.{Setting, Contract, State, Seq, Config, Running, Trap}
@@ -54,21 +54,21 @@ module _ (setting : Setting) (l : Level) (outer : List Level) where
 
   -- a run that has come to a configuration of this level comes on by its reductions
   module _ (start : Levels) (limit : ℕ) where
-    pub reached_reduced : (trace : List Step) (used : ℕ) (x y : Config) (n : ℕ) → Reached setting start limit trace used (among l outer x) → Reduces l.contract x n y → used + n ≤ limit → Reached setting start limit trace (used + n) (among l outer y)
+    pub reached_reduced : (trace : List TraceStep) (used : ℕ) (x y : Config) (n : ℕ) → Reached setting start limit trace used (among l outer x) → Reduces l.contract x n y → used + n ≤ limit → Reached setting start limit trace (used + n) (among l outer y)
     reached_reduced trace used x y n r h le = subst (λ t. Reached setting start limit t (used + n) (among l outer y)) (append-nil trace) (moved trace used (among l outer x) n [] (among l outer y) r (lifted x y n h) le)
 
-    pub reached_by_frees : (trace : List Step) (used : ℕ) (x y : Config) → Reached setting start limit trace used (among l outer x) → used ≤ limit → one.Frees l.contract x y → Reached setting start limit trace used (among l outer y)
+    pub reached_by_frees : (trace : List TraceStep) (used : ℕ) (x y : Config) → Reached setting start limit trace used (among l outer x) → used ≤ limit → one.Frees l.contract x y → Reached setting start limit trace used (among l outer y)
     reached_by_frees trace used x y r le (one.none a) = r
     reached_by_frees trace used x y r le (one.one_more a b d h f) =
         reached_by_frees trace used b d (subst (λ n. Reached setting start limit trace n (among l outer b)) (add-zero used) (reached_reduced trace used a b 0 r h (omega arith))) le f
 
     -- and by the host's reply
-    pub reached_replied : (trace : List Step) (used : ℕ) (s : State) (q : Seq) (op : Op) (go : Reply → Seq) (r : Reply) → Reached setting start limit trace used (among l outer (Running s q)) → next l.contract s q ≡ Asks (Of op) go → IsReply op r → Reached setting start limit (trace ++ Did op r ∷ []) used (among l outer (Running s (go r)))
+    pub reached_replied : (trace : List TraceStep) (used : ℕ) (s : State) (q : Seq) (op : Op) (go : Reply → Seq) (r : Reply) → Reached setting start limit trace used (among l outer (Running s q)) → next l.contract s q ≡ Asks (Of op) go → IsReply op r → Reached setting start limit (trace ++ Did op r ∷ []) used (among l outer (Running s (go r)))
     reached_replied trace used s q op go r reach e is =
         replied trace used (among l outer (Running s q)) op (λ (r : Reply). among l outer (Running s (go r))) r reach (ap (by_next setting (at l (Running s q)) outer s) e) is
 
     -- what the machine's proofs ask of safety: the innermost level is not stuck
-    pub not_stuck : IsSafe setting start limit → (trace : List Step) (used : ℕ) (s : State) (q : Seq) → Reached setting start limit trace used (among l outer (Running s q)) → IsStuck (next l.contract s q) → ⊥
+    pub not_stuck : IsSafe setting start limit → (trace : List TraceStep) (used : ℕ) (s : State) (q : Seq) → Reached setting start limit trace used (among l outer (Running s q)) → IsStuck (next l.contract s q) → ⊥
     not_stuck safe trace used s q r h = safe trace used _ r (nowhere s q (next l.contract s q) h)
 
 -- what a level does that stands alone
@@ -88,5 +88,5 @@ module _ (setting : Setting) (c : Contract) where
   rests x (one.by_trap s t) = ended (alone c (Trap s t)) (Trapped t) refl
 
   -- a run that is at its end, with no level left to close
-  pub is_run : (start : Levels) (limit : ℕ) (trace : List Step) (used : ℕ) (x : Levels) (o : Outcome) → Reached setting start limit trace used x → Ends setting limit used x o [] → IsRun setting start limit trace o used
+  pub is_run : (start : Levels) (limit : ℕ) (trace : List TraceStep) (used : ℕ) (x : Levels) (o : Outcome) → Reached setting start limit trace used x → Ends setting limit used x o [] → IsRun setting start limit trace o used
   is_run start limit trace used x o r e = record { before = trace; last = x; marks = []; reached = r; ends = e; trace_is = sym (append-nil trace) }

@@ -10,8 +10,8 @@ use Rattle.wtypes.specs.declared.PlainInstr.TheVariants.{LocalGet, LocalTee, Con
 use Rattle.spec_syntax.specs.Syntax.{Instr, Plain, Loop, If, instrs_of, Module, FuncType, ExportFunc}
 use Rattle.spec_ledger.specs.declared.Op.{Op}
 use Rattle.spec_ledger.specs.declared.Reply.{Reply}
-use Rattle.spec_ledger.specs.declared.Step.{Step}
-use Rattle.spec_ledger.specs.declared.Step.TheVariants.{Did}
+use Rattle.spec_ledger.specs.declared.TraceStep.{TraceStep}
+use Rattle.spec_ledger.specs.declared.TraceStep.TheVariants.{Did}
 use Rattle.spec_ledger.specs.declared.Op.TheVariants as op
 use Rattle.spec_ledger.specs.declared.Reply.TheVariants as reply
 use Rattle.spec_ledger.specs.declared.Outcome.TheVariants.{Returned, Trapped, OutOfFuel, Rejected}
@@ -29,7 +29,7 @@ abbrev pub over_these : List Deployed → Setting
 over_these ds = record { contracts = ds; version = Two }
 
 -- replies 5 to `total`, as the cells do that hold 5 there
-abbrev pub five : List Step → Op → Reply
+abbrev pub five : List TraceStep → Op → Reply
 five trace (op.Total p) = reply.I64 (pos 5)
 five trace _ = reply.Nothing
 

@@ -10,12 +10,12 @@ use Rattle.spec_syntax.specs.Syntax.{FuncType, ExportDesc, ExportFunc}
 use Rattle.spec_ledger.specs.declared.Op.{Op}
 use Rattle.spec_ledger.specs.declared.Reply.{Reply}
 use Rattle.spec_ledger.specs.declared.Reply.TheVariants as reply
-use Rattle.spec_ledger.specs.declared.Step.{Step}
-use Rattle.spec_ledger.specs.declared.Step.TheVariants.{Did, Opened, Kept, Dropped}
+use Rattle.spec_ledger.specs.declared.TraceStep.{TraceStep}
+use Rattle.spec_ledger.specs.declared.TraceStep.TheVariants.{Did, Opened, Kept, Dropped}
 use Rattle.spec_ledger.specs.declared.Outcome.{Outcome}
 use Rattle.spec_ledger.specs.declared.Outcome.TheVariants.{Returned, Trapped, OutOfFuel, Rejected}
 use Rattle.spec_execution.specs.Configuration.{Setting, Deployed, Contract, Function, Defined, function_at, Seq, State, Config, Running, Trap}
-use Rattle.spec_execution.specs.Reduction.{Wish, Of, Ask, Answer, Next, Goes, Traps, Asks, Ended, same_function_type}
+use Rattle.spec_execution.specs.Reduction.{HostEffect, Of, Ask, Answer, Next, Goes, Traps, Asks, Ended, same_function_type}
 use Rattle.spec_execution.specs.Run.{next, IsReply, result_of, ContractCall, Opening, Refused, Opens, opening, first}
 
 -- ---- what an `ask` leads to
@@ -96,7 +96,7 @@ told l s q answer = record { contract = l.contract; config = Running s q; answer
 
 pub data Move : Type 0 where
   -- it becomes this one, with these marks
-  On : (charge : ℕ) (marks : List Step) → Levels → Move
+  On : (charge : ℕ) (marks : List TraceStep) → Levels → Move
   -- it asks for an operation
   Host : Op → (Reply → Levels) → Move
   -- it is at its end
@@ -104,11 +104,11 @@ pub data Move : Type 0 where
   Nowhere : Move
 
 -- the level around goes on with a status, where it waits for one
-abbrev pub back_by : Level → List Level → State → (status : ℕ) (answer : ℤ) (mark : Step) → Next → Move
+abbrev pub back_by : Level → List Level → State → (status : ℕ) (answer : ℤ) (mark : TraceStep) → Next → Move
 back_by l outer s status answer mark (Asks (Ask n e x) go) = On 0 (mark ∷ []) (record { inner = told l s (go (reply.I32 (pos status))) answer; outer = outer })
 back_by l outer s status answer mark _ = Nowhere
 
-abbrev pub back_to : Level → List Level → (status : ℕ) (answer : ℤ) (mark : Step) → Config → Move
+abbrev pub back_to : Level → List Level → (status : ℕ) (answer : ℤ) (mark : TraceStep) → Config → Move
 back_to l outer status answer mark (Running s q) = back_by l outer s status answer mark (next l.contract s q)
 back_to l outer status answer mark (Trap s t) = Nowhere
 
@@ -129,7 +129,7 @@ entering l outer s go x (Refused status) = On 0 [] (record { inner = told l s (g
 
 module _ (setting : Setting) where
   -- a wish: `ask` and `answer` go on by themselves
-  abbrev pub wished : Level → List Level → State → Wish → (Reply → Seq) → Move
+  abbrev pub wished : Level → List Level → State → HostEffect → (Reply → Seq) → Move
   wished l outer s (Of op) go = Host op (λ r. record { inner = running l s (go r); outer = outer })
   wished l outer s (Ask n e x) go = entering l outer s go x (asked setting (length outer) n e)
   wished l outer s Answer go = On 0 [] (record { inner = running l s (go (reply.I64 l.answer)); outer = outer })
@@ -157,40 +157,40 @@ IsChargedMove _ = ⊥
 -- ---- runs
 
 -- From a first configuration, within a limit of fuel: after this trace, with so much fuel used, the configuration is this one.
-pub data Reached (setting : Setting) (start : Levels) (limit : ℕ) : List Step → ℕ → Levels → Type 0 where
+pub data Reached (setting : Setting) (start : Levels) (limit : ℕ) : List TraceStep → ℕ → Levels → Type 0 where
   at_first : Reached setting start limit [] 0 start
-  moved : (trace : List Step) (used : ℕ) (a : Levels) (charge : ℕ) (marks : List Step) (b : Levels) → Reached setting start limit trace used a → move setting a ≡ On charge marks b → used + charge ≤ limit → Reached setting start limit (trace ++ marks) (used + charge) b
-  replied : (trace : List Step) (used : ℕ) (a : Levels) (op : Op) (go : Reply → Levels) (r : Reply) → Reached setting start limit trace used a → move setting a ≡ Host op go → IsReply op r → Reached setting start limit (trace ++ Did op r ∷ []) used (go r)
+  moved : (trace : List TraceStep) (used : ℕ) (a : Levels) (charge : ℕ) (marks : List TraceStep) (b : Levels) → Reached setting start limit trace used a → move setting a ≡ On charge marks b → used + charge ≤ limit → Reached setting start limit (trace ++ marks) (used + charge) b
+  replied : (trace : List TraceStep) (used : ℕ) (a : Levels) (op : Op) (go : Reply → Levels) (r : Reply) → Reached setting start limit trace used a → move setting a ≡ Host op go → IsReply op r → Reached setting start limit (trace ++ Did op r ∷ []) used (go r)
 
 -- levels that are open at the end are left without what they did
-abbrev pub closing : Levels → List Step
+abbrev pub closing : Levels → List TraceStep
 closing c = replicate (length c.outer) Dropped
 
 -- A run that has come to this configuration, with so much fuel used, is at its end, with this outcome and these last marks.
-pub data Ends (setting : Setting) (limit : ℕ) : ℕ → Levels → Outcome → List Step → Type 0 where
+pub data Ends (setting : Setting) (limit : ℕ) : ℕ → Levels → Outcome → List TraceStep → Type 0 where
   over : (used : ℕ) (c : Levels) (outcome : Outcome) → move setting c ≡ Over outcome → Ends setting limit used c outcome []
   -- the limit is used up and an instruction is to come, at whatever level
   exhausted : (c : Levels) → IsChargedMove (move setting c) → Ends setting limit limit c OutOfFuel (closing c)
 
-pub record IsRun (setting : Setting) (start : Levels) (limit : ℕ) (trace : List Step) (outcome : Outcome) (fuel : ℕ) : Type 0 where
-  pub before : List Step
+pub record IsRun (setting : Setting) (start : Levels) (limit : ℕ) (trace : List TraceStep) (outcome : Outcome) (fuel : ℕ) : Type 0 where
+  pub before : List TraceStep
   pub last : Levels
-  pub marks : List Step
+  pub marks : List TraceStep
   pub reached : Reached setting start limit before fuel last
   pub ends : Ends setting limit fuel last outcome marks
   pub trace_is : trace ≡ before ++ marks
 
 -- No configuration that is reached is stuck.
 abbrev pub IsSafe : Setting → Levels → ℕ → Type 0
-IsSafe setting start limit = (trace : List Step) (used : ℕ) (c : Levels) → Reached setting start limit trace used c → move setting c ≡ Nowhere → ⊥
+IsSafe setting start limit = (trace : List TraceStep) (used : ℕ) (c : Levels) → Reached setting start limit trace used c → move setting c ≡ Nowhere → ⊥
 
 -- The call has this run in this setting.
-pub data RunsWith (setting : Setting) (call : ContractCall) : List Step → Outcome → ℕ → Type 0 where
+pub data RunsWith (setting : Setting) (call : ContractCall) : List TraceStep → Outcome → ℕ → Type 0 where
   refused : (code : ℕ) → opening setting call ≡ Refused code → RunsWith setting call [] (Rejected code) 0
-  ran : (c : Contract) (func : ℕ) (trace : List Step) (outcome : Outcome) (fuel : ℕ) → opening setting call ≡ Opens c func → IsRun setting (first_level c func call.args) call.fuel trace outcome fuel → RunsWith setting call trace outcome fuel
+  ran : (c : Contract) (func : ℕ) (trace : List TraceStep) (outcome : Outcome) (fuel : ℕ) → opening setting call ≡ Opens c func → IsRun setting (first_level c func call.args) call.fuel trace outcome fuel → RunsWith setting call trace outcome fuel
 
 -- the levels that were entered
-abbrev pub asks_in : List Step → ℕ
+abbrev pub asks_in : List TraceStep → ℕ
 asks_in [] = 0
 asks_in (Opened ∷ t) = 1 + asks_in t
 asks_in (Did op r ∷ t) = asks_in t

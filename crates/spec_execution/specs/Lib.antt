@@ -11,3 +11,4 @@ pub mod Numbers
 pub mod Exec
 pub mod Serial
 pub mod Places
+pub mod ReadWriteSets

@@ -13,7 +13,7 @@ use Rattle.wtypes.specs.declared.PlainInstr.{PlainInstr}
 use Rattle.wtypes.specs.declared.PlainInstr.TheVariants.{Unreachable, Nop, Br, BrIf, Return, Call, CallIndirect, Drop, Select, LocalGet, LocalSet, LocalTee, GlobalGet, GlobalSet, Load, Store, MemorySize, MemoryGrow, Const, Unary, Binary, Test, Compare, Convert}
 use Rattle.spec_syntax.specs.Syntax.{Instr, Plain, BrTable, Block, Loop, If, Instrs, nothing, seq, FuncType, Limits}
 use Rattle.spec_syntax.specs.Shape.{size}
-use Rattle.spec_ledger.specs.declared.Place.{Place}
+use Rattle.spec_ledger.specs.declared.CellKey.{CellKey}
 use Rattle.spec_ledger.specs.declared.Op.{Op}
 use Rattle.spec_ledger.specs.declared.Op.TheVariants as op
 use Rattle.spec_ledger.specs.declared.Reply.{Reply}
@@ -30,10 +30,10 @@ use Rattle.spec_execution.specs.Configuration.{Contract, Function, Hosted, Defin
 
 -- What a call of an import asks of the host: an operation on storage; a run of an export of a contract, with this argument; or the answer to the
 -- last of these.
-pub data Wish : Type 0 where
-  Of : Op → Wish
-  Ask : (contract export : ℕ) (argument : ℤ) → Wish
-  Answer : Wish
+pub data HostEffect : Type 0 where
+  Of : Op → HostEffect
+  Ask : (contract export : ℕ) (argument : ℤ) → HostEffect
+  Answer : HostEffect
 
 -- What a sequence does next, seen from inside the labels and frames around it.
 pub data Next : Type 0 where
@@ -42,7 +42,7 @@ pub data Next : Type 0 where
   -- it reduces to a trap
   Traps : (charge : ℕ) → TrapCode → Next
   -- it asks the host, and by a reply it goes on with this one
-  Asks : Wish → (Reply → Seq) → Next
+  Asks : HostEffect → (Reply → Seq) → Next
   -- it branches to the label so many labels out, with these values before the branch, topmost first
   Branches : (charge : ℕ) (label : ℕ) → List Value → Next
   -- it returns, with these values before the return, topmost first
@@ -114,7 +114,7 @@ unfoldable pub stored : ℕ → State → ℕ → ℕ → ℕ → List Value →
 stored charge s bytes at x vs rest =
     answered charge (store s.memory at bytes x) (λ memory. Goes charge (with_memory s memory) (values vs rest))
 
--- memory.grow, which never fails for want of memory: own
+-- memory.grow, which never fails for lack of memory: own
 unfoldable pub grown : Contract → ℕ → State → ℕ → List Value → Seq → Next
 grown c charge s delta vs rest =
     let old = pages s.memory in
@@ -150,19 +150,19 @@ abbrev pub word_at : List Value → ℕ → ℕ
 word_at args i = number_at args i % 2 ^ 32
 
 -- the cell that the first argument names
-abbrev pub place_of_key : ℕ → List Value → Place
+abbrev pub place_of_key : ℕ → List Value → CellKey
 place_of_key contract args = record { contract = contract; key = number_at args 0 }
 
 -- what an import asks of the host, which a contract calls with these arguments
-abbrev pub wish_of : ℕ → HostCall → List Value → Wish
-wish_of contract host.Get args = Of (op.Get (place_of_key contract args))
-wish_of contract host.Has args = Of (op.Has (place_of_key contract args))
-wish_of contract host.Put args = Of (op.Put (place_of_key contract args) (number_at args 1))
-wish_of contract host.Del args = Of (op.Del (place_of_key contract args))
-wish_of contract host.Add args = Of (op.Add (place_of_key contract args) (number_at args 1))
-wish_of contract host.Total args = Of (op.Total (place_of_key contract args))
-wish_of contract host.Ask args = Ask (word_at args 0) (word_at args 1) (cast_signed w64 (number_at args 2))
-wish_of contract host.Answer args = Answer
+abbrev pub effect_of : ℕ → HostCall → List Value → HostEffect
+effect_of contract host.Get args = Of (op.Get (place_of_key contract args))
+effect_of contract host.Has args = Of (op.Has (place_of_key contract args))
+effect_of contract host.Put args = Of (op.Put (place_of_key contract args) (number_at args 1))
+effect_of contract host.Del args = Of (op.Del (place_of_key contract args))
+effect_of contract host.Add args = Of (op.Add (place_of_key contract args) (number_at args 1))
+effect_of contract host.Total args = Of (op.Total (place_of_key contract args))
+effect_of contract host.Ask args = Ask (word_at args 0) (word_at args 1) (cast_signed w64 (number_at args 2))
+effect_of contract host.Answer args = Answer
 
 -- the value that the host's reply puts on the stack, if any
 abbrev pub replied : Reply → Seq → Seq
@@ -179,7 +179,7 @@ zero_of t = value_of t 0
 -- Invocation: function number f is invoked with these arguments, the first one first, with so many frames around.
 -- Own: a host's function asks the host; in the innermost of `frame_limit` frames an invocation traps.
 abbrev pub invoke : Contract → ℕ → State → ℕ → Function → List Value → List Value → Seq → Next
-invoke c frames s f (Hosted h) args vs rest = Asks (wish_of c.number h args) (λ r. values vs (replied r rest))
+invoke c frames s f (Hosted h) args vs rest = Asks (effect_of c.number h args) (λ r. values vs (replied r rest))
 invoke c frames s f (Defined t g) args vs rest =
     let n = length t.results in
     if nat_lt frames frame_limit

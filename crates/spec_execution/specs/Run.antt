@@ -6,14 +6,14 @@ use Rattle.wtypes.specs.declared.Value.{Value}
 use Rattle.wtypes.specs.declared.TrapCode.{TrapCode}
 use Rattle.spec_ledger.specs.declared.Version.{Version}
 use Rattle.spec_syntax.specs.Syntax.{Name, Export, ExportDesc, ExportFunc}
-use Rattle.spec_ledger.specs.declared.Place.{Place}
+use Rattle.spec_ledger.specs.declared.CellKey.{CellKey}
 use Rattle.spec_ledger.specs.declared.Op.{Op}
 use Rattle.spec_ledger.specs.declared.Op.TheVariants.{Get, Has, Put, Del, Add, Total}
 use Rattle.spec_ledger.specs.declared.Reply.{Reply}
 use Rattle.spec_ledger.specs.declared.Reply.TheVariants as reply
 use Rattle.spec_numeric.specs.Operators.{same_type, type_of}
 use Rattle.spec_execution.specs.Configuration.{Setting, Deployed, Contract, Function, Defined, function_at, Seq, End, Invoke, arguments, State, Config, Running, Trap, fresh}
-use Rattle.spec_execution.specs.Reduction.{Wish, Of, Ask, Answer, Next, Goes, Traps, Branches, Returns, Stuck, reduce}
+use Rattle.spec_execution.specs.Reduction.{HostEffect, Of, Ask, Answer, Next, Goes, Traps, Branches, Returns, Stuck, reduce}
 
 -- ---- reductions
 
@@ -41,15 +41,15 @@ pub data Reduces (c : Contract) : Config → ℕ → Config → Type 0 where
 
 -- the replies that an operation may get
 pub data IsReply : Op → Reply → Type 0 where
-  to_get : (p : Place) (x : ℤ) → FitsSigned w64 x → IsReply (Get p) (reply.I64 x)
-  to_has : (p : Place) (x : ℤ) → FitsSigned w32 x → IsReply (Has p) (reply.I32 x)
-  to_put : (p : Place) (v : ℕ) → IsReply (Put p v) reply.Nothing
-  to_del : (p : Place) (x : ℤ) → FitsSigned w32 x → IsReply (Del p) (reply.I32 x)
-  to_add : (p : Place) (v : ℕ) → IsReply (Add p v) reply.Nothing
-  to_total : (p : Place) (x : ℤ) → FitsSigned w64 x → IsReply (Total p) (reply.I64 x)
+  to_get : (p : CellKey) (x : ℤ) → FitsSigned w64 x → IsReply (Get p) (reply.I64 x)
+  to_has : (p : CellKey) (x : ℤ) → FitsSigned w32 x → IsReply (Has p) (reply.I32 x)
+  to_put : (p : CellKey) (v : ℕ) → IsReply (Put p v) reply.Nothing
+  to_del : (p : CellKey) (x : ℤ) → FitsSigned w32 x → IsReply (Del p) (reply.I32 x)
+  to_add : (p : CellKey) (v : ℕ) → IsReply (Add p v) reply.Nothing
+  to_total : (p : CellKey) (x : ℤ) → FitsSigned w64 x → IsReply (Total p) (reply.I64 x)
 
 -- the replies that a wish may get
-abbrev pub IsAnswer : Wish → Reply → Type 0
+abbrev pub IsAnswer : HostEffect → Reply → Type 0
 IsAnswer (Of op) r = IsReply op r
 IsAnswer (Ask n e x) (reply.I32 status) = Unit {0}
 IsAnswer (Ask n e x) _ = ⊥

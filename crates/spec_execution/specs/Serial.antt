@@ -8,12 +8,12 @@ use Rattle.spec_execution.specs.Run.{ContractCall}
 use Rattle.spec_execution.specs.Exec.{Executes}
 
 -- what the execution of a call came to: its receipt, and each lock that it asked for with the join of its modes
-pub record Ran : Type 0 where
+pub record CallResult : Type 0 where
   pub receipt : Receipt
   pub touched : Modes
 
 -- The calls of these numbers, one after another, each over the cells that the one before left.
-abbrev pub Serial : Setting → List ContractCall → List ℕ → Cells → List Ran → Cells → Type 0
+abbrev pub Serial : Setting → List ContractCall → List ℕ → Cells → List CallResult → Cells → Type 0
 Serial setting calls [] cells [] last = last ≡ cells
 Serial setting calls [] cells (r ∷ rs) last = ⊥
 Serial setting calls (n ∷ order) cells [] last = ⊥

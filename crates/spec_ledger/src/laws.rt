@@ -6,7 +6,7 @@ ghost use Rattle.spec_ledger.specs.declared.Inverse.{Inverse};
 ghost use Rattle.spec_ledger.specs.declared.Op.{Op};
 ghost use Rattle.spec_ledger.specs.declared.Outcome.{Outcome};
 ghost use Rattle.spec_ledger.specs.declared.Reply.{Reply};
-ghost use Rattle.spec_ledger.specs.declared.Step.{Step};
+ghost use Rattle.spec_ledger.specs.declared.TraceStep.{TraceStep};
 ghost use Rattle.spec_ledger.specs.Book.{Content, IsKept, after, back_all, inverses_of, ops_after, standing};
 ghost use Rattle.spec_ledger.specs.Cells.{AreCells, Cells, back, cells_after, inverse_to, reply_to};
 ghost use Rattle.spec_ledger.specs.Events.{BeginDone, CommitDone, EnterDone, LeaveDone, OpDone, UndoDone};
@@ -17,7 +17,7 @@ ghost use Rattle.spec_ledger.specs.Order.{IsAdmissible, first_fit, limits_of};
 /// Taking back the inverse of an operation undoes it, and taking back those of a trace, last first, undoes the trace (PODC 2017, section 3: inverses).
 pub fn taking_back_undoes()
     ensures operation { (op : Op) (cells : Cells) → AreCells cells → back (inverse_to op cells) (cells_after op cells) ≡ cells }
-    ensures trace { (trace : List Step) (cells : Cells) → AreCells cells → back_all (inverses_of (standing trace) cells) (after trace cells) ≡ cells }
+    ensures trace { (trace : List TraceStep) (cells : Cells) → AreCells cells → back_all (inverses_of (standing trace) cells) (after trace cells) ≡ cells }
 {}
 
 /// Two operations that go together commute: in either order they leave the same cells, and neither sees the other in its reply or its inverse (PODC 2017, section 3: abstract locks).
@@ -41,7 +41,7 @@ pub fn events_keep_a_book()
     ensures undone { (old new : Content) (call number : ℕ) → IsKept old → UndoDone old new call number → IsKept new }
     ensures entered { (old new : Content) (call number : ℕ) → IsKept old → EnterDone old new call number → IsKept new }
     ensures left { (old new : Content) (call number : ℕ) (keep : Bool) → IsKept old → LeaveDone old new call number keep → IsKept new }
-    ensures committed { (old new : Content) (call number : ℕ) (trace : List Step) (outcome : Outcome) (position : ℕ) → IsKept old → CommitDone old new call number trace outcome position → IsKept new }
+    ensures committed { (old new : Content) (call number : ℕ) (trace : List TraceStep) (outcome : Outcome) (position : ℕ) → IsKept old → CommitDone old new call number trace outcome position → IsKept new }
 {}
 
 /// From what the type of a book keeps, the four facts of a book follow.
@@ -54,7 +54,7 @@ pub fn a_kept_book_has_its_facts()
 
 /// What a trace leaves are the cells after the operations that stand: what was dropped leaves nothing.
 pub fn what_stands_is_left()
-    ensures { (trace : List Step) (cells : Cells) → after trace cells ≡ ops_after (standing trace) cells }
+    ensures { (trace : List TraceStep) (cells : Cells) → after trace cells ≡ ops_after (standing trace) cells }
 {}
 
 /// The list's order is admissible, and its numbers rise. A call stands in it exactly where its limit is within the fuel that the calls before it in the list leave.

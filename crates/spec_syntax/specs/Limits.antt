@@ -4,7 +4,7 @@
 -- shortest spelling: by it a spelling, and the module of a text, are stated. The other forms are stated for code and proofs:
 -- `module_fits` is the same as a test, without that size and with the ranges of numbers, which the grammar gives (the type of a module
 -- in memory keeps it); `expression_fits` is its part for one expression; `Fits` is `module_fits` part by part, by the two lemmas below it;
--- `IsWithin` of `module_limits` is `module_fits` with that size. `spelled_is_in_range` and `module_limits` of `spec_module_laws` show that a tree
+-- `IsWithin` of `module_limits` is `module_fits` with that size. `spelled_is_in_range` and `module_limits` of `laws_modules` show that a tree
 -- that is spelled passes `module_fits`, and that what passes it within that size is `ModuleFits`.
 use Rattle.std.specs.Prelude.{◌≡◌, refl, ℕ, ◌+◌, Bool, true, false, ◌&&◌, List, [], ◌∷◌, length, nat_le, nat_lt, nat_eq, ℤ, pos, negsuc, Option, Some, None}
 use Rattle.std.specs.List.{list_all}

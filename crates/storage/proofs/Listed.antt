@@ -10,17 +10,17 @@ use Rattle.std.specs.FinMap.{get, insert, remove, empty, entries, entries_sorted
 use Rattle.std.specs.FinMap.Entries.{below_all}
 use Rattle.spec_ledger.specs.declared.Kind.TheVariants.{Counter}
 use Rattle.spec_ledger.specs.declared.Lock.{Lock}
-use Rattle.spec_ledger.specs.declared.Place.{Place}
+use Rattle.spec_ledger.specs.declared.CellKey.{CellKey}
 use Rattle.spec_ledger.specs.Cells.{Cells, lock_cmp, set_at, counter_at, AreCells, IsCounter}
 use Rattle.spec_ledger.proofs.Maps.{key_itself, lock_cmp_total, lock_cmp-IsAntisymmetric}
 use Rattle.storage.specs.declared.Slot.{Slot}
 use Rattle.storage.specs.Slots.{cells_in, held_in, with_cell}
 
-first : (a b : Bool) → T (a && b) → T a
+pub first : (a b : Bool) → T (a && b) → T a
 first true b p = tt
 first false b p = p
 
-second : (a b : Bool) → T (a && b) → T b
+pub second : (a b : Bool) → T (a && b) → T b
 second true b p = p
 second false b p = absurd p
 
@@ -28,7 +28,7 @@ both : (a b : Bool) → T a → T b → T (a && b)
 both true b p q = q
 both false b p q = p
 
-is_less : (o : Ordering) → T (is_lt o) → o ≡ Less
+pub is_less : (o : Ordering) → T (is_lt o) → o ≡ Less
 is_less Less p = refl
 is_less Equal p = absurd p
 is_less Greater p = absurd p
@@ -77,7 +77,7 @@ entries-cells_in (e ∷ es) h = entries-with (cells_in es) e.0 e.1.cell (held_in
 pub entries_held : (es : List (Lock × Slot)) → IsStrictlySortedBy lock_cmp (map (λ e. e.0) es) → held_in es ≡ entries (cells_in es)
 entries_held es h = sym (entries-cells_in es h)
 
--- ---- a copy, entry by entry
+-- ---- gone over entry by entry
 
 greater_than : (k x : Lock) → T (is_lt (lock_cmp x k)) → eq_by_cmp lock_cmp k x ≡ false
 greater_than k x h = ap is_eq (lock_cmp_total.antisymm k x ∙ ap ordering_reverse (is_less (lock_cmp x k) h))
@@ -118,7 +118,7 @@ module _ (m : Cells) (xs : List (Lock × ℕ)) (k : Lock) (v : ℕ) (ys : List (
 
   pub copied_condition : AreCells m → k.kind ≡ Counter → 0 < v
   copied_condition are e =
-      let place : Place = record { contract = k.contract; key = k.key } in
+      let place : CellKey = record { contract = k.contract; key = k.key } in
       let same : k ≡ counter_at place = λ i. record { contract = k.contract; kind = e i; key = k.key } in
       above_zero v (subst (λ (x : Option ℕ). IsCounter x) (ap (get m) (sym same) ∙ held_there) (are.counters place)).not_zero
 

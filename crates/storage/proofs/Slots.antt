@@ -7,7 +7,7 @@ use Rattle.std.specs.FinMap as finite
 use Rattle.std.specs.BTreeMap as tree
 use Rattle.std.specs.BTreeMap.{BTreeMap}
 use Rattle.spec_ledger.specs.declared.Lock.{Lock}
-use Rattle.spec_ledger.specs.declared.Place.{Place}
+use Rattle.spec_ledger.specs.declared.CellKey.{CellKey}
 use Rattle.spec_ledger.specs.declared.Op.{Op}
 use Rattle.spec_ledger.specs.declared.Op.TheVariants.{Get, Has, Put, Del, Add, Total}
 use Rattle.spec_ledger.specs.declared.Inverse.{Inverse}
@@ -145,13 +145,13 @@ opened_by op cell i b m n l e f h r changing =
     ∙ ap (λ k. update m k (λ x. counter (number x + 1))) f
     ∙ sym (ap (λ x. opened x m) h ∙ opened_is op cell m (sym r ∙ changing))
 
-pub AreCells-subtracted : (m n : Cells) (p : Place) (v : ℕ) (l : Lock) → n ≡ update m l (subtracted v) → l ≡ counter_at p → AreCells m → AreCells n
+pub AreCells-subtracted : (m n : Cells) (p : CellKey) (v : ℕ) (l : Lock) → n ≡ update m l (subtracted v) → l ≡ counter_at p → AreCells m → AreCells n
 AreCells-subtracted m n p v l e f are = subst (λ x. AreCells x) (sym (e ∙ ap (λ k. update m k (subtracted v)) f)) (AreCells-back (Subtract p v) m are)
 
-pub AreCells-restored : (m n : Cells) (p : Place) (l : Lock) (c : Option ℕ) → n ≡ set_at m l c → l ≡ map_at p → AreCells m → AreCells n
+pub AreCells-restored : (m n : Cells) (p : CellKey) (l : Lock) (c : Option ℕ) → n ≡ set_at m l c → l ≡ map_at p → AreCells m → AreCells n
 AreCells-restored m n p l c e f are = subst (λ x. AreCells x) (sym (e ∙ ap (λ k. set_at m k c) f)) (AreCells-back (Restore p c) m are)
 
-counter_not_zero : (l : Lock) (v : ℕ) (p : Place) → (l.kind ≡ Counter → 0 < v) → v < 2 ^ 64 → counter_at p ≡ l → IsCounter (Some v)
+counter_not_zero : (l : Lock) (v : ℕ) (p : CellKey) → (l.kind ≡ Counter → 0 < v) → v < 2 ^ 64 → counter_at p ≡ l → IsCounter (Some v)
 counter_not_zero l v p condition fits e = record { fits = fits; not_zero = λ z. let h : 0 < v = condition (sym (ap (λ (x : Lock). x.kind) e)) in absurd (omega (arith, h, ap number z)) }
 
 pub AreCells-inserted : (m n : Cells) (l : Lock) (v : ℕ) → n ≡ set_at m l (Some v) → (l.kind ≡ Counter → 0 < v) → v < 2 ^ 64 → AreCells m → AreCells n

@@ -4,10 +4,10 @@ ghost use Rattle.spec_ledger.specs.Cells.{cell_after, counter, counter_at, inver
 ghost use Rattle.spec_ledger.specs.Modes.{mode_of};
 ghost use Rattle.storage.specs.Slots.{cell_back};
 
-use spec_ledger::{Inverse, Kind, Lock, Mode, Op, Place, Reply};
+use spec_ledger::{CellKey, Inverse, Kind, Lock, Mode, Op, Reply};
 
 /// The lock of the map cell at a place.
-pub fn map_lock(place: Place) -> Lock
+pub fn map_lock(place: CellKey) -> Lock
     ensures { result ≡ map_at place }
 {
     Lock {
@@ -18,7 +18,7 @@ pub fn map_lock(place: Place) -> Lock
 }
 
 /// The lock of the counter at a place.
-pub fn counter_lock(place: Place) -> Lock
+pub fn counter_lock(place: CellKey) -> Lock
     ensures { result ≡ counter_at place }
 {
     Lock {

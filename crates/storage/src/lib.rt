@@ -15,7 +15,7 @@ ghost use Rattle.std.specs.Iterator.{YieldsFirst, item_count};
 pub use changes::{end_all, returned, settle_all, take_all_back, take_back_to};
 use effects::reads;
 pub use effects::{counter_lock, former_cell, inverse, lock, map_lock, mode, next_cell, reply};
-pub use spec_ledger::{Inverse, Kind, Lock, NoMemory, Op, Place, Reply, Step};
+pub use spec_ledger::{CellKey, Inverse, Kind, Lock, NoMemory, Op, Reply, TraceStep};
 use std::alloc::{Allocator, Global};
 use std::collections::BTreeMap;
 use std::collections::btree_map::Iter;
@@ -212,7 +212,7 @@ impl<A: Allocator + Copy> Cells<A> {
     }
 
     /// What the type keeps: no counter is at 0, and each cell is of 64 bits at a lock of its type.
-    pub fn hold(&self)
+    pub fn use_invariant(&self)
         ensures cells { AreCells self.now.cells }
         ensures types { AreOfTheirTypes self.now.cells }
     {
@@ -260,12 +260,18 @@ impl<A: Allocator + Copy> Cells<A> {
         ensures cells { IfOk result (λ copy. copy.cells ≡ self.now.cells) }
         ensures unsettled { IfOk result (λ copy. copy.unsettled ≡ finite.empty) }
     {
-        self.hold();
-        let mut copy = Cells::new(alloc);
-        for (lock, value) in self.entries() {
-            copy.insert(lock, value)?;
-        }
-        Ok(copy)
+        self.use_invariant();
+        let slots: BTreeMap<Lock, Slot, A> = self
+            .entries()
+            .map(|(lock, value)| {
+                let slot = Slot {
+                    cell: Some(value),
+                    unsettled: 0,
+                };
+                (lock, slot)
+            })
+            .collect(alloc)?;
+        Ok(Cells { slots })
     }
 
     /// Puts a number into a cell. No counter is put at 0. Its unsettled changes stay.

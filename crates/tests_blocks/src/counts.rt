@@ -7,7 +7,7 @@ use loader::{LoadRefusal, load};
 use module_tree::limit::Limit;
 use std::alloc::Global;
 use std::test::Fail;
-use world_reader::{ReadRefusal, read_world};
+use world::{ReadRefusal, read_world};
 
 /// Room for the few items before a count, and for nothing that is counted.
 const HEAP: usize = 4_096;

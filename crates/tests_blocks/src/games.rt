@@ -3,12 +3,12 @@ ghost use Rattle.std.specs.Prelude.{IfSome, length, ◌<◌, ◌^◌};
 
 use crate::assertions::{equal, holds};
 use lock_profile::{Held, Touched, turns};
-use ration::Ration;
 use schedule::{Board, EndRefusal, Graph, turns_agree};
 use spec_ledger::Kind::{self, Counter, Map};
 use spec_ledger::Lock;
 use spec_ledger::Mode::{self, Add, Excl, Read};
 use std::alloc::{Allocator, Global};
+use test_support::Ration;
 
 /// A lock that a position takes, by its kind and its key, and its mode.
 type Taken = (Kind, u64, Mode);

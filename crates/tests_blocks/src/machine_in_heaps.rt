@@ -9,12 +9,12 @@ use interp::machine::Machine;
 use interp::turns::Turn;
 use link::deployed::Deployed;
 use linked_list_allocator::LocalHeap;
-use machine_rows::make_turn;
-use samples::{call, deployed};
+use rows_machine::make_turn;
 use spec_ledger::Outcome;
 use std::alloc::{Allocator, Global};
 use std::process::Abort;
 use std::test::Fail;
+use test_support::{call, deployed};
 use wtypes::Value;
 
 // The machine of a call, at its start.

@@ -10,7 +10,7 @@ use rand_core::Rng;
 use rand_pcg::Pcg32;
 use std::alloc::{AllocError, Global};
 use std::str;
-use world_reader::{ReadRefusal, read_world};
+use world::{ReadRefusal, read_world};
 
 /// What a file begins with: nothing that is known, or a module's, a world's or a block's first bytes.
 const FRONTS: [&[u8]; 4] = [

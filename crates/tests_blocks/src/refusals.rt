@@ -2,7 +2,7 @@
 
 use crate::assertions::{equal, given};
 use block::{BlockRefusal, WriteRefusal};
-use codec::SinkFault;
+use byte_sinks::SinkFault;
 use debugger::session::Refusal;
 use interp::readers::BytesRefusal;
 use memory::StoreRefusal;
@@ -10,7 +10,7 @@ use records::Fault;
 use std::alloc::Global;
 use std::fmt::Display;
 use std::process::Abort;
-use world_reader::ReadRefusal;
+use world::ReadRefusal;
 use wtypes::TrapCode;
 
 fn says<T: Display>(rt: &impl Abort, alloc: Global, refusal: &T, text: &str) {

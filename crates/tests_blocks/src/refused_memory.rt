@@ -1,7 +1,7 @@
 // A block read and written, whatever memory is refused.
 use crate::assertions::holds;
 use block::{BlockRefusal, read_block, write_block};
-use codec::{Failures, MemorySink};
+use byte_sinks::{Failures, MemorySink};
 use std::alloc::Global;
 
 /// Digests of 0 and the record of call 0 twice.

@@ -4,11 +4,10 @@ ghost use Rattle.std.specs.Prelude.{◌≡◌, IfSome, length};
 use crate::assertions::holds;
 use crate::settings::{Cell, hold, is_hex, lock, world};
 use block::{Block, Position, write_block};
+use byte_sinks::{Failures, MemorySink};
 use call::Call;
-use codec::{Failures, MemorySink};
 use lock_profile::{Held, Touched};
-use serial::Core;
-use serial_block::{positions_of, seal};
+use serial::{Core, build_block, positions_of};
 use spec_ledger::{Entry, Kind, Mode, Outcome, Receipt, Version};
 use std::alloc::Global;
 use storage::Cells;
@@ -18,7 +17,7 @@ use wtypes::Value;
 /// `bump` of counter 7 by a number.
 fn bump(alloc: Global, number: i64) -> Option<Call> {
     let args = [Value::I64(7), Value::I64(number)];
-    samples::call(alloc, 0, "bump", &args, 100).ok()
+    test_support::call(alloc, 0, "bump", &args, 100).ok()
 }
 
 /// The block has these digits.
@@ -87,7 +86,7 @@ fn sealed(alloc: Global, version: Version) -> Option<(Block, World)> {
         touched: adders(alloc, 2)?,
         cells: Cells::new(alloc),
     };
-    seal(alloc, &before, &calls, &[0, 1], core, version).ok()
+    build_block(alloc, &before, &calls, &[0, 1], core, version).ok()
 }
 
 /// The sealed block of this version has these digits, and after it the counter is not there.

@@ -36,7 +36,7 @@ pub fn cells(alloc: Global, held: &[(Cell, u64)]) -> Option<Cells>
 
 /// The world of the example contract and these cells.
 pub fn world(alloc: Global, held: &[(Cell, u64)]) -> Option<World> {
-    world_of(alloc, samples::example(alloc).ok()?, held)
+    world_of(alloc, test_support::example(alloc).ok()?, held)
 }
 
 /// The world of this contract and these cells.

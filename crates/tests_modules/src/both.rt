@@ -7,10 +7,10 @@ use linked_list_allocator::LocalHeap;
 use loader::{LoadRefusal, load};
 use module_tree::limit::Limit;
 use module_tree::module::Module;
-use samples::EXAMPLE;
 use std::alloc::{Allocator, Global};
 use std::process::Abort;
 use std::test::Fail;
+use test_support::EXAMPLE;
 
 /// The shortest spelling of a module.
 pub(crate) fn encoded<A: Allocator>(
@@ -54,7 +54,7 @@ fn in_heap(rt: &impl Abort, a: Global, size: usize) -> Result<Result<usize, Load
     Ok(answer)
 }
 
-// In heaps of rising size the module is refused for want of memory alone, until it fits; what was taken is given back.
+// In heaps of rising size the module is refused for lack of memory alone, until it fits; what was taken is given back.
 #[test]
 fn in_heaps_of_fixed_size(rt: HostRuntime) -> Result<(), Fail> {
     let mut refused = 0u32;

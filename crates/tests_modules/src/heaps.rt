@@ -10,10 +10,10 @@ use link::refusal::LinkRefusal;
 use linked_list_allocator::LocalHeap;
 use loader::{LoadRefusal, load};
 use module_tree::module::Module;
-use samples::{EXAMPLE, deployed, typed};
 use std::alloc::{AllocError, Global};
 use std::process::Abort;
 use std::test::Fail;
+use test_support::{EXAMPLE, deployed, typed};
 use typing::valid::Valid;
 use wtypes::HostCall;
 

@@ -4,7 +4,7 @@ ghost use Rattle.module_tree.specs.View.{ordinals};
 ghost use Rattle.module_tree.specs.ModuleView.{all_numbered, func_ordinals, data_ordinals};
 
 use crate::assertions::equal;
-use module_limits::{Lists, Unsealed, seal};
+use assembler::{BuildFault, Lists, build_module};
 use module_tree::instr::Instr;
 use module_tree::module::{DataSegment, Func};
 use std::alloc::Global;
@@ -19,7 +19,7 @@ fn refusal(
     a: Global,
     funcs: Vec<Func<Global>, Global>,
     datas: Vec<DataSegment<Global>, Global>,
-) -> Option<Unsealed>
+) -> Option<BuildFault>
     requires funcs { all_numbered (map func_ordinals funcs.items) ≡ true }
     requires datas { all_numbered (map data_ordinals datas.items) ≡ true }
 {
@@ -35,7 +35,7 @@ fn refusal(
         elements: Vec::new(a),
         datas,
     };
-    match seal(lists) {
+    match build_module(lists) {
         Ok(_module) => None,
         Err(refused) => Some(refused),
     }
@@ -46,7 +46,7 @@ fn refusal_of_body(
     a: Global,
     locals: Vec<ValType, Global>,
     body: Body,
-) -> Result<Option<Unsealed>, Fail>
+) -> Result<Option<BuildFault>, Fail>
     requires numbered { counts_from 0 (ordinals body.items) ≡ true }
 {
     let mut funcs = Vec::new(a);
@@ -89,7 +89,7 @@ fn nested(a: Global, levels: u32) -> Result<Body, Fail>
 }
 
 // How a body of one `br_table` with so many labels is refused.
-fn refusal_of_table(a: Global, count: u32) -> Result<Option<Unsealed>, Fail> {
+fn refusal_of_table(a: Global, count: u32) -> Result<Option<BuildFault>, Fail> {
     let mut labels: Vec<u32, Global> = Vec::new(a);
     for _ in 0..count {
         labels.push(0)?;
@@ -100,7 +100,7 @@ fn refusal_of_table(a: Global, count: u32) -> Result<Option<Unsealed>, Fail> {
 }
 
 // How a function of so many locals is refused.
-fn refusal_of_locals(a: Global, count: u32) -> Result<Option<Unsealed>, Fail> {
+fn refusal_of_locals(a: Global, count: u32) -> Result<Option<BuildFault>, Fail> {
     let mut locals = Vec::new(a);
     for _ in 0..count {
         locals.push(ValType::I64)?;
@@ -109,7 +109,7 @@ fn refusal_of_locals(a: Global, count: u32) -> Result<Option<Unsealed>, Fail> {
 }
 
 // How a data segment of so many bytes is refused.
-fn refusal_of_data(a: Global, count: u32) -> Result<Option<Unsealed>, Fail> {
+fn refusal_of_data(a: Global, count: u32) -> Result<Option<BuildFault>, Fail> {
     let mut bytes: Vec<u8, Global> = Vec::new(a);
     for _ in 0..count {
         bytes.push(7)?;
@@ -123,12 +123,12 @@ fn refusal_of_data(a: Global, count: u32) -> Result<Option<Unsealed>, Fail> {
     Ok(refusal(a, Vec::new(a), datas))
 }
 
-fn refusal_of_funcs(a: Global, count: u32) -> Result<Option<Unsealed>, Fail> {
+fn refusal_of_funcs(a: Global, count: u32) -> Result<Option<BuildFault>, Fail> {
     let funcs = empty_funcs(a, count)?;
     Ok(refusal(a, funcs, Vec::new(a)))
 }
 
-fn refusal_of_nesting(a: Global, levels: u32) -> Result<Option<Unsealed>, Fail> {
+fn refusal_of_nesting(a: Global, levels: u32) -> Result<Option<BuildFault>, Fail> {
     let body = nested(a, levels)?;
     refusal_of_body(a, Vec::new(a), body)
 }
@@ -144,7 +144,7 @@ enum Limit {
 }
 
 // How a module with so many of these is refused.
-fn refusal_at(a: Global, limit: Limit, count: u32) -> Result<Option<Unsealed>, Fail> {
+fn refusal_at(a: Global, limit: Limit, count: u32) -> Result<Option<BuildFault>, Fail> {
     match limit {
         Limit::Functions => refusal_of_funcs(a, count),
         Limit::Locals => refusal_of_locals(a, count),
@@ -155,7 +155,7 @@ fn refusal_at(a: Global, limit: Limit, count: u32) -> Result<Option<Unsealed>, F
 }
 
 /// What is limited, a count of these, and how a module with so many is refused.
-type Row = (Limit, u32, Option<Unsealed>);
+type Row = (Limit, u32, Option<BuildFault>);
 
 fn refuses(rt: &impl Abort, a: Global, rows: &[Row]) -> Result<(), Fail> {
     for (limit, count, wanted) in rows {
@@ -167,13 +167,13 @@ fn refuses(rt: &impl Abort, a: Global, rows: &[Row]) -> Result<(), Fail> {
 
 const EXACTLY: &[Row] = &[
     (Limit::Functions, 4096, None),
-    (Limit::Functions, 4097, Some(Unsealed::TooLarge)),
+    (Limit::Functions, 4097, Some(BuildFault::TooLarge)),
     (Limit::Locals, 1024, None),
-    (Limit::Locals, 1025, Some(Unsealed::TooLarge)),
+    (Limit::Locals, 1025, Some(BuildFault::TooLarge)),
     (Limit::Levels, 128, None),
-    (Limit::Levels, 129, Some(Unsealed::TooLarge)),
+    (Limit::Levels, 129, Some(BuildFault::TooLarge)),
     (Limit::Labels, 1024, None),
-    (Limit::Labels, 1025, Some(Unsealed::TooLarge)),
+    (Limit::Labels, 1025, Some(BuildFault::TooLarge)),
 ];
 
 #[test]
@@ -184,7 +184,7 @@ fn each_limit_is_met_exactly(rt: HostRuntime) -> Result<(), Fail> {
 // The spelling has 18 bytes beside those of the segment.
 const SIZES: &[Row] = &[
     (Limit::Bytes, 1_048_576 - 18, None),
-    (Limit::Bytes, 1_048_576 - 17, Some(Unsealed::TooLarge)),
+    (Limit::Bytes, 1_048_576 - 17, Some(BuildFault::TooLarge)),
 ];
 
 #[test]
@@ -192,7 +192,7 @@ fn bytes_are_those_of_the_shortest_spelling(rt: HostRuntime) -> Result<(), Fail>
     refuses(&rt, rt.alloc(), SIZES)
 }
 
-const DEEP: &[Row] = &[(Limit::Levels, 5_000, Some(Unsealed::TooLarge))];
+const DEEP: &[Row] = &[(Limit::Levels, 5_000, Some(BuildFault::TooLarge))];
 
 #[test]
 fn deep_trees_are_judged(rt: HostRuntime) -> Result<(), Fail> {

@@ -1,7 +1,7 @@
 use crate::assertions::holds;
 use crate::both::refusal;
 use loader::LoadRefusal::{self, Malformed};
-use samples::EXAMPLE;
+use test_support::EXAMPLE;
 
 /// The header of a module.
 pub const HEADER: [u8; 8] = [0x00, 0x61, 0x73, 0x6D, 0x01, 0x00, 0x00, 0x00];

@@ -1,10 +1,9 @@
 use crate::assertions::{equal, holds};
-use lexer::{LexRefusal, tokens};
+use lexer::{LexRefusal, TextRefusal, tokens};
 use linked_list_allocator::LocalHeap;
 use std::alloc::{Allocator, Global};
 use std::test::Fail;
 use text_tree::parse;
-use text_words::TextRefusal;
 
 // Each kind of field, with names, strings and instructions that take memory.
 const TEXT: &str =

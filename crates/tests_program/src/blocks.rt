@@ -2,7 +2,7 @@
 
 use crate::assertions::holds;
 use block::{Block, Position, write_block};
-use codec::{Failures, MemorySink};
+use byte_sinks::{Failures, MemorySink};
 use lock_profile::Profile;
 use spec_ledger::{Entry, Kind, Lock, Mode, Outcome, Receipt, Version};
 use std::alloc::Global;

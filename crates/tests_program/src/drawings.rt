@@ -4,9 +4,9 @@ use crate::assertions::{equal, holds};
 use crate::blocks::{BACK, ELEVEN, FOUR, NO_CALLS};
 use crate::orders::{crowd, positions};
 use block::{Block, read_block};
-use block_picture::draw_block;
 use spec_ledger::Version;
 use std::alloc::Global;
+use wblock_picture::draw_block;
 
 /// A block, and how many boxes and lines its picture has. What it shows is told by `pictures.rows` of `rows`.
 type Row<'a> = (&'a str, &'a [u8], usize, usize);

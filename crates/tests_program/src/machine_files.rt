@@ -1,7 +1,7 @@
 //! Files and streams of the machine: they are reached, and why a call on them fails.
 
 use crate::assertions::{equal, holds};
-use codec::{Sink, put_all};
+use byte_sinks::{Sink, put_all};
 use std::alloc::Global;
 use std::io::ErrorKind;
 use std::test::Fail;

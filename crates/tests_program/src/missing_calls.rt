@@ -3,9 +3,9 @@
 use crate::assertions::holds;
 use crate::blocks::FOUR;
 use block::read_block;
-use calls_text::read_calls;
-use show_json::block_json;
 use std::alloc::Global;
+use wblock_calls::read_calls;
+use wblock_json::block_json;
 
 /// The first call of `FOUR` alone.
 const FIRST_CALL: &str = "0 100 bump i64:7 i64:5\n";

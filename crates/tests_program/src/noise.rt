@@ -1,9 +1,9 @@
 //! Random texts, and random ones of the letters that texts of calls are made of: reading answers, with a line that the text has.
 
-use calls_text::{CallsRefusal, MOST_CALLS, read_calls};
 use rand_core::Rng;
 use rand_pcg::Pcg32;
 use std::alloc::{AllocError, Global};
+use wblock_calls::{CallsRefusal, MOST_CALLS, read_calls};
 
 /// How many lines a text ends.
 fn ended_lines(text: &[u8]) -> usize {

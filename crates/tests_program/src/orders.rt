@@ -4,13 +4,13 @@ ghost use Rattle.std.specs.Prelude.{IfSome, length, ◌<◌, ◌^◌};
 
 use crate::assertions::holds;
 use block::Position;
-use block_picture::{Edge, edges_of};
 use lock_profile::{Held, Touched, turns};
 use schedule::{Graph, turns_agree};
 use spec_ledger::Kind::{Counter, Map};
 use spec_ledger::Mode::{Add, Excl, Read};
 use spec_ledger::{Kind, Lock, Mode, Outcome, Receipt};
 use std::alloc::Global;
+use wblock_picture::{Edge, edges_of};
 
 /// A lock of contract 0 that a position takes: its kind, its key and its mode.
 pub(crate) type Taken = (Kind, u64, Mode);

@@ -8,7 +8,7 @@ use std::io::{self, Print};
 use std::sync::atomic::{AtomicU64, Ordering};
 use std::test::Fail;
 use std::time::{Clock, Duration};
-use wblock_progress::{Progress, WIPE, without_quiet};
+use wblock_line::{Progress, WIPE, without_quiet};
 
 /// A clock that a test sets, in milliseconds.
 #[derive(Drop)]

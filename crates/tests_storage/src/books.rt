@@ -2,9 +2,9 @@
 use boost::book::{
     BeginRefusal, Closed, CommitRefusal, EnterRefusal, LeaveRefusal, OpRefusal, Run,
 };
-use shard_parts::CloseRefusal;
+use sharding::CloseRefusal;
 use shards::{NoGate, Shards, Ticket};
-use spec_ledger::{Kind, Lock, Op, Outcome, Place, Reply, Step};
+use spec_ledger::{CellKey, Kind, Lock, Op, Outcome, Reply, TraceStep};
 use std::alloc::Allocator;
 use std::sync::Wait;
 use storage::{Cells, NoMemory};
@@ -18,8 +18,8 @@ pub(crate) const RETURNED: Outcome = Outcome::Returned(None);
 pub(crate) const TRAPPED: Outcome = Outcome::Trapped(TrapCode::Unreachable);
 
 /// A place of contract 0.
-pub(crate) fn at(key: u64) -> Place {
-    Place { contract: 0, key }
+pub(crate) fn at(key: u64) -> CellKey {
+    CellKey { contract: 0, key }
 }
 
 /// A cell of contract 0.
@@ -31,8 +31,8 @@ pub(crate) fn cell(kind: Kind, key: u64) -> Lock {
     }
 }
 
-pub(crate) fn adding(key: u64, value: u64) -> Step {
-    Step::Did(Op::Add(at(key), value), Reply::Nothing)
+pub(crate) fn adding(key: u64, value: u64) -> TraceStep {
+    TraceStep::Did(Op::Add(at(key), value), Reply::Nothing)
 }
 
 /// What a call asks for.
@@ -43,9 +43,9 @@ pub(crate) enum Act {
     Enter,
     Leave(bool),
     Undo,
-    Commit(&'static [Step], Outcome),
+    Commit(&'static [TraceStep], Outcome),
     /// As `Commit`, of a book in which nothing was begun.
-    CommitElsewhere(&'static [Step], Outcome),
+    CommitElsewhere(&'static [TraceStep], Outcome),
     /// As `Leave`, of a book in which nothing was begun.
     LeaveElsewhere(bool),
 }

@@ -1,10 +1,10 @@
 // Leaving a level takes no memory. Here an allocator gives so many blocks and refuses all after them, for each number of blocks until none is
 // refused: operations in a level, and levels in it, are done as far as there is memory, and each level that was entered is left.
 use boost::book::{Book, EnterRefusal, LeaveRefusal, OpRefusal, Ticket};
-use ration::Ration;
-use spec_ledger::{Kind, Lock, Op, Place};
+use spec_ledger::{CellKey, Kind, Lock, Op};
 use std::alloc::{Allocator, Global};
 use storage::Cells;
+use test_support::Ration;
 
 /// More blocks than anything here takes.
 const AMPLE: u64 = 1_000;
@@ -15,7 +15,7 @@ const OPS: u64 = 12;
 /// How deep levels are entered.
 const DEPTH: usize = 6;
 
-const SEVEN: Place = Place {
+const SEVEN: CellKey = CellKey {
     contract: 0,
     key: 7,
 };
@@ -51,7 +51,7 @@ fn lacks_memory<A: Allocator + Copy>(book: &mut Book<A>, ticket: &Ticket, op: Op
 /// Does operations until memory is refused. None where something else is refused; else whether memory was.
 fn act<A: Allocator + Copy>(book: &mut Book<A>, ticket: &Ticket) -> Option<bool> {
     for key in 0..OPS {
-        let place = Place { contract: 0, key };
+        let place = CellKey { contract: 0, key };
         if lacks_memory(book, ticket, Op::Put(place, key))?
             || lacks_memory(book, ticket, Op::Add(SEVEN, 1))?
         {

@@ -1,11 +1,10 @@
 // What two shards leave is one book, or is refused where one of them did other things than the journal says.
 use crate::assertions::holds;
 use crate::books::{RETURNED, TRAPPED, adding, at, cell};
-use boost::attempt::Entry;
+use boost::attempt::CommittedCall;
 use boost::book::{Closed, OpRefusal};
-use shard::Shard;
-use shard_parts::{CloseRefusal, Part, close};
-use spec_ledger::{Kind, Op, Step};
+use sharding::{CloseRefusal, Part, Shard, close};
+use spec_ledger::{Kind, Op, TraceStep};
 use std::alloc::Global;
 use std::test::Fail;
 use storage::{Cells, NoMemory};
@@ -70,7 +69,7 @@ fn odd(alloc: Global, lie: Lie) -> Result<Part, Fail> {
 }
 
 /// These steps, as a list.
-fn listed(alloc: Global, steps: &[Step]) -> Result<Vec<Step>, NoMemory> {
+fn listed(alloc: Global, steps: &[TraceStep]) -> Result<Vec<TraceStep>, NoMemory> {
     let mut list = Vec::new(alloc);
     for step in steps {
         list.push(*step)?;
@@ -82,9 +81,9 @@ fn listed(alloc: Global, steps: &[Step]) -> Result<Vec<Step>, NoMemory> {
 fn put_together(alloc: Global, lie: Lie) -> Result<Result<Closed, CloseRefusal>, Fail> {
     let mut entries = Vec::new(alloc);
     let first = listed(alloc, &[adding(7, 5), adding(8, 5)])?;
-    entries.push(Entry::of(0, first, RETURNED))?;
+    entries.push(CommittedCall::of(0, first, RETURNED))?;
     let second = listed(alloc, &[adding(7, 3)])?;
-    entries.push(Entry::of(1, second, RETURNED))?;
+    entries.push(CommittedCall::of(1, second, RETURNED))?;
     let mut parts = Vec::new(alloc);
     parts.push(even(alloc, lie)?)?;
     parts.push(odd(alloc, lie)?)?;

@@ -2,10 +2,10 @@
 use crate::assertions::holds;
 use crate::books::{COUNTS, Came, played};
 use crate::scripts::GROWTHS;
-use ration::Ration;
 use std::alloc::Global;
 use std::sync::Wait;
 use std::test::Fail;
+use test_support::Ration;
 
 /// More growths than there are.
 const MANY: u64 = 400;

@@ -3,38 +3,38 @@ use crate::assertions::equal;
 use crate::books::{Act, Answer, COUNTS, Came, RETURNED, Script, TRAPPED};
 use crate::whole::played;
 use boost::book::{BeginRefusal, CommitRefusal, LeaveRefusal, OpRefusal};
-use spec_ledger::{Kind, Op, Place, Reply, Step};
+use spec_ledger::{CellKey, Kind, Op, Reply, TraceStep};
 use std::alloc::Global;
 use std::process::Abort;
 use std::sync::Wait;
 use std::test::Fail;
 
-const ONE: Place = Place {
+const ONE: CellKey = CellKey {
     contract: 0,
     key: 1,
 };
 
-const TWO: Place = Place {
+const TWO: CellKey = CellKey {
     contract: 0,
     key: 2,
 };
 
-const THREE: Place = Place {
+const THREE: CellKey = CellKey {
     contract: 0,
     key: 3,
 };
 
-const FOUR: Place = Place {
+const FOUR: CellKey = CellKey {
     contract: 0,
     key: 4,
 };
 
-const SEVEN: Place = Place {
+const SEVEN: CellKey = CellKey {
     contract: 0,
     key: 7,
 };
 
-const EIGHT: Place = Place {
+const EIGHT: CellKey = CellKey {
     contract: 0,
     key: 8,
 };
@@ -61,13 +61,13 @@ const SECOND: Answer = Answer::Commit(Ok(1));
 
 const DIFFERS: Answer = Answer::Commit(Err(CommitRefusal::Differs));
 
-const ADDED_2: Step = Step::Did(Op::Add(SEVEN, 2), Reply::Nothing);
+const ADDED_2: TraceStep = TraceStep::Did(Op::Add(SEVEN, 2), Reply::Nothing);
 
-const ADDED_5: Step = Step::Did(Op::Add(SEVEN, 5), Reply::Nothing);
+const ADDED_5: TraceStep = TraceStep::Did(Op::Add(SEVEN, 5), Reply::Nothing);
 
-const ADDED_8: Step = Step::Did(Op::Add(SEVEN, 8), Reply::Nothing);
+const ADDED_8: TraceStep = TraceStep::Did(Op::Add(SEVEN, 8), Reply::Nothing);
 
-const TOTAL_OF_100: Step = Step::Did(Op::Total(SEVEN), Reply::I64(100));
+const TOTAL_OF_100: TraceStep = TraceStep::Did(Op::Total(SEVEN), Reply::I64(100));
 
 /// Two calls that add to one counter, of which the second is committed first.
 const TWO_BUMPS: Script = Script {
@@ -97,7 +97,7 @@ const FAIL_AND_BUMP: Script = Script {
         (
             0,
             Act::Commit(
-                &[ADDED_5, Step::Did(Op::Put(ONE, 9), Reply::Nothing)],
+                &[ADDED_5, TraceStep::Did(Op::Put(ONE, 9), Reply::Nothing)],
                 TRAPPED,
             ),
             FIRST,
@@ -105,7 +105,7 @@ const FAIL_AND_BUMP: Script = Script {
         (
             1,
             Act::Commit(
-                &[ADDED_8, Step::Did(Op::Put(TWO, 4), Reply::Nothing)],
+                &[ADDED_8, TraceStep::Did(Op::Put(TWO, 4), Reply::Nothing)],
                 RETURNED,
             ),
             SECOND,
@@ -140,7 +140,7 @@ const REFUSED_TOTAL: Script = Script {
         (
             1,
             Act::Commit(
-                &[TOTAL_OF_100, Step::Did(Op::Get(EIGHT), Reply::I64(0))],
+                &[TOTAL_OF_100, TraceStep::Did(Op::Get(EIGHT), Reply::I64(0))],
                 RETURNED,
             ),
             DIFFERS,
@@ -179,8 +179,8 @@ const TWO_MOVERS: Script = Script {
             0,
             Act::Commit(
                 &[
-                    Step::Did(Op::Get(ONE), Reply::I64(10)),
-                    Step::Did(Op::Put(TWO, 10), Reply::Nothing),
+                    TraceStep::Did(Op::Get(ONE), Reply::I64(10)),
+                    TraceStep::Did(Op::Put(TWO, 10), Reply::Nothing),
                 ],
                 RETURNED,
             ),
@@ -193,8 +193,8 @@ const TWO_MOVERS: Script = Script {
             1,
             Act::Commit(
                 &[
-                    Step::Did(Op::Get(TWO), Reply::I64(10)),
-                    Step::Did(Op::Put(ONE, 10), Reply::Nothing),
+                    TraceStep::Did(Op::Get(TWO), Reply::I64(10)),
+                    TraceStep::Did(Op::Put(ONE, 10), Reply::Nothing),
                 ],
                 RETURNED,
             ),
@@ -206,31 +206,31 @@ const TWO_MOVERS: Script = Script {
 };
 
 /// What call 0 did in the rows of levels.
-const OF_LEVELS: [Step; 12] = [
+const OF_LEVELS: [TraceStep; 12] = [
     ADDED_5,
-    Step::Opened,
+    TraceStep::Opened,
     ADDED_2,
-    Step::Did(Op::Put(ONE, 9), Reply::Nothing),
-    Step::Opened,
-    Step::Did(Op::Put(TWO, 4), Reply::Nothing),
-    Step::Dropped,
-    Step::Did(Op::Get(TWO), Reply::I64(20)),
-    Step::Opened,
-    Step::Did(Op::Add(SEVEN, 32), Reply::Nothing),
-    Step::Kept,
-    Step::Kept,
+    TraceStep::Did(Op::Put(ONE, 9), Reply::Nothing),
+    TraceStep::Opened,
+    TraceStep::Did(Op::Put(TWO, 4), Reply::Nothing),
+    TraceStep::Dropped,
+    TraceStep::Did(Op::Get(TWO), Reply::I64(20)),
+    TraceStep::Opened,
+    TraceStep::Did(Op::Add(SEVEN, 32), Reply::Nothing),
+    TraceStep::Kept,
+    TraceStep::Kept,
 ];
 
 /// And call 1.
-const OF_OTHER_LEVELS: [Step; 8] = [
+const OF_OTHER_LEVELS: [TraceStep; 8] = [
     ADDED_8,
-    Step::Did(Op::Add(SEVEN, 16), Reply::Nothing),
-    Step::Opened,
-    Step::Did(Op::Put(FOUR, 6), Reply::Nothing),
-    Step::Opened,
-    Step::Did(Op::Add(SEVEN, 64), Reply::Nothing),
-    Step::Kept,
-    Step::Dropped,
+    TraceStep::Did(Op::Add(SEVEN, 16), Reply::Nothing),
+    TraceStep::Opened,
+    TraceStep::Did(Op::Put(FOUR, 6), Reply::Nothing),
+    TraceStep::Opened,
+    TraceStep::Did(Op::Add(SEVEN, 64), Reply::Nothing),
+    TraceStep::Kept,
+    TraceStep::Dropped,
 ];
 
 /// Levels of two calls.
@@ -342,7 +342,7 @@ pub(crate) const GROWTHS: Script = Script {
         (
             1,
             Act::Commit(
-                &[ADDED_8, Step::Did(Op::Put(THREE, 4), Reply::Nothing)],
+                &[ADDED_8, TraceStep::Did(Op::Put(THREE, 4), Reply::Nothing)],
                 TRAPPED,
             ),
             FIRST,
@@ -352,13 +352,13 @@ pub(crate) const GROWTHS: Script = Script {
             Act::Commit(
                 &[
                     ADDED_5,
-                    Step::Opened,
-                    Step::Did(Op::Get(ONE), Reply::I64(10)),
-                    Step::Did(Op::Put(TWO, 9), Reply::Nothing),
-                    Step::Opened,
-                    Step::Did(Op::Put(FOUR, 6), Reply::Nothing),
-                    Step::Dropped,
-                    Step::Kept,
+                    TraceStep::Opened,
+                    TraceStep::Did(Op::Get(ONE), Reply::I64(10)),
+                    TraceStep::Did(Op::Put(TWO, 9), Reply::Nothing),
+                    TraceStep::Opened,
+                    TraceStep::Did(Op::Put(FOUR, 6), Reply::Nothing),
+                    TraceStep::Dropped,
+                    TraceStep::Kept,
                 ],
                 RETURNED,
             ),
@@ -384,21 +384,30 @@ const MARKS_ALONE: Script = Script {
         (0, Act::LeaveElsewhere(false), STALE_LEAVE),
         (0, Act::Leave(true), LEFT),
         (0, Act::Commit(&[], RETURNED), DIFFERS),
-        (0, Act::Commit(&[Step::Kept], RETURNED), DIFFERS),
+        (0, Act::Commit(&[TraceStep::Kept], RETURNED), DIFFERS),
         (
             0,
-            Act::Commit(&[Step::Opened, Step::Dropped], RETURNED),
+            Act::Commit(&[TraceStep::Opened, TraceStep::Dropped], RETURNED),
             DIFFERS,
         ),
         (
             0,
             Act::Commit(
-                &[Step::Opened, Step::Kept, Step::Opened, Step::Kept],
+                &[
+                    TraceStep::Opened,
+                    TraceStep::Kept,
+                    TraceStep::Opened,
+                    TraceStep::Kept,
+                ],
                 RETURNED,
             ),
             DIFFERS,
         ),
-        (0, Act::Commit(&[Step::Opened, Step::Kept], RETURNED), FIRST),
+        (
+            0,
+            Act::Commit(&[TraceStep::Opened, TraceStep::Kept], RETURNED),
+            FIRST,
+        ),
     ],
     cells: &[(Kind::Map, 1, Some(10))],
     entries: 1,

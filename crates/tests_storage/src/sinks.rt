@@ -1,6 +1,6 @@
 // Sinks in memory, whole and failing.
 use crate::assertions::holds;
-use codec::{Failures, MemorySink, put_all};
+use byte_sinks::{Failures, MemorySink, put_all};
 use std::alloc::Global;
 
 /// Whether a put fails, and what is kept of the puts, in pieces of this size.

@@ -1,6 +1,6 @@
 // A book of one piece, which answers a script as the book in shards.
 use crate::books::{Act, Answer, Came, Script, cell, cells_of, closed, is_left};
-use boost::attempt::Entry;
+use boost::attempt::CommittedCall;
 use boost::book::{Book, Closed, Run, Ticket};
 use spec_ledger::Kind;
 use std::alloc::Global;
@@ -102,7 +102,7 @@ fn closed_whole(alloc: Global, script: &Script) -> Result<Closed, Came> {
 }
 
 /// Whether two entries are the same.
-fn are_same(a: &Entry, b: &Entry) -> bool {
+fn are_same(a: &CommittedCall, b: &CommittedCall) -> bool {
     a.call() == b.call() && a.has_trace(b.trace()) && a.outcome() == b.outcome()
 }
 

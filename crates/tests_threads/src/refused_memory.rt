@@ -1,4 +1,4 @@
-// Every block of memory that a call asks for, refused in turn: alone, and with all that are asked for after it. The answer is want of
+// Every block of memory that a call asks for, refused in turn: alone, and with all that are asked for after it. The answer is out of
 // memory, or the one without a refusal, and what was lent is as it was. Which of the two it is has no clause.
 ghost use Rattle.std.specs.Prelude.{◌≡◌, IfOk};
 
@@ -6,8 +6,8 @@ use crate::assertions::holds;
 use assembler::{AsmRefusal, assemble};
 use block::{Block, BlockRefusal, read_block, write_block};
 use body_typing::scope::TypeRefusal;
+use byte_sinks::{Failures, MemorySink};
 use call::Call;
-use codec::{Failures, MemorySink};
 use debugger::session::{Refusal, Session};
 use encoder::encode;
 use interp::start::StartRefusal;
@@ -16,19 +16,17 @@ use link::deploy::deploy;
 use link::refusal::LinkRefusal;
 use loader::{LoadRefusal, load};
 use module_tree::module::Module;
-use ration::Ration;
-use samples::{EXAMPLE, PROBING, typed};
-use serial_block::run;
+use serial::run;
 use spec_ledger::Kind::{self, Counter, Map};
 use spec_ledger::{Lock, Version};
 use std::alloc::{Allocator, Global};
 use std::process::Abort;
 use std::test::Fail;
 use storage::Cells;
+use test_support::{EXAMPLE, PROBING, Ration, typed};
 use typing::check::check;
 use typing::valid::Valid;
-use world::{World, encode_world};
-use world_reader::{ReadRefusal, read_world};
+use world::{ReadRefusal, World, encode_world, read_world};
 use wtypes::Value::{self, I64};
 
 /// The example contract as text.
@@ -107,7 +105,7 @@ fn world_of<A: Allocator + Copy>(
     rows: &[CellRow],
 ) -> Result<World<A>, Fail> {
     let mut contracts = Vec::new(alloc);
-    contracts.push(samples::deployed(alloc, module)?)?;
+    contracts.push(test_support::deployed(alloc, module)?)?;
     let mut cells = Cells::new(alloc);
     for (kind, key, number) in rows {
         if *number == 0 {
@@ -139,7 +137,7 @@ fn calling(alloc: Global, entry: Entry) -> Result<Call, Fail>
     ensures { IfOk result (λ made. made.fuel ≡ 100) }
 {
     let (name, args) = entry;
-    match samples::call(alloc, 0, name, args, 100) {
+    match test_support::call(alloc, 0, name, args, 100) {
         Ok(call) => Ok(call),
         Err(_) => Err(Fail::from("no call")),
     }
@@ -178,7 +176,7 @@ enum Asked {
 enum Came {
     /// What comes of it without a refusal, and what was lent is as it was.
     AsEver,
-    /// Want of memory, and what was lent is as it was.
+    /// Out of memory, and what was lent is as it was.
     NoMemory,
     Other,
 }
@@ -188,7 +186,7 @@ fn answered(is_right: bool) -> Came {
     if is_right { Came::AsEver } else { Came::Other }
 }
 
-/// Want of memory, where this is so of what was lent.
+/// Out of memory, where this is so of what was lent.
 fn refused(is_as_it_was: bool) -> Came {
     if is_as_it_was {
         Came::NoMemory

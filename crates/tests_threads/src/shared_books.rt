@@ -4,8 +4,8 @@ use crate::waiting::{LOOKS, hold};
 use boost::book::{
     BeginRefusal, Book, Closed, CommitRefusal, EnterRefusal, LeaveRefusal, OpRefusal, Run, Ticket,
 };
-use shared_book::SharedBook;
-use spec_ledger::{Kind, Lock, Mode, Op, Outcome, Place, Reply, Step};
+use shards::SharedBook;
+use spec_ledger::{CellKey, Kind, Lock, Mode, Op, Outcome, Reply, TraceStep};
 use std::alloc::Global;
 use std::process::Abort;
 use std::sync::Wait;
@@ -24,29 +24,29 @@ const CALLS: u32 = 160;
 const TRAPPED: Outcome = Outcome::Trapped(TrapCode::Unreachable);
 
 /// A map cell that many calls read and put.
-const HOT: Place = Place {
+const HOT: CellKey = CellKey {
     contract: 0,
     key: 1_000,
 };
 
 /// A map cell of call 0 alone, and one of call 1.
-const OWN_0: Place = Place {
+const OWN_0: CellKey = CellKey {
     contract: 0,
     key: 0,
 };
 
-const OWN_1: Place = Place {
+const OWN_1: CellKey = CellKey {
     contract: 0,
     key: 1,
 };
 
 /// A counter that all calls add to.
-const SUM: Place = Place {
+const SUM: CellKey = CellKey {
     contract: 0,
     key: 7,
 };
 
-fn cell(kind: Kind, place: Place) -> Lock {
+fn cell(kind: Kind, place: CellKey) -> Lock {
     Lock {
         contract: place.contract,
         kind,
@@ -54,32 +54,32 @@ fn cell(kind: Kind, place: Place) -> Lock {
     }
 }
 
-fn returned(trace: &[Step]) -> Run<'_> {
+fn returned(trace: &[TraceStep]) -> Run<'_> {
     Run {
         trace,
         outcome: Outcome::Returned(None),
     }
 }
 
-const TOTAL_OF_100: Step = Step::Did(Op::Total(SUM), Reply::I64(100));
+const TOTAL_OF_100: TraceStep = TraceStep::Did(Op::Total(SUM), Reply::I64(100));
 
-const ADDED_3: Step = Step::Did(Op::Add(SUM, 3), Reply::Nothing);
+const ADDED_3: TraceStep = TraceStep::Did(Op::Add(SUM, 3), Reply::Nothing);
 
-const ADDED_5: Step = Step::Did(Op::Add(SUM, 5), Reply::Nothing);
+const ADDED_5: TraceStep = TraceStep::Did(Op::Add(SUM, 5), Reply::Nothing);
 
-const ADDED_20: Step = Step::Did(Op::Add(SUM, 20), Reply::Nothing);
+const ADDED_20: TraceStep = TraceStep::Did(Op::Add(SUM, 20), Reply::Nothing);
 
 /// A call that looks at the counter, adds to it in a level that is dropped, and looks again.
-const LEVELS: [Step; 9] = [
+const LEVELS: [TraceStep; 9] = [
     TOTAL_OF_100,
-    Step::Opened,
+    TraceStep::Opened,
     ADDED_20,
-    Step::Opened,
-    Step::Kept,
-    Step::Dropped,
+    TraceStep::Opened,
+    TraceStep::Kept,
+    TraceStep::Dropped,
     TOTAL_OF_100,
-    Step::Opened,
-    Step::Kept,
+    TraceStep::Opened,
+    TraceStep::Kept,
 ];
 
 /// What is asked of a book for a call.
@@ -90,7 +90,7 @@ enum Asked {
     Enter,
     Leave(bool),
     Undo,
-    Commit(&'static [Step]),
+    Commit(&'static [TraceStep]),
 }
 
 /// What a book answers.
@@ -120,7 +120,7 @@ fn committed<R: Wait>(
     rt: &R,
     book: &SharedBook<'_>,
     hand: &mut Option<Ticket>,
-    trace: &[Step],
+    trace: &[TraceStep],
 ) -> Option<Result<u32, CommitRefusal>> {
     match book.commit(rt, hand.take()?, &returned(trace)) {
         Ok(position) => Some(Ok(position)),
@@ -292,7 +292,7 @@ enum Act {
 }
 
 /// A thread's call: what it does, one after another, and the trace that it is committed with. It then tells that it was.
-type Part = (&'static [Act], &'static [Step]);
+type Part = (&'static [Act], &'static [TraceStep]);
 
 /// Two threads that work in one book at once.
 struct Meeting {
@@ -336,7 +336,7 @@ const MEETINGS: &[Meeting] = &[
                 Act::Tells,
                 Act::Waits(2),
             ],
-            &[Step::Did(PUT_0, Reply::Nothing), ADDED_5],
+            &[TraceStep::Did(PUT_0, Reply::Nothing), ADDED_5],
         ),
         second: (
             &[
@@ -346,7 +346,7 @@ const MEETINGS: &[Meeting] = &[
                 Act::Tells,
                 Act::Waits(2),
             ],
-            &[Step::Did(PUT_1, Reply::Nothing), ADDED_5],
+            &[TraceStep::Did(PUT_1, Reply::Nothing), ADDED_5],
         ),
         in_order: false,
         mode: None,
@@ -368,7 +368,7 @@ const MEETINGS: &[Meeting] = &[
                 Act::Asks(Asked::Leave(false), LEFT),
                 Act::Tells,
             ],
-            &[ADDED_5, Step::Opened, ADDED_20, Step::Dropped],
+            &[ADDED_5, TraceStep::Opened, ADDED_20, TraceStep::Dropped],
         ),
         second: (
             &[
@@ -396,7 +396,7 @@ const MEETINGS: &[Meeting] = &[
                 Act::Tells,
                 Act::Waits(2),
             ],
-            &[Step::Did(PUT_HOT, Reply::Nothing)],
+            &[TraceStep::Did(PUT_HOT, Reply::Nothing)],
         ),
         second: (
             &[
@@ -410,7 +410,7 @@ const MEETINGS: &[Meeting] = &[
                 BEGINS,
                 Act::Asks(Asked::Do(Op::Get(HOT)), READS_9),
             ],
-            &[Step::Did(Op::Get(HOT), Reply::I64(9))],
+            &[TraceStep::Did(Op::Get(HOT), Reply::I64(9))],
         ),
         in_order: true,
         mode: None,
@@ -531,7 +531,7 @@ struct Done {
 /// What a call does: a cell of its own and the common counter, and of every third call also the hot cell.
 fn ops(call: u32) -> [Op; 4] {
     let number = u64::from(call);
-    let own = Place {
+    let own = CellKey {
         contract: 0,
         key: number,
     };
@@ -558,14 +558,14 @@ fn outcome(call: u32) -> Outcome {
 }
 
 /// What a call did that was answered so.
-fn trace(call: u32, replies: [Reply; 4]) -> [Step; 4] {
+fn trace(call: u32, replies: [Reply; 4]) -> [TraceStep; 4] {
     let [add, has, get, put] = ops(call);
     let [added, had, got, done] = replies;
     [
-        Step::Did(add, added),
-        Step::Did(has, had),
-        Step::Did(get, got),
-        Step::Did(put, done),
+        TraceStep::Did(add, added),
+        TraceStep::Did(has, had),
+        TraceStep::Did(get, got),
+        TraceStep::Did(put, done),
     ]
 }
 

@@ -5,20 +5,20 @@ ghost use Rattle.spec_block.specs.Worlds.{limits};
 
 use block::{Block, write_block};
 use block_judge::Reason;
+use byte_sinks::{Failures, MemorySink};
 use call::Call;
-use calls_text::read_calls;
-use codec::{Failures, MemorySink};
-use mining::{Mined, mine};
+use miner::{Mined, mine};
 use pace::Pace;
-use samples::deployed;
-use serial_block::run_as;
+use serial::run_as;
 use spec_ledger::{Kind, Lock, Version};
 use std::alloc::{AllocError, Allocator, Global};
 use std::sync::Wait;
 use std::test::Fail;
 use std::thread::Threads;
 use storage::Cells;
+use test_support::deployed;
 use validator::{Verdict, find_verdict};
+use wblock_calls::read_calls;
 use world::{World, digest_world};
 
 /// A cell: its contract, its kind, its key and its number.

@@ -3,7 +3,6 @@
 use crate::assertions::holds;
 use crate::given::{Calls, CellRow, Given, block_of, give, judged};
 use crate::meetings::{LOOKS, Meet, Meeting};
-use samples::EXAMPLE;
 use spec_ledger::Kind::Map;
 use spec_ledger::Version;
 use std::alloc::Global;
@@ -11,6 +10,7 @@ use std::process::Abort;
 use std::sync::Wait;
 use std::test::Fail;
 use std::thread::Threads;
+use test_support::EXAMPLE;
 
 /// The fuel of a block.
 const FUEL: u64 = 1_000_000;

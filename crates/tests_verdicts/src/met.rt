@@ -5,8 +5,7 @@ ghost use Rattle.std.specs.Prelude.{◌<◌};
 use crate::assertions::holds;
 use crate::given::{Calls, CellRow, Given, block_of, give, judged, mined, order_of, written};
 use crate::meetings::{LOOKS, Meet, Meeting};
-use mining::{MinedCore, mine_core};
-use samples::{ASKING, EXAMPLE, FIRST_MODULE, PROBING};
+use miner::{MinedCore, mine_core};
 use serial::{Core, serial_core};
 use spec_ledger::Kind::{Counter, Map};
 use spec_ledger::Version;
@@ -14,6 +13,7 @@ use std::alloc::Global;
 use std::sync::Wait;
 use std::test::Fail;
 use std::thread::Threads;
+use test_support::{ASKING, EXAMPLE, FIRST_MODULE, PROBING};
 
 /// The module of whose export `run` each call adds 5 to the counter of its argument and returns the counter's total.
 const FIRST: &[&[u8]] = &[&FIRST_MODULE];

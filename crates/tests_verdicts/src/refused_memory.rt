@@ -1,4 +1,4 @@
-// Every block of memory that mining and validating ask for, refused in turn: alone, and with all that are asked for after it. The answer is want of memory, or
+// Every block of memory that mining and validating ask for, refused in turn: alone, and with all that are asked for after it. The answer is out of memory, or
 // the one without a refusal, and what was lent is as it was. Which of the two it is has no clause, nor that a worker whose fellow was refused comes to its end.
 use crate::assertions::holds;
 use crate::given::{
@@ -8,10 +8,8 @@ use crate::meetings::{FEW_LOOKS, Meet, Meeting};
 use crate::paces::{Stopping, Stops};
 use crate::road::SPIN;
 use block_judge::Reason;
-use mining::{Mined, mine_in};
+use miner::{Mined, mine_in};
 use pace::{NoPace, Pace};
-use ration::Ration;
-use samples::{EXAMPLE, PROBING};
 use spec_ledger::Kind::{Counter, Map};
 use spec_ledger::Version;
 use std::alloc::Global;
@@ -19,6 +17,7 @@ use std::process::Abort;
 use std::sync::Wait;
 use std::test::Fail;
 use std::thread::Threads;
+use test_support::{EXAMPLE, PROBING, Ration};
 use validator::{Verdict, validate_in};
 use world::World;
 
@@ -148,7 +147,7 @@ const ROWS_OF_LEVELS: &[Row] = &[
 enum Came {
     /// What comes of it without a refusal, and what was lent is as it was.
     AsEver,
-    /// Want of memory, and what was lent is as it was.
+    /// Out of memory, and what was lent is as it was.
     NoMemory,
     Other,
 }
@@ -316,7 +315,7 @@ fn refused_after<R: Threads + Wait + Sync>(
 }
 
 /// Refuses blocks in turn, and says how often memory was wanted; or the first number of blocks after which another answer came. One worker that mines, and for
-/// whom all are refused, has no other answer than want of memory.
+/// whom all are refused, has no other answer than out of memory.
 fn refused_in_turn<R: Threads + Wait + Sync>(
     rt: &R,
     heap: Global,

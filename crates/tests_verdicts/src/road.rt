@@ -12,7 +12,6 @@ use call::Call;
 use pace::NoPace;
 use rand::RngExt;
 use rand_pcg::Pcg32;
-use samples::{EXAMPLE, PROBING, call};
 use spec_ledger::Kind::{Counter, Map};
 use spec_ledger::Version;
 use std::alloc::Global;
@@ -20,6 +19,7 @@ use std::process::Abort;
 use std::sync::Wait;
 use std::test::Fail;
 use std::thread::Threads;
+use test_support::{EXAMPLE, PROBING, call};
 use wtypes::Value::{self, I32, I64};
 
 /// What `wat2wasm` of wabt makes of this text:

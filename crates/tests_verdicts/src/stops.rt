@@ -5,13 +5,13 @@ use crate::given::{Calls, Given, block_of, first_fit, give, judged};
 use crate::paces::{Stopping, Stops};
 use crate::road::{Seen, given_of, is_accepted, is_mined, list_of, wanted_of, watched};
 use pace::NoPace;
-use samples::{EXAMPLE, PROBING};
 use spec_ledger::Version;
 use std::alloc::Global;
 use std::process::Abort;
 use std::sync::Wait;
 use std::test::Fail;
 use std::thread::Threads;
+use test_support::{EXAMPLE, PROBING};
 
 /// Two bumps of one counter.
 fn bumps(alloc: Global) -> Result<Given, Fail> {

@@ -2,10 +2,8 @@
 use crate::assertions::equal;
 use crate::given::{Calls, give, order_of, world_of};
 use crate::meetings::LOOKS;
-use mining::{Mined, mine_in};
+use miner::{Mined, mine_in};
 use pace::{Pace, Step};
-use ration::Ration;
-use samples::EXAMPLE;
 use std::alloc::Global;
 use std::process::Abort;
 use std::sync::Wait;
@@ -13,6 +11,7 @@ use std::sync::atomic::{AtomicBool, AtomicU64, Ordering};
 use std::test::Fail;
 use std::thread;
 use std::thread::Threads;
+use test_support::{EXAMPLE, Ration};
 
 /// Stops the worker of call 0 at one step. It waits for call 1 before its first attempt; the worker of call 1 is held at its own until the other one
 /// has set its call aside, which takes memory. Nobody else takes memory meanwhile.

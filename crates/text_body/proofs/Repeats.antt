@@ -3,8 +3,8 @@ use Rattle.std.proofs.Common.{◌≡◌, ℕ, zero, suc, ◌<◌, List, [], ◌�
 use Rattle.std.proofs.lemmas.List.{append-nil}
 use Rattle.std.specs.Prelude.{option_map}
 use Rattle.spec_text.specs.Words.{Word}
-use Rattle.text_body.specs.declared.unread.Unread.{Unread}
-use Rattle.text_body.specs.declared.unread.Unread.TheVariants.{Stuck, NoMemory}
+use Rattle.text_body.specs.declared.unread.ParseFault.{ParseFault}
+use Rattle.text_body.specs.declared.unread.ParseFault.TheVariants.{Stuck, NoMemory}
 use Rattle.text_body.specs.Outcome.{Unless}
 use Rattle.spec_text.specs.Placed as N
 use Rattle.text_body.specs.Reading.{indices_at, last_of, with_front, table_at, Read, ◌>>=◌, repeated, more_of}
@@ -57,7 +57,7 @@ module _ {X : Type 0} (next : List Word → Next X) (whole : Read (List X)) (res
   halfway_more h after x e l = at_more h.turns h.enough h.same after x e l
 
 -- a refusal is handed on
-pub hand_on : {P Q : Type 0} (e : Unread) → (P → Q) → Unless P e → Unless Q e
+pub hand_on : {P Q : Type 0} (e : ParseFault) → (P → Q) → Unless P e → Unless Q e
 hand_on NoMemory f h = h
 hand_on (Stuck at) f h = f h
 

@@ -4,7 +4,7 @@ use Rattle.std.specs.Prelude.{IfOk, IfErr}
 use Rattle.spec_text.specs.Words.{Word}
 use Rattle.spec_text.specs.Placed as N
 use Rattle.spec_text.specs.Grammar.{OptionalId, Bindings, Indices, Results, TypeUses}
-use Rattle.text_body.specs.declared.unread.Unread.{Unread}
+use Rattle.text_body.specs.declared.unread.ParseFault.{ParseFault}
 use Rattle.text_body.specs.declared.parts.Part.{Part}
 use Rattle.text_body.specs.Outcome.{Gives, Unless}
 use Rattle.text_body.specs.Reading.{Read, id_at, index_at, indices_at, bindings_at, results_at, use_at, key_of, ahead, moved}
@@ -12,11 +12,11 @@ use Rattle.text_body.specs.Shared.{OneIndex, NoneOf, Entered, IsOne, SharedAreOn
 use Rattle.text_body.proofs.Repeats.{hand_on}
 use Rattle.text_body.proofs.Pieces.{none_some, some_same, id_is_read, index_read, indices_read, bindings_read, results_read, use_is_read, ahead_is, ahead_none}
 
-pub granted : {X Y : Type 0} (view : X → Y) (r : Result X Unread) (read : Option Y) (P : Y → Type 0) → Gives view r read → ((y : Y) → read ≡ Some y → P y) → IfOk r (λ x. P (view x))
+pub granted : {X Y : Type 0} (view : X → Y) (r : Result X ParseFault) (read : Option Y) (P : Y → Type 0) → Gives view r read → ((y : Y) → read ≡ Some y → P y) → IfOk r (λ x. P (view x))
 granted view (Ok x) read P g f = f (view x) g
 granted view (Err e) read P g f = tt
 
-pub denied : {X Y : Type 0} (view : X → Y) (r : Result X Unread) (read : Option Y) (Q : Type 0) → Gives view r read → (read ≡ None → Q) → IfErr r (Unless Q)
+pub denied : {X Y : Type 0} (view : X → Y) (r : Result X ParseFault) (read : Option Y) (Q : Type 0) → Gives view r read → (read ≡ None → Q) → IfErr r (Unless Q)
 denied view (Ok x) read Q g f = tt
 denied view (Err e) read Q g f = hand_on e f g
 

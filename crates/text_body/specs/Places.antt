@@ -1,7 +1,7 @@
 -- What contracts see of flat instructions, with each name and each integer at its place.
 use Rattle.std.specs.Prelude.{List, map, Option, option_map}
-use Rattle.text_words.specs.declared.word.Piece.{Piece}
-use Rattle.text_words.specs.Views.{placed}
+use Rattle.lexer.specs.declared.word.Piece.{Piece}
+use Rattle.lexer.specs.WordsViews.{placed}
 use Rattle.spec_text.specs.Placed as N
 use Rattle.text_body.specs.declared.flat.Index.{Index}
 use Rattle.text_body.specs.declared.flat.Index.TheVariants as index

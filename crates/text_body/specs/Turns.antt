@@ -13,8 +13,8 @@ use Rattle.text_body.specs.declared.turns.Open as code_open
 use Rattle.text_body.specs.declared.turns.Open.TheVariants as opened
 use Rattle.text_body.specs.declared.turns.Top as code_top
 use Rattle.text_body.specs.declared.turns.Top.TheVariants as top
-use Rattle.text_body.specs.declared.turns.Turn as code_turn
-use Rattle.text_body.specs.declared.turns.Turn.TheVariants as turn
+use Rattle.text_body.specs.declared.turns.ParserStep as code_turn
+use Rattle.text_body.specs.declared.turns.ParserStep.TheVariants as turn
 use Rattle.text_body.specs.Places.{text_of, flat_of}
 use Rattle.text_body.specs.Reading.{Read, id_at, header_at, plain_at, ahead, close_at}
 
@@ -58,7 +58,7 @@ seen_top top.Nothing = Nothing
 seen_top top.Operands = OfOperands
 seen_top (top.Inside f) = OfForm (form_of f)
 
-abbrev pub move_of : {A : Type 0} → code_turn.Turn A → Move
+abbrev pub move_of : {A : Type 0} → code_turn.ParserStep A → Move
 move_of (turn.Emits f) = Emits (flat_of f)
 move_of (turn.Opens f form) = Opens (flat_of f) (form_of form)
 move_of (turn.Begins o) = Begins (open_of o)

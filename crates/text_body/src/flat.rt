@@ -1,7 +1,7 @@
 //! Instructions of a flat body, which keep names and integers as parts of the text.
+use lexer::Piece;
 use spec_text::Operator;
 use std::alloc::Allocator;
-use text_words::Piece;
 use wtypes::{LoadOp, StoreOp, ValType};
 
 /// An index in the text.

@@ -10,5 +10,5 @@ mod unread;
 mod whole;
 
 pub use flat::{Binding, Flat, Index, Opener, TypeUse};
-pub use unread::Unread;
+pub use unread::ParseFault;
 pub use whole::{body, no_words_begin_with_two_bodies};

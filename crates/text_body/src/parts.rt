@@ -2,16 +2,16 @@
 //! how many words were left.
 ghost use Rattle.std.specs.Prelude.{◌≡◌, ◌≤◌, ◌<◌, ◌+◌, length, map, IfOk, IfSome, IfNone, Option, option_map, true, false};
 ghost use Rattle.spec_text.specs.Grammar.{are_unnamed, is_simple, is_indexed};
-ghost use Rattle.text_words.specs.Views.{view, views};
+ghost use Rattle.lexer.specs.WordsViews.{view, views};
 ghost use Rattle.text_body.specs.Places.{text_of, index_of, binding_of, use_of, flat_of};
 ghost use Rattle.text_body.specs.Outcome.{Gives};
 ghost use Rattle.text_body.specs.Reading.{moved, id_at, offset_at, align_at, index_of_word, index_at, next_index_at, next_at, indices_at, is_key, behind_bracket, ahead, close_at, valued_at, binding_at, bindings_at, results_at, result_at, header_at, types_at, closed_index_at, use_at, const_at, table_at, indirect_at, argument_at, other_at, plain_at};
 
 use crate::flat::{Binding, Flat, Index, TypeUse};
-use crate::unread::Unread;
+use crate::unread::ParseFault;
+use lexer::{Piece, Word};
 use spec_text::{KeyWord, Operator};
 use std::alloc::Allocator;
-use text_words::{Piece, Word};
 use wtypes::ValType;
 
 /// The words that begin a part in brackets.
@@ -83,12 +83,12 @@ fn align<'w, 'a>(rest: &mut &'w [Word<'a>]) -> Option<Piece<'a>>
 }
 
 /// An index.
-pub(crate) fn index<'w, 'a>(rest: &mut &'w [Word<'a>]) -> Result<Index<'a>, Unread>
+pub(crate) fn index<'w, 'a>(rest: &mut &'w [Word<'a>]) -> Result<Index<'a>, ParseFault>
     ensures value { Gives (λ x. (index_of x, views rest.new.now)) result (index_at (views rest.old.now)) }
     ensures shorter { IfOk result (λ _. length rest.new.now < length rest.old.now) }
 {
     match *rest {
-        [] => Err(Unread::Stuck(0)),
+        [] => Err(ParseFault::Stuck(0)),
         [word, after @ ..] => match *word {
             Word::Number(piece) => {
                 *rest = after;
@@ -98,7 +98,7 @@ pub(crate) fn index<'w, 'a>(rest: &mut &'w [Word<'a>]) -> Result<Index<'a>, Unre
                 *rest = after;
                 Ok(Index::Named(piece))
             }
-            _ => Err(Unread::Stuck(rest.len())),
+            _ => Err(ParseFault::Stuck(rest.len())),
         },
     }
 }
@@ -155,7 +155,7 @@ pub(crate) fn enters<'w, 'a>(part: Part, rest: &mut &'w [Word<'a>]) -> bool
 }
 
 /// `)`
-pub(crate) fn close<'w, 'a>(rest: &mut &'w [Word<'a>]) -> Result<(), Unread>
+pub(crate) fn close<'w, 'a>(rest: &mut &'w [Word<'a>]) -> Result<(), ParseFault>
     ensures value { Gives (λ _. views rest.new.now) result (close_at (views rest.old.now)) }
     ensures shorter { IfOk result (λ _. length rest.new.now < length rest.old.now) }
 {
@@ -164,7 +164,7 @@ pub(crate) fn close<'w, 'a>(rest: &mut &'w [Word<'a>]) -> Result<(), Unread>
             *rest = after;
             Ok(())
         }
-        _ => Err(Unread::Stuck(rest.len())),
+        _ => Err(ParseFault::Stuck(rest.len())),
     }
 }
 
@@ -195,7 +195,7 @@ pub(crate) fn left_behind_parts(rest: &[Word<'_>]) -> usize
 }
 
 /// A value type and `)`.
-pub(crate) fn valued<'w, 'a>(rest: &mut &'w [Word<'a>]) -> Result<ValType, Unread>
+pub(crate) fn valued<'w, 'a>(rest: &mut &'w [Word<'a>]) -> Result<ValType, ParseFault>
     ensures value { Gives (λ t. (t, views rest.new.now)) result (valued_at (views rest.old.now)) }
     ensures shorter { IfOk result (λ _. length rest.new.now < length rest.old.now) }
 {
@@ -206,12 +206,12 @@ pub(crate) fn valued<'w, 'a>(rest: &mut &'w [Word<'a>]) -> Result<ValType, Unrea
             close(rest)?;
             Ok(found)
         }
-        _ => Err(Unread::Stuck(rest.len())),
+        _ => Err(ParseFault::Stuck(rest.len())),
     }
 }
 
 /// A name, if there is one, a value type and `)`.
-fn binding<'w, 'a>(rest: &mut &'w [Word<'a>]) -> Result<Binding<'a>, Unread>
+fn binding<'w, 'a>(rest: &mut &'w [Word<'a>]) -> Result<Binding<'a>, ParseFault>
     ensures value { Gives (λ b. (binding_of b, views rest.new.now)) result (binding_at (views rest.old.now)) }
     ensures shorter { IfOk result (λ _. length rest.new.now < length rest.old.now) }
 {
@@ -224,7 +224,7 @@ fn binding<'w, 'a>(rest: &mut &'w [Word<'a>]) -> Result<Binding<'a>, Unread>
 fn next_binding<'w, 'a>(
     part: Part,
     rest: &mut &'w [Word<'a>],
-) -> Result<Option<Binding<'a>>, Unread>
+) -> Result<Option<Binding<'a>>, ParseFault>
     ensures value { Gives (λ r. (option_map binding_of r, views rest.new.now)) result (next_at part binding_at (views rest.old.now)) }
     ensures shorter { IfOk result (λ r. IfSome r (λ _. length rest.new.now < length rest.old.now)) }
     ensures kept { IfOk result (λ r. length rest.new.now ≤ length rest.old.now) }
@@ -237,7 +237,7 @@ fn next_binding<'w, 'a>(
 }
 
 /// A result, if there is one.
-fn next_result<'w, 'a>(rest: &mut &'w [Word<'a>]) -> Result<Option<ValType>, Unread>
+fn next_result<'w, 'a>(rest: &mut &'w [Word<'a>]) -> Result<Option<ValType>, ParseFault>
     ensures value { Gives (λ r. (r, views rest.new.now)) result (result_at (views rest.old.now)) }
     ensures shorter { IfOk result (λ r. IfSome r (λ _. length rest.new.now < length rest.old.now)) }
     ensures kept { IfOk result (λ r. length rest.new.now ≤ length rest.old.now) }
@@ -253,7 +253,7 @@ fn next_result<'w, 'a>(rest: &mut &'w [Word<'a>]) -> Result<Option<ValType>, Unr
 pub(crate) fn indices<'w, 'a, A: Allocator + Clone>(
     alloc: &A,
     rest: &mut &'w [Word<'a>],
-) -> Result<Vec<Index<'a>, A>, Unread>
+) -> Result<Vec<Index<'a>, A>, ParseFault>
     ensures value { Gives (λ r. (map index_of r.items, views rest.new.now)) result (indices_at (views rest.old.now)) }
     ensures shorter { IfOk result (λ _. length rest.new.now ≤ length rest.old.now) }
 {
@@ -269,7 +269,7 @@ pub(crate) fn bindings<'w, 'a, A: Allocator + Clone>(
     alloc: &A,
     part: Part,
     rest: &mut &'w [Word<'a>],
-) -> Result<Vec<Binding<'a>, A>, Unread>
+) -> Result<Vec<Binding<'a>, A>, ParseFault>
     ensures value { Gives (λ r. (map binding_of r.items, views rest.new.now)) result (bindings_at part (views rest.old.now)) }
     ensures shorter { IfOk result (λ _. length rest.new.now ≤ length rest.old.now) }
 {
@@ -284,7 +284,7 @@ pub(crate) fn bindings<'w, 'a, A: Allocator + Clone>(
 pub(crate) fn results<'w, 'a, A: Allocator + Clone>(
     alloc: &A,
     rest: &mut &'w [Word<'a>],
-) -> Result<Vec<ValType, A>, Unread>
+) -> Result<Vec<ValType, A>, ParseFault>
     ensures value { Gives (λ r. (r.items, views rest.new.now)) result (results_at (views rest.old.now)) }
     ensures shorter { IfOk result (λ _. length rest.new.now ≤ length rest.old.now) }
 {
@@ -298,7 +298,7 @@ pub(crate) fn results<'w, 'a, A: Allocator + Clone>(
 /// What stands behind the word of a block: its label and its result.
 pub(crate) fn header<'w, 'a>(
     rest: &mut &'w [Word<'a>],
-) -> Result<(Option<Piece<'a>>, Option<ValType>), Unread>
+) -> Result<(Option<Piece<'a>>, Option<ValType>), ParseFault>
     ensures value { Gives (λ r. ((text_of r.0, r.1), views rest.new.now)) result (header_at (views rest.old.now)) }
     ensures shorter { IfOk result (λ _. length rest.new.now ≤ length rest.old.now) }
 {
@@ -312,7 +312,7 @@ fn types<'w, 'a, A: Allocator + Clone>(
     alloc: &A,
     index: Option<Index<'a>>,
     rest: &mut &'w [Word<'a>],
-) -> Result<TypeUse<'a, A>, Unread>
+) -> Result<TypeUse<'a, A>, ParseFault>
     ensures value { Gives (λ r. (use_of r, views rest.new.now)) result (types_at (option_map index_of index.entry) (views rest.old.now)) }
     ensures shorter { IfOk result (λ _. length rest.new.now ≤ length rest.old.now) }
 {
@@ -326,7 +326,7 @@ fn types<'w, 'a, A: Allocator + Clone>(
 }
 
 /// An index and `)`.
-fn closed_index<'w, 'a>(rest: &mut &'w [Word<'a>]) -> Result<Index<'a>, Unread>
+fn closed_index<'w, 'a>(rest: &mut &'w [Word<'a>]) -> Result<Index<'a>, ParseFault>
     ensures value { Gives (λ r. (index_of r, views rest.new.now)) result (closed_index_at (views rest.old.now)) }
     ensures shorter { IfOk result (λ _. length rest.new.now < length rest.old.now) }
 {
@@ -339,7 +339,7 @@ fn closed_index<'w, 'a>(rest: &mut &'w [Word<'a>]) -> Result<Index<'a>, Unread>
 pub(crate) fn type_use<'w, 'a, A: Allocator + Clone>(
     alloc: &A,
     rest: &mut &'w [Word<'a>],
-) -> Result<TypeUse<'a, A>, Unread>
+) -> Result<TypeUse<'a, A>, ParseFault>
     ensures value { Gives (λ r. (use_of r, views rest.new.now)) result (use_at (views rest.old.now)) }
     ensures shorter { IfOk result (λ _. length rest.new.now ≤ length rest.old.now) }
 {
@@ -406,18 +406,18 @@ fn takes_index(op: Operator) -> bool
 fn constant<'w, 'a, A: Allocator>(
     t: ValType,
     rest: &mut &'w [Word<'a>],
-) -> Result<Flat<'a, A>, Unread>
+) -> Result<Flat<'a, A>, ParseFault>
     ensures value { Gives (λ r. (flat_of r, views rest.new.now)) result (const_at t (views rest.old.now)) }
     ensures shorter { IfOk result (λ _. length rest.new.now ≤ length rest.old.now) }
 {
     match *rest {
-        [] => Err(Unread::Stuck(0)),
+        [] => Err(ParseFault::Stuck(0)),
         [word, after @ ..] => match *word {
             Word::Number(piece) => {
                 *rest = after;
                 Ok(Flat::Const(t, piece))
             }
-            _ => Err(Unread::Stuck(rest.len())),
+            _ => Err(ParseFault::Stuck(rest.len())),
         },
     }
 }
@@ -426,13 +426,13 @@ fn constant<'w, 'a, A: Allocator>(
 fn branch_table<'w, 'a, A: Allocator + Clone>(
     alloc: &A,
     rest: &mut &'w [Word<'a>],
-) -> Result<Flat<'a, A>, Unread>
+) -> Result<Flat<'a, A>, ParseFault>
     ensures value { Gives (λ r. (flat_of r, views rest.new.now)) result (table_at (views rest.old.now)) }
     ensures shorter { IfOk result (λ _. length rest.new.now ≤ length rest.old.now) }
 {
     let mut labels = indices(alloc, rest)?;
     let Some(last) = labels.pop() else {
-        return Err(Unread::Stuck(rest.len()));
+        return Err(ParseFault::Stuck(rest.len()));
     };
     Ok(Flat::BrTable(labels, last))
 }
@@ -451,20 +451,20 @@ fn first_name(words: &[Word<'_>], left: usize) -> usize {
 fn indirect_call<'w, 'a, A: Allocator + Clone>(
     alloc: &A,
     rest: &mut &'w [Word<'a>],
-) -> Result<Flat<'a, A>, Unread>
+) -> Result<Flat<'a, A>, ParseFault>
     ensures value { Gives (λ r. (flat_of r, views rest.new.now)) result (indirect_at (views rest.old.now)) }
     ensures shorter { IfOk result (λ _. length rest.new.now ≤ length rest.old.now) }
 {
     let words = *rest;
     let written = match type_use(alloc, rest) {
         Ok(written) => written,
-        Err(Unread::NoMemory) => return Err(Unread::NoMemory),
-        Err(Unread::Stuck(left)) => {
-            return Err(Unread::Stuck(first_name(words, left)));
+        Err(ParseFault::NoMemory) => return Err(ParseFault::NoMemory),
+        Err(ParseFault::Stuck(left)) => {
+            return Err(ParseFault::Stuck(first_name(words, left)));
         }
     };
     if !unnamed(&written.params) {
-        return Err(Unread::Stuck(first_name(words, rest.len())));
+        return Err(ParseFault::Stuck(first_name(words, rest.len())));
     }
     Ok(Flat::CallIndirect(written))
 }
@@ -473,7 +473,7 @@ fn indirect_call<'w, 'a, A: Allocator + Clone>(
 fn other<'w, 'a, A: Allocator>(
     op: Operator,
     rest: &mut &'w [Word<'a>],
-) -> Result<Flat<'a, A>, Unread>
+) -> Result<Flat<'a, A>, ParseFault>
     ensures value { Gives (λ r. (flat_of r, views rest.new.now)) result (other_at op (views rest.old.now)) }
     ensures shorter { IfOk result (λ _. length rest.new.now ≤ length rest.old.now) }
 {
@@ -484,7 +484,7 @@ fn other<'w, 'a, A: Allocator>(
         let found = index(rest)?;
         return Ok(Flat::Indexed(op, found));
     }
-    Err(Unread::Stuck(rest.len()))
+    Err(ParseFault::Stuck(rest.len()))
 }
 
 /// A plain instruction, behind its name.
@@ -492,7 +492,7 @@ pub(crate) fn plain<'w, 'a, A: Allocator + Clone>(
     alloc: &A,
     op: Operator,
     rest: &mut &'w [Word<'a>],
-) -> Result<Flat<'a, A>, Unread>
+) -> Result<Flat<'a, A>, ParseFault>
     ensures value { Gives (λ r. (flat_of r, views rest.new.now)) result (plain_at op (views rest.old.now)) }
     ensures shorter { IfOk result (λ _. length rest.new.now ≤ length rest.old.now) }
 {

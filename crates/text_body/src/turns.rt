@@ -1,16 +1,16 @@
 //! What the next words of a body do.
 ghost use Rattle.std.specs.Prelude.{◌≡◌, ◌≤◌, ◌<◌, ◌+◌, length, IfOk, Option, option_map};
-ghost use Rattle.text_words.specs.Views.{views};
+ghost use Rattle.lexer.specs.WordsViews.{views};
 ghost use Rattle.text_body.specs.Places.{opener_of};
 ghost use Rattle.text_body.specs.Outcome.{Gives};
 ghost use Rattle.text_body.specs.Turns.{seen_top, move_of, move_at, left_at, folded_at, then_at, right_at, key_at, end_at, else_at, takes_all, opener_of_key, folded_block_at, flat_block_at};
 
 use crate::flat::{Flat, Opener};
 use crate::parts::{Part, closes, enters, header, left_behind_parts, optional_id, plain};
-use crate::unread::Unread;
+use crate::unread::ParseFault;
+use lexer::{Piece, Word};
 use spec_text::KeyWord;
 use std::alloc::Allocator;
-use text_words::{Piece, Word};
 use wtypes::ValType;
 
 /// What is open, if not the operands of an instruction.
@@ -52,7 +52,7 @@ pub enum Top<'a> {
 
 /// What the next words do.
 #[derive(Drop)]
-pub enum Turn<'a, A: Allocator> {
+pub enum ParserStep<'a, A: Allocator> {
     /// They are an instruction.
     Emits(Flat<'a, A>),
     /// They are an instruction, which opens this form.
@@ -85,18 +85,24 @@ fn opener(key: KeyWord) -> Option<Opener>
 fn folded_block<'w, 'a, A: Allocator>(
     opener: Option<Opener>,
     rest: &mut &'w [Word<'a>],
-) -> Result<Turn<'a, A>, Unread>
+) -> Result<ParserStep<'a, A>, ParseFault>
     ensures value { Gives (λ t. (move_of t, views rest.new.now)) result (folded_block_at (option_map opener_of opener) (views rest.old.now)) }
     ensures shorter { IfOk result (λ _. length rest.new.now ≤ length rest.old.now) }
 {
     let Some(opener) = opener else {
-        return Err(Unread::Stuck(rest.len() + 1));
+        return Err(ParseFault::Stuck(rest.len() + 1));
     };
     let (label, found) = header(rest)?;
     match opener {
-        Opener::If => Ok(Turn::Begins(Open::Inside(Form::Condition(label, found)))),
-        Opener::Block => Ok(Turn::Opens(Flat::Opens(Opener::Block, label, found), Form::Folded)),
-        Opener::Loop => Ok(Turn::Opens(Flat::Opens(Opener::Loop, label, found), Form::Folded)),
+        Opener::If => Ok(ParserStep::Begins(Open::Inside(Form::Condition(label, found)))),
+        Opener::Block => Ok(ParserStep::Opens(
+            Flat::Opens(Opener::Block, label, found),
+            Form::Folded,
+        )),
+        Opener::Loop => Ok(ParserStep::Opens(
+            Flat::Opens(Opener::Loop, label, found),
+            Form::Folded,
+        )),
     }
 }
 
@@ -104,18 +110,24 @@ fn folded_block<'w, 'a, A: Allocator>(
 fn flat_block<'w, 'a, A: Allocator>(
     opener: Option<Opener>,
     rest: &mut &'w [Word<'a>],
-) -> Result<Turn<'a, A>, Unread>
+) -> Result<ParserStep<'a, A>, ParseFault>
     ensures value { Gives (λ t. (move_of t, views rest.new.now)) result (flat_block_at (option_map opener_of opener) (views rest.old.now)) }
     ensures shorter { IfOk result (λ _. length rest.new.now ≤ length rest.old.now) }
 {
     let Some(opener) = opener else {
-        return Err(Unread::Stuck(rest.len() + 1));
+        return Err(ParseFault::Stuck(rest.len() + 1));
     };
     let (label, found) = header(rest)?;
     match opener {
-        Opener::If => Ok(Turn::Opens(Flat::Opens(Opener::If, label, found), Form::FlatIf)),
-        Opener::Block => Ok(Turn::Opens(Flat::Opens(Opener::Block, label, found), Form::Flatly)),
-        Opener::Loop => Ok(Turn::Opens(Flat::Opens(Opener::Loop, label, found), Form::Flatly)),
+        Opener::If => Ok(ParserStep::Opens(Flat::Opens(Opener::If, label, found), Form::FlatIf)),
+        Opener::Block => Ok(ParserStep::Opens(
+            Flat::Opens(Opener::Block, label, found),
+            Form::Flatly,
+        )),
+        Opener::Loop => Ok(ParserStep::Opens(
+            Flat::Opens(Opener::Loop, label, found),
+            Form::Flatly,
+        )),
     }
 }
 
@@ -123,23 +135,23 @@ fn flat_block<'w, 'a, A: Allocator>(
 fn folded<'w, 'a, A: Allocator + Clone>(
     alloc: &A,
     rest: &mut &'w [Word<'a>],
-) -> Result<Turn<'a, A>, Unread>
+) -> Result<ParserStep<'a, A>, ParseFault>
     ensures value { Gives (λ t. (move_of t, views rest.new.now)) result (folded_at (views rest.old.now)) }
     ensures shorter { IfOk result (λ _. length rest.new.now ≤ length rest.old.now) }
 {
     match *rest {
-        [] => Err(Unread::Stuck(0)),
+        [] => Err(ParseFault::Stuck(0)),
         [word, after @ ..] => match *word {
             Word::Op(op) => {
                 *rest = after;
                 let found = plain(alloc, op, rest)?;
-                Ok(Turn::Begins(Open::Operands(found)))
+                Ok(ParserStep::Begins(Open::Operands(found)))
             }
             Word::Key(key) => {
                 *rest = after;
                 folded_block(opener(key), rest)
             }
-            _ => Err(Unread::Stuck(rest.len())),
+            _ => Err(ParseFault::Stuck(rest.len())),
         },
     }
 }
@@ -148,19 +160,19 @@ fn folded<'w, 'a, A: Allocator + Clone>(
 fn then<'w, 'a, A: Allocator>(
     top: Top<'a>,
     rest: &mut &'w [Word<'a>],
-) -> Result<Turn<'a, A>, Unread>
+) -> Result<ParserStep<'a, A>, ParseFault>
     ensures value { Gives (λ t. (move_of t, views rest.new.now)) result (then_at (seen_top top.entry) (views rest.old.now)) }
     ensures shorter { IfOk result (λ _. length rest.new.now ≤ length rest.old.now) }
 {
     match top {
         Top::Inside(form) => match form {
-            Form::Condition(label, found) => Ok(Turn::Turns(
+            Form::Condition(label, found) => Ok(ParserStep::Turns(
                 Flat::Opens(Opener::If, label, found),
                 Form::Then,
             )),
-            _ => Err(Unread::Stuck(rest.len() + 1)),
+            _ => Err(ParseFault::Stuck(rest.len() + 1)),
         },
-        _ => Err(Unread::Stuck(rest.len() + 1)),
+        _ => Err(ParseFault::Stuck(rest.len() + 1)),
     }
 }
 
@@ -169,7 +181,7 @@ fn left<'w, 'a, A: Allocator + Clone>(
     alloc: &A,
     top: Top<'a>,
     rest: &mut &'w [Word<'a>],
-) -> Result<Turn<'a, A>, Unread>
+) -> Result<ParserStep<'a, A>, ParseFault>
     ensures value { Gives (λ t. (move_of t, views rest.new.now)) result (left_at (seen_top top.entry) (views rest.old.now)) }
     ensures shorter { IfOk result (λ _. length rest.new.now ≤ length rest.old.now) }
 {
@@ -186,47 +198,50 @@ fn left<'w, 'a, A: Allocator + Clone>(
 fn right<'w, 'a, A: Allocator>(
     top: Top<'a>,
     rest: &mut &'w [Word<'a>],
-) -> Result<Turn<'a, A>, Unread>
+) -> Result<ParserStep<'a, A>, ParseFault>
     ensures value { Gives (λ t. (move_of t, views rest.new.now)) result (right_at (seen_top top.entry) (views rest.old.now)) }
     ensures shorter { IfOk result (λ _. length rest.new.now ≤ length rest.old.now) }
 {
     match top {
-        Top::Nothing => Ok(Turn::Ends),
-        Top::Operands => Ok(Turn::Completes),
+        Top::Nothing => Ok(ParserStep::Ends),
+        Top::Operands => Ok(ParserStep::Completes),
         Top::Inside(form) => match form {
-            Form::Folded => Ok(Turn::Closes(Flat::End(None))),
+            Form::Folded => Ok(ParserStep::Closes(Flat::End(None))),
             Form::Then => {
                 if closes(rest) {
-                    return Ok(Turn::Closes(Flat::End(None)));
+                    return Ok(ParserStep::Closes(Flat::End(None)));
                 }
                 if enters(Part::Else, rest) {
-                    return Ok(Turn::Turns(Flat::Else(None), Form::Otherwise));
+                    return Ok(ParserStep::Turns(Flat::Else(None), Form::Otherwise));
                 }
-                Err(Unread::Stuck(left_behind_parts(rest)))
+                Err(ParseFault::Stuck(left_behind_parts(rest)))
             }
             Form::Otherwise => {
                 if closes(rest) {
-                    return Ok(Turn::Closes(Flat::End(None)));
+                    return Ok(ParserStep::Closes(Flat::End(None)));
                 }
-                Err(Unread::Stuck(rest.len()))
+                Err(ParseFault::Stuck(rest.len()))
             }
-            _ => Err(Unread::Stuck(rest.len() + 1)),
+            _ => Err(ParseFault::Stuck(rest.len() + 1)),
         },
     }
 }
 
 /// `end`, behind itself.
-fn end<'w, 'a, A: Allocator>(top: Top<'a>, rest: &mut &'w [Word<'a>]) -> Result<Turn<'a, A>, Unread>
+fn end<'w, 'a, A: Allocator>(
+    top: Top<'a>,
+    rest: &mut &'w [Word<'a>],
+) -> Result<ParserStep<'a, A>, ParseFault>
     ensures value { Gives (λ t. (move_of t, views rest.new.now)) result (end_at (seen_top top.entry) (views rest.old.now)) }
     ensures shorter { IfOk result (λ _. length rest.new.now ≤ length rest.old.now) }
 {
     match top {
         Top::Inside(form) => match form {
-            Form::Flatly => Ok(Turn::Closes(Flat::End(optional_id(rest)))),
-            Form::FlatIf => Ok(Turn::Closes(Flat::End(optional_id(rest)))),
-            _ => Err(Unread::Stuck(rest.len() + 1)),
+            Form::Flatly => Ok(ParserStep::Closes(Flat::End(optional_id(rest)))),
+            Form::FlatIf => Ok(ParserStep::Closes(Flat::End(optional_id(rest)))),
+            _ => Err(ParseFault::Stuck(rest.len() + 1)),
         },
-        _ => Err(Unread::Stuck(rest.len() + 1)),
+        _ => Err(ParseFault::Stuck(rest.len() + 1)),
     }
 }
 
@@ -234,16 +249,16 @@ fn end<'w, 'a, A: Allocator>(top: Top<'a>, rest: &mut &'w [Word<'a>]) -> Result<
 fn otherwise<'w, 'a, A: Allocator>(
     top: Top<'a>,
     rest: &mut &'w [Word<'a>],
-) -> Result<Turn<'a, A>, Unread>
+) -> Result<ParserStep<'a, A>, ParseFault>
     ensures value { Gives (λ t. (move_of t, views rest.new.now)) result (else_at (seen_top top.entry) (views rest.old.now)) }
     ensures shorter { IfOk result (λ _. length rest.new.now ≤ length rest.old.now) }
 {
     match top {
         Top::Inside(form) => match form {
-            Form::FlatIf => Ok(Turn::Turns(Flat::Else(optional_id(rest)), Form::Flatly)),
-            _ => Err(Unread::Stuck(rest.len() + 1)),
+            Form::FlatIf => Ok(ParserStep::Turns(Flat::Else(optional_id(rest)), Form::Flatly)),
+            _ => Err(ParseFault::Stuck(rest.len() + 1)),
         },
-        _ => Err(Unread::Stuck(rest.len() + 1)),
+        _ => Err(ParseFault::Stuck(rest.len() + 1)),
     }
 }
 
@@ -266,7 +281,7 @@ fn key_word<'w, 'a, A: Allocator>(
     top: Top<'a>,
     key: KeyWord,
     rest: &mut &'w [Word<'a>],
-) -> Result<Turn<'a, A>, Unread>
+) -> Result<ParserStep<'a, A>, ParseFault>
     ensures value { Gives (λ t. (move_of t, views rest.new.now)) result (key_at (seen_top top.entry) key (views rest.old.now)) }
     ensures shorter { IfOk result (λ _. length rest.new.now ≤ length rest.old.now) }
 {
@@ -275,7 +290,7 @@ fn key_word<'w, 'a, A: Allocator>(
         KeyWord::Else => otherwise(top, rest),
         _ => {
             if !all_allowed(top) {
-                return Err(Unread::Stuck(rest.len() + 1));
+                return Err(ParseFault::Stuck(rest.len() + 1));
             }
             flat_block(opener(key), rest)
         }
@@ -287,12 +302,12 @@ pub(crate) fn next_turn<'w, 'a, A: Allocator + Clone>(
     alloc: &A,
     top: Top<'a>,
     rest: &mut &'w [Word<'a>],
-) -> Result<Turn<'a, A>, Unread>
+) -> Result<ParserStep<'a, A>, ParseFault>
     ensures value { Gives (λ t. (move_of t, views rest.new.now)) result (move_at (seen_top top.entry) (views rest.old.now)) }
     ensures shorter { IfOk result (λ _. length rest.new.now < length rest.old.now) }
 {
     match *rest {
-        [] => Err(Unread::Stuck(0)),
+        [] => Err(ParseFault::Stuck(0)),
         [word, after @ ..] => match *word {
             Word::LeftBracket => {
                 *rest = after;
@@ -304,17 +319,17 @@ pub(crate) fn next_turn<'w, 'a, A: Allocator + Clone>(
             }
             Word::Op(op) => {
                 if !all_allowed(top) {
-                    return Err(Unread::Stuck(rest.len()));
+                    return Err(ParseFault::Stuck(rest.len()));
                 }
                 *rest = after;
                 let found = plain(alloc, op, rest)?;
-                Ok(Turn::Emits(found))
+                Ok(ParserStep::Emits(found))
             }
             Word::Key(key) => {
                 *rest = after;
                 key_word(top, key, rest)
             }
-            _ => Err(Unread::Stuck(rest.len())),
+            _ => Err(ParseFault::Stuck(rest.len())),
         },
     }
 }

@@ -1,17 +1,17 @@
 //! Whole bodies.
 ghost use Rattle.std.specs.Prelude.{◌≡◌, ◌<◌, length, option_map, IfOk, IfErr};
-ghost use Rattle.text_words.specs.Views.{views};
+ghost use Rattle.lexer.specs.WordsViews.{views};
 ghost use Rattle.text_body.specs.Places.{flat_of, flats_of};
 ghost use Rattle.text_body.specs.Outcome.{Unless};
 ghost use Rattle.text_body.specs.Turns.{seen_top, top_of, state_of, move_of, is_end, completed, left_behind, step_of, applied};
 ghost use Rattle.text_body.specs.Bodies.{IsBody, NoBody, BodiesAreOne};
-ghost use Rattle.text_body.specs.declared.unread.Unread.TheVariants.{NoMemory};
+ghost use Rattle.text_body.specs.declared.unread.ParseFault.TheVariants.{NoMemory};
 
 use crate::flat::Flat;
-use crate::turns::{Open, Top, Turn, next_turn};
-use crate::unread::Unread;
+use crate::turns::{Open, ParserStep, Top, next_turn};
+use crate::unread::ParseFault;
+use lexer::Word;
 use std::alloc::Allocator;
-use text_words::Word;
 
 /// What is open innermost.
 fn innermost<'a, A: Allocator>(stack: &Vec<Open<'a, A>, A>) -> Top<'a>
@@ -44,50 +44,50 @@ fn leave<'a, A: Allocator>(stack: &mut Vec<Open<'a, A>, A>) -> bool
 }
 
 /// Whether the turn ends the body.
-fn ends<A: Allocator>(turn: &Turn<'_, A>) -> bool
+fn ends<A: Allocator>(turn: &ParserStep<'_, A>) -> bool
     ensures { result ≡ is_end (move_of turn.now) }
 {
-    matches!(turn, Turn::Ends)
+    matches!(turn, ParserStep::Ends)
 }
 
 /// Does a turn, if what is open allows it.
 fn apply<'a, A: Allocator>(
-    turn: Turn<'a, A>,
+    turn: ParserStep<'a, A>,
     stack: &mut Vec<Open<'a, A>, A>,
     flats: &mut Vec<Flat<'a, A>, A>,
-) -> Result<bool, Unread>
+) -> Result<bool, ParseFault>
     ensures done { IfOk result (λ done. applied done (state_of stack.new.items, flats_of flats.new.items) ≡ step_of (move_of turn.entry) (state_of stack.old.items) (flats_of flats.old.items)) }
     ensures refused { IfErr result (λ refusal. refusal ≡ NoMemory) }
 {
     match turn {
-        Turn::Emits(flat) => {
+        ParserStep::Emits(flat) => {
             flats.push(flat)?;
             Ok(true)
         }
-        Turn::Opens(flat, form) => {
+        ParserStep::Opens(flat, form) => {
             flats.push(flat)?;
             stack.push(Open::Inside(form))?;
             Ok(true)
         }
-        Turn::Begins(open) => {
+        ParserStep::Begins(open) => {
             stack.push(open)?;
             Ok(true)
         }
-        Turn::Completes => {
+        ParserStep::Completes => {
             let Some(flat) = operator(stack) else {
                 return Ok(false);
             };
             flats.push(flat)?;
             Ok(true)
         }
-        Turn::Closes(flat) => {
+        ParserStep::Closes(flat) => {
             if !leave(stack) {
                 return Ok(false);
             }
             flats.push(flat)?;
             Ok(true)
         }
-        Turn::Turns(flat, form) => {
+        ParserStep::Turns(flat, form) => {
             if !leave(stack) {
                 return Ok(false);
             }
@@ -95,7 +95,7 @@ fn apply<'a, A: Allocator>(
             stack.push(Open::Inside(form))?;
             Ok(true)
         }
-        Turn::Ends => Ok(false),
+        ParserStep::Ends => Ok(false),
     }
 }
 
@@ -104,7 +104,7 @@ fn apply<'a, A: Allocator>(
 pub fn body<'w, 'a, A: Allocator + Clone>(
     alloc: &A,
     rest: &mut &'w [Word<'a>],
-) -> Result<Vec<Flat<'a, A>, A>, Unread>
+) -> Result<Vec<Flat<'a, A>, A>, ParseFault>
     // The words that were passed are these instructions and the bracket.
     ensures grammar { IfOk result (λ found. IsBody (views rest.old.now) (views rest.new.now) (flats_of found.items)) }
     // It is refused for another cause than memory only where the words do not begin with a body.
@@ -117,12 +117,12 @@ pub fn body<'w, 'a, A: Allocator + Clone>(
         let turn = next_turn(alloc, innermost(&stack), rest)?;
         if ends(&turn) {
             if !stack.is_empty() {
-                return Err(Unread::Stuck(rest.len()));
+                return Err(ParseFault::Stuck(rest.len()));
             }
             return Ok(flats);
         }
         if !apply(turn, &mut stack, &mut flats)? {
-            return Err(Unread::Stuck(rest.len()));
+            return Err(ParseFault::Stuck(rest.len()));
         }
     }
 }

@@ -13,8 +13,8 @@ use Rattle.spec_binary.specs.Spells.{ExpressionFits}
 use Rattle.spec_text.specs.Named as N
 use Rattle.spec_text.specs.Spaces.{Names, Spaces, FirstAt, AreDistinct, no_names, unnamed, a_name}
 use Rattle.spec_text.specs.Instructions.{Body}
-use Rattle.text_resolve.specs.declared.refusal.Unresolved.{Unresolved}
-use Rattle.text_resolve.specs.declared.refusal.Unresolved.TheVariants.{UnknownName, RepeatedName, NumberRange, TooLarge, Broken, NoMemory}
+use Rattle.text_resolve.specs.declared.refusal.ResolveFault.{ResolveFault}
+use Rattle.text_resolve.specs.declared.refusal.ResolveFault.TheVariants.{UnknownName, RepeatedName, NumberRange, TooLarge, Broken, NoMemory}
 use Rattle.text_resolve.specs.Outcome.{Unless, Gives}
 use Rattle.text_resolve.specs.Lookup.{find}
 use Rattle.text_resolve.proofs.Lookups.{found_is_first, not_found}
@@ -23,7 +23,7 @@ use Rattle.text_resolve.proofs.Bodied.{expression_is_read, expression_is}
 use Rattle.text_fields.specs.Parts as P
 use Rattle.text_fields.specs.Parts.{whole, expression_at, distinct, distinct_at, none_of, exported}
 
-pub hand_on : {P Q : Type 0} (e : Unresolved) → (P → Q) → Unless P e → Unless Q e
+pub hand_on : {P Q : Type 0} (e : ResolveFault) → (P → Q) → Unless P e → Unless Q e
 hand_on NoMemory f p = p
 hand_on Broken f p = f p
 hand_on (UnknownName at) f p = f p
@@ -54,7 +54,7 @@ none_found : (s : Spaces) (locals : Names) (fs : List N.Flat) (o : Option S.Inst
 none_found s locals fs None e refuted = e
 none_found s locals fs (Some is) e refuted = let p = found_expression s locals fs is e in absurd (refuted is p.0 p.1)
 
-pub expression_gives : {X : Type 0} (view : X → S.Instrs) (r : Result X Unresolved) (s : Spaces) (locals : Names) (fs : List N.Flat) → IfOk r (λ v. Body s locals [] fs [] (view v))
+pub expression_gives : {X : Type 0} (view : X → S.Instrs) (r : Result X ResolveFault) (s : Spaces) (locals : Names) (fs : List N.Flat) → IfOk r (λ v. Body s locals [] fs [] (view v))
     → IfOk r (λ v. ExpressionFits (view v)) → IfErr r (Unless (NoBody s locals fs)) → Gives view r (expression_at s locals fs)
 expression_gives view (Ok v) s locals fs b f refuted = expression_found s locals fs (view v) b f
 expression_gives view (Err e) s locals fs b f refuted = hand_on e (none_found s locals fs (expression_at s locals fs) refl) refuted
@@ -100,7 +100,7 @@ repeated_names ns refuted = by_test (distinct ns) refl
     by_test true t = absurd (refuted (distinct_means ns t))
     by_test false t = cond-false (distinct ns) (Some ns) None t
 
-pub names_give : {X P : Type 0} (f : X → List P) (g : P → Option (List ℕ)) (r : Result X Unresolved) (ps : List P) → IfOk r (λ x. f x ≡ ps) → IfOk r (λ _. AreDistinct (map g ps))
+pub names_give : {X P : Type 0} (f : X → List P) (g : P → Option (List ℕ)) (r : Result X ResolveFault) (ps : List P) → IfOk r (λ x. f x ≡ ps) → IfOk r (λ _. AreDistinct (map g ps))
     → IfErr r (Unless (AreDistinct (map g ps) → ⊥)) → Gives (λ x. map g (f x)) r (distinct_at (map g ps))
 names_give f g (Ok x) ps same d refuted = distinct_found (map g ps) d ∙ ap (λ l. Some (map g l)) (sym same)
 names_give f g (Err e) ps same d refuted = hand_on e (repeated_names (map g ps)) refuted

@@ -6,12 +6,12 @@ ghost use Rattle.spec_text.specs.Fields.{declared_type};
 ghost use Rattle.module_tree.specs.ModuleView.{func_type_view};
 ghost use Rattle.text_body.specs.Views.{use_of, flat_of, flats_of};
 ghost use Rattle.text_tree.specs.Views.{desc_of, field_of, fields_of};
-ghost use Rattle.text_resolve.specs.declared.refusal.Unresolved.TheVariants.{NoMemory};
+ghost use Rattle.text_resolve.specs.declared.refusal.ResolveFault.TheVariants.{NoMemory};
 ghost use Rattle.text_fields.specs.Added.{added_one, added, option_list, TypesAreOne};
 
 use std::alloc::Allocator;
 use text_body::{Flat, TypeUse};
-use text_resolve::{Unresolved, first_type, written_type};
+use text_resolve::{ResolveFault, first_type, written_type};
 use text_tree::{Desc, Field, Text};
 use wtypes::FuncType;
 
@@ -19,7 +19,7 @@ use wtypes::FuncType;
 fn add_type<A: Allocator>(
     types: &mut Vec<FuncType<A>, A>,
     new: FuncType<A>,
-) -> Result<(), Unresolved>
+) -> Result<(), ResolveFault>
     ensures added { OnOk result (map func_type_view types.new.items ≡ added_one (map func_type_view types.old.items) (func_type_view new)) }
     ensures refused { IfErr result (λ e. e ≡ NoMemory) }
 {
@@ -37,7 +37,7 @@ fn add_use<'a, A: Allocator + Clone>(
     alloc: &A,
     types: &mut Vec<FuncType<A>, A>,
     written: &TypeUse<'a, A>,
-) -> Result<(), Unresolved>
+) -> Result<(), ResolveFault>
     ensures added { OnOk result (map func_type_view types.new.items ≡ added (map func_type_view types.old.items) (inline_of_use (use_of written.now))) }
     ensures refused { IfErr result (λ e. e ≡ NoMemory) }
 {
@@ -55,7 +55,7 @@ fn add_flat<'a, A: Allocator + Clone>(
     alloc: &A,
     types: &mut Vec<FuncType<A>, A>,
     flat: &Flat<'a, A>,
-) -> Result<(), Unresolved>
+) -> Result<(), ResolveFault>
     ensures added { OnOk result (map func_type_view types.new.items ≡ added (map func_type_view types.old.items) (inline_of_flat (flat_of flat.now))) }
     ensures refused { IfErr result (λ e. e ≡ NoMemory) }
 {
@@ -70,7 +70,7 @@ fn add_body<'a, A: Allocator + Clone>(
     alloc: &A,
     types: &mut Vec<FuncType<A>, A>,
     flats: &Vec<Flat<'a, A>, A>,
-) -> Result<(), Unresolved>
+) -> Result<(), ResolveFault>
     ensures added { OnOk result (map func_type_view types.new.items ≡ added (map func_type_view types.old.items) (flat_map inline_of_flat (flats_of flats.now.items))) }
     ensures refused { IfErr result (λ e. e ≡ NoMemory) }
 {
@@ -85,7 +85,7 @@ fn add_field<'a, A: Allocator + Clone>(
     alloc: &A,
     types: &mut Vec<FuncType<A>, A>,
     field: &Field<'a, A>,
-) -> Result<(), Unresolved>
+) -> Result<(), ResolveFault>
     ensures added { OnOk result (map func_type_view types.new.items ≡ added (map func_type_view types.old.items) (inline_of_field (field_of field.now))) }
     ensures refused { IfErr result (λ e. e ≡ NoMemory) }
 {
@@ -110,7 +110,7 @@ fn declare<'a, A: Allocator + Clone>(
     alloc: &A,
     types: &mut Vec<FuncType<A>, A>,
     field: &Field<'a, A>,
-) -> Result<(), Unresolved>
+) -> Result<(), ResolveFault>
     ensures declared { OnOk result (map func_type_view types.new.items ≡ map func_type_view types.old.items ++ option_list (declared_type (field_of field.now))) }
     ensures refused { IfErr result (λ e. e ≡ NoMemory) }
 {
@@ -129,7 +129,7 @@ fn declare<'a, A: Allocator + Clone>(
 pub fn types_of_text<'a, A: Allocator + Clone>(
     alloc: &A,
     text: &Text<'a, A>,
-) -> Result<Vec<FuncType<A>, A>, Unresolved>
+) -> Result<Vec<FuncType<A>, A>, ResolveFault>
     ensures types { IfOk result (λ v. Adds (filter_map declared_type (fields_of text.now)) (flat_map inline_of_field (fields_of text.now)) (map func_type_view v.items)) }
     ensures refused { IfErr result (λ e. e ≡ NoMemory) }
 {

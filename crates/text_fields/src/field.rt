@@ -7,7 +7,7 @@ ghost use Rattle.module_tree.specs.ModuleView.{limits_view, import_desc_view, im
 ghost use Rattle.text_body.specs.Views.{text_of, index_of, binding_of, use_of, flats_of};
 ghost use Rattle.text_tree.specs.Views.{bounds_of, kind_of, desc_of, field_of};
 ghost use Rattle.text_resolve.specs.Outcome.{Gives};
-ghost use Rattle.text_resolve.specs.declared.refusal.Unresolved.TheVariants.{NoMemory};
+ghost use Rattle.text_resolve.specs.declared.refusal.ResolveFault.TheVariants.{NoMemory};
 ghost use Rattle.text_resolve.specs.Views.{spaces_of};
 ghost use Rattle.text_fields.specs.Parts.{expression_at, bounds_at, desc_at, kind_at, exported, import_at, func_at, global_at, export_at, element_at, data_at, part_at, body_fits, part_fits};
 ghost use Rattle.text_fields.specs.PartView.{part_view, is_numbered};
@@ -21,7 +21,8 @@ use module_tree::module::{
 use std::alloc::Allocator;
 use text_body::{Flat, Index};
 use text_resolve::{
-    Space, Spaces, Unresolved, are_in_range, expression, index_in, indices_in, number, type_number,
+    ResolveFault, Space, Spaces, are_in_range, expression, index_in, indices_in, number,
+    type_number,
 };
 use text_tree::{
     Bounds, DataField, Desc, ElemField, ExportField, Field, FuncField, GlobalField, ImportField,
@@ -35,7 +36,7 @@ fn instrs_of<'a, A: Allocator + Clone>(
     spaces: &Spaces<'a, A>,
     locals: &Space<'a, A>,
     flats: &Vec<Flat<'a, A>, A>,
-) -> Result<Vec<Instr<A>, A>, Unresolved>
+) -> Result<Vec<Instr<A>, A>, ResolveFault>
     ensures value { Gives (λ v. instrs_view v.items) result (expression_at (spaces_of spaces.now) (map text_of locals.now.names.items) (flats_of flats.now.items)) }
     ensures fits { IfOk result (λ v. expression_fits (instrs_view v.items) ≡ true) }
     ensures numbered { IfOk result (λ v. counts_from 0 (ordinals v.items) ≡ true) }
@@ -48,7 +49,7 @@ fn constant_of<'a, A: Allocator + Clone>(
     alloc: &A,
     spaces: &Spaces<'a, A>,
     flats: &Vec<Flat<'a, A>, A>,
-) -> Result<Vec<Instr<A>, A>, Unresolved>
+) -> Result<Vec<Instr<A>, A>, ResolveFault>
     ensures value { Gives (λ v. instrs_view v.items) result (expression_at (spaces_of spaces.now) [] (flats_of flats.now.items)) }
     ensures fits { IfOk result (λ v. expression_fits (instrs_view v.items) ≡ true) }
     ensures numbered { IfOk result (λ v. counts_from 0 (ordinals v.items) ≡ true) }
@@ -58,7 +59,7 @@ fn constant_of<'a, A: Allocator + Clone>(
 }
 
 // The limits of a table or a memory.
-fn limits_of(bounds: Bounds<'_>) -> Result<Limits, Unresolved>
+fn limits_of(bounds: Bounds<'_>) -> Result<Limits, ResolveFault>
     ensures value { Gives limits_view result (bounds_at (bounds_of bounds.entry)) }
     ensures fits { IfOk result (λ l. limits_fit (limits_view l) ≡ true) }
 {
@@ -80,7 +81,7 @@ fn desc_of<'a, A: Allocator + Clone>(
     alloc: &A,
     spaces: &Spaces<'a, A>,
     desc: &Desc<'a, A>,
-) -> Result<ImportDesc, Unresolved>
+) -> Result<ImportDesc, ResolveFault>
     ensures value { Gives import_desc_view result (desc_at (spaces_of spaces.now) (desc_of desc.now)) }
     ensures fits { IfOk result (λ d. import_desc_fits (import_desc_view d) ≡ true) }
 {
@@ -106,7 +107,7 @@ fn kind_of<'a, A: Allocator>(
     spaces: &Spaces<'a, A>,
     kind: Kind,
     index: Index<'a>,
-) -> Result<ExportDesc, Unresolved>
+) -> Result<ExportDesc, ResolveFault>
     ensures value { Gives export_desc_view result (kind_at (spaces_of spaces.now) (kind_of kind) (index_of index.entry)) }
     ensures fits { IfOk result (λ d. export_desc_fits (export_desc_view d) ≡ true) }
 {
@@ -123,7 +124,7 @@ fn exports_of<A: Allocator + Clone>(
     alloc: &A,
     items: &Vec<String<A>, A>,
     func: u32,
-) -> Result<Vec<Export<A>, A>, Unresolved>
+) -> Result<Vec<Export<A>, A>, ResolveFault>
     ensures exports { IfOk result (λ v. map export_view v.items ≡ map (exported func) (map string_bytes items.now.items)) }
     ensures fits { IfOk result (λ v. list_all export_fits (map export_view v.items) ≡ true) }
     ensures refused { IfErr result (λ e. e ≡ NoMemory) }
@@ -142,7 +143,7 @@ fn import_of<'a, A: Allocator + Clone>(
     alloc: &A,
     spaces: &Spaces<'a, A>,
     field: &ImportField<'a, A>,
-) -> Result<Import<A>, Unresolved>
+) -> Result<Import<A>, ResolveFault>
     ensures value { Gives import_view result (import_at (spaces_of spaces.now) (string_bytes field.now.from_module) (string_bytes field.now.item) (desc_of field.now.desc)) }
     ensures fits { IfOk result (λ i. import_fits (import_view i) ≡ true) }
 {
@@ -161,7 +162,7 @@ fn func_of<'a, A: Allocator + Clone>(
     alloc: &A,
     spaces: &Spaces<'a, A>,
     field: &FuncField<'a, A>,
-) -> Result<Func<A>, Unresolved>
+) -> Result<Func<A>, ResolveFault>
     ensures value { Gives func_view result (func_at (spaces_of spaces.now) (use_of field.now.written) (map binding_of field.now.locals.items) (flats_of field.now.body.items)) }
     ensures in_range { IfOk result (λ f. body_fits (func_view f) ≡ true) }
     ensures numbered { IfOk result (λ f. counts_from 0 (func_ordinals f) ≡ true) }
@@ -188,7 +189,7 @@ fn global_of<'a, A: Allocator + Clone>(
     alloc: &A,
     spaces: &Spaces<'a, A>,
     field: &GlobalField<'a, A>,
-) -> Result<Global<A>, Unresolved>
+) -> Result<Global<A>, ResolveFault>
     ensures value { Gives global_view result (global_at (spaces_of spaces.now) (global_type_view field.now.global_type) (flats_of field.now.init.items)) }
     ensures fits { IfOk result (λ g. global_fits (global_view g) ≡ true) }
     ensures numbered { IfOk result (λ g. counts_from 0 (global_ordinals g) ≡ true) }
@@ -205,7 +206,7 @@ fn export_of<'a, A: Allocator + Clone>(
     alloc: &A,
     spaces: &Spaces<'a, A>,
     field: &ExportField<'a, A>,
-) -> Result<Export<A>, Unresolved>
+) -> Result<Export<A>, ResolveFault>
     ensures value { Gives export_view result (export_at (spaces_of spaces.now) (string_bytes field.now.item) (kind_of field.now.kind) (index_of field.now.index)) }
     ensures fits { IfOk result (λ e. export_fits (export_view e) ≡ true) }
 {
@@ -219,7 +220,7 @@ fn element_of<'a, A: Allocator + Clone>(
     alloc: &A,
     spaces: &Spaces<'a, A>,
     field: &ElemField<'a, A>,
-) -> Result<Element<A>, Unresolved>
+) -> Result<Element<A>, ResolveFault>
     ensures value { Gives element_view result (element_at (spaces_of spaces.now) (index_of field.now.table) (flats_of field.now.offset.items) (map index_of field.now.funcs.items)) }
     ensures fits { IfOk result (λ e. element_fits (element_view e) ≡ true) }
     ensures numbered { IfOk result (λ e. counts_from 0 (element_ordinals e) ≡ true) }
@@ -247,7 +248,7 @@ fn data_of<'a, A: Allocator + Clone>(
     alloc: &A,
     spaces: &Spaces<'a, A>,
     field: &DataField<'a, A>,
-) -> Result<DataSegment<A>, Unresolved>
+) -> Result<DataSegment<A>, ResolveFault>
     ensures value { Gives data_view result (data_at (spaces_of spaces.now) (index_of field.now.memory) (flats_of field.now.offset.items) field.now.bytes.items) }
     ensures fits { IfOk result (λ d. data_fits (data_view d) ≡ true) }
     ensures numbered { IfOk result (λ d. counts_from 0 (data_ordinals d) ≡ true) }
@@ -269,7 +270,7 @@ pub fn part_of<'a, A: Allocator + Clone>(
     spaces: &Spaces<'a, A>,
     field: &Field<'a, A>,
     func: u32,
-) -> Result<Part<A>, Unresolved>
+) -> Result<Part<A>, ResolveFault>
     ensures part { Gives part_view result (part_at (spaces_of spaces.now) func (field_of field.now)) }
     ensures in_range { IfOk result (λ p. part_fits (part_view p) ≡ true) }
     ensures numbered { IfOk result (λ p. is_numbered p ≡ true) }

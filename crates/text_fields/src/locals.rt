@@ -4,14 +4,14 @@ ghost use Rattle.spec_text.specs.TypeUses.{names_of, types_of};
 ghost use Rattle.module_tree.specs.ModuleView.{func_type_view};
 ghost use Rattle.text_body.specs.Views.{text_of, binding_of, use_of};
 ghost use Rattle.text_resolve.specs.Outcome.{Gives};
-ghost use Rattle.text_resolve.specs.declared.refusal.Unresolved.TheVariants.{NoMemory};
+ghost use Rattle.text_resolve.specs.declared.refusal.ResolveFault.TheVariants.{NoMemory};
 ghost use Rattle.text_resolve.specs.Types.{is_bare};
 ghost use Rattle.text_fields.specs.Parts.{none_of, unnamed, names_at, distinct_at};
 
+use lexer::Piece;
 use std::alloc::Allocator;
 use text_body::{Binding, TypeUse};
-use text_resolve::{Space, Unresolved};
-use text_words::Piece;
+use text_resolve::{ResolveFault, Space};
 use wtypes::{FuncType, ValType};
 
 // The name of a local, if it has one.
@@ -21,7 +21,7 @@ type Name<'a> = Option<Piece<'a>>;
 fn add_names<'a, A: Allocator>(
     names: &mut Vec<Name<'a>, A>,
     bindings: &Vec<Binding<'a>, A>,
-) -> Result<(), Unresolved>
+) -> Result<(), ResolveFault>
     ensures added { OnOk result (map text_of names.new.items ≡ map text_of names.old.items ++ names_of (map binding_of bindings.now.items)) }
     ensures refused { IfErr result (λ e. e ≡ NoMemory) }
 {
@@ -35,7 +35,7 @@ fn add_names<'a, A: Allocator>(
 fn add_unnamed<'a, A: Allocator>(
     names: &mut Vec<Name<'a>, A>,
     params: &Vec<ValType, A>,
-) -> Result<(), Unresolved>
+) -> Result<(), ResolveFault>
     ensures added { OnOk result (map text_of names.new.items ≡ map text_of names.old.items ++ none_of params.now.items) }
     ensures refused { IfErr result (λ e. e ≡ NoMemory) }
 {
@@ -57,7 +57,7 @@ fn add_places<'a, A: Allocator>(
     names: &mut Vec<Name<'a>, A>,
     types: &Vec<FuncType<A>, A>,
     number: u32,
-) -> Result<(), Unresolved>
+) -> Result<(), ResolveFault>
     ensures added { OnOk result (map text_of names.new.items ≡ map text_of names.old.items ++ unnamed (slice_get (map func_type_view types.now.items) number)) }
     ensures refused { IfErr result (λ e. e ≡ NoMemory) }
 {
@@ -73,7 +73,7 @@ fn add_params<'a, A: Allocator>(
     types: &Vec<FuncType<A>, A>,
     written: &TypeUse<'a, A>,
     number: u32,
-) -> Result<(), Unresolved>
+) -> Result<(), ResolveFault>
     ensures added { OnOk result (map text_of names.new.items ≡ map text_of names.old.items ++ names_at (map func_type_view types.now.items) (use_of written.now) number) }
     ensures refused { IfErr result (λ e. e ≡ NoMemory) }
 {
@@ -95,7 +95,7 @@ pub fn locals_of<'a, A: Allocator + Clone>(
     written: &TypeUse<'a, A>,
     number: u32,
     locals: &Vec<Binding<'a>, A>,
-) -> Result<Space<'a, A>, Unresolved>
+) -> Result<Space<'a, A>, ResolveFault>
     ensures { Gives (λ space. map text_of space.names.items) result (distinct_at (names_at (map func_type_view types.now.items) (use_of written.now) number ++ names_of (map binding_of locals.now.items))) }
 {
     let mut names = Vec::new(alloc.clone()?);
@@ -108,20 +108,20 @@ pub fn locals_of<'a, A: Allocator + Clone>(
 fn space_of<'a, A: Allocator + Clone>(
     alloc: &A,
     names: Vec<Name<'a>, A>,
-) -> Result<Space<'a, A>, Unresolved>
+) -> Result<Space<'a, A>, ResolveFault>
     ensures { Gives (λ space. map text_of space.names.items) result (distinct_at (map text_of names.entry.items)) }
 {
     Space::of(alloc, names)
 }
 
 /// The space of no locals.
-pub fn no_locals<'a, A: Allocator + Clone>(alloc: &A) -> Result<Space<'a, A>, Unresolved>
+pub fn no_locals<'a, A: Allocator + Clone>(alloc: &A) -> Result<Space<'a, A>, ResolveFault>
     ensures none { IfOk result (λ space. map text_of space.names.items ≡ []) }
     ensures refused { IfErr result (λ e. e ≡ NoMemory) }
 {
     match space_of(alloc, Vec::new(alloc.clone()?)) {
         Ok(space) => Ok(space),
-        Err(_) => Err(Unresolved::NoMemory),
+        Err(_) => Err(ResolveFault::NoMemory),
     }
 }
 
@@ -129,7 +129,7 @@ pub fn no_locals<'a, A: Allocator + Clone>(alloc: &A) -> Result<Space<'a, A>, Un
 pub fn types_of<'a, A: Allocator + Clone>(
     alloc: &A,
     locals: &Vec<Binding<'a>, A>,
-) -> Result<Vec<ValType, A>, Unresolved>
+) -> Result<Vec<ValType, A>, ResolveFault>
     ensures types { IfOk result (λ v. v.items ≡ types_of (map binding_of locals.now.items)) }
     ensures refused { IfErr result (λ e. e ≡ NoMemory) }
 {

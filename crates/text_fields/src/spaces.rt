@@ -7,15 +7,15 @@ ghost use Rattle.spec_text.specs.Fields as Fields;
 ghost use Rattle.text_body.specs.Views.{text_of};
 ghost use Rattle.text_tree.specs.Views.{field_of, fields_of};
 ghost use Rattle.text_resolve.specs.Outcome.{Unless};
-ghost use Rattle.text_resolve.specs.declared.refusal.Unresolved.TheVariants.{NoMemory};
+ghost use Rattle.text_resolve.specs.declared.refusal.ResolveFault.TheVariants.{NoMemory};
 ghost use Rattle.text_resolve.specs.Views.{spaces_of};
 ghost use Rattle.text_fields.specs.Listed.{listed, names_in, NoSpaces, SpacesAreOne};
 
 use crate::types_of_text;
+use lexer::Piece;
 use std::alloc::Allocator;
-use text_resolve::{Space, Spaces, Unresolved};
+use text_resolve::{ResolveFault, Space, Spaces};
 use text_tree::{Desc, Field, Text};
-use text_words::Piece;
 
 // What has an index space of its own.
 #[derive(Clone, Copy)]
@@ -114,7 +114,7 @@ fn add_name<'a, A: Allocator>(
     names: &mut Vec<Name<'a>, A>,
     sort: Sort,
     field: &Field<'a, A>,
-) -> Result<(), Unresolved>
+) -> Result<(), ResolveFault>
     ensures added { OnOk result (map text_of names.new.items ≡ map text_of names.old.items ++ names_in sort (field_of field.now)) }
     ensures refused { IfErr result (λ e. e ≡ NoMemory) }
 {
@@ -132,7 +132,7 @@ fn names_of<'a, A: Allocator + Clone>(
     alloc: &A,
     sort: Sort,
     text: &Text<'a, A>,
-) -> Result<Vec<Name<'a>, A>, Unresolved>
+) -> Result<Vec<Name<'a>, A>, ResolveFault>
     ensures names { IfOk result (λ v. map text_of v.items ≡ flat_map (names_in sort) (fields_of text.now)) }
     ensures refused { IfErr result (λ e. e ≡ NoMemory) }
 {
@@ -148,7 +148,7 @@ fn space_of<'a, A: Allocator + Clone>(
     alloc: &A,
     sort: Sort,
     text: &Text<'a, A>,
-) -> Result<Space<'a, A>, Unresolved>
+) -> Result<Space<'a, A>, ResolveFault>
     ensures names { IfOk result (λ space. map text_of space.names.items ≡ flat_map (names_in sort) (fields_of text.now)) }
     ensures distinct { IfOk result (λ space. AreDistinct (map text_of space.names.items)) }
     ensures refused { IfErr result (Unless (AreDistinct (flat_map (names_in sort) (fields_of text.now)) → ⊥)) }
@@ -162,7 +162,7 @@ fn space_of<'a, A: Allocator + Clone>(
 pub fn spaces_of_text<'a, A: Allocator + Clone>(
     alloc: &A,
     text: &Text<'a, A>,
-) -> Result<Spaces<'a, A>, Unresolved>
+) -> Result<Spaces<'a, A>, ResolveFault>
     ensures spaces { IfOk result (λ s. AreSpaces (fields_of text.now) (spaces_of s)) }
     ensures refused { IfErr result (Unless (NoSpaces (fields_of text.now))) }
 {

@@ -11,11 +11,11 @@ use Rattle.spec_syntax.specs.Limits.{both}
 use Rattle.std.proofs.lemmas.Option.{none-some, same_Some}
 use Rattle.spec_text.specs.Spaces.{Names, FirstAt, here, later, AreDistinct, no_names, unnamed, a_name}
 use Rattle.spec_text.specs.Numbers.{IsU32}
-use Rattle.text_words.specs.Values.{magnitude_at}
-use Rattle.text_words.proofs.Amounts.{capped_read, magnitude_is_read, found_u32}
+use Rattle.lexer.specs.Values.{magnitude_at}
+use Rattle.lexer.proofs.Amounts.{capped_read, magnitude_is_read, found_u32}
 use Rattle.spec_text.specs.Named as N
-use Rattle.text_resolve.specs.declared.refusal.Unresolved.{Unresolved}
-use Rattle.text_resolve.specs.declared.refusal.Unresolved.TheVariants.{UnknownName, RepeatedName, NumberRange, TooLarge, Broken, NoMemory}
+use Rattle.text_resolve.specs.declared.refusal.ResolveFault.{ResolveFault}
+use Rattle.text_resolve.specs.declared.refusal.ResolveFault.TheVariants.{UnknownName, RepeatedName, NumberRange, TooLarge, Broken, NoMemory}
 use Rattle.text_resolve.specs.Outcome.{Fails}
 use Rattle.text_resolve.specs.Lookup.{is_name, first_at, find, u32_at, all_stand_at}
 
@@ -225,7 +225,7 @@ module _ {X : Type 0} (f : X → N.Index) (one : N.Index → Option ℕ) (xs : L
       so_far ∙ ap (front ys) step
 
 -- a refusal handed on
-pub hand_on : {X Y : Type 0} (e : Unresolved) (r : Option X) (q : Option Y) → (r ≡ None → q ≡ None) → Fails e r → Fails e q
+pub hand_on : {X Y : Type 0} (e : ResolveFault) (r : Option X) (q : Option Y) → (r ≡ None → q ≡ None) → Fails e r → Fails e q
 hand_on NoMemory r q f h = tt
 hand_on Broken r q f h = f h
 hand_on (UnknownName at) r q f h = f h

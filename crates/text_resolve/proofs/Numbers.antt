@@ -6,8 +6,8 @@ use Rattle.std.proofs.Math.Nat.{pow-le-pow_right, pow-suc}
 use Rattle.std.proofs.lemmas.Bool.{cond-true, cond-false, eqb-true, eq-eqb, ne_eqb, cases_lt}
 use Rattle.std.proofs.lemmas.Option.{none-some, same_Some}
 use Rattle.spec_text.specs.Numbers.{IsBits}
-use Rattle.text_words.specs.Values.{bits_at}
-use Rattle.text_words.proofs.Amounts.{bits_are_read, read_are_bits}
+use Rattle.lexer.specs.Values.{bits_at}
+use Rattle.lexer.proofs.Amounts.{bits_are_read, read_are_bits}
 use Rattle.text_resolve.proofs.Lookups.{picked}
 use Rattle.text_resolve.specs.Plain.{exponent_from, exponent_at}
 

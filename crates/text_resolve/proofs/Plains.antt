@@ -23,8 +23,8 @@ use Rattle.spec_text.specs.Named as N
 use Rattle.spec_text.specs.Spaces.{Names, Spaces}
 use Rattle.spec_text.specs.TypeUses.{FirstType, this_type, later_type, Uses, inline, alone, again, written_type, names_of}
 use Rattle.spec_text.specs.Instructions.{indexed, names_in, OffsetOf, no_offset, an_offset, AlignOf, no_align, an_align, Becomes, simply, with_index, br_table, call_indirect, load, store, const}
-use Rattle.text_words.specs.Values.{bits_at}
-use Rattle.text_words.proofs.Amounts.{bits_are_read, read_are_bits}
+use Rattle.lexer.specs.Values.{bits_at}
+use Rattle.lexer.proofs.Amounts.{bits_are_read, read_are_bits}
 use Rattle.text_resolve.specs.Lookup.{u32_at, stands_at, all_stand_at}
 use Rattle.text_resolve.proofs.Lookups.{mapped, picked, u32_found, u32_is_found}
 use Rattle.text_resolve.proofs.Standing.{chained, stands_is_read, read_stands, all_are_read, read_all_stand}

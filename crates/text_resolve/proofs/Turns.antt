@@ -8,8 +8,8 @@ use Rattle.std.proofs.Math.ListN.{drop_of_length-le}
 use Rattle.std.proofs.lemmas.Bool.{eq-eqb}
 use Rattle.spec_syntax.specs.Limits.{instr_fits, instrs_fit, counts_from, both, first, second}
 use Rattle.spec_text.specs.Named as N
-use Rattle.text_resolve.specs.declared.refusal.Unresolved.{Unresolved}
-use Rattle.text_resolve.specs.declared.refusal.Unresolved.TheVariants.{UnknownName, RepeatedName, NumberRange, TooLarge, Broken, NoMemory}
+use Rattle.text_resolve.specs.declared.refusal.ResolveFault.{ResolveFault}
+use Rattle.text_resolve.specs.declared.refusal.ResolveFault.TheVariants.{UnknownName, RepeatedName, NumberRange, TooLarge, Broken, NoMemory}
 use Rattle.text_resolve.specs.Outcome.{Unless, Fails}
 use Rattle.spec_text.specs.Spaces.{Names, Spaces}
 use Rattle.module_tree.specs.declared.instr.Instr.{Instr, Loop, If, the_lemmas}
@@ -210,7 +210,7 @@ pub numbered_counts : (from to : ℕ) (ns : List ℕ) → Numbered from to ns �
 numbered_counts from to ns p = ap (counts_from from) p.1 ∙ counts from (to - from)
 
 -- a refusal of what is read, as one of what it means
-pub unless_none : {X : Type 0} (e : Unresolved) (r : Option X) (P : Type 0) → (r ≡ None → P) → Fails e r → Unless P e
+pub unless_none : {X : Type 0} (e : ResolveFault) (r : Option X) (P : Type 0) → (r ≡ None → P) → Fails e r → Unless P e
 unless_none NoMemory r P f h = tt
 unless_none Broken r P f h = f h
 unless_none (UnknownName at) r P f h = f h

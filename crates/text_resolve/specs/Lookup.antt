@@ -3,7 +3,7 @@ use Rattle.std.specs.Prelude.{ℕ, ◌+◌, ◌-◌, ◌^◌, Bool, false, List,
 use Rattle.std.specs.Str.{bytes_eq}
 use Rattle.spec_text.specs.Spaces.{Names}
 use Rattle.spec_text.specs.Named as N
-use Rattle.text_words.specs.Values.{magnitude_at, capped}
+use Rattle.lexer.specs.Values.{magnitude_at, capped}
 
 abbrev pub is_name : List ℕ → Option (List ℕ) → Bool
 is_name id None = false

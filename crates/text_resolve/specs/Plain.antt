@@ -13,7 +13,7 @@ use Rattle.spec_text.specs.declared.Operator.{Operator}
 use Rattle.spec_text.specs.Named as N
 use Rattle.spec_text.specs.Spaces.{Names, Spaces}
 use Rattle.spec_text.specs.Instructions.{simple, indexed, names_in}
-use Rattle.text_words.specs.Values.{bits_at}
+use Rattle.lexer.specs.Values.{bits_at}
 use Rattle.text_resolve.specs.Lookup.{u32_at, stands_at, all_stand_at}
 use Rattle.text_resolve.specs.Types.{use_at}
 

@@ -13,11 +13,11 @@ ghost use Rattle.text_resolve.specs.Bodies.{closes, behind_end, behind_else, sto
 
 use crate::instrs::plain;
 use crate::spaces::Spaces;
-use crate::{Labels, Limit, Space, Unresolved};
+use crate::{Labels, Limit, ResolveFault, Space};
+use lexer::Piece;
 use module_tree::instr::Instr;
 use std::alloc::Allocator;
 use text_body::{Flat, Opener};
-use text_words::Piece;
 use wtypes::ValType;
 
 // The levels of an expression, its own among them.
@@ -46,21 +46,21 @@ fn end_of<A: Allocator>(
     label: Option<Piece<'_>>,
     flats: &[Flat<'_, A>],
     at: usize,
-) -> Result<usize, Unresolved>
+) -> Result<usize, ResolveFault>
     ensures value { Gives (λ n. flats_from n flats.now) result (behind_end (text_of label.entry) (flats_from at flats.now)) }
     ensures within { IfOk result (λ n. (at < n) × (n ≤ length flats.now)) }
 {
     let Some(first) = flats.get(at) else {
-        return Err(Unresolved::Broken);
+        return Err(ResolveFault::Broken);
     };
     let Flat::End(closing) = first else {
-        return Err(Unresolved::Broken);
+        return Err(ResolveFault::Broken);
     };
     let Some(written) = *closing else {
         return Ok(at + 1);
     };
     if !is_label(label, written) {
-        return Err(Unresolved::UnknownName(written.at));
+        return Err(ResolveFault::UnknownName(written.at));
     }
     Ok(at + 1)
 }
@@ -70,7 +70,7 @@ fn else_of<A: Allocator>(
     label: Option<Piece<'_>>,
     flats: &[Flat<'_, A>],
     at: usize,
-) -> Result<Option<usize>, Unresolved>
+) -> Result<Option<usize>, ResolveFault>
     ensures value { Gives (λ found. option_map (λ n. flats_from n flats.now) found) result (behind_else (text_of label.entry) (flats_from at flats.now)) }
     ensures within { IfOk result (λ found. IfSome found (λ n. (at < n) × (n ≤ length flats.now))) }
 {
@@ -84,7 +84,7 @@ fn else_of<A: Allocator>(
         return Ok(Some(at + 1));
     };
     if !is_label(label, written) {
-        return Err(Unresolved::UnknownName(written.at));
+        return Err(ResolveFault::UnknownName(written.at));
     }
     Ok(Some(at + 1))
 }
@@ -116,7 +116,7 @@ fn body_of<'a, A: Allocator + Clone>(
     at: usize,
     depth: u32,
     ordinal: u32,
-) -> Result<(Vec<Instr<A>, A>, usize, u32), Unresolved>
+) -> Result<(Vec<Instr<A>, A>, usize, u32), ResolveFault>
     requires deep { 0 < depth }
     requires place { at ≤ length flats.now }
     requires few { ordinal + (length flats.now - at) < 2 ^ 32 }
@@ -157,7 +157,7 @@ fn instr_of<'a, A: Allocator + Clone>(
     at: usize,
     depth: u32,
     ordinal: u32,
-) -> Result<(Instr<A>, usize, u32), Unresolved>
+) -> Result<(Instr<A>, usize, u32), ResolveFault>
     requires place { at ≤ length flats.now }
     requires few { ordinal + (length flats.now - at) + 1 < 2 ^ 32 }
     ensures value { Gives (λ x. (instr_view x.0, flats_from x.1 flats.now)) result (one_at (spaces_of scope.now.spaces.now) (map text_of scope.now.locals.now.names.items) depth (map text_of labels.old.open.items) (flat_of first.now) (flats_from at flats.now)) }
@@ -178,7 +178,7 @@ fn instr_of<'a, A: Allocator + Clone>(
         return Ok((instr, at, ordinal + 1));
     };
     if depth == 0 {
-        return Err(Unresolved::TooLarge(Limit::Nesting));
+        return Err(ResolveFault::TooLarge(Limit::Nesting));
     }
     labels.enter(*label)?;
     let (body, place, next) = body_of(scope, labels, flats, at, depth, ordinal + 1)?;
@@ -217,7 +217,7 @@ pub fn expression<'a, A: Allocator + Clone>(
     spaces: &Spaces<'a, A>,
     locals: &Space<'a, A>,
     flats: &Vec<Flat<'a, A>, A>,
-) -> Result<Vec<Instr<A>, A>, Unresolved>
+) -> Result<Vec<Instr<A>, A>, ResolveFault>
     ensures body { IfOk result (λ v. Body (spaces_of spaces.now) (map text_of locals.now.names.items) [] (flats_of flats.now.items) [] (instrs_view v.items)) }
     ensures fits { IfOk result (λ v. ExpressionFits (instrs_view v.items)) }
     ensures in_range { IfOk result (λ v. expression_fits (instrs_view v.items) ≡ true) }
@@ -232,11 +232,11 @@ pub fn expression<'a, A: Allocator + Clone>(
     let mut labels = Labels::new(alloc.clone()?);
     // There are never so many in a text within the limit on its bytes.
     if flats.len() >= u32::MAX as usize {
-        return Err(Unresolved::NoMemory);
+        return Err(ResolveFault::NoMemory);
     }
     let (body, place, _next) = body_of(&scope, &mut labels, flats, 0, LEVELS, 0)?;
     if place != flats.len() {
-        return Err(Unresolved::Broken);
+        return Err(ResolveFault::Broken);
     }
     Ok(body)
 }

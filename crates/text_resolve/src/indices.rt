@@ -4,38 +4,38 @@ ghost use Rattle.std.specs.List.{list_all};
 ghost use Rattle.spec_syntax.specs.Limits.{is_u32};
 ghost use Rattle.spec_text.specs.Spaces.{Names};
 ghost use Rattle.text_body.specs.Views.{index_of};
-ghost use Rattle.text_resolve.specs.declared.refusal.Unresolved.TheVariants.{NoMemory};
+ghost use Rattle.text_resolve.specs.declared.refusal.ResolveFault.TheVariants.{NoMemory};
 ghost use Rattle.text_resolve.specs.Outcome.{Gives};
 ghost use Rattle.text_resolve.specs.Lookup.{find, u32_at, stands_at, all_stand_at};
 
-use crate::refusal::Unresolved;
+use crate::refusal::ResolveFault;
+use lexer::{Piece, unsigned_32};
 use std::alloc::Allocator;
 use text_body::Index;
-use text_words::{Piece, unsigned_32};
 
 /// Names, of which each stands for the index of its first place.
 pub trait Finds {
     ghost names: { Self → Names };
 
-    /// The first index of a name. Want of memory is answered only where there are 2^32 names or more.
-    fn find(&self, piece: Piece<'_>) -> Result<u32, Unresolved>
+    /// The first index of a name. Out of memory is answered only where there are 2^32 names or more.
+    fn find(&self, piece: Piece<'_>) -> Result<u32, ResolveFault>
         ensures found { Gives (λ n. n) result (find piece.entry.text.now (names self.now)) }
         ensures memory { result ≡ Err NoMemory → 2 ^ 32 ≤ length (names self.now) };
 }
 
 /// The number of a `u32`.
-pub fn number(piece: Piece<'_>) -> Result<u32, Unresolved>
+pub fn number(piece: Piece<'_>) -> Result<u32, ResolveFault>
     ensures value { Gives (λ n. n) result (u32_at piece.entry.text.now) }
     ensures memory { result ≢ Err NoMemory }
 {
     match unsigned_32(piece.text) {
         Some(n) => Ok(n),
-        None => Err(Unresolved::NumberRange(piece.at)),
+        None => Err(ResolveFault::NumberRange(piece.at)),
     }
 }
 
-/// The number that an index stands for among names. Want of memory is answered only where there are 2^32 names or more.
-pub fn index_in<N: Finds>(names: &N, index: Index<'_>) -> Result<u32, Unresolved>
+/// The number that an index stands for among names. Out of memory is answered only where there are 2^32 names or more.
+pub fn index_in<N: Finds>(names: &N, index: Index<'_>) -> Result<u32, ResolveFault>
     ensures value { Gives (λ n. n) result (stands_at (N.names names.now) (index_of index.entry)) }
     ensures memory { result ≡ Err NoMemory → 2 ^ 32 ≤ length (N.names names.now) }
 {
@@ -50,7 +50,7 @@ pub fn indices_in<'a, A: Allocator + Clone, N: Finds>(
     alloc: &A,
     names: &N,
     indices: &Vec<Index<'a>, A>,
-) -> Result<Vec<u32, A>, Unresolved>
+) -> Result<Vec<u32, A>, ResolveFault>
     ensures { Gives (λ ns. ns.items) result (all_stand_at (stands_at (N.names names.now)) (map index_of indices.now.items)) }
 {
     let mut numbers = Vec::new(alloc.clone()?);

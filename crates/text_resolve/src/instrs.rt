@@ -10,7 +10,7 @@ ghost use Rattle.text_resolve.specs.Plain.{indexed_at, operator_at, plain_at, ta
 
 use crate::spaces::Spaces;
 use crate::types::type_number;
-use crate::{Labels, Limit, Space, Unresolved, are_in_range, index_in, indices_in, operators};
+use crate::{Labels, Limit, ResolveFault, Space, are_in_range, index_in, indices_in, operators};
 use module_tree::instr::Instr;
 use module_tree::limit::LABEL_LIMIT;
 use module_tree::width::{load_width, store_width};
@@ -26,14 +26,14 @@ fn table<'a, A: Allocator + Clone>(
     indices: &Vec<Index<'a>, A>,
     last: Index<'a>,
     ordinal: u32,
-) -> Result<Instr<A>, Unresolved>
+) -> Result<Instr<A>, ResolveFault>
     ensures value { Gives instr_view result (table_at (map text_of labels.now.open.items) (map index_of indices.now.items) (index_of last.entry)) }
     ensures fits { IfOk result (λ i. instr_fits (instr_view i) ≡ true) }
     ensures ordinal { IfOk result (λ i. instr_ordinals i ≡ ordinal ∷ []) }
 {
     let numbers = indices_in(alloc, labels, indices)?;
     if numbers.len() > LABEL_LIMIT {
-        return Err(Unresolved::TooLarge(Limit::Labels));
+        return Err(ResolveFault::TooLarge(Limit::Labels));
     }
     are_in_range(&numbers);
     let fallback = index_in(labels, last)?;
@@ -68,7 +68,7 @@ fn indexed<'a, A: Allocator>(
     labels: &Labels<'a, A>,
     op: Operator,
     index: Index<'a>,
-) -> Result<PlainInstr, Unresolved>
+) -> Result<PlainInstr, ResolveFault>
     ensures { Gives (λ i. i) result (indexed_at (spaces_of spaces.now) (map text_of locals.now.names.items) (map text_of labels.now.open.items) op (index_of index.entry)) }
 {
     match op {
@@ -80,7 +80,7 @@ fn indexed<'a, A: Allocator>(
         Operator::LocalTee => Ok(PlainInstr::LocalTee(index_in(locals, index)?)),
         Operator::GlobalGet => Ok(PlainInstr::GlobalGet(index_in(&spaces.globals, index)?)),
         Operator::GlobalSet => Ok(PlainInstr::GlobalSet(index_in(&spaces.globals, index)?)),
-        _ => Err(Unresolved::Broken),
+        _ => Err(ResolveFault::Broken),
     }
 }
 
@@ -91,13 +91,13 @@ fn operator<'a, A: Allocator + Clone>(
     locals: &Space<'a, A>,
     labels: &Labels<'a, A>,
     flat: &Flat<'a, A>,
-) -> Result<PlainInstr, Unresolved>
+) -> Result<PlainInstr, ResolveFault>
     ensures { Gives (λ i. i) result (operator_at (spaces_of spaces.now) (map text_of locals.now.names.items) (map text_of labels.now.open.items) (flat_of flat.now)) }
 {
     match flat {
         Flat::Simple(op) => match simple(*op) {
             Some(instr) => Ok(instr),
-            None => Err(Unresolved::Broken),
+            None => Err(ResolveFault::Broken),
         },
         Flat::Indexed(op, index) => indexed(spaces, locals, labels, *op, *index),
         Flat::CallIndirect(written) => {
@@ -117,7 +117,7 @@ fn operator<'a, A: Allocator + Clone>(
         Flat::Const(value_type, piece) => {
             Ok(PlainInstr::Const(operators::constant(*value_type, *piece)?))
         }
-        _ => Err(Unresolved::Broken),
+        _ => Err(ResolveFault::Broken),
     }
 }
 
@@ -130,7 +130,7 @@ pub fn plain<'a, A: Allocator + Clone>(
     labels: &Labels<'a, A>,
     flat: &Flat<'a, A>,
     ordinal: u32,
-) -> Result<Instr<A>, Unresolved>
+) -> Result<Instr<A>, ResolveFault>
     ensures value { Gives instr_view result (plain_at (spaces_of spaces.now) (map text_of locals.now.names.items) (map text_of labels.now.open.items) (flat_of flat.now)) }
     ensures fits { IfOk result (λ i. instr_fits (instr_view i) ≡ true) }
     ensures ordinal { IfOk result (λ i. instr_ordinals i ≡ ordinal ∷ []) }

@@ -1,14 +1,14 @@
 //! Labels.
 ghost use Rattle.std.specs.Prelude.{◌≡◌, [], ◌∷◌, map, drop, OnOk, IfErr};
 ghost use Rattle.text_body.specs.Views.{text_of};
-ghost use Rattle.text_resolve.specs.declared.refusal.Unresolved.TheVariants.{NoMemory};
+ghost use Rattle.text_resolve.specs.declared.refusal.ResolveFault.TheVariants.{NoMemory};
 ghost use Rattle.text_resolve.specs.Outcome.{Gives};
 ghost use Rattle.text_resolve.specs.Lookup.{is_name, find};
 
 use crate::indices::Finds;
-use crate::refusal::Unresolved;
+use crate::refusal::ResolveFault;
+use lexer::Piece;
 use std::alloc::Allocator;
-use text_words::Piece;
 
 /// The labels of the blocks that are open, the innermost first. One hides an outer one of its name.
 #[derive(Drop)]
@@ -38,7 +38,7 @@ impl<'a, A: Allocator> Labels<'a, A> {
     }
 
     /// Goes into a block.
-    pub fn enter(&mut self, label: Option<Piece<'a>>) -> Result<(), Unresolved>
+    pub fn enter(&mut self, label: Option<Piece<'a>>) -> Result<(), ResolveFault>
         ensures entered { OnOk result (self.new.open.items ≡ label.entry ∷ self.old.open.items) }
         ensures refused { IfErr result (λ e. e ≡ NoMemory) }
     {
@@ -59,17 +59,17 @@ impl<'a, A: Allocator> Labels<'a, A> {
 impl<A: Allocator> Finds for Labels<'_, A> {
     ghost names = { λ labels. map text_of labels.open.items };
 
-    fn find(&self, piece: Piece<'_>) -> Result<u32, Unresolved> {
+    fn find(&self, piece: Piece<'_>) -> Result<u32, ResolveFault> {
         let mut next: u32 = 0;
         for label in &self.open {
             if next == u32::MAX {
-                return Err(Unresolved::NoMemory);
+                return Err(ResolveFault::NoMemory);
             }
             if is_named(*label, piece.text) {
                 return Ok(next);
             }
             next += 1;
         }
-        Err(Unresolved::UnknownName(piece.at))
+        Err(ResolveFault::UnknownName(piece.at))
     }
 }

@@ -17,7 +17,7 @@ pub use indices::{Finds, are_in_range, index_in, indices_in, number};
 pub use instrs::plain;
 pub use labels::Labels;
 pub use module_tree::limit::Limit;
-pub use refusal::{AsmRefusal, Unresolved};
+pub use refusal::{AsmRefusal, ResolveFault};
 pub use space::Space;
 pub use spaces::Spaces;
 pub use types::{first_type, type_number, written_type};

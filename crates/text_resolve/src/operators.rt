@@ -1,13 +1,13 @@
 //! What instructions need beside indices.
 ghost use Rattle.std.specs.Prelude.{◌≡◌, ◌≢◌, Err};
 ghost use Rattle.text_body.specs.Views.{text_of};
-ghost use Rattle.text_words.specs.Values.{bits_at};
-ghost use Rattle.text_resolve.specs.declared.refusal.Unresolved.TheVariants.{NoMemory};
+ghost use Rattle.lexer.specs.Values.{bits_at};
+ghost use Rattle.text_resolve.specs.declared.refusal.ResolveFault.TheVariants.{NoMemory};
 ghost use Rattle.text_resolve.specs.Outcome.{Gives};
 ghost use Rattle.text_resolve.specs.Plain.{exponent_at, offset_at, align_at, constant_at};
 
-use crate::{Unresolved, number};
-use text_words::{Piece, bits_32, bits_64};
+use crate::{ResolveFault, number};
+use lexer::{Piece, bits_32, bits_64};
 use wtypes::{ValType, Value};
 
 // The exponent of a power of two.
@@ -25,7 +25,7 @@ fn exponent(n: u32) -> Option<u32>
 }
 
 /// The offset of a load or a store.
-pub fn offset(written: Option<Piece<'_>>) -> Result<u32, Unresolved>
+pub fn offset(written: Option<Piece<'_>>) -> Result<u32, ResolveFault>
     ensures value { Gives (λ n. n) result (offset_at (text_of written.entry)) }
     ensures memory { result ≢ Err NoMemory }
 {
@@ -36,49 +36,49 @@ pub fn offset(written: Option<Piece<'_>>) -> Result<u32, Unresolved>
 }
 
 /// The exponent of the alignment of a load or a store of this width.
-pub fn align(width: u32, written: Option<Piece<'_>>) -> Result<u32, Unresolved>
+pub fn align(width: u32, written: Option<Piece<'_>>) -> Result<u32, ResolveFault>
     ensures value { Gives (λ n. n) result (align_at width (text_of written.entry)) }
     ensures memory { result ≢ Err NoMemory }
 {
     match written {
         None => match exponent(width) {
             Some(e) => Ok(e),
-            None => Err(Unresolved::Broken),
+            None => Err(ResolveFault::Broken),
         },
         Some(piece) => {
             let bytes = number(piece)?;
             match exponent(bytes) {
                 Some(e) => Ok(e),
-                None => Err(Unresolved::NumberRange(piece.at)),
+                None => Err(ResolveFault::NumberRange(piece.at)),
             }
         }
     }
 }
 
 // The number whose bits spell a constant of 32 bits.
-fn word_32(piece: Piece<'_>) -> Result<u32, Unresolved>
+fn word_32(piece: Piece<'_>) -> Result<u32, ResolveFault>
     ensures value { Gives (λ n. n) result (bits_at 32 piece.entry.text.now) }
     ensures memory { result ≢ Err NoMemory }
 {
     match bits_32(piece.text) {
         Some(n) => Ok(n),
-        None => Err(Unresolved::NumberRange(piece.at)),
+        None => Err(ResolveFault::NumberRange(piece.at)),
     }
 }
 
 // The number whose bits spell a constant of 64 bits.
-fn word_64(piece: Piece<'_>) -> Result<u64, Unresolved>
+fn word_64(piece: Piece<'_>) -> Result<u64, ResolveFault>
     ensures value { Gives (λ n. n) result (bits_at 64 piece.entry.text.now) }
     ensures memory { result ≢ Err NoMemory }
 {
     match bits_64(piece.text) {
         Some(n) => Ok(n),
-        None => Err(Unresolved::NumberRange(piece.at)),
+        None => Err(ResolveFault::NumberRange(piece.at)),
     }
 }
 
 /// The value of a constant.
-pub fn constant(value_type: ValType, piece: Piece<'_>) -> Result<Value, Unresolved>
+pub fn constant(value_type: ValType, piece: Piece<'_>) -> Result<Value, ResolveFault>
     ensures value { Gives (λ c. c) result (constant_at value_type piece.entry.text.now) }
     ensures memory { result ≢ Err NoMemory }
 {

@@ -2,7 +2,7 @@
 
 ghost use Rattle.std.specs.Prelude.{◌≡◌};
 ghost use Rattle.text_resolve.specs.declared.refusal.AsmRefusal.TheVariants as refusal;
-ghost use Rattle.text_resolve.specs.declared.refusal.Unresolved.TheVariants.{NoMemory};
+ghost use Rattle.text_resolve.specs.declared.refusal.ResolveFault.TheVariants.{NoMemory};
 
 use lexer::LexRefusal;
 use module_tree::limit::Limit;
@@ -45,7 +45,7 @@ impl From<AllocError> for AsmRefusal {
 
 /// Why names, integers or instructions of a text stand for nothing. Places are as those of [`AsmRefusal`].
 #[derive(Clone, Copy, Debug, PartialEq, Eq, Error)]
-pub enum Unresolved {
+pub enum ResolveFault {
     /// As [`AsmRefusal::UnknownName`].
     #[error("the name or type index at byte {0} stands for nothing, or for something else than is written")]
     UnknownName(usize),
@@ -66,18 +66,18 @@ pub enum Unresolved {
     NoMemory,
 }
 
-impl From<AllocError> for Unresolved {
+impl From<AllocError> for ResolveFault {
     ghost from_gives = { λ _ e. e ≡ NoMemory };
 
-    fn from(_e: AllocError) -> Unresolved {
-        Unresolved::NoMemory
+    fn from(_e: AllocError) -> ResolveFault {
+        ResolveFault::NoMemory
     }
 }
 
-impl<T: Drop> From<AllocFailed<T>> for Unresolved {
+impl<T: Drop> From<AllocFailed<T>> for ResolveFault {
     ghost from_gives = { λ _ e. e ≡ NoMemory };
 
-    fn from(_e: AllocFailed<T>) -> Unresolved {
-        Unresolved::NoMemory
+    fn from(_e: AllocFailed<T>) -> ResolveFault {
+        ResolveFault::NoMemory
     }
 }

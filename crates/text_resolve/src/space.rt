@@ -3,17 +3,17 @@ ghost use Rattle.std.specs.Prelude.{◌≡◌, ℕ, List, map, cond, is_some, So
 ghost use Rattle.std.specs.Str.{bytes_eq};
 ghost use Rattle.spec_text.specs.Spaces.{AreDistinct};
 ghost use Rattle.text_body.specs.Views.{text_of};
-ghost use Rattle.text_resolve.specs.declared.refusal.Unresolved.TheVariants.{NoMemory};
+ghost use Rattle.text_resolve.specs.declared.refusal.ResolveFault.TheVariants.{NoMemory};
 ghost use Rattle.text_resolve.specs.Outcome.{Unless};
 ghost use Rattle.text_resolve.specs.Lookup.{find};
 ghost use Rattle.text_resolve.specs.Firsts.{first_of};
 
 use crate::indices::Finds;
-use crate::refusal::Unresolved;
+use crate::refusal::ResolveFault;
+use lexer::Piece;
 use std::alloc::Allocator;
 use std::collections::HashMap;
 use std::hash::{BuildHasherDefault, FoldHasher};
-use text_words::Piece;
 
 /// The first index of each name.
 type Firsts<'a, A> = HashMap<&'a [u8], u32, BuildHasherDefault<FoldHasher>, A>;
@@ -40,7 +40,7 @@ fn put_first<'a, A: Allocator + Clone>(
     firsts: &mut Firsts<'a, A>,
     id: &'a [u8],
     index: u32,
-) -> Result<(), Unresolved>
+) -> Result<(), ResolveFault>
     ensures put { OnOk result ((q : List ℕ) → first_of firsts.new q ≡ cond (bytes_eq id.entry.now q) (Some index) (first_of firsts.old q)) }
     ensures refused { IfErr result (λ e. e ≡ NoMemory) }
 {
@@ -52,7 +52,7 @@ fn put_first<'a, A: Allocator + Clone>(
 fn firsts_of<'a, A: Allocator + Clone>(
     alloc: &A,
     names: &Vec<Option<Piece<'a>>, A>,
-) -> Result<Firsts<'a, A>, Unresolved>
+) -> Result<Firsts<'a, A>, ResolveFault>
     ensures found { IfOk result (λ firsts. (id : List ℕ) → first_of firsts id ≡ find id (map text_of names.now.items)) }
     ensures distinct { IfOk result (λ _. AreDistinct (map text_of names.now.items)) }
     ensures refused { IfErr result (Unless (AreDistinct (map text_of names.now.items) → ⊥)) }
@@ -61,11 +61,11 @@ fn firsts_of<'a, A: Allocator + Clone>(
     let mut next: u32 = 0;
     for name in names {
         if next == u32::MAX {
-            return Err(Unresolved::NoMemory);
+            return Err(ResolveFault::NoMemory);
         }
         if let Some(piece) = name {
             if is_taken(&firsts, piece.text) {
-                return Err(Unresolved::RepeatedName(piece.at));
+                return Err(ResolveFault::RepeatedName(piece.at));
             }
             put_first(&mut firsts, piece.text, next)?;
         }
@@ -77,7 +77,7 @@ fn firsts_of<'a, A: Allocator + Clone>(
 impl<'a, A: Allocator + Clone> Space<'a, A> {
     /// The space of these names. It is refused for another cause than memory only where a name stands twice: the place
     /// is that of the first repeated one.
-    pub fn of(alloc: &A, names: Vec<Option<Piece<'a>>, A>) -> Result<Space<'a, A>, Unresolved>
+    pub fn of(alloc: &A, names: Vec<Option<Piece<'a>>, A>) -> Result<Space<'a, A>, ResolveFault>
         ensures names { IfOk result (λ space. space.names.items ≡ names.entry.items) }
         ensures distinct { IfOk result (λ _. AreDistinct (map text_of names.entry.items)) }
         ensures refused { IfErr result (Unless (AreDistinct (map text_of names.entry.items) → ⊥)) }
@@ -90,10 +90,10 @@ impl<'a, A: Allocator + Clone> Space<'a, A> {
 impl<A: Allocator> Finds for Space<'_, A> {
     ghost names = { λ space. map text_of space.names.items };
 
-    fn find(&self, piece: Piece<'_>) -> Result<u32, Unresolved> {
+    fn find(&self, piece: Piece<'_>) -> Result<u32, ResolveFault> {
         match self.firsts.get(&piece.text) {
             Some(index) => Ok(*index),
-            None => Err(Unresolved::UnknownName(piece.at)),
+            None => Err(ResolveFault::UnknownName(piece.at)),
         }
     }
 }

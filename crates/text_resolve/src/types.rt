@@ -5,10 +5,10 @@ ghost use Rattle.spec_text.specs.TypeUses.{types_of, written_type};
 ghost use Rattle.module_tree.specs.ModuleView.{func_type_view};
 ghost use Rattle.text_body.specs.Views.{text_of, binding_of, use_of};
 ghost use Rattle.text_resolve.specs.Outcome.{Gives};
-ghost use Rattle.text_resolve.specs.declared.refusal.Unresolved.TheVariants.{NoMemory};
+ghost use Rattle.text_resolve.specs.declared.refusal.ResolveFault.TheVariants.{NoMemory};
 ghost use Rattle.text_resolve.specs.Types.{same_types, same_func, first_type, given, is_bare, use_at};
 
-use crate::{Space, Unresolved, index_in};
+use crate::{ResolveFault, Space, index_in};
 use std::alloc::Allocator;
 use text_body::{Binding, Index, TypeUse};
 use wtypes::{FuncType, ValType};
@@ -47,14 +47,14 @@ fn same_func<A: Allocator>(a: &FuncType<A>, b: &FuncType<A>) -> bool
 pub fn first_type<A: Allocator>(
     types: &Vec<FuncType<A>, A>,
     wanted: &FuncType<A>,
-) -> Result<Option<u32>, Unresolved>
+) -> Result<Option<u32>, ResolveFault>
     ensures found { IfOk result (λ found. found ≡ first_type (func_type_view wanted.now) (map func_type_view types.now.items)) }
     ensures refused { IfErr result (λ e. e ≡ NoMemory) }
 {
     let mut next: u32 = 0;
     for own in types {
         if next == u32::MAX {
-            return Err(Unresolved::NoMemory);
+            return Err(ResolveFault::NoMemory);
         }
         if same_func(own, wanted) {
             return Ok(Some(next));
@@ -69,7 +69,7 @@ pub fn written_type<'a, A: Allocator + Clone>(
     alloc: &A,
     params: &Vec<Binding<'a>, A>,
     results: &Vec<ValType, A>,
-) -> Result<FuncType<A>, Unresolved>
+) -> Result<FuncType<A>, ResolveFault>
     ensures params { IfOk result (λ t. t.params.items ≡ types_of (map binding_of params.now.items)) }
     ensures results { IfOk result (λ t. t.results.items ≡ results.now.items) }
     ensures refused { IfErr result (λ e. e ≡ NoMemory) }
@@ -99,18 +99,18 @@ fn given_type<'a, A: Allocator + Clone>(
     number: u32,
     at: usize,
     written: &TypeUse<'a, A>,
-) -> Result<u32, Unresolved>
+) -> Result<u32, ResolveFault>
     ensures { Gives (λ n. n) result (given (map func_type_view types.now.items) (use_of written.now) number) }
 {
     let Some(own) = types.get(number as usize) else {
-        return Err(Unresolved::UnknownName(at));
+        return Err(ResolveFault::UnknownName(at));
     };
     if is_bare(written) {
         return Ok(number);
     }
     let wanted = written_type(alloc, &written.params, &written.results)?;
     if !same_func(own, &wanted) {
-        return Err(Unresolved::UnknownName(at));
+        return Err(ResolveFault::UnknownName(at));
     }
     Ok(number)
 }
@@ -130,7 +130,7 @@ pub fn type_number<'a, A: Allocator + Clone>(
     types: &Vec<FuncType<A>, A>,
     type_names: &Space<'a, A>,
     written: &TypeUse<'a, A>,
-) -> Result<u32, Unresolved>
+) -> Result<u32, ResolveFault>
     ensures { Gives (λ n. n) result (use_at (map text_of type_names.now.names.items) (map func_type_view types.now.items) (use_of written.now)) }
 {
     match written.index {
@@ -142,7 +142,7 @@ pub fn type_number<'a, A: Allocator + Clone>(
             let wanted = written_type(alloc, &written.params, &written.results)?;
             match first_type(types, &wanted)? {
                 Some(number) => Ok(number),
-                None => Err(Unresolved::Broken),
+                None => Err(ResolveFault::Broken),
             }
         }
     }

@@ -7,7 +7,7 @@ use Rattle.spec_text.specs.Words.{Word, LeftBracket, RightBracket, Key}
 use Rattle.spec_text.specs.Placed as N
 use Rattle.spec_text.specs.Grammar as G
 use Rattle.spec_text.specs.Grammar.{OptionalId, FieldWords, Fields, IsModule}
-use Rattle.text_words.specs.Reading.{WordsAreOne}
+use Rattle.lexer.specs.WordsReading.{WordsAreOne}
 use Rattle.text_body.specs.Shared.{NoneOf, IsOne}
 use Rattle.text_body.proofs.Pieces.{none_some, some_same, id_is_read}
 use Rattle.text_tree.specs.declared.parts.Inner.TheVariants as inner

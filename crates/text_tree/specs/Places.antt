@@ -2,7 +2,7 @@
 use Rattle.std.specs.Prelude.{ℕ, List, map, Option, string_bytes}
 use Rattle.spec_text.specs.Placed as N
 use Rattle.module_tree.specs.ModuleView.{global_type_view}
-use Rattle.text_words.specs.Views.{placed}
+use Rattle.lexer.specs.WordsViews.{placed}
 use Rattle.text_body.specs.Places.{text_of, index_of, binding_of, use_of, flats_of}
 use Rattle.text_tree.specs.declared.field.Bounds.{Bounds}
 pub use Rattle.text_tree.specs.Views.{kind_of}

@@ -1,8 +1,8 @@
 //! The fields of a text, which keep names, indices and integers as parts of the text.
+use lexer::Piece;
 use module_tree::module::GlobalType;
 use std::alloc::Allocator;
 use text_body::{Binding, Flat, Index, TypeUse};
-use text_words::Piece;
 use wtypes::ValType;
 
 /// The integers of a table's or a memory's limits.

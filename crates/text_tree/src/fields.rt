@@ -1,6 +1,6 @@
 //! Fields, one after another, and whole modules. Where a reader refuses, it says how many words were left.
 ghost use Rattle.std.specs.Prelude.{◌≡◌, ◌≤◌, ◌<◌, length, map, IfOk, IfErr};
-ghost use Rattle.text_words.specs.Views.{views};
+ghost use Rattle.lexer.specs.WordsViews.{views};
 ghost use Rattle.text_body.specs.Outcome.{Unless};
 ghost use Rattle.text_body.specs.Shared.{NoneOf};
 ghost use Rattle.spec_text.specs.declared.KeyWord.TheVariants.{Func, Global, Elem, Data};
@@ -13,17 +13,17 @@ use crate::parts::{
     Head, Inner, data_tail, elem_tail, func_head, global_head, next_key, opened, plain_field,
     segment_head,
 };
+use lexer::Word;
 use spec_text::KeyWord;
 use std::alloc::Allocator;
 use text_body::shared::optional_id;
-use text_body::{Unread, body};
-use text_words::Word;
+use text_body::{ParseFault, body};
 
 /// A function, behind its word.
 fn func_field<'w, 'a, A: Allocator + Clone>(
     alloc: &A,
     rest: &mut &'w [Word<'a>],
-) -> Result<Field<'a, A>, Unread>
+) -> Result<Field<'a, A>, ParseFault>
     ensures grammar { IfOk result (λ f. OfField Func (views rest.old.now) (views rest.new.now) (field_of f)) }
     ensures refused { IfErr result (Unless (NoneOf (OfField Func) (views rest.old.now))) }
     ensures shorter { IfOk result (λ _. length rest.new.now < length rest.old.now) }
@@ -49,7 +49,7 @@ fn func_field<'w, 'a, A: Allocator + Clone>(
 fn global_field<'w, 'a, A: Allocator + Clone>(
     alloc: &A,
     rest: &mut &'w [Word<'a>],
-) -> Result<Field<'a, A>, Unread>
+) -> Result<Field<'a, A>, ParseFault>
     ensures grammar { IfOk result (λ f. OfField Global (views rest.old.now) (views rest.new.now) (field_of f)) }
     ensures refused { IfErr result (Unless (NoneOf (OfField Global) (views rest.old.now))) }
     ensures shorter { IfOk result (λ _. length rest.new.now < length rest.old.now) }
@@ -67,7 +67,7 @@ fn global_field<'w, 'a, A: Allocator + Clone>(
 fn elem_field<'w, 'a, A: Allocator + Clone>(
     alloc: &A,
     rest: &mut &'w [Word<'a>],
-) -> Result<Field<'a, A>, Unread>
+) -> Result<Field<'a, A>, ParseFault>
     ensures grammar { IfOk result (λ f. OfField Elem (views rest.old.now) (views rest.new.now) (field_of f)) }
     ensures refused { IfErr result (Unless (NoneOf (OfField Elem) (views rest.old.now))) }
     ensures shorter { IfOk result (λ _. length rest.new.now < length rest.old.now) }
@@ -86,7 +86,7 @@ fn elem_field<'w, 'a, A: Allocator + Clone>(
 fn data_field<'w, 'a, A: Allocator + Clone>(
     alloc: &A,
     rest: &mut &'w [Word<'a>],
-) -> Result<Field<'a, A>, Unread>
+) -> Result<Field<'a, A>, ParseFault>
     ensures grammar { IfOk result (λ f. OfField Data (views rest.old.now) (views rest.new.now) (field_of f)) }
     ensures refused { IfErr result (Unless (NoneOf (OfField Data) (views rest.old.now))) }
     ensures shorter { IfOk result (λ _. length rest.new.now < length rest.old.now) }
@@ -106,7 +106,7 @@ fn field<'w, 'a, A: Allocator + Clone>(
     alloc: &A,
     key: KeyWord,
     rest: &mut &'w [Word<'a>],
-) -> Result<Field<'a, A>, Unread>
+) -> Result<Field<'a, A>, ParseFault>
     ensures grammar { IfOk result (λ f. OfField key (views rest.old.now) (views rest.new.now) (field_of f)) }
     ensures refused { IfErr result (Unless (NoneOf (OfField key) (views rest.old.now))) }
     ensures shorter { IfOk result (λ _. length rest.new.now < length rest.old.now) }
@@ -162,7 +162,7 @@ fn behind(before: Before, key: KeyWord) -> Before
 fn fields<'w, 'a, A: Allocator + Clone>(
     alloc: &A,
     rest: &mut &'w [Word<'a>],
-) -> Result<Vec<Field<'a, A>, A>, Unread>
+) -> Result<Vec<Field<'a, A>, A>, ParseFault>
     ensures grammar { IfOk result (λ found. AreFields (views rest.old.now) (map field_of found.items)) }
     ensures refused { IfErr result (Unless (NoFields (views rest.old.now))) }
 {
@@ -173,14 +173,14 @@ fn fields<'w, 'a, A: Allocator + Clone>(
     };
     while let Some(key) = next_key(rest)? {
         if is_late(before, key) {
-            return Err(Unread::Stuck(rest.len().saturating_add(1)));
+            return Err(ParseFault::Stuck(rest.len().saturating_add(1)));
         }
         let next = field(alloc, key, rest)?;
         found.push(next)?;
         before = behind(before, key);
     }
     if !rest.is_empty() {
-        return Err(Unread::Stuck(rest.len()));
+        return Err(ParseFault::Stuck(rest.len()));
     }
     Ok(found)
 }
@@ -189,7 +189,7 @@ fn fields<'w, 'a, A: Allocator + Clone>(
 pub(crate) fn module<'a, A: Allocator + Clone>(
     alloc: &A,
     words: &[Word<'a>],
-) -> Result<Text<'a, A>, Unread>
+) -> Result<Text<'a, A>, ParseFault>
     ensures grammar { IfOk result (λ text. IsTree (views words.now) (fields_of text)) }
     ensures refused { IfErr result (Unless (NoTree (views words.now))) }
 {

@@ -3,9 +3,9 @@
 ghost use Rattle.std.specs.Prelude.{◌≡◌, ◌≤◌, ◌<◌, ◌++◌, length, map, IfOk, IfErr, IfSome, option_map, string_bytes};
 ghost use Rattle.spec_text.specs.declared.KeyWord.{KeyWord};
 ghost use Rattle.module_tree.specs.ModuleView.{global_type_view};
-ghost use Rattle.text_words.specs.Strings.{decoded};
-ghost use Rattle.text_words.specs.Views.{placed, view, views};
-ghost use Rattle.text_body.specs.declared.unread.Unread.TheVariants.{NoMemory};
+ghost use Rattle.lexer.specs.Strings.{decoded};
+ghost use Rattle.lexer.specs.WordsViews.{placed, view, views};
+ghost use Rattle.text_body.specs.declared.unread.ParseFault.TheVariants.{NoMemory};
 ghost use Rattle.text_body.specs.Places.{text_of, index_of, binding_of, use_of};
 ghost use Rattle.text_body.specs.Outcome.{Gives};
 ghost use Rattle.text_body.specs.Reading.{close_at};
@@ -17,6 +17,7 @@ ghost use Rattle.text_tree.specs.Reading.{import_field_at, exported_at, export_f
 ghost use Rattle.text_tree.specs.Reading.{global_head_at, segment_head_at, elem_tail_at, data_tail_at, next_key_at};
 
 use crate::field::{BoundedField, Bounds, Desc, ExportField, Field, ImportField, Kind, TypeField};
+use lexer::{Piece, Word, put_string};
 use module_tree::module::GlobalType;
 use spec_text::KeyWord;
 use std::alloc::Allocator;
@@ -24,8 +25,7 @@ use text_body::shared::{
     Part, bindings, close, close_behind_parts, enters, index, indices, optional_id, results,
     type_use,
 };
-use text_body::{Binding, Index, TypeUse, Unread};
-use text_words::{Piece, Word, put_string};
+use text_body::{Binding, Index, ParseFault, TypeUse};
 use wtypes::ValType;
 
 /// The words that stand within fields.
@@ -57,7 +57,7 @@ fn is(inner: Inner, key: KeyWord) -> bool
 }
 
 /// This word.
-pub(crate) fn word<'w, 'a>(inner: Inner, rest: &mut &'w [Word<'a>]) -> Result<(), Unread>
+pub(crate) fn word<'w, 'a>(inner: Inner, rest: &mut &'w [Word<'a>]) -> Result<(), ParseFault>
     ensures value { Gives (λ _. views rest.new.now) result (inner_at inner (views rest.old.now)) }
     ensures shorter { IfOk result (λ _. length rest.new.now < length rest.old.now) }
 {
@@ -66,12 +66,12 @@ pub(crate) fn word<'w, 'a>(inner: Inner, rest: &mut &'w [Word<'a>]) -> Result<()
             *rest = after;
             Ok(())
         }
-        _ => Err(Unread::Stuck(rest.len())),
+        _ => Err(ParseFault::Stuck(rest.len())),
     }
 }
 
 /// `(`
-fn bracket<'w, 'a>(rest: &mut &'w [Word<'a>]) -> Result<(), Unread>
+fn bracket<'w, 'a>(rest: &mut &'w [Word<'a>]) -> Result<(), ParseFault>
     ensures value { Gives (λ _. views rest.new.now) result (bracket_at (views rest.old.now)) }
     ensures shorter { IfOk result (λ _. length rest.new.now < length rest.old.now) }
 {
@@ -80,12 +80,12 @@ fn bracket<'w, 'a>(rest: &mut &'w [Word<'a>]) -> Result<(), Unread>
             *rest = after;
             Ok(())
         }
-        _ => Err(Unread::Stuck(rest.len())),
+        _ => Err(ParseFault::Stuck(rest.len())),
     }
 }
 
 /// `(` and this word.
-pub(crate) fn opened<'w, 'a>(inner: Inner, rest: &mut &'w [Word<'a>]) -> Result<(), Unread>
+pub(crate) fn opened<'w, 'a>(inner: Inner, rest: &mut &'w [Word<'a>]) -> Result<(), ParseFault>
     ensures value { Gives (λ _. views rest.new.now) result (opened_at inner (views rest.old.now)) }
     ensures shorter { IfOk result (λ _. length rest.new.now < length rest.old.now) }
 {
@@ -94,7 +94,7 @@ pub(crate) fn opened<'w, 'a>(inner: Inner, rest: &mut &'w [Word<'a>]) -> Result<
 }
 
 /// A value type.
-fn value_type<'w, 'a>(rest: &mut &'w [Word<'a>]) -> Result<ValType, Unread>
+fn value_type<'w, 'a>(rest: &mut &'w [Word<'a>]) -> Result<ValType, ParseFault>
     ensures value { Gives (λ t. (t, views rest.new.now)) result (typed_at (views rest.old.now)) }
     ensures shorter { IfOk result (λ _. length rest.new.now < length rest.old.now) }
 {
@@ -104,7 +104,7 @@ fn value_type<'w, 'a>(rest: &mut &'w [Word<'a>]) -> Result<ValType, Unread>
             *rest = after;
             Ok(found)
         }
-        _ => Err(Unread::Stuck(rest.len())),
+        _ => Err(ParseFault::Stuck(rest.len())),
     }
 }
 
@@ -122,35 +122,35 @@ fn kind_of(key: KeyWord) -> Option<Kind>
 }
 
 /// A kind.
-fn kind<'w, 'a>(rest: &mut &'w [Word<'a>]) -> Result<Kind, Unread>
+fn kind<'w, 'a>(rest: &mut &'w [Word<'a>]) -> Result<Kind, ParseFault>
     ensures value { Gives (λ x. (kind_of x, views rest.new.now)) result (kind_at (views rest.old.now)) }
     ensures shorter { IfOk result (λ _. length rest.new.now < length rest.old.now) }
 {
     match *rest {
         [Word::Key(key), after @ ..] => {
             let Some(found) = kind_of(*key) else {
-                return Err(Unread::Stuck(rest.len()));
+                return Err(ParseFault::Stuck(rest.len()));
             };
             *rest = after;
             Ok(found)
         }
-        _ => Err(Unread::Stuck(rest.len())),
+        _ => Err(ParseFault::Stuck(rest.len())),
     }
 }
 
 /// A number.
-fn number<'w, 'a>(rest: &mut &'w [Word<'a>]) -> Result<Piece<'a>, Unread>
+fn number<'w, 'a>(rest: &mut &'w [Word<'a>]) -> Result<Piece<'a>, ParseFault>
     ensures value { Gives (λ p. (placed p, views rest.new.now)) result (number_at (views rest.old.now)) }
     ensures shorter { IfOk result (λ _. length rest.new.now < length rest.old.now) }
 {
     match *rest {
-        [] => Err(Unread::Stuck(0)),
+        [] => Err(ParseFault::Stuck(0)),
         [word, after @ ..] => match *word {
             Word::Number(piece) => {
                 *rest = after;
                 Ok(piece)
             }
-            _ => Err(Unread::Stuck(rest.len())),
+            _ => Err(ParseFault::Stuck(rest.len())),
         },
     }
 }
@@ -173,7 +173,7 @@ fn next_number<'w, 'a>(rest: &mut &'w [Word<'a>]) -> Option<Piece<'a>>
 }
 
 /// The limits of a table or a memory.
-fn limits<'w, 'a>(rest: &mut &'w [Word<'a>]) -> Result<Bounds<'a>, Unread>
+fn limits<'w, 'a>(rest: &mut &'w [Word<'a>]) -> Result<Bounds<'a>, ParseFault>
     ensures value { Gives (λ b. (bounds_of b, views rest.new.now)) result (limits_at (views rest.old.now)) }
     ensures shorter { IfOk result (λ _. length rest.new.now < length rest.old.now) }
 {
@@ -183,7 +183,7 @@ fn limits<'w, 'a>(rest: &mut &'w [Word<'a>]) -> Result<Bounds<'a>, Unread>
 }
 
 /// The limits of a table, `funcref` and `)`.
-fn table_type<'w, 'a>(rest: &mut &'w [Word<'a>]) -> Result<Bounds<'a>, Unread>
+fn table_type<'w, 'a>(rest: &mut &'w [Word<'a>]) -> Result<Bounds<'a>, ParseFault>
     ensures value { Gives (λ b. (bounds_of b, views rest.new.now)) result (table_type_at (views rest.old.now)) }
     ensures shorter { IfOk result (λ _. length rest.new.now < length rest.old.now) }
 {
@@ -194,7 +194,7 @@ fn table_type<'w, 'a>(rest: &mut &'w [Word<'a>]) -> Result<Bounds<'a>, Unread>
 }
 
 /// The limits of a memory and `)`.
-fn memory_type<'w, 'a>(rest: &mut &'w [Word<'a>]) -> Result<Bounds<'a>, Unread>
+fn memory_type<'w, 'a>(rest: &mut &'w [Word<'a>]) -> Result<Bounds<'a>, ParseFault>
     ensures value { Gives (λ b. (bounds_of b, views rest.new.now)) result (memory_type_at (views rest.old.now)) }
     ensures shorter { IfOk result (λ _. length rest.new.now < length rest.old.now) }
 {
@@ -204,7 +204,7 @@ fn memory_type<'w, 'a>(rest: &mut &'w [Word<'a>]) -> Result<Bounds<'a>, Unread>
 }
 
 /// `mut`, a value type and `)`.
-fn variable<'w, 'a>(rest: &mut &'w [Word<'a>]) -> Result<ValType, Unread>
+fn variable<'w, 'a>(rest: &mut &'w [Word<'a>]) -> Result<ValType, ParseFault>
     ensures value { Gives (λ t. (t, views rest.new.now)) result (variable_at (views rest.old.now)) }
     ensures shorter { IfOk result (λ _. length rest.new.now < length rest.old.now) }
 {
@@ -215,7 +215,7 @@ fn variable<'w, 'a>(rest: &mut &'w [Word<'a>]) -> Result<ValType, Unread>
 }
 
 /// The type of a global.
-fn global_type<'w, 'a>(rest: &mut &'w [Word<'a>]) -> Result<GlobalType, Unread>
+fn global_type<'w, 'a>(rest: &mut &'w [Word<'a>]) -> Result<GlobalType, ParseFault>
     ensures value { Gives (λ t. (global_type_view t, views rest.new.now)) result (global_type_at (views rest.old.now)) }
     ensures shorter { IfOk result (λ _. length rest.new.now < length rest.old.now) }
 {
@@ -235,7 +235,7 @@ fn global_type<'w, 'a>(rest: &mut &'w [Word<'a>]) -> Result<GlobalType, Unread>
 }
 
 /// The text that a string stands for, if that is UTF-8.
-fn utf8_of<A: Allocator + Clone>(alloc: &A, body: &[u8]) -> Result<Option<String<A>>, Unread>
+fn utf8_of<A: Allocator + Clone>(alloc: &A, body: &[u8]) -> Result<Option<String<A>>, ParseFault>
     ensures value { IfOk result (λ found. option_map string_bytes found ≡ utf8_in (decoded body.now)) }
     ensures refused { IfErr result (λ refusal. refusal ≡ NoMemory) }
 {
@@ -251,21 +251,21 @@ fn utf8_of<A: Allocator + Clone>(alloc: &A, body: &[u8]) -> Result<Option<String
 fn name<'w, 'a, A: Allocator + Clone>(
     alloc: &A,
     rest: &mut &'w [Word<'a>],
-) -> Result<String<A>, Unread>
+) -> Result<String<A>, ParseFault>
     ensures value { Gives (λ s. (string_bytes s, views rest.new.now)) result (name_at (views rest.old.now)) }
     ensures shorter { IfOk result (λ _. length rest.new.now < length rest.old.now) }
 {
     match *rest {
-        [] => Err(Unread::Stuck(0)),
+        [] => Err(ParseFault::Stuck(0)),
         [word, after @ ..] => match *word {
             Word::Str(piece) => {
                 let Some(found) = utf8_of(alloc, piece.text)? else {
-                    return Err(Unread::Stuck(rest.len()));
+                    return Err(ParseFault::Stuck(rest.len()));
                 };
                 *rest = after;
                 Ok(found)
             }
-            _ => Err(Unread::Stuck(rest.len())),
+            _ => Err(ParseFault::Stuck(rest.len())),
         },
     }
 }
@@ -274,7 +274,7 @@ fn name<'w, 'a, A: Allocator + Clone>(
 fn closed_name<'w, 'a, A: Allocator + Clone>(
     alloc: &A,
     rest: &mut &'w [Word<'a>],
-) -> Result<String<A>, Unread>
+) -> Result<String<A>, ParseFault>
     ensures value { Gives (λ s. (string_bytes s, views rest.new.now)) result (closed_name_at (views rest.old.now)) }
     ensures shorter { IfOk result (λ _. length rest.new.now < length rest.old.now) }
 {
@@ -287,7 +287,7 @@ fn closed_name<'w, 'a, A: Allocator + Clone>(
 fn next_export<'w, 'a, A: Allocator + Clone>(
     alloc: &A,
     rest: &mut &'w [Word<'a>],
-) -> Result<Option<String<A>>, Unread>
+) -> Result<Option<String<A>>, ParseFault>
     ensures value { Gives (λ r. (option_map string_bytes r, views rest.new.now)) result (next_export_at (views rest.old.now)) }
     ensures shorter { IfOk result (λ r. IfSome r (λ _. length rest.new.now < length rest.old.now)) }
     ensures kept { IfOk result (λ _. length rest.new.now ≤ length rest.old.now) }
@@ -303,7 +303,7 @@ fn next_export<'w, 'a, A: Allocator + Clone>(
 fn exports<'w, 'a, A: Allocator + Clone>(
     alloc: &A,
     rest: &mut &'w [Word<'a>],
-) -> Result<Vec<String<A>, A>, Unread>
+) -> Result<Vec<String<A>, A>, ParseFault>
     ensures value { Gives (λ r. (map string_bytes r.items, views rest.new.now)) result (exports_at (views rest.old.now)) }
     ensures shorter { IfOk result (λ _. length rest.new.now ≤ length rest.old.now) }
 {
@@ -336,7 +336,7 @@ fn next_string<'w, 'a>(rest: &mut &'w [Word<'a>]) -> Option<Piece<'a>>
 fn strings<'w, 'a, A: Allocator + Clone>(
     alloc: &A,
     rest: &mut &'w [Word<'a>],
-) -> Result<Vec<u8, A>, Unread>
+) -> Result<Vec<u8, A>, ParseFault>
     ensures value { Gives (λ r. (r.items, views rest.new.now)) result (strings_at (views rest.old.now)) }
     ensures shorter { IfOk result (λ _. length rest.new.now ≤ length rest.old.now) }
 {
@@ -352,7 +352,7 @@ fn desc<'w, 'a, A: Allocator + Clone>(
     alloc: &A,
     kind: Kind,
     rest: &mut &'w [Word<'a>],
-) -> Result<Desc<'a, A>, Unread>
+) -> Result<Desc<'a, A>, ParseFault>
     ensures value { Gives (λ d. (desc_of d, views rest.new.now)) result (desc_of_kind (kind_of kind) (views rest.old.now)) }
     ensures shorter { IfOk result (λ _. length rest.new.now < length rest.old.now) }
 {
@@ -376,7 +376,7 @@ fn desc<'w, 'a, A: Allocator + Clone>(
 fn described<'w, 'a, A: Allocator + Clone>(
     alloc: &A,
     rest: &mut &'w [Word<'a>],
-) -> Result<(Option<Piece<'a>>, Desc<'a, A>), Unread>
+) -> Result<(Option<Piece<'a>>, Desc<'a, A>), ParseFault>
     ensures value { Gives (λ r. ((text_of r.0, desc_of r.1), views rest.new.now)) result (desc_at (views rest.old.now)) }
     ensures shorter { IfOk result (λ _. length rest.new.now < length rest.old.now) }
 {
@@ -391,7 +391,7 @@ fn described<'w, 'a, A: Allocator + Clone>(
 fn signature<'w, 'a, A: Allocator + Clone>(
     alloc: &A,
     rest: &mut &'w [Word<'a>],
-) -> Result<(Vec<Binding<'a>, A>, Vec<ValType, A>), Unread>
+) -> Result<(Vec<Binding<'a>, A>, Vec<ValType, A>), ParseFault>
     ensures value { Gives (λ r. ((map binding_of r.0.items, r.1.items), views rest.new.now)) result (signature_at (views rest.old.now)) }
     ensures shorter { IfOk result (λ _. length rest.new.now < length rest.old.now) }
 {
@@ -406,7 +406,7 @@ fn signature<'w, 'a, A: Allocator + Clone>(
 fn type_field<'w, 'a, A: Allocator + Clone>(
     alloc: &A,
     rest: &mut &'w [Word<'a>],
-) -> Result<Field<'a, A>, Unread>
+) -> Result<Field<'a, A>, ParseFault>
     ensures value { Gives (λ f. (field_of f, views rest.new.now)) result (type_field_at (views rest.old.now)) }
     ensures shorter { IfOk result (λ _. length rest.new.now < length rest.old.now) }
 {
@@ -424,7 +424,7 @@ fn type_field<'w, 'a, A: Allocator + Clone>(
 fn import_field<'w, 'a, A: Allocator + Clone>(
     alloc: &A,
     rest: &mut &'w [Word<'a>],
-) -> Result<Field<'a, A>, Unread>
+) -> Result<Field<'a, A>, ParseFault>
     ensures value { Gives (λ f. (field_of f, views rest.new.now)) result (import_field_at (views rest.old.now)) }
     ensures shorter { IfOk result (λ _. length rest.new.now < length rest.old.now) }
 {
@@ -441,7 +441,7 @@ fn import_field<'w, 'a, A: Allocator + Clone>(
 }
 
 /// The kind and the index of an export, and `) )`.
-fn exported<'w, 'a>(rest: &mut &'w [Word<'a>]) -> Result<(Kind, Index<'a>), Unread>
+fn exported<'w, 'a>(rest: &mut &'w [Word<'a>]) -> Result<(Kind, Index<'a>), ParseFault>
     ensures value { Gives (λ r. ((kind_of r.0, index_of r.1), views rest.new.now)) result (exported_at (views rest.old.now)) }
     ensures shorter { IfOk result (λ _. length rest.new.now < length rest.old.now) }
 {
@@ -456,7 +456,7 @@ fn exported<'w, 'a>(rest: &mut &'w [Word<'a>]) -> Result<(Kind, Index<'a>), Unre
 fn export_field<'w, 'a, A: Allocator + Clone>(
     alloc: &A,
     rest: &mut &'w [Word<'a>],
-) -> Result<Field<'a, A>, Unread>
+) -> Result<Field<'a, A>, ParseFault>
     ensures value { Gives (λ f. (field_of f, views rest.new.now)) result (export_field_at (views rest.old.now)) }
     ensures shorter { IfOk result (λ _. length rest.new.now < length rest.old.now) }
 {
@@ -470,7 +470,7 @@ fn export_field<'w, 'a, A: Allocator + Clone>(
 fn short_field<'w, 'a, A: Allocator>(
     key: KeyWord,
     rest: &mut &'w [Word<'a>],
-) -> Result<Field<'a, A>, Unread>
+) -> Result<Field<'a, A>, ParseFault>
     ensures value { Gives (λ f. (field_of f, views rest.new.now)) result (short_field_at key (views rest.old.now)) }
     ensures shorter { IfOk result (λ _. length rest.new.now < length rest.old.now) }
 {
@@ -490,7 +490,7 @@ fn short_field<'w, 'a, A: Allocator>(
             close(rest)?;
             Ok(Field::Start(found))
         }
-        _ => Err(Unread::Stuck(rest.len() + 1)),
+        _ => Err(ParseFault::Stuck(rest.len() + 1)),
     }
 }
 
@@ -499,7 +499,7 @@ pub(crate) fn plain_field<'w, 'a, A: Allocator + Clone>(
     alloc: &A,
     key: KeyWord,
     rest: &mut &'w [Word<'a>],
-) -> Result<Field<'a, A>, Unread>
+) -> Result<Field<'a, A>, ParseFault>
     ensures value { Gives (λ f. (field_of f, views rest.new.now)) result (plain_field_at key (views rest.old.now)) }
     ensures shorter { IfOk result (λ _. length rest.new.now < length rest.old.now) }
 {
@@ -528,7 +528,7 @@ pub(crate) struct Head<'a, A: Allocator> {
 pub(crate) fn func_head<'w, 'a, A: Allocator + Clone>(
     alloc: &A,
     rest: &mut &'w [Word<'a>],
-) -> Result<Head<'a, A>, Unread>
+) -> Result<Head<'a, A>, ParseFault>
     ensures value { Gives (λ h. (head_of h, views rest.new.now)) result (func_head_at (views rest.old.now)) }
     ensures shorter { IfOk result (λ _. length rest.new.now ≤ length rest.old.now) }
 {
@@ -547,7 +547,7 @@ pub(crate) fn func_head<'w, 'a, A: Allocator + Clone>(
 /// The name of a global, if it has one, and its type.
 pub(crate) fn global_head<'w, 'a>(
     rest: &mut &'w [Word<'a>],
-) -> Result<(Option<Piece<'a>>, GlobalType), Unread>
+) -> Result<(Option<Piece<'a>>, GlobalType), ParseFault>
     ensures value { Gives (λ r. ((text_of r.0, global_type_view r.1), views rest.new.now)) result (global_head_at (views rest.old.now)) }
     ensures shorter { IfOk result (λ _. length rest.new.now ≤ length rest.old.now) }
 {
@@ -557,7 +557,7 @@ pub(crate) fn global_head<'w, 'a>(
 }
 
 /// The index of a segment, `(` and `offset`.
-pub(crate) fn segment_head<'w, 'a>(rest: &mut &'w [Word<'a>]) -> Result<Index<'a>, Unread>
+pub(crate) fn segment_head<'w, 'a>(rest: &mut &'w [Word<'a>]) -> Result<Index<'a>, ParseFault>
     ensures value { Gives (λ i. (index_of i, views rest.new.now)) result (segment_head_at (views rest.old.now)) }
     ensures shorter { IfOk result (λ _. length rest.new.now < length rest.old.now) }
 {
@@ -570,7 +570,7 @@ pub(crate) fn segment_head<'w, 'a>(rest: &mut &'w [Word<'a>]) -> Result<Index<'a
 pub(crate) fn elem_tail<'w, 'a, A: Allocator + Clone>(
     alloc: &A,
     rest: &mut &'w [Word<'a>],
-) -> Result<Vec<Index<'a>, A>, Unread>
+) -> Result<Vec<Index<'a>, A>, ParseFault>
     ensures value { Gives (λ r. (map index_of r.items, views rest.new.now)) result (elem_tail_at (views rest.old.now)) }
     ensures shorter { IfOk result (λ _. length rest.new.now < length rest.old.now) }
 {
@@ -583,7 +583,7 @@ pub(crate) fn elem_tail<'w, 'a, A: Allocator + Clone>(
 pub(crate) fn data_tail<'w, 'a, A: Allocator + Clone>(
     alloc: &A,
     rest: &mut &'w [Word<'a>],
-) -> Result<Vec<u8, A>, Unread>
+) -> Result<Vec<u8, A>, ParseFault>
     ensures value { Gives (λ r. (r.items, views rest.new.now)) result (data_tail_at (views rest.old.now)) }
     ensures shorter { IfOk result (λ _. length rest.new.now < length rest.old.now) }
 {
@@ -593,7 +593,7 @@ pub(crate) fn data_tail<'w, 'a, A: Allocator + Clone>(
 }
 
 /// The module's `)`, or the word of a further field.
-pub(crate) fn next_key<'w, 'a>(rest: &mut &'w [Word<'a>]) -> Result<Option<KeyWord>, Unread>
+pub(crate) fn next_key<'w, 'a>(rest: &mut &'w [Word<'a>]) -> Result<Option<KeyWord>, ParseFault>
     ensures value { Gives (λ r. (r, views rest.new.now)) result (next_key_at (views rest.old.now)) }
     ensures shorter { IfOk result (λ _. length rest.new.now < length rest.old.now) }
 {
@@ -607,7 +607,7 @@ pub(crate) fn next_key<'w, 'a>(rest: &mut &'w [Word<'a>]) -> Result<Option<KeyWo
             *rest = after;
             Ok(Some(found))
         }
-        [Word::LeftBracket, after @ ..] => Err(Unread::Stuck(after.len())),
-        _ => Err(Unread::Stuck(rest.len())),
+        [Word::LeftBracket, after @ ..] => Err(ParseFault::Stuck(after.len())),
+        _ => Err(ParseFault::Stuck(rest.len())),
     }
 }

@@ -2,19 +2,20 @@
 ghost use Rattle.std.specs.Prelude.{◌≡◌, length, IfOk, IfErr};
 ghost use Rattle.spec_text.specs.Lexical.{Lexes};
 ghost use Rattle.lexer.specs.Views as listed;
-ghost use Rattle.text_words.specs.Refused.{Unless};
-ghost use Rattle.text_words.specs.Views.{views};
-ghost use Rattle.text_words.specs.declared.TextRefusal.TheVariants.{NoMemory};
+ghost use Rattle.lexer.specs.WordsRefused.{Unless};
+ghost use Rattle.lexer.specs.WordsViews.{views};
+ghost use Rattle.lexer.specs.declared.refusal.TextRefusal.TheVariants.{NoMemory};
 ghost use Rattle.text_tree.specs.Places.{fields_of};
 ghost use Rattle.text_tree.specs.Texts.{IsTree, NoTree, IsText, NoText, TextsAreOne};
 
 use crate::field::Text;
 use crate::fields::module;
-use lexer::{LexRefusal, Token, Tokens, tokens};
+use lexer::{
+    LexRefusal, TextRefusal, Token, Tokens, Word, no_tokens_are_two_lists_of_words, tokens, words,
+};
 use std::alloc::Allocator;
 use std::str::from_utf8;
-use text_body::Unread;
-use text_words::{TextRefusal, Word, no_tokens_are_two_lists_of_words, words};
+use text_body::ParseFault;
 
 /// The place of the first of the last `left` tokens, or `end` if there is none.
 fn place(tokens: &[Token], end: usize, left: usize) -> usize {
@@ -36,8 +37,8 @@ fn tree<'a, A: Allocator + Clone>(
 {
     match module(alloc, words) {
         Ok(tree) => Ok(tree),
-        Err(Unread::NoMemory) => Err(TextRefusal::NoMemory),
-        Err(Unread::Stuck(left)) => {
+        Err(ParseFault::NoMemory) => Err(TextRefusal::NoMemory),
+        Err(ParseFault::Stuck(left)) => {
             Err(TextRefusal::Unexpected(place(tokens, text.len(), left)))
         }
     }

@@ -12,8 +12,8 @@ use Rattle.lock_profile.specs.declared.Held.{Held}
 use Rattle.lock_profile.specs.Groups.{pairs, pair_of}
 use Rattle.spec_block.specs.Worlds.{Position, held_in}
 use Rattle.spec_block.specs.Verdicts.{Agrees, IsLeast, IsOther}
-use Rattle.spec_execution.specs.Serial.{Ran}
-use Rattle.serial.specs.Positions.{positions as ran_of}
+use Rattle.spec_execution.specs.Serial.{CallResult}
+use Rattle.serial.specs.Positions.{results_of}
 
 abbrev pub held_of : Entry → Held
 held_of e = record { lock = e.lock; mode = e.mode }
@@ -41,29 +41,29 @@ held_at es hs i d h same below =
 
 -- ---- positions
 
-ran_at : (rs : List Receipt) (ms : List Modes) (i : ℕ) (r : Receipt) (m : Modes) → slice_get rs i ≡ Some r → slice_get ms i ≡ Some m → slice_get (ran_of rs ms) i ≡ Some (record { receipt = r; touched = m })
+ran_at : (rs : List Receipt) (ms : List Modes) (i : ℕ) (r : Receipt) (m : Modes) → slice_get rs i ≡ Some r → slice_get ms i ≡ Some m → slice_get (results_of rs ms) i ≡ Some (record { receipt = r; touched = m })
 ran_at [] ms i r m a b = absurd (cc a)
 ran_at (x ∷ rs) [] i r m a b = absurd (cc b)
 ran_at (x ∷ rs) (y ∷ ms) zero r m a b = let p = same_Some x r a in let q = same_Some y m b in λ k. Some (record { receipt = p k; touched = q k })
 ran_at (x ∷ rs) (y ∷ ms) (suc i) r m a b = ran_at rs ms i r m a b
 
 module _ (ps : List Position) (rs : List Receipt) (ms : List Modes) (i : ℕ) (p : Position) (r : Receipt) (m : Modes) (at : slice_get ps i ≡ Some p) (at_r : slice_get rs i ≡ Some r) (at_m : slice_get ms i ≡ Some m)
-    (none : (n : ℕ) → n < i → ¬ (IsOther ps (ran_of rs ms) n)) where
-  pub least_other : ¬ (Agrees p (record { receipt = r; touched = m })) → IsLeast (IsOther ps (ran_of rs ms)) i
+    (none : (n : ℕ) → n < i → ¬ (IsOther ps (results_of rs ms) n)) where
+  pub least_other : ¬ (Agrees p (record { receipt = r; touched = m })) → IsLeast (IsOther ps (results_of rs ms)) i
   least_other other = record { holds = (p, record { receipt = r; touched = m }, at, ran_at rs ms i r m at_r at_m, other); none_before = none }
 
-  not_here : Agrees p (record { receipt = r; touched = m }) → ¬ (IsOther ps (ran_of rs ms) i)
+  not_here : Agrees p (record { receipt = r; touched = m }) → ¬ (IsOther ps (results_of rs ms) i)
   not_here agrees other =
       let same = same_Some other.0 p (sym other.2 ∙ at) in
       let same_ran = same_Some other.1 (record { receipt = r; touched = m }) (sym other.3 ∙ ran_at rs ms i r m at_r at_m) in
-      other.4 (subst (λ (x : Position). Agrees x other.1) (sym same) (subst (λ (x : Ran). Agrees p x) (sym same_ran) agrees))
+      other.4 (subst (λ (x : Position). Agrees x other.1) (sym same) (subst (λ (x : CallResult). Agrees p x) (sym same_ran) agrees))
 
-  pub none_more : Agrees p (record { receipt = r; touched = m }) → (n : ℕ) → n < i + 1 → ¬ (IsOther ps (ran_of rs ms) n)
+  pub none_more : Agrees p (record { receipt = r; touched = m }) → (n : ℕ) → n < i + 1 → ¬ (IsOther ps (results_of rs ms) n)
   none_more agrees n lt =
       elim (eqb_tells n i) [
-        | inl y ↦ subst (λ k. ¬ (IsOther ps (ran_of rs ms) k)) (sym y.1) (not_here agrees)
+        | inl y ↦ subst (λ k. ¬ (IsOther ps (results_of rs ms) k)) (sym y.1) (not_here agrees)
         | inr z ↦ none n (let ne = z.1 in omega arith)
       ]
 
-pub none_other : (ps : List Position) (ran : List Ran) (i : ℕ) → length ps ≤ i → ((n : ℕ) → n < i → ¬ (IsOther ps ran n)) → (n : ℕ) → ¬ (IsOther ps ran n)
+pub none_other : (ps : List Position) (ran : List CallResult) (i : ℕ) → length ps ≤ i → ((n : ℕ) → n < i → ¬ (IsOther ps ran n)) → (n : ℕ) → ¬ (IsOther ps ran n)
 none_other ps ran i end none n other = none n (let within = slice_get_within ps n other.0 other.2 in omega (arith, within, end)) other

@@ -18,11 +18,11 @@ use Rattle.block.specs.contracts.value.Block as block_row
 use Rattle.ahead.specs.contracts.Ahead as ahead_row
 use Rattle.lock_profile.specs.contracts.Profile as profile_row
 use Rattle.records.specs.contracts.position.Position as position_row
-use Rattle.serial_block.proofs.Crossing.{crosses, vec_send, vec_sync, contract_sync, contracts_send, cells_sync, finished_send}
+use Rattle.serial.proofs.Crossing.{crosses, vec_send, vec_sync, contract_sync, contracts_send, cells_sync, finished_send}
 use Rattle.in_order.proofs.Crossing.{job_sync as order_sync}
 use Rattle.validator.specs.contracts.trial.Trial as trial_row
-use Rattle.validator.specs.contracts.job.Made as made_row
-use Rattle.validator.specs.contracts.job.Part as part_row
+use Rattle.validator.specs.contracts.job.PositionRun as made_row
+use Rattle.validator.specs.contracts.job.WorkerRuns as part_row
 use Rattle.validator.specs.contracts.job.Job as job_row
 use Rattle.validator.specs.contracts.shared.Shared as shared_row
 

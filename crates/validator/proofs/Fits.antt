@@ -8,15 +8,15 @@ use Rattle.std.proofs.lemmas.List.{length-map}
 use Rattle.spec_ledger.specs.Cells.{Cells}
 use Rattle.spec_ledger.specs.Order.{IsAdmissible}
 use Rattle.spec_execution.specs.Configuration.{Setting}
-use Rattle.spec_execution.specs.Serial.{Ran, Serial}
+use Rattle.spec_execution.specs.Serial.{CallResult, Serial}
 use Rattle.spec_block.specs.Worlds.{Call, World, Block, Position, limits, order_of, profiles_of}
 use Rattle.spec_block.specs.Bytes.{IsBlock}
 use Rattle.spec_block.specs.Schedule.{HaveTurns}
 use Rattle.spec_block.specs.Serial.{setting_of}
 use Rattle.spec_block.specs.Verdicts.{HoldsOf, Verdict, place, RunOf}
-use Rattle.interp.specs.Lent.{setting_view}
-use Rattle.block_judge.specs.declared.reason.Unfit.{Unfit}
-use Rattle.block_judge.specs.declared.reason.Unfit.TheVariants as unfit
+use Rattle.interp.specs.Callee.{setting_view}
+use Rattle.block_judge.specs.declared.reason.JudgeRefusal.{JudgeRefusal}
+use Rattle.block_judge.specs.declared.reason.JudgeRefusal.TheVariants as unfit
 use Rattle.block_judge.specs.Judging.{IfRejected, IsFirstFrom, NoneFrom}
 use Rattle.block_judge.proofs.Stages.{admissible_known}
 use Rattle.world.specs.Views.{world_view}
@@ -24,7 +24,7 @@ use Rattle.validator.specs.declared.job.Job.{Job}
 use Rattle.validator.specs.declared.trial.Trial.{Trial}
 use Rattle.validator.specs.declared.verdict.Validated.{Validated}
 use Rattle.validator.specs.Jobs.{IsJob}
-use Rattle.validator.specs.Judged.{IsToldBy, told_by}
+use Rattle.validator.specs.Judged.{IsToldBy, verdict_view}
 use Rattle.validator.specs.Tried.{Holds, IsFirst, IsFit, IsJudged, IsTrial, MayRun}
 
 pub as_many_numbers : (b : Block) (order : List ℕ) → order ≡ order_of b → length b.positions ≡ length order
@@ -37,7 +37,7 @@ pub few_profiles : (b : Block) → IsBlock b → length (profiles_of b) ≤ 6553
 few_profiles b block = let many = length-map b.positions (λ (p : Position). p.profile) in let few = block.count in omega (arith, many, few)
 
 -- what ran elsewhere is a run of the block
-pub run_of : (world : World) (calls : List Call) (b : Block) (setting : Setting) (order : List ℕ) (cells : Cells) (ran : List Ran) (last : Cells)
+pub run_of : (world : World) (calls : List Call) (b : Block) (setting : Setting) (order : List ℕ) (cells : Cells) (ran : List CallResult) (last : Cells)
     → setting ≡ setting_of b.version world → order ≡ order_of b → cells ≡ world.cells → Serial setting calls order cells ran last → RunOf world calls b ran last
 run_of world calls b setting order cells ran last same_setting same_order same_cells run =
     subst (λ (t : Setting × (List ℕ × Cells)). Serial t.0 calls t.1.0 t.1.1 ran last) (λ k. (same_setting k, (same_order k, same_cells k))) run
@@ -52,7 +52,7 @@ if_err (Ok x) P Q f p = tt
 if_err (Err e) P Q f p = f e p
 
 -- a verdict that was found without running a call
-pub told_first : {A E : Type 0} (u : Unfit) (r : Result (Validated A) E) (P : Verdict → Type 0) → IfOk r (λ found. IsToldBy u (told_by found.verdict)) → IfRejected u P → IfOk r (λ found. P (told_by found.verdict))
+pub told_first : {A E : Type 0} (u : JudgeRefusal) (r : Result (Validated A) E) (P : Verdict → Type 0) → IfOk r (λ found. IsToldBy u (verdict_view found.verdict)) → IfRejected u P → IfOk r (λ found. P (verdict_view found.verdict))
 told_first u (Err e) P told is = tt
 told_first (unfit.Rejected reason) (Ok found) P told is = subst P (sym told) is
 told_first unfit.NoMemory (Ok found) P told is = absurd told
@@ -72,12 +72,12 @@ module _ {A : Type 0} (t : Trial A) where
   may_run trial admissible = record { trial = trial; within = record { known = admissible_known t.calls.now t.fuel t.order.now admissible; admissible = admissible } }
 
   -- what an earlier judgement found is what is found
-  pub judged_before : {U : Type 0} (r : Result U Unfit) (u : Unfit) → IsErrAnd r (λ e. e ≡ u) → IfRejected u (IsFirst t) → IsJudged t r
+  pub judged_before : {U : Type 0} (r : Result U JudgeRefusal) (u : JudgeRefusal) → IsErrAnd r (λ e. e ≡ u) → IfRejected u (IsFirst t) → IsJudged t r
   judged_before (Ok x) u is first = absurd is
-  judged_before (Err e) u is first = record { rejected = subst (λ (v : Unfit). IfRejected v (IsFirst t)) (sym is) first; passed = tt }
+  judged_before (Err e) u is first = record { rejected = subst (λ (v : JudgeRefusal). IfRejected v (IsFirst t)) (sym is) first; passed = tt }
 
   -- and where the turns are right, too, none of the first seven reasons holds
-  pub is_fit : {U : Type 0} (r : Result U Unfit) → NoneFrom (Holds t) 1 7 → OnOk r ((w : World) (calls : List Call) (fuel : ℕ) → NoneFrom (HoldsOf w calls fuel t.block.now) 1 7 → NoneFrom (HoldsOf w calls fuel t.block.now) 1 8)
+  pub is_fit : {U : Type 0} (r : Result U JudgeRefusal) → NoneFrom (Holds t) 1 7 → OnOk r ((w : World) (calls : List Call) (fuel : ℕ) → NoneFrom (HoldsOf w calls fuel t.block.now) 1 7 → NoneFrom (HoldsOf w calls fuel t.block.now) 1 8)
       → OnOk r (HaveTurns (profiles_of t.block.now)) → OnOk r (IsFit t)
   is_fit (Ok x) before passed turns = record { none = passed (world_view t.world.now) t.calls.now t.fuel before; turns = turns }
   is_fit (Err e) before passed turns = tt

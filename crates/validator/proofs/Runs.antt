@@ -10,9 +10,9 @@ use Rattle.spec_ledger.specs.Cells.{Cells, reply_to}
 use Rattle.spec_execution.specs.Run.{ContractCall, IsReply}
 use Rattle.serial.proofs.Replies.{is_reply}
 use Rattle.interp.specs.Played.{Played}
-use Rattle.in_order.specs.Ran.{IsRunOf}
+use Rattle.in_order.specs.Progress.{IsRunOf}
 use Rattle.validator.specs.declared.job.Job.{Job}
-use Rattle.validator.specs.declared.job.Made.{Made}
+use Rattle.validator.specs.declared.job.PositionRun.{PositionRun}
 use Rattle.validator.specs.Handed.{IsMade, AreMade, AreFound}
 
 -- what a machine that was started with the call of this number ends in
@@ -26,11 +26,11 @@ pub reply_of : (op : Op) (cells : Cells) (o : Option Reply) (r : Reply) → IfSo
 reply_of op cells o r some is = is_reply op cells r (subst (λ x. IfSome x (λ y. y ≡ reply_to op cells)) is some)
 
 module _ {A P : Type 0} (job : Job A P) where
-  pub one_more_made : (xs zs : List (Made A)) (x : Made A) → zs ≡ xs ++ x ∷ [] → AreMade job xs → IsMade job x → AreMade job zs
+  pub one_more_made : (xs zs : List (PositionRun A)) (x : PositionRun A) → zs ≡ xs ++ x ∷ [] → AreMade job xs → IsMade job x → AreMade job zs
   one_more_made xs zs x is all one = subst (AreMade job) (sym is) (All-push (IsMade job) xs x all one)
 
-  pub none_yet : (xs zs : List (Option (Made A))) → zs ≡ xs ++ None ∷ [] → AreFound job xs → AreFound job zs
+  pub none_yet : (xs zs : List (Option (PositionRun A))) → zs ≡ xs ++ None ∷ [] → AreFound job xs → AreFound job zs
   none_yet xs zs is all = subst (AreFound job) (sym is) (All-push (λ o. IfSome o (IsMade job)) xs None all tt)
 
-  pub one_noted : (xs : List (Option (Made A))) (i : ℕ) (x : Made A) → AreFound job xs → IsMade job x → AreFound job (set xs i (Some x))
+  pub one_noted : (xs : List (Option (PositionRun A))) (i : ℕ) (x : PositionRun A) → AreFound job xs → IsMade job x → AreFound job (set xs i (Some x))
   one_noted xs i x all one = All-set (λ o. IfSome o (IsMade job)) xs i (Some x) one all

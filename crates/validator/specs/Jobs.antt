@@ -1,9 +1,9 @@
 -- The calls of a block, in their order over the cells before it.
 use Rattle.std.specs.Prelude.{◌≡◌}
 use Rattle.spec_block.specs.Serial.{setting_of}
-use Rattle.interp.specs.Lent.{setting_view}
+use Rattle.interp.specs.Callee.{setting_view}
 use Rattle.world.specs.Views.{world_view}
-use Rattle.in_order.specs.Ran.{IsKnown}
+use Rattle.in_order.specs.Progress.{IsKnown}
 use Rattle.validator.specs.declared.job.Job.{Job}
 use Rattle.validator.specs.Tried.{MayRun}
 

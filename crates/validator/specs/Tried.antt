@@ -4,7 +4,7 @@ use Rattle.spec_block.specs.Worlds.{order_of, profiles_of}
 use Rattle.spec_block.specs.Schedule.{HaveTurns}
 use Rattle.spec_block.specs.Verdicts.{HoldsOf, Verdict}
 use Rattle.world.specs.Views.{world_view}
-use Rattle.block_judge.specs.declared.reason.Unfit.{Unfit}
+use Rattle.block_judge.specs.declared.reason.JudgeRefusal.{JudgeRefusal}
 use Rattle.block_judge.specs.Judging.{IfRejected, IsFirstFrom, NoneFrom}
 use Rattle.validator.specs.declared.trial.Trial.{Trial}
 use Rattle.validator.specs.Fuel.{IsWithinFuel}
@@ -35,6 +35,6 @@ pub record IsFit {A : Type 0} (t : Trial A) : Type 0 where
   pub turns : HaveTurns (profiles_of t.block.now)
 
 -- the first of the reasons 2 to 7 that holds, or none
-pub record IsJudged {A U : Type 0} (t : Trial A) (judged : Result U Unfit) : Type 0 where
+pub record IsJudged {A U : Type 0} (t : Trial A) (judged : Result U JudgeRefusal) : Type 0 where
   pub rejected : IfErr judged (λ unfit. IfRejected unfit (IsFirst t))
   pub passed : OnOk judged (IsFit t)

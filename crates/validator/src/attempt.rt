@@ -2,17 +2,16 @@
 
 ghost use Rattle.std.specs.Prelude.{◌≡◌, ◌<◌, ◌≤◌, ◌^◌, Ok, true, false, IfOk, IfSome, OnOk, length};
 ghost use Rattle.spec_execution.specs.Run.{IsReply, opening};
-ghost use Rattle.interp.specs.Lent.{setting_view};
+ghost use Rattle.interp.specs.Callee.{setting_view};
 ghost use Rattle.interp.specs.Starting.{IsOpened, IsRejection};
 ghost use Rattle.interp.specs.Progress.{IsFree, IsSameCall};
-ghost use Rattle.turn_loop.specs.Going.{MayGoOn, IsEnded};
+ghost use Rattle.serial.specs.Going.{MayGoOn, IsEnded};
 ghost use Rattle.validator.specs.Handed.{IsMade, IsRunIn};
 ghost use Rattle.validator.specs.Jobs.{IsJob};
 
-use crate::job::{Came, Job, Made};
+use crate::job::{Job, PositionResult, PositionRun};
 use crate::profile::allows;
 use ahead::Ahead;
-use brief_lock::acquire;
 use call::Call;
 use in_order::Task;
 use interp::finished::Finished;
@@ -20,12 +19,12 @@ use interp::machine::Machine;
 use interp::start::StartRefusal;
 use link::deployed::Deployed as Contract;
 use lock_profile::Profile;
-use pace::{Pace, Step};
+use pace::{Pace, Step, acquire};
+use serial::{HostRequest, next_request};
 use spec_ledger::{NoMemory, Op, Reply, Version};
 use std::alloc::Allocator;
 use std::sync::{Mutex, Wait};
 use storage::returned;
-use turn_loop::{Wish, next_wish};
 
 /// Why a run is not made.
 #[derive(Drop)]
@@ -39,14 +38,14 @@ enum Stop {
 }
 
 /// Tells the pace a step, and answers whether the worker stops there.
-fn told<P: Pace>(pace: &P, step: Step) -> bool {
+fn must_stop_at<P: Pace>(pace: &P, step: Step) -> bool {
     pace.at(step);
     pace.stops(step)
 }
 
 /// A position, the number of its call, what the call may ask for, the cells that it is run over, and who is told.
 #[derive(Drop)]
-struct Place<'s, A: Allocator, P: Pace> {
+struct AttemptContext<'s, A: Allocator, P: Pace> {
     position: u32,
     number: u32,
     profile: &'s Profile<A>,
@@ -74,7 +73,7 @@ fn act<A: Allocator + Copy>(
 /// Does an operation that is within the profile, and tells the pace before it, which may stop the worker.
 fn ask<A: Allocator + Copy, R: Wait, P: Pace>(
     rt: &R,
-    place: &Place<'_, A, P>,
+    place: &AttemptContext<'_, A, P>,
     n: u64,
     op: Op,
 ) -> Result<Reply, Stop>
@@ -84,7 +83,7 @@ fn ask<A: Allocator + Copy, R: Wait, P: Pace>(
         call: place.number,
         n,
     };
-    if told(place.pace, step) {
+    if must_stop_at(place.pace, step) {
         return Err(Stop::Stopped);
     }
     if !allows(place.profile, op) {
@@ -96,7 +95,7 @@ fn ask<A: Allocator + Copy, R: Wait, P: Pace>(
 /// Notes how many operations a position has done where a level is entered.
 fn enter<A: Allocator + Copy, R: Wait, P: Pace>(
     rt: &R,
-    place: &Place<'_, A, P>,
+    place: &AttemptContext<'_, A, P>,
     marks: &mut Vec<usize, A>,
 ) -> Result<(), Stop> {
     let mark = acquire(rt, place.ahead).count(place.position as usize);
@@ -109,7 +108,7 @@ fn enter<A: Allocator + Copy, R: Wait, P: Pace>(
 /// Leaves the innermost level of a position, which the last mark is of: what was done in it stands, or is taken back under the lock of the cells.
 fn leave<A: Allocator + Copy, R: Wait, P: Pace>(
     rt: &R,
-    place: &Place<'_, A, P>,
+    place: &AttemptContext<'_, A, P>,
     marks: &mut Vec<usize, A>,
     keep: bool,
 ) {
@@ -125,7 +124,7 @@ fn leave<A: Allocator + Copy, R: Wait, P: Pace>(
 /// Goes on to the next operation, or to the next level that is entered or left, and does it. Answers whether there was one.
 fn do_next<'a, A: Allocator + Copy, R: Wait, P: Pace>(
     rt: &R,
-    place: &Place<'_, A, P>,
+    place: &AttemptContext<'_, A, P>,
     machine: &mut Machine<'a, A>,
     marks: &mut Vec<usize, A>,
     asked: &mut u64,
@@ -138,18 +137,18 @@ fn do_next<'a, A: Allocator + Copy, R: Wait, P: Pace>(
     ensures ended { result ≡ Ok false → IsEnded machine.new.status }
     ensures asked { OnOk result (asked.new ≤ machine.new.used) }
 {
-    match next_wish(machine) {
-        Ok(Some(Wish::Do(op))) => {
+    match next_request(machine) {
+        Ok(Some(HostRequest::Do(op))) => {
             let reply = ask(rt, place, *asked, op)?;
             machine.answer(reply);
             *asked += 1;
             Ok(true)
         }
-        Ok(Some(Wish::Enter)) => {
+        Ok(Some(HostRequest::Enter)) => {
             enter(rt, place, marks)?;
             Ok(true)
         }
-        Ok(Some(Wish::Leave(keep))) => {
+        Ok(Some(HostRequest::Leave(keep))) => {
             leave(rt, place, marks, keep);
             Ok(true)
         }
@@ -162,7 +161,7 @@ fn do_next<'a, A: Allocator + Copy, R: Wait, P: Pace>(
 fn run<'a, A: Allocator + Copy, R: Wait, P: Pace>(
     rt: &R,
     alloc: A,
-    place: &Place<'_, A, P>,
+    place: &AttemptContext<'_, A, P>,
     mut machine: Machine<'a, A>,
 ) -> Result<Finished<'a, A>, Stop>
     requires free { IsFree machine.status }
@@ -200,7 +199,7 @@ fn rejected<'a, A: Allocator + Copy>(
 fn play<'a, A: Allocator + Copy, R: Wait, P: Pace>(
     rt: &R,
     job: &Job<'_, 'a, A, P>,
-    place: &Place<'_, A, P>,
+    place: &AttemptContext<'_, A, P>,
     number: u32,
 ) -> Result<Finished<'a, A>, Stop>
     requires { number < length job.now.ordered.task.calls.now }
@@ -239,7 +238,7 @@ pub(crate) fn attempt<'a, A: Allocator + Copy, R: Wait, P: Pace>(
     job: &Job<'_, 'a, A, P>,
     ahead: &Mutex<Ahead<A>>,
     position: u32,
-) -> Result<Came<'a, A>, NoMemory>
+) -> Result<PositionResult<'a, A>, NoMemory>
     requires { IsJob job.now }
     ensures { IfOk result (λ came. IfSome came.run (IsMade job.now)) }
 {
@@ -248,7 +247,7 @@ pub(crate) fn attempt<'a, A: Allocator + Copy, R: Wait, P: Pace>(
     let trial = job.trial;
     let positions = trial.block.positions();
     if at >= order.len() || at >= positions.len() {
-        return Ok(Came {
+        return Ok(PositionResult {
             run: None,
             stops: false,
         });
@@ -258,13 +257,13 @@ pub(crate) fn attempt<'a, A: Allocator + Copy, R: Wait, P: Pace>(
         call: number,
         nth: 0,
     };
-    if told(job.ordered.pace, step) {
-        return Ok(Came {
+    if must_stop_at(job.ordered.pace, step) {
+        return Ok(PositionResult {
             run: None,
             stops: true,
         });
     }
-    let place = Place {
+    let place = AttemptContext {
         position,
         number,
         profile: positions[at].profile(),
@@ -274,15 +273,15 @@ pub(crate) fn attempt<'a, A: Allocator + Copy, R: Wait, P: Pace>(
     let played = play(rt, job, &place, number);
     acquire(rt, ahead).end(at, stands(&played));
     match played {
-        Ok(finished) => Ok(Came {
-            run: Some(Made { position, finished }),
+        Ok(finished) => Ok(PositionResult {
+            run: Some(PositionRun { position, finished }),
             stops: false,
         }),
-        Err(Stop::Outside) => Ok(Came {
+        Err(Stop::Outside) => Ok(PositionResult {
             run: None,
             stops: false,
         }),
-        Err(Stop::Stopped) => Ok(Came {
+        Err(Stop::Stopped) => Ok(PositionResult {
             run: None,
             stops: true,
         }),

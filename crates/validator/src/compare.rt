@@ -2,8 +2,8 @@
 
 ghost use Rattle.std.specs.Prelude.{◌≡◌, ◌<◌, ◌^◌, ◌↔◌, ℕ, IfNone, IfSome, IsTrue, length};
 ghost use Rattle.lock_profile.specs.Groups.{pairs};
-ghost use Rattle.serial.specs.Positions.{positions as ran_of};
-ghost use Rattle.serial_block.specs.Ordered.{used_by};
+ghost use Rattle.serial.specs.Positions.{results_of};
+ghost use Rattle.serial.specs.Ordered.{fuel_of_receipts};
 ghost use Rattle.spec_block.specs.Worlds.{held_in};
 ghost use Rattle.spec_block.specs.Verdicts.{Agrees, IsLeast, IsOther};
 ghost use Rattle.validator.specs.Judged.{IsCompared};
@@ -63,8 +63,8 @@ fn first_deviating<A: Allocator>(
     requires few { length positions.now < 2 ^ 32 }
     requires receipts { length receipts.now ≡ length positions.now }
     requires touched { length touched.now ≡ length positions.now }
-    ensures other { IfSome result (IsLeast (IsOther positions.now (ran_of receipts.now touched.now))) }
-    ensures same { IfNone result ((position : ℕ) → ¬ (IsOther positions.now (ran_of receipts.now touched.now) position)) }
+    ensures other { IfSome result (IsLeast (IsOther positions.now (results_of receipts.now touched.now))) }
+    ensures same { IfNone result ((position : ℕ) → ¬ (IsOther positions.now (results_of receipts.now touched.now) position)) }
 {
     for (at, position) in positions.iter().enumerate() {
         if !agrees(position, receipts[at], &touched[at]) {
@@ -76,7 +76,7 @@ fn first_deviating<A: Allocator>(
 
 /// Whether this is the fuel that calls with these receipts used.
 fn is_total(fuel: u64, receipts: &[Receipt]) -> bool
-    ensures { IsTrue result ↔ (fuel ≡ used_by receipts.now) }
+    ensures { IsTrue result ↔ (fuel ≡ fuel_of_receipts receipts.now) }
 {
     let mut rest = fuel;
     for receipt in receipts {

@@ -1,7 +1,7 @@
 //! The verdict on a block whose calls were run.
 
 ghost use Rattle.std.specs.Prelude.{◌≡◌, ◌≤◌, ◌↔◌, ℕ, List, IfOk, IsTrue, length};
-ghost use Rattle.serial.specs.Positions.{positions as ran_of};
+ghost use Rattle.serial.specs.Positions.{results_of};
 ghost use Rattle.spec_block.specs.Worlds.{Call as TheCall};
 ghost use Rattle.sha2.specs.Sha256.{sha256};
 ghost use Rattle.spec_block.specs.Bytes.{world_bytes};
@@ -9,9 +9,9 @@ ghost use Rattle.spec_block.specs.Blocks.{world_after as after};
 ghost use Rattle.spec_block.specs.Verdicts.{HoldsOf, RunOf};
 ghost use Rattle.block_judge.specs.Judging.{IsFirstFrom};
 ghost use Rattle.world.specs.Views.{world_view};
-ghost use Rattle.in_order.specs.Ran.{IsRanOf};
+ghost use Rattle.in_order.specs.Progress.{IsProgressOf};
 ghost use Rattle.validator.specs.Jobs.{IsJob};
-ghost use Rattle.validator.specs.Judged.{IsCompared, told_by};
+ghost use Rattle.validator.specs.Judged.{IsCompared, verdict_view};
 ghost use Rattle.validator.specs.Tried.{IsFirst, IsFit};
 
 use crate::compare::{Compared, compare};
@@ -19,11 +19,10 @@ use crate::job::Job;
 use crate::verdict::{Validated, Verdict};
 use block::Block;
 use block_judge::Reason;
-use gain::digesters;
-use in_order::Ran;
+use in_order::OrderProgress;
 use lock_profile::Touched;
-use pace::Pace;
-use serial_block::copied;
+use pace::{Pace, digesters};
+use serial::copied;
 use spec_ledger::{NoMemory, Receipt};
 use std::alloc::Allocator;
 use std::thread::{Threads, join};
@@ -88,16 +87,16 @@ fn conclude<R: Threads + Sync, A: Allocator + Copy + Send + Sync>(
     alloc: A,
     world: &World<A>,
     block: &Block<A>,
-    ran: Ran<A>,
+    ran: OrderProgress<A>,
     workers: u32,
 ) -> Result<Verdict<A>, NoMemory>
     requires few { length block.now.positions ≤ 65535 }
     requires receipts { length ran.receipts.items ≡ length block.now.positions }
     requires touched { length ran.touched.items ≡ length block.now.positions }
-    ensures { IfOk result (λ verdict. (calls : List TheCall) (fuel : ℕ) → RunOf (world_view world.now) calls block.now (ran_of ran.receipts.items ran.touched.items) ran.cells.cells → IsFirstFrom (HoldsOf (world_view world.now) calls fuel block.now) 8 (told_by verdict)) }
+    ensures { IfOk result (λ verdict. (calls : List TheCall) (fuel : ℕ) → RunOf (world_view world.now) calls block.now (results_of ran.receipts.items ran.touched.items) ran.cells.cells → IsFirstFrom (HoldsOf (world_view world.now) calls fuel block.now) 8 (verdict_view verdict)) }
 {
     spec_block::one_serial_run();
-    let Ran {
+    let OrderProgress {
         receipts,
         touched,
         cells,
@@ -121,7 +120,7 @@ fn conclude<R: Threads + Sync, A: Allocator + Copy + Send + Sync>(
 }
 
 /// How many of the calls were not done by what they did ahead of their turn.
-fn count_again<A: Allocator>(ran: &Ran<A>) -> u32
+fn count_again<A: Allocator>(ran: &OrderProgress<A>) -> u32
     requires few { length ran.now.receipts.items ≤ 65535 }
     requires ahead { ran.now.ahead ≤ length ran.now.receipts.items }
     ensures { result ≤ length ran.now.receipts.items }
@@ -133,14 +132,14 @@ fn count_again<A: Allocator>(ran: &Ran<A>) -> u32
 pub(crate) fn end<'a, R: Threads + Sync, A: Allocator + Copy + Send + Sync, P: Pace>(
     rt: &R,
     job: &Job<'_, 'a, A, P>,
-    ran: Ran<A>,
+    ran: OrderProgress<A>,
     workers: u32,
 ) -> Result<Validated<A>, NoMemory>
     requires job { IsJob job.now }
     requires fit { IsFit job.now.trial.now }
-    requires ran { IsRanOf job.now.ordered ran }
+    requires ran { IsProgressOf job.now.ordered ran }
     requires whole { length ran.receipts.items ≡ length job.now.ordered.order.now }
-    ensures verdict { IfOk result (λ found. IsFirst job.now.trial.now (told_by found.verdict)) }
+    ensures verdict { IfOk result (λ found. IsFirst job.now.trial.now (verdict_view found.verdict)) }
     ensures again { IfOk result (λ found. found.again ≤ length job.now.trial.now.block.now.positions) }
 {
     let again = count_again(&ran);

@@ -16,7 +16,7 @@ pub(crate) struct Job<'s, 'a, A: Allocator, P: Pace> {
 
 /// A run that a worker made.
 #[derive(Drop)]
-pub(crate) struct Made<'a, A: Allocator> {
+pub(crate) struct PositionRun<'a, A: Allocator> {
     /// The position of its call.
     pub(crate) position: u32,
     pub(crate) finished: Finished<'a, A>,
@@ -24,9 +24,9 @@ pub(crate) struct Made<'a, A: Allocator> {
 
 /// What a position came to at a worker.
 #[derive(Drop)]
-pub(crate) struct Came<'a, A: Allocator> {
+pub(crate) struct PositionResult<'a, A: Allocator> {
     /// The run that the worker made, if it did.
-    pub(crate) run: Option<Made<'a, A>>,
+    pub(crate) run: Option<PositionRun<'a, A>>,
     /// Whether the pace stops the worker.
     pub(crate) stops: bool,
 }
@@ -34,7 +34,7 @@ pub(crate) struct Came<'a, A: Allocator> {
 /// The runs that a worker made, and the contracts that they ran over. (Without the contracts at their side, it is not known of a list of
 /// these that the allocator lives as long as they do, which dropping it asks.)
 #[derive(Drop)]
-pub(crate) struct Part<'a, A: Allocator> {
+pub(crate) struct WorkerRuns<'a, A: Allocator> {
     pub(crate) contracts: &'a [Contract<A>],
-    pub(crate) made: Vec<Made<'a, A>, A>,
+    pub(crate) made: Vec<PositionRun<'a, A>, A>,
 }

@@ -16,10 +16,10 @@ ghost use Rattle.std.specs.Prelude.{◌≡◌, ◌≤◌, IfErr, IfOk, length};
 ghost use Rattle.spec_block.specs.Bytes.{SpellsBlock};
 ghost use Rattle.spec_block.specs.Verdicts.{IsVerdictOf};
 ghost use Rattle.block_judge.specs.Judging.{IfRejected, IsReasonOf, told};
-ghost use Rattle.in_order.specs.Ran.{IsRanOf};
+ghost use Rattle.in_order.specs.Progress.{IsProgressOf};
 ghost use Rattle.world.specs.Views.{world_view};
 ghost use Rattle.validator.specs.Jobs.{IsJob};
-ghost use Rattle.validator.specs.Judged.{told_by};
+ghost use Rattle.validator.specs.Judged.{verdict_view};
 ghost use Rattle.validator.specs.Tried.{IsFirst, IsJudged, IsTrial, MayRun};
 
 use crate::end::end;
@@ -30,9 +30,9 @@ pub use crate::verdict::{Validated, Verdict};
 use crate::workers::run_watched;
 use block::Block;
 pub use block_judge::Reason;
-use block_judge::{Unfit, judge_digests, judge_order, numbers_of, spelled_by};
+use block_judge::{JudgeRefusal, judge_digests, judge_order, numbers_of, spelled_by};
 use call::Call;
-use in_order::{InOrder, Ran, Task, begin, complete, run_with};
+use in_order::{InOrder, OrderProgress, Task, begin, complete, run_with};
 use pace::Pace;
 use std::alloc::{Allocator, Global};
 use std::sync::Wait;
@@ -44,7 +44,7 @@ use wtypes::NoMemory;
 fn judge<A: Allocator + Copy, P: Pace>(
     job: &Job<'_, '_, A, P>,
     _nothing: Vec<u32, A>,
-) -> Result<(), Unfit>
+) -> Result<(), JudgeRefusal>
     requires { MayRun job.now.trial.now }
     ensures { IsJudged job.now.trial.now result }
 {
@@ -60,14 +60,14 @@ fn judge<A: Allocator + Copy, P: Pace>(
 fn judge_and_run<'a, R: Threads + Wait + Sync, A: Allocator + Copy + Send + Sync, P: Pace>(
     rt: &R,
     job: &Job<'_, 'a, A, P>,
-    ran: Ran<A>,
+    ran: OrderProgress<A>,
     workers: u32,
-) -> (Result<(), Unfit>, Result<Ran<A>, NoMemory>)
+) -> (Result<(), JudgeRefusal>, Result<OrderProgress<A>, NoMemory>)
     requires job { IsJob job.now }
-    requires ran { IsRanOf job.now.ordered ran }
+    requires ran { IsProgressOf job.now.ordered ran }
     requires workers { 1 ≤ workers }
     ensures judged { IsJudged job.now.trial.now result.0 }
-    ensures ran { IfOk result.1 (IsRanOf job.now.ordered) }
+    ensures ran { IfOk result.1 (IsProgressOf job.now.ordered) }
 {
     let nothing = Vec::new(job.ordered.alloc);
     run_with(
@@ -75,7 +75,7 @@ fn judge_and_run<'a, R: Threads + Wait + Sync, A: Allocator + Copy + Send + Sync
         &job.ordered,
         ran,
         workers,
-        move || -> Result<(), Unfit>
+        move || -> Result<(), JudgeRefusal>
             requires { MayRun job.now.trial.now }
             ensures { IsJudged job.entry.now.trial.now result }
         { judge(job, nothing) },
@@ -90,7 +90,7 @@ fn verdict_in_order<'a, R: Threads + Wait + Sync, A: Allocator + Copy + Send + S
 ) -> Result<Validated<A>, NoMemory>
     requires job { IsJob job.now }
     requires workers { 1 ≤ workers }
-    ensures { IfOk result (λ found. IsFirst job.now.trial.now (told_by found.verdict)) }
+    ensures { IfOk result (λ found. IsFirst job.now.trial.now (verdict_view found.verdict)) }
 {
     let (judged, ran) = judge_and_run(rt, job, begin(&job.ordered)?, workers);
     match judged {
@@ -108,7 +108,7 @@ fn verdict_watched<'a, R: Threads + Wait + Sync, A: Allocator + Copy + Send + Sy
 ) -> Result<Validated<A>, NoMemory>
     requires job { IsJob job.now }
     requires workers { 1 ≤ workers }
-    ensures { IfOk result (λ found. IsFirst job.now.trial.now (told_by found.verdict)) }
+    ensures { IfOk result (λ found. IsFirst job.now.trial.now (verdict_view found.verdict)) }
 {
     match job.trial.judge(job.ordered.alloc) {
         Ok(()) => end(rt, job, run_watched(rt, job, workers)?, workers),
@@ -124,7 +124,7 @@ fn verdict_by_pace<'a, R: Threads + Wait + Sync, A: Allocator + Copy + Send + Sy
 ) -> Result<Validated<A>, NoMemory>
     requires job { IsJob job.now }
     requires workers { 1 ≤ workers }
-    ensures { IfOk result (λ found. IsFirst job.now.trial.now (told_by found.verdict)) }
+    ensures { IfOk result (λ found. IsFirst job.now.trial.now (verdict_view found.verdict)) }
 {
     if job.ordered.pace.watches() {
         verdict_watched(rt, job, workers)
@@ -143,7 +143,7 @@ fn verdict_within<R: Threads + Wait + Sync, A: Allocator + Copy + Send + Sync, P
 ) -> Result<Validated<A>, NoMemory>
     requires trial { MayRun trial.now }
     requires workers { 1 ≤ workers }
-    ensures { IfOk result (λ found. IsFirst trial.now (told_by found.verdict)) }
+    ensures { IfOk result (λ found. IsFirst trial.now (verdict_view found.verdict)) }
 {
     let task = Task {
         contracts: trial.world.contracts(),
@@ -158,13 +158,13 @@ fn verdict_within<R: Threads + Wait + Sync, A: Allocator + Copy + Send + Sync, P
 }
 
 /// What is found first of a block whose order is rejected for this reason: the reasons of its digests come before.
-fn first_unfit<A: Allocator + Copy>(alloc: A, trial: &Trial<'_, A>, reason: Reason) -> Unfit
+fn first_unfit<A: Allocator + Copy>(alloc: A, trial: &Trial<'_, A>, reason: Reason) -> JudgeRefusal
     requires trial { IsTrial trial.now }
     requires reason { IsReasonOf trial.now.calls.now trial.now.order.now trial.now.fuel (told reason) }
     ensures { IfRejected result (IsFirst trial.now) }
 {
     match judge_digests(alloc, trial.world, trial.calls, trial.block) {
-        Ok(()) => Unfit::Rejected(reason),
+        Ok(()) => JudgeRefusal::Rejected(reason),
         Err(unfit) => unfit,
     }
 }
@@ -180,12 +180,12 @@ fn verdict_of<R: Threads + Wait + Sync, A: Allocator + Copy + Send + Sync, P: Pa
 ) -> Result<Validated<A>, NoMemory>
     requires trial { IsTrial trial.now }
     requires workers { 1 ≤ workers }
-    ensures { IfOk result (λ found. IsFirst trial.now (told_by found.verdict)) }
+    ensures { IfOk result (λ found. IsFirst trial.now (verdict_view found.verdict)) }
 {
     match judge_order(alloc, trial.calls, trial.fuel, trial.order) {
         Ok(()) => verdict_within(rt, alloc, trial, workers, pace),
-        Err(Unfit::Rejected(reason)) => verdict_on(first_unfit(alloc, trial, reason)),
-        Err(Unfit::NoMemory) => Err(NoMemory),
+        Err(JudgeRefusal::Rejected(reason)) => verdict_on(first_unfit(alloc, trial, reason)),
+        Err(JudgeRefusal::NoMemory) => Err(NoMemory),
     }
 }
 
@@ -196,7 +196,7 @@ fn spelled_for<A: Allocator + Copy>(
     _calls: &[Call],
     _fuel: u64,
     bytes: &[u8],
-) -> Result<Block<A>, Unfit>
+) -> Result<Block<A>, JudgeRefusal>
     ensures spelled { IfOk result (SpellsBlock bytes.now) }
     ensures rejected { IfErr result (λ unfit. IfRejected unfit (IsVerdictOf (world_view _world.now) _calls.now _fuel bytes.now)) }
 {
@@ -220,14 +220,14 @@ pub fn find_verdict<R: Threads + Wait + Sync, A: Allocator + Copy + Send + Sync,
 ) -> Result<Validated<A>, NoMemory>
     requires calls { length calls.now ≤ 65535 }
     requires workers { 1 ≤ workers }
-    ensures verdict { IfOk result (λ v. IsVerdictOf (world_view world.now) calls.now block_fuel bytes.now (told_by v.verdict)) }
+    ensures verdict { IfOk result (λ v. IsVerdictOf (world_view world.now) calls.now block_fuel bytes.now (verdict_view v.verdict)) }
 {
     block_judge::first_is_verdict();
     let block = match spelled_for(alloc, world, calls, block_fuel, bytes) {
         Ok(block) => block,
         Err(unfit) => return verdict_on(unfit),
     };
-    block.hold();
+    block.use_invariant();
     let order = numbers_of(alloc, &block)?;
     let trial = Trial {
         world,
@@ -264,7 +264,7 @@ pub fn validate_in<R: Threads + Wait + Sync, A: Allocator + Copy + Send + Sync, 
 ) -> Result<Verdict<A>, NoMemory>
     requires calls { length calls.now ≤ 65535 }
     requires workers { (1 ≤ workers) × (workers ≤ 64) }
-    ensures verdict { IfOk result (λ verdict. IsVerdictOf (world_view world.now) calls.now block_fuel bytes.now (told_by verdict)) }
+    ensures verdict { IfOk result (λ verdict. IsVerdictOf (world_view world.now) calls.now block_fuel bytes.now (verdict_view verdict)) }
 {
     let Validated { verdict, again: _ } = find_verdict(
         rt, alloc, world, calls, block_fuel, bytes, workers, pace,
@@ -289,7 +289,7 @@ pub fn validate<R: Threads + Wait + Sync, P: Pace>(
 ) -> Result<Verdict, NoMemory>
     requires calls { length calls.now ≤ 65535 }
     requires workers { (1 ≤ workers) × (workers ≤ 64) }
-    ensures verdict { IfOk result (λ verdict. IsVerdictOf (world_view world.now) calls.now block_fuel bytes.now (told_by verdict)) }
+    ensures verdict { IfOk result (λ verdict. IsVerdictOf (world_view world.now) calls.now block_fuel bytes.now (verdict_view verdict)) }
 {
     validate_in(rt, alloc, world, calls, block_fuel, bytes, workers, pace)
 }

@@ -15,7 +15,7 @@ fn profile_of<A: Allocator + Copy>(alloc: A, position: &Position<A>) -> Result<P
     ensures { IfOk result (λ copy. copy ≡ position.now.profile) }
 {
     let profile = position.profile();
-    profile.hold();
+    profile.use_invariant();
     let entries = Vec::from_slice(alloc, profile.entries())?;
     let Some(copy) = Profile::from_sorted(entries) else {
         unreachable!()

@@ -1,8 +1,8 @@
 // What the workers share beside the job.
 
 use ahead::Ahead;
-use brief_lock::acquire;
 use lanes::Lane;
+use pace::acquire;
 use schedule::{Board, EndRefusal};
 use spec_ledger::NoMemory;
 use std::alloc::Allocator;
@@ -16,7 +16,7 @@ pub(crate) struct Shared<A: Allocator> {
     pub(crate) ahead: Mutex<Ahead<A>>,
     /// How many positions have not ended.
     pub(crate) rest: AtomicU64,
-    /// Whether a worker gave up: it met want of memory, or the board refused to end a position.
+    /// Whether a worker gave up: it met out of memory, or the board refused to end a position.
     pub(crate) given_up: AtomicBool,
 }
 

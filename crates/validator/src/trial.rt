@@ -3,7 +3,7 @@
 ghost use Rattle.validator.specs.Tried.{IsJudged, MayRun};
 
 use block::Block;
-use block_judge::{Unfit, judge_digests, judge_turns};
+use block_judge::{JudgeRefusal, judge_digests, judge_turns};
 use call::Call;
 use std::alloc::Allocator;
 use world::World;
@@ -21,7 +21,7 @@ pub(crate) struct Trial<'s, A: Allocator> {
 
 impl<A: Allocator + Copy> Trial<'_, A> {
     /// The first of the reasons 2 to 7 that holds of the block, whose order was judged, without running a call.
-    pub(crate) fn judge(&self, alloc: A) -> Result<(), Unfit>
+    pub(crate) fn judge(&self, alloc: A) -> Result<(), JudgeRefusal>
         requires { MayRun self.now }
         ensures { IsJudged self.now result }
     {

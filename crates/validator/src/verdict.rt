@@ -1,9 +1,9 @@
 //! Verdicts.
 
 ghost use Rattle.std.specs.Prelude.{IfOk};
-ghost use Rattle.validator.specs.Judged.{IsToldBy, told_by};
+ghost use Rattle.validator.specs.Judged.{IsToldBy, verdict_view};
 
-use block_judge::{Reason, Unfit};
+use block_judge::{JudgeRefusal, Reason};
 use std::alloc::{Allocator, Global};
 use world::World;
 use wtypes::NoMemory;
@@ -27,14 +27,14 @@ pub struct Validated<A: Allocator = Global> {
 }
 
 /// The verdict on a block of which this was found, without running a call.
-pub(crate) fn verdict_on<A: Allocator>(unfit: Unfit) -> Result<Validated<A>, NoMemory>
-    ensures { IfOk result (λ found. IsToldBy unfit (told_by found.verdict)) }
+pub(crate) fn verdict_on<A: Allocator>(unfit: JudgeRefusal) -> Result<Validated<A>, NoMemory>
+    ensures { IfOk result (λ found. IsToldBy unfit (verdict_view found.verdict)) }
 {
     match unfit {
-        Unfit::Rejected(reason) => Ok(Validated {
+        JudgeRefusal::Rejected(reason) => Ok(Validated {
             verdict: Verdict::Reject(reason),
             again: 0,
         }),
-        Unfit::NoMemory => Err(NoMemory),
+        JudgeRefusal::NoMemory => Err(NoMemory),
     }
 }

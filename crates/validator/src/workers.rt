@@ -1,17 +1,17 @@
 //! The calls of a block, each run once its predecessors have ended, as the paper's fork-join program runs them.
 
 ghost use Rattle.std.specs.Prelude.{◌≡◌, ◌≤◌, IfOk, IfSome, OnOk, length};
-ghost use Rattle.in_order.specs.Ran.{IsRanOf};
+ghost use Rattle.in_order.specs.Progress.{IsProgressOf};
 ghost use Rattle.validator.specs.Handed.{AreFound, AreMade, ArePartsMade, IsMade, IsRunAt};
 ghost use Rattle.validator.specs.Jobs.{IsJob};
 ghost use Rattle.validator.specs.Tried.{IsFit};
 
 use crate::attempt::attempt;
-use crate::job::{Came, Job, Made, Part};
+use crate::job::{Job, PositionResult, PositionRun, WorkerRuns};
 use crate::profile::profiles_of;
 use crate::shared::Shared;
 use ahead::Ahead;
-use in_order::{Ran, begin, go_on};
+use in_order::{OrderProgress, begin, go_on};
 use interp::finished::Finished;
 use lanes::{Lane, Thief, lanes};
 use pace::Pace;
@@ -24,7 +24,7 @@ use std::thread;
 use std::thread::Threads;
 
 /// The runs of all workers.
-type Parts<'a, A> = Vec<Result<Part<'a, A>, NoMemory>, A>;
+type AllWorkerRuns<'a, A> = Vec<Result<WorkerRuns<'a, A>, NoMemory>, A>;
 
 /// A position that may start: of the worker's own lane, and else of another.
 fn find<A: Allocator>(lane: &mut Lane<A>, thief: &mut Thief<A>) -> Option<u32> {
@@ -41,14 +41,14 @@ fn work_on<'a, R: Wait, A: Allocator + Copy, P: Pace>(
     job: &Job<'_, 'a, A, P>,
     shared: &Shared<A>,
     lane: &mut Lane<A>,
-    made: &mut Vec<Made<'a, A>, A>,
+    made: &mut Vec<PositionRun<'a, A>, A>,
     position: u32,
 ) -> Result<bool, NoMemory>
     requires job { IsJob job.now }
     requires made { AreMade job.now made.old.items }
     ensures { OnOk result (AreMade job.now made.new.items) }
 {
-    let Came { run, stops } = attempt(rt, job, &shared.ahead, position)?;
+    let PositionResult { run, stops } = attempt(rt, job, &shared.ahead, position)?;
     if let Some(run) = run {
         made.push(run)?;
     }
@@ -64,7 +64,7 @@ fn work_through<'a, R: Wait, A: Allocator + Copy, P: Pace>(
     shared: &Shared<A>,
     mut lane: Lane<A>,
     mut thief: Thief<A>,
-) -> Result<Part<'a, A>, NoMemory>
+) -> Result<WorkerRuns<'a, A>, NoMemory>
     requires { IsJob job.now }
     ensures { IfOk result (λ part. AreMade job.now part.made.items) }
 {
@@ -82,7 +82,7 @@ fn work_through<'a, R: Wait, A: Allocator + Copy, P: Pace>(
             None => thread::yield_now(),
         }
     }
-    Ok(Part {
+    Ok(WorkerRuns {
         contracts: job.ordered.task.contracts,
         made,
     })
@@ -95,7 +95,7 @@ fn work<'a, R: Wait, A: Allocator + Copy, P: Pace>(
     shared: &Shared<A>,
     lane: Lane<A>,
     thief: Thief<A>,
-) -> Result<Part<'a, A>, NoMemory>
+) -> Result<WorkerRuns<'a, A>, NoMemory>
     requires { IsJob job.now }
     ensures { IfOk result (λ part. AreMade job.now part.made.items) }
 {
@@ -109,8 +109,8 @@ fn work<'a, R: Wait, A: Allocator + Copy, P: Pace>(
 /// Notes a run by its position.
 fn note<'a, A: Allocator + Copy, P: Pace>(
     _job: &Job<'_, 'a, A, P>,
-    runs: &mut Vec<Option<Made<'a, A>>, A>,
-    made: Made<'a, A>,
+    runs: &mut Vec<Option<PositionRun<'a, A>>, A>,
+    made: PositionRun<'a, A>,
 )
     requires runs { AreFound _job.now runs.old.items }
     requires made { IsMade _job.now made }
@@ -125,8 +125,8 @@ fn note<'a, A: Allocator + Copy, P: Pace>(
 /// Notes a worker's runs.
 fn take_part<'a, A: Allocator + Copy, P: Pace>(
     job: &Job<'_, 'a, A, P>,
-    runs: &mut Vec<Option<Made<'a, A>>, A>,
-    mut part: Vec<Made<'a, A>, A>,
+    runs: &mut Vec<Option<PositionRun<'a, A>>, A>,
+    mut part: Vec<PositionRun<'a, A>, A>,
 )
     requires runs { AreFound job.now runs.old.items }
     requires part { AreMade job.now part.items }
@@ -140,8 +140,8 @@ fn take_part<'a, A: Allocator + Copy, P: Pace>(
 /// Notes the runs of all workers. An Err of one is that of all.
 fn take_in<'a, A: Allocator + Copy, P: Pace>(
     job: &Job<'_, 'a, A, P>,
-    runs: &mut Vec<Option<Made<'a, A>>, A>,
-    mut parts: Parts<'a, A>,
+    runs: &mut Vec<Option<PositionRun<'a, A>>, A>,
+    mut parts: AllWorkerRuns<'a, A>,
 ) -> Result<(), NoMemory>
     requires runs { AreFound job.now runs.old.items }
     requires parts { ArePartsMade job.now parts.items }
@@ -156,7 +156,7 @@ fn take_in<'a, A: Allocator + Copy, P: Pace>(
 /// No runs yet, of all positions.
 fn no_runs<'a, A: Allocator + Copy, P: Pace>(
     job: &Job<'_, 'a, A, P>,
-) -> Result<Vec<Option<Made<'a, A>>, A>, NoMemory>
+) -> Result<Vec<Option<PositionRun<'a, A>>, A>, NoMemory>
     ensures { IfOk result (λ runs. AreFound job.now runs.items) }
 {
     let mut runs = Vec::new(job.ordered.alloc);
@@ -190,14 +190,14 @@ fn run_workers<'a, R: Threads + Wait + Sync, A: Allocator + Copy + Send + Sync, 
     job: &Job<'_, 'a, A, P>,
     shared: &Shared<A>,
     pairs: Vec<(Lane<A>, Thief<A>), A>,
-) -> Result<Parts<'a, A>, NoMemory>
+) -> Result<AllWorkerRuns<'a, A>, NoMemory>
     requires { IsJob job.now }
     ensures { IfOk result (λ parts. ArePartsMade job.now parts.items) }
 {
     let parts = thread::map_vec(
         rt,
         pairs,
-        &|pair: (Lane<A>, Thief<A>)| -> Result<Part<A>, NoMemory>
+        &|pair: (Lane<A>, Thief<A>)| -> Result<WorkerRuns<A>, NoMemory>
             requires { IsJob job.now }
             ensures { IfOk result (λ part. AreMade job.entry.now part.made.items) }
         {
@@ -214,7 +214,7 @@ fn run_ready<'a, R: Threads + Wait + Sync, A: Allocator + Copy + Send + Sync, P:
     rt: &R,
     job: &Job<'_, 'a, A, P>,
     workers: u32,
-) -> Result<Vec<Option<Made<'a, A>>, A>, NoMemory>
+) -> Result<Vec<Option<PositionRun<'a, A>>, A>, NoMemory>
     requires job { IsJob job.now }
     requires fit { IsFit job.now.trial.now }
     requires workers { 1 ≤ workers }
@@ -243,9 +243,9 @@ fn run_ready<'a, R: Threads + Wait + Sync, A: Allocator + Copy + Send + Sync, P:
 /// What was noted of a position.
 fn noted<'r, 'a, A: Allocator + Copy, P: Pace>(
     _job: &Job<'_, 'a, A, P>,
-    runs: &'r [Option<Made<'a, A>>],
+    runs: &'r [Option<PositionRun<'a, A>>],
     position: usize,
-) -> Option<&'r Made<'a, A>>
+) -> Option<&'r PositionRun<'a, A>>
     requires { AreFound _job.now runs.now }
     ensures { IfSome result (λ made. IsMade _job.now made.now) }
 {
@@ -258,7 +258,7 @@ fn noted<'r, 'a, A: Allocator + Copy, P: Pace>(
 /// The run that was made of the call of a position, where there is one.
 fn run_at<'r, 'a, A: Allocator + Copy, P: Pace>(
     job: &Job<'_, 'a, A, P>,
-    runs: &'r [Option<Made<'a, A>>],
+    runs: &'r [Option<PositionRun<'a, A>>],
     position: usize,
 ) -> Option<&'r Finished<'a, A>>
     requires { AreFound job.now runs.now }
@@ -276,11 +276,11 @@ fn run_at<'r, 'a, A: Allocator + Copy, P: Pace>(
 /// Does the calls of all positions one after another, by the runs that were made of them.
 fn fold<'a, A: Allocator + Copy, P: Pace>(
     job: &Job<'_, 'a, A, P>,
-    runs: &[Option<Made<'a, A>>],
-) -> Result<Ran<A>, NoMemory>
+    runs: &[Option<PositionRun<'a, A>>],
+) -> Result<OrderProgress<A>, NoMemory>
     requires job { IsJob job.now }
     requires runs { AreFound job.now runs.now }
-    ensures ran { IfOk result (IsRanOf job.now.ordered) }
+    ensures ran { IfOk result (IsProgressOf job.now.ordered) }
     ensures whole { IfOk result (λ ran. length ran.receipts.items ≡ length job.now.ordered.order.now) }
 {
     let mut ran = begin(&job.ordered)?;
@@ -296,11 +296,11 @@ pub(crate) fn run_watched<'a, R: Threads + Wait + Sync, A: Allocator + Copy + Se
     rt: &R,
     job: &Job<'_, 'a, A, P>,
     workers: u32,
-) -> Result<Ran<A>, NoMemory>
+) -> Result<OrderProgress<A>, NoMemory>
     requires job { IsJob job.now }
     requires fit { IsFit job.now.trial.now }
     requires workers { 1 ≤ workers }
-    ensures ran { IfOk result (IsRanOf job.now.ordered) }
+    ensures ran { IfOk result (IsProgressOf job.now.ordered) }
     ensures whole { IfOk result (λ ran. length ran.receipts.items ≡ length job.now.ordered.order.now) }
 {
     let runs = run_ready(rt, job, workers)?;

@@ -1,7 +1,7 @@
 //! The program: one line of words over the machine's files and streams.
 #![tactic(auto)]
 
-use codec::put_all;
+use byte_sinks::put_all;
 use std::alloc::{AllocError, Global};
 use std::io::{ErrorKind, IsTerminal, Write};
 use std::process::ExitCode;
@@ -10,8 +10,7 @@ use std::sync::Wait;
 use std::thread::Threads;
 use wblock_commands::run_line;
 use wblock_io::{Disk, Stream};
-use wblock_line::Status;
-use wblock_progress::{Progress, Wiped, without_quiet};
+use wblock_line::{Progress, Status, Wiped, without_quiet};
 
 /// So many bytes no word has that the system hands over.
 const LONGEST_WORD: usize = 131_072;

@@ -10,7 +10,7 @@ use Rattle.wblock_line.specs.declared.answer.Answer.{Answer}
 use Rattle.wblock_line.specs.declared.answer.Answer.TheVariants.{Done, Refused}
 use Rattle.wblock_line.specs.declared.perform.Status.TheVariants as status
 use Rattle.wblock_line.specs.Answers.{writes_of, text_of, status_of}
-use Rattle.wblock_inputs.specs.Inputs.{HoldsWorld, HoldsCalls, TellsRefusal}
+use Rattle.wblock_line.specs.Inputs.{HoldsWorld, HoldsCalls, TellsRefusal}
 use Rattle.wblock_blocks.specs.declared.mine.Mining.{Mining}
 use Rattle.wblock_blocks.specs.Texts.{block_text}
 

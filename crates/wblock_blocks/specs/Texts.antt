@@ -2,7 +2,7 @@
 use Rattle.std.specs.Prelude.{ℕ, ◌+◌, List, [], ◌∷◌, ◌++◌, codes, decimal}
 use Rattle.hex.specs.Hex.{encode_lower}
 use Rattle.spec_block.specs.Worlds.{Position, Block}
-use Rattle.calls_text.specs.Receipts.{position_text}
+use Rattle.wblock_calls.specs.Receipts.{position_text}
 
 -- `POS call C RECEIPT`, a line for each position, the first of them n
 abbrev pub position_lines : ℕ → List Position → List ℕ

@@ -10,8 +10,8 @@ use Rattle.wblock_io.specs.Holding.{Holding}
 use Rattle.wblock_line.specs.declared.answer.Answer.{Answer}
 use Rattle.wblock_line.specs.declared.answer.Answer.TheVariants.{Done, Refused}
 use Rattle.wblock_line.specs.Answers.{Written, write_of}
-use Rattle.wblock_inputs.specs.Inputs.{HoldsWorld, HoldsCalls, IsNextInput, TellsRefusal}
-use Rattle.wblock_inputs.specs.Rejections.{Rejects}
+use Rattle.wblock_line.specs.Inputs.{HoldsWorld, HoldsCalls, IsNextInput, TellsRefusal}
+use Rattle.wblock_line.specs.Rejections.{Rejects}
 use Rattle.wblock_blocks.specs.declared.validate.Validation.{Validation}
 
 -- `accept` and `after HEX`, a line each, where HEX is the digest of the world after the block

@@ -9,23 +9,22 @@ ghost use Rattle.spec_block.specs.Bytes.{block_bytes, ForVersion};
 ghost use Rattle.spec_block.specs.Headline.{Headline, IsLeft};
 ghost use Rattle.world.specs.Views.{world_view};
 ghost use Rattle.wblock_line.specs.Answers.{CountsFault, IsOfFile};
-ghost use Rattle.wblock_inputs.specs.Inputs.{IsNextInput};
+ghost use Rattle.wblock_line.specs.Inputs.{IsNextInput};
 ghost use Rattle.wblock_blocks.specs.Mines.{IsDone, Mines};
 ghost use Rattle.wblock_blocks.specs.Notes.{IsNoteOf, Notes};
 
 use crate::note::{Noted, note_of};
 use crate::text::block_text_of;
 use block::{Block, write_block};
+use byte_sinks::{Failures, MemorySink};
 use call::Call;
-use codec::{Failures, MemorySink};
-use mining::{Mined, mine};
+use miner::{Mined, mine};
 use pace::{Pace, Watched};
 use std::alloc::Global;
 use std::sync::Wait;
 use std::thread::Threads;
-use wblock_inputs::{Inputs, read_inputs};
 use wblock_io::Files;
-use wblock_line::{Answer, Fault, Write};
+use wblock_line::{Answer, Fault, Inputs, Write, read_inputs};
 use world::{World, encode_world};
 use wtypes::NoMemory;
 

@@ -6,8 +6,8 @@ ghost use Rattle.wblock_blocks.specs.Notes.{HasReturned, IsNoteOf};
 
 use block::Position;
 use call::Call;
+use instance::{Refusal, entry_of};
 use link::deployed::Deployed;
-use opening::{Refusal, entry_of};
 use spec_ledger::Outcome;
 use std::alloc::{AllocError, Global};
 use std::fmt;

@@ -4,8 +4,8 @@ ghost use Rattle.std.specs.Prelude.{◌≡◌, ◌≤◌, IfOk, length, string_b
 ghost use Rattle.wblock_blocks.specs.Texts.{position_lines, left_lines, fuel_line, digest_line, end_lines, block_text};
 
 use block::{Block, Position};
-use calls_text::PositionLine;
 use std::alloc::{AllocError, Global};
+use wblock_calls::PositionLine;
 
 /// A line for each position.
 fn position_lines_of(alloc: Global, positions: &[Position]) -> Result<String, AllocError>
@@ -75,7 +75,7 @@ pub(crate) fn block_text_of(
 ) -> Result<String, AllocError>
     ensures { IfOk result (λ text. string_bytes text ≡ block_text block.now left.now) }
 {
-    block.hold();
+    block.use_invariant();
     let positions = position_lines_of(alloc, block.positions())?;
     let left = left_lines_of(alloc, left)?;
     let end = end_lines_of(alloc, block)?;

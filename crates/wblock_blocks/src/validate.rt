@@ -3,7 +3,7 @@
 
 ghost use Rattle.std.specs.Prelude.{◌≡◌, ◌≤◌, IsTrue, IfOk, IfErr, OnOk, length, map, string_bytes};
 ghost use Rattle.spec_block.specs.Verdicts.{IsVerdictOf};
-ghost use Rattle.validator.specs.Judged.{told_by};
+ghost use Rattle.validator.specs.Judged.{verdict_view};
 ghost use Rattle.world.specs.Views.{world_view};
 ghost use Rattle.wblock_line.specs.Answers.{CountsFault, IsOfFile, write_of};
 ghost use Rattle.wblock_blocks.specs.Validates.{accept_text, next_writes, TellsVerdict, Validates, IsNextFile};
@@ -14,9 +14,10 @@ use std::alloc::Global;
 use std::sync::Wait;
 use std::thread::Threads;
 use validator::{Verdict, validate};
-use wblock_inputs::{Inputs, read_inputs, reason_words, reject_line_of};
 use wblock_io::Files;
-use wblock_line::{Answer, Fault, Write, read_file};
+use wblock_line::{
+    Answer, Fault, Inputs, Write, read_file, read_inputs, reason_words, reject_line_of,
+};
 use world::{World, digest_world, encode_world};
 use wtypes::NoMemory;
 
@@ -51,7 +52,7 @@ fn judge<R: Threads + Wait + Sync, P: Pace>(
 ) -> Result<Verdict, NoMemory>
     requires calls { length calls.now ≤ 65535 }
     requires workers { (1 ≤ task.workers) × (task.workers ≤ 64) }
-    ensures { IfOk result (λ verdict. IsVerdictOf (world_view world.now) calls.now task.entry.fuel bytes.now (told_by verdict)) }
+    ensures { IfOk result (λ verdict. IsVerdictOf (world_view world.now) calls.now task.entry.fuel bytes.now (verdict_view verdict)) }
 {
     let watches = task.boosted;
     validate(
@@ -99,7 +100,7 @@ fn tell<'a>(
     bytes: &[u8],
     verdict: &Verdict,
 ) -> Result<Answer<'a>, NoMemory>
-    ensures { IfOk result (TellsVerdict name.entry (told_by verdict.now)) }
+    ensures { IfOk result (TellsVerdict name.entry (verdict_view verdict.now)) }
 {
     match verdict {
         Verdict::Accept(next) => {

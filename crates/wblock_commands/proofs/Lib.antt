@@ -1,7 +1,7 @@
-mod Asked
-mod Lines
-mod Next
 mod Noting
 pub mod Numbers
 mod Saying
-mod Showing
+pub mod Asked
+pub mod Lines
+pub mod Next
+pub mod Showing

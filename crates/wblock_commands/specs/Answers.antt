@@ -2,8 +2,8 @@
 use Rattle.std.specs.Prelude.{◌≡◌, ℕ, ◌≤◌, ◌⊎◌, List, [], ◌∷◌, ◌++◌, length, string_bytes}
 use Rattle.spec_execution.specs.Configuration.{Deployed as Contract}
 use Rattle.spec_execution.specs.Run.{ContractCall}
-use Rattle.calls_text.specs.Texts.{SpellsCalls}
-use Rattle.wblock_inputs.specs.Inputs.{TellsNoCalls}
+use Rattle.wblock_calls.specs.Texts.{SpellsCalls}
+use Rattle.wblock_line.specs.Inputs.{TellsNoCalls}
 use Rattle.wblock_line.specs.declared.answer.Answer.{Answer}
 use Rattle.wblock_line.specs.declared.answer.Answer.TheVariants.{Done, Refused}
 use Rattle.wblock_line.specs.declared.refusals.ModuleRefusal.{ModuleRefusal}

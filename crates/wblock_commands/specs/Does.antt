@@ -2,14 +2,14 @@
 use Rattle.std.specs.Prelude.{◌≡◌, ℕ, ◌⊎◌, List, [], ◌++◌, string_bytes, Bool, false, IsTrue}
 use Rattle.wblock_io.specs.Holding.{Holding, Failing, IsFailed}
 use Rattle.wblock_line.specs.declared.answer.Answer.{Answer}
-use Rattle.wblock_line.specs.declared.answer.Answer.TheVariants.{Done, Refused}
 use Rattle.wblock_line.specs.declared.perform.Status.{Status}
 use Rattle.wblock_line.specs.Answers.{status_of, writes_of, text_of, Wrote, IsFailing, IsSaid}
 use Rattle.wblock_commands.specs.Stored.{ShowsStored}
+use Rattle.wblock_commands.specs.Texts.{TellsText}
 use Rattle.wblock_modules.specs.Assembles.{Assembles}
 use Rattle.wblock_modules.specs.Checks.{Checks}
 use Rattle.wblock_modules.specs.Texts.{WritesText}
-use Rattle.wblock_inputs.specs.Inputs.{IsNextInput}
+use Rattle.wblock_line.specs.Inputs.{IsNextInput}
 use Rattle.wblock_blocks.specs.Mines.{Mines}
 use Rattle.wblock_blocks.specs.Notes.{EndsLine, Notes}
 use Rattle.wblock_blocks.specs.Validates.{Validates, IsNextFile}
@@ -18,11 +18,6 @@ use Rattle.wblock_show.specs.Named.{ShowsNamed, IsNextNamed}
 use Rattle.wblock_commands.specs.declared.command.Command.{Command}
 use Rattle.wblock_commands.specs.declared.command.Command.TheVariants.{Stored, Help, Version, Asm, Text, Check, Deploy, Mine, Validate, Debug, Show}
 use Rattle.wblock_commands.specs.Deploying.{IsTaken, DeploysFree, IsNextToDeploy}
-
--- a text that ends with a newline is to be printed, and no file to be written
-abbrev pub TellsText : Answer → Type 0
-TellsText (Done writes text) = (writes.items ≡ []) × EndsLine (string_bytes text)
-TellsText (Refused line why) = ⊥
 
 -- what a command comes to over files
 abbrev pub Answers : Command → Holding → Answer → Type 0

@@ -1,7 +1,8 @@
 pub mod Answers
 pub mod Deploying
 pub mod Does
-pub mod Options
 pub mod Runs
 pub mod Stored
+pub mod Options
+pub mod Texts
 pub mod Words

@@ -6,8 +6,8 @@ use Rattle.spec_ledger.specs.declared.Receipt.{Receipt}
 use Rattle.spec_ledger.specs.Cells.{Cells}
 use Rattle.spec_execution.specs.Configuration.{Deployed as Contract}
 use Rattle.spec_execution.specs.Run.{ContractCall}
-use Rattle.spec_execution.specs.Serial.{Ran, Serial}
-use Rattle.calls_text.specs.Receipts.{position_text}
+use Rattle.spec_execution.specs.Serial.{CallResult, Serial}
+use Rattle.wblock_calls.specs.Receipts.{position_text}
 
 -- the numbers of the calls, the first of them n
 abbrev pub numbers_from : ℕ → List ContractCall → List ℕ
@@ -26,8 +26,8 @@ fuel_of receipts = sum_by (λ (r : Receipt). r.used) receipts
 abbrev pub fuel_line : List Receipt → List ℕ
 fuel_line receipts = codes "fuel " ++ decimal (fuel_of receipts) ++ 10 ∷ []
 
-abbrev pub receipts_of : List Ran → List Receipt
-receipts_of ran = map (λ (r : Ran). r.receipt) ran
+abbrev pub receipts_of : List CallResult → List Receipt
+receipts_of ran = map (λ (r : CallResult). r.receipt) ran
 
 -- the text tells these receipts
 abbrev pub told_of : List Receipt → List ℕ
@@ -35,7 +35,7 @@ told_of receipts = lines_from 0 receipts ++ fuel_line receipts
 
 -- the text tells the calls' execution, one after another in rising number, over empty cells
 pub record Shows (contract : Contract) (calls : List ContractCall) (text : List ℕ) : Type 0 where
-  pub ran : List Ran
+  pub ran : List CallResult
   pub last : Cells
   pub serial : Serial (record { contracts = contract ∷ []; version = Two }) calls (numbers_from 0 calls) empty ran last
   pub text_is : text ≡ told_of (receipts_of ran)

@@ -1,7 +1,7 @@
 //! What a module and a text of its calls come to.
 
 ghost use Rattle.std.specs.Prelude.{◌≡◌, IfOk, IfErr};
-ghost use Rattle.interp.specs.Lent.{contract_view};
+ghost use Rattle.interp.specs.Callee.{contract_view};
 ghost use Rattle.wblock_commands.specs.Answers.{CallsAnswer, Refuses, IsAnswer};
 ghost use Rattle.wblock_commands.specs.Stored.{ShowsStored};
 
@@ -9,8 +9,7 @@ use crate::runs::run_calls;
 use crate::stored::{CALLS, MODULE};
 use link::deployed::Deployed;
 use std::alloc::{AllocError, Global};
-use wblock_inputs::judge_calls;
-use wblock_line::{Answer, Fault, ModuleRefusal, Stop, read_contract};
+use wblock_line::{Answer, Fault, ModuleRefusal, Stop, judge_calls, read_contract};
 
 /// The answer to a text of calls of a contract.
 fn answer_calls<'a>(

@@ -437,7 +437,7 @@ fn asks_version(words: &[&str]) -> bool
 }
 
 /// What words ask to be told of the program, or None where they do not.
-pub(crate) fn told_of<'a>(words: &'a [&'a str]) -> Option<Command<'a, 'a>>
+pub(crate) fn watched_command<'a>(words: &'a [&'a str]) -> Option<Command<'a, 'a>>
     ensures told { MatchOption result ((c : Asked) → ¬ IsTold (texts words.entry.now) c) (IsTold (texts words.entry.now)) }
     ensures few { IfSome result HasFew }
 {

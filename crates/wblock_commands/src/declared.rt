@@ -1,53 +1,53 @@
 //! The options, each declared once: the reader of words and the text of the help both go by this.
 
-use wblock_progress::QUIET_NAME;
+use wblock_line::QUIET_NAME;
 
 /// The value that an option has where it is not given.
 #[derive(Clone, Copy, Debug, PartialEq, Eq)]
 pub(crate) struct Usual {
     /// The number.
-    pub(crate) number: u32,
+    pub number: u32,
     /// How it is spelled.
-    pub(crate) word: &'static str,
+    pub word: &'static str,
 }
 
 /// An option whose value is a number.
 #[derive(Clone, Copy, Debug, PartialEq, Eq)]
 pub(crate) struct NumberOption {
     /// Its word on the line.
-    pub(crate) word: &'static str,
+    pub word: &'static str,
     /// Its name, which is its word without the dashes.
-    pub(crate) name: &'static str,
+    pub name: &'static str,
     /// The least value.
-    pub(crate) least: u64,
+    pub least: u64,
     /// The most.
-    pub(crate) most: u64,
+    pub most: u64,
     /// Its value where it is not given; None where it has to be given, or has no value then.
-    pub(crate) usual: Option<Usual>,
+    pub usual: Option<Usual>,
     /// What it means, with its range.
-    pub(crate) help: &'static str,
+    pub help: &'static str,
 }
 
 /// An option whose value is the name of a file.
 #[derive(Clone, Copy, Debug, PartialEq, Eq)]
 pub(crate) struct FileOption {
     /// Its word on the line.
-    pub(crate) word: &'static str,
+    pub word: &'static str,
     /// Its name, which is its word without the dashes.
-    pub(crate) name: &'static str,
+    pub name: &'static str,
     /// What stands for its value in the help.
-    pub(crate) value: &'static str,
+    pub value: &'static str,
     /// What it means.
-    pub(crate) help: &'static str,
+    pub help: &'static str,
 }
 
 /// An option without a value.
 #[derive(Clone, Copy, Debug, PartialEq, Eq)]
 pub(crate) struct Switch {
     /// Its word without the dashes.
-    pub(crate) name: &'static str,
+    pub name: &'static str,
     /// What it means.
-    pub(crate) help: &'static str,
+    pub help: &'static str,
 }
 
 /// No progress. The program takes its word out of the line before any command reads it.

@@ -6,11 +6,11 @@ ghost use Rattle.wblock_commands.specs.Words.{Says, HasFew};
 ghost use Rattle.wblock_commands.specs.Does.{Answers, IsMine, IsNote, MayMiss, Misses, Does, Reads, Fails, IsKept, SaysNote, SaysText};
 ghost use Rattle.wblock_commands.specs.declared.command.Command.{Command as Asked};
 
-use crate::command::{Command, command_of, told_of};
+use crate::command::{Command, command_of, watched_command};
 use crate::deploy::deploy_apart;
 use crate::usage::{tell_help, tell_version};
 use crate::{show_stored, usage_text};
-use codec::{Sink, put_all};
+use byte_sinks::{Sink, put_all};
 use pace::Pace;
 use std::alloc::{AllocError, Global};
 use std::sync::Wait;
@@ -186,7 +186,7 @@ pub fn run_line<'a, R: Threads + Wait + Sync, F: Files, O: Sink, E: Sink, P: Pac
     ensures calm_files { (result ≡ Status.Done) ⊎ (result ≡ Status.Refused) → F.failures files.new ≡ F.failures files.old }
     ensures calm_output { (result ≡ Status.Done) ⊎ (result ≡ Status.Refused) → O.failures out.new ≡ O.failures out.old }
 {
-    if let Some(command) = told_of(words) {
+    if let Some(command) = watched_command(words) {
         return run_command(rt, alloc, words, command, files, out, err, pace);
     }
     let Ok(split) = split_words(alloc, words) else {

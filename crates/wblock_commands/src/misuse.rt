@@ -1,8 +1,8 @@
 //! What is wrong with words that the command line's reader takes and that ask for nothing, for people.
 
 use crate::declared::{BLOCK, CALLS, FUEL, NEXT, SVG};
-use calls_text::number_of;
 use std::alloc::{AllocError, Global};
+use wblock_calls::number_of;
 use wblock_debug::command_of;
 use wblock_line::{BOOSTED_SWITCH, FORCE_SWITCH, JSON_SWITCH, split_words};
 

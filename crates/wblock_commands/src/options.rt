@@ -7,8 +7,8 @@ ghost use Rattle.wblock_commands.specs.Words.{texts, choices};
 ghost use Rattle.wblock_show.specs.declared.file.Form.{Form as TheForm};
 
 use crate::declared::{CALLS, FUEL, NEXT, SVG, TRIES, USUAL_TRIES, USUAL_WORKERS, WORKERS};
-use calls_text::number_of;
 use std::alloc::{AllocError, Global};
+use wblock_calls::number_of;
 use wblock_line::{BOOSTED_SWITCH, JSON_SWITCH};
 use wblock_show::Form;
 

@@ -1,17 +1,17 @@
 //! The calls of a contract, one after another, and the lines that tell what they came to.
 
 ghost use Rattle.std.specs.Prelude.{◌≡◌, ◌<◌, ◌≤◌, length, IfOk, string_bytes};
-ghost use Rattle.interp.specs.Lent.{contract_view};
+ghost use Rattle.interp.specs.Callee.{contract_view};
 ghost use Rattle.wblock_commands.specs.Runs.{Shows, numbers_from, told_of};
 
 use call::Call;
-use calls_text::PositionLine;
 use link::deployed::Deployed;
 use serial::serial_core;
 use spec_ledger::{Receipt, Version};
 use std::alloc::{AllocError, Global};
 use std::fmt::Write;
 use storage::Cells;
+use wblock_calls::PositionLine;
 
 /// The numbers of the calls, in rising order.
 fn rising_order(alloc: Global, calls: &[Call]) -> Result<Vec<u32>, AllocError>

@@ -2,7 +2,7 @@
 
 ghost use Rattle.std.specs.Prelude.{◌≡◌, IfOk, IfErr, string_bytes};
 ghost use Rattle.wblock_blocks.specs.Notes.{EndsLine};
-ghost use Rattle.wblock_commands.specs.Does.{TellsText};
+ghost use Rattle.wblock_commands.specs.Texts.{TellsText};
 
 use crate::declared::{
     BLOCK, BOOSTED, CALLS, FORCE, FUEL, FileOption, HEAP, JSON, NEXT, NumberOption, QUIET, SVG,

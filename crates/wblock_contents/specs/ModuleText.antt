@@ -6,7 +6,7 @@ use Rattle.spec_syntax.specs.Syntax.{FuncType, Limits, GlobalType, ImportDesc, I
 use Rattle.spec_syntax.specs.Shape.{size}
 use Rattle.spec_typing.specs.Modules.{type_at, func_type_indices, imported_globals}
 use Rattle.module_tree.specs.Readers.{imported_funcs}
-use Rattle.module_figures.specs.Names.{type_name}
+use Rattle.figures.specs.Names.{type_name}
 use Rattle.wblock_contents.specs.Names.{name_text}
 use Rattle.wblock_contents.specs.Lines.{numbered}
 

@@ -11,7 +11,7 @@ ghost use Rattle.wblock_contents.specs.ModuleText.{amounts_text, func_line, limi
 
 use crate::types::{global_type_text_of, limits_text_of, type_text_at};
 use body_typing::spaces::Spaces;
-use module_figures::first_func;
+use figures::first_func;
 use module_tree::module::{Func, Global as Variable, Module};
 use std::alloc::{AllocError, Global};
 use wtypes::Limits;

@@ -37,7 +37,7 @@ pub fn list_module(
             Ok(Ok(text))
         }
         Err(Stop::Refused(refusal)) => {
-            let told = refusal.told(alloc, bytes)?;
+            let told = refusal.lines_of(alloc, bytes)?;
             Ok(Err(told))
         }
         Err(Stop::NoMemory) => Err(AllocError),

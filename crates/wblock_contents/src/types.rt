@@ -5,7 +5,7 @@ ghost use Rattle.spec_typing.specs.Modules.{type_at};
 ghost use Rattle.module_tree.specs.ModuleView.{func_type_view, limits_view, global_type_view};
 ghost use Rattle.wblock_contents.specs.ModuleText.{types_text, listed, func_type_text, limits_text, global_type_text};
 
-use module_figures::type_name;
+use figures::type_name;
 use module_tree::module::GlobalType;
 use std::alloc::{AllocError, Global};
 use wtypes::{FuncType, Limits, ValType};

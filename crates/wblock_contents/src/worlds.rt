@@ -10,8 +10,8 @@ ghost use Rattle.wblock_contents.specs.Listings.{TellsWorld};
 
 use crate::cells::{cells_text_of, list_cells};
 use crate::interface::interface_text_of;
+use figures::shortest_size;
 use link::deployed::Deployed;
-use module_figures::shortest_size;
 use sha2::{Digest, Sha256};
 use std::alloc::{AllocError, Global};
 use storage::Kind;

@@ -3,13 +3,13 @@ use Rattle.std.proofs.Common.{Result, Ok, Err, IfOk, List, string_bytes, inl, in
 use Rattle.spec_ledger.specs.Cells.{Cells}
 use Rattle.spec_execution.specs.Configuration.{Setting}
 use Rattle.spec_execution.specs.Run.{ContractCall}
-use Rattle.debugger.specs.Sight.{Sight, IsSight}
+use Rattle.debugger.specs.SessionView.{SessionView, IsSessionView}
 use Rattle.debugger.specs.Commands.{IsOpened}
 use Rattle.wblock_debug.specs.declared.command.Command.{Command}
 use Rattle.wblock_debug.specs.declared.printed.Printed.{Printed}
 use Rattle.wblock_debug.specs.Prints.{IsPrinted, IsNotStarted, IsDebugged}
 
-pub shown : {A E : Type 0} (setting : Setting) (cells : Cells) (call : ContractCall) (commands : List Command) (first last : Sight) (r : Result (Printed A) E) → IsOpened setting call cells first → IsSight first → IfOk r (λ p. IsPrinted first commands last p.refused (string_bytes p.text)) → IfOk r (λ p. IsDebugged setting cells call commands p.refused (string_bytes p.text))
+pub shown : {A E : Type 0} (setting : Setting) (cells : Cells) (call : ContractCall) (commands : List Command) (first last : SessionView) (r : Result (Printed A) E) → IsOpened setting call cells first → IsSessionView first → IfOk r (λ p. IsPrinted first commands last p.refused (string_bytes p.text)) → IfOk r (λ p. IsDebugged setting cells call commands p.refused (string_bytes p.text))
 shown setting cells call commands first last (Ok p) opened is h = inr (record { first = first; opened = opened; is_first = is; last = last; printed = h })
 shown setting cells call commands first last (Err e) opened is h = h
 

@@ -7,7 +7,7 @@ use Rattle.spec_ledger.specs.Cells.{Cells}
 use Rattle.spec_block.specs.Worlds.{World, Call}
 use Rattle.spec_block.specs.Serial.{setting_of}
 use Rattle.spec_block.specs.Verdicts.{Verdict}
-use Rattle.block_prefix.specs.Meeting.{IsVerdictWith, IsAbsent, Meets}
+use Rattle.block_judge.specs.Meeting.{IsVerdictWith, IsAbsent, Meets}
 use Rattle.wblock_debug.specs.Lines.{left_line}
 use Rattle.wblock_debug.specs.Prints.{IsDebugged}
 use Rattle.wblock_io.specs.Holding.{Holding}
@@ -15,8 +15,8 @@ use Rattle.wblock_line.specs.declared.answer.Answer.{Answer}
 use Rattle.wblock_line.specs.declared.answer.Answer.TheVariants.{Done, Refused}
 use Rattle.wblock_line.specs.declared.perform.Status.TheVariants as status
 use Rattle.wblock_line.specs.Answers.{writes_of, text_of, status_of}
-use Rattle.wblock_inputs.specs.Inputs.{HoldsWorld, HoldsCalls, IsNextInput, TellsRefusal}
-use Rattle.wblock_inputs.specs.Rejections.{Rejects}
+use Rattle.wblock_line.specs.Inputs.{HoldsWorld, HoldsCalls, IsNextInput, TellsRefusal}
+use Rattle.wblock_line.specs.Rejections.{Rejects}
 use Rattle.wblock_debug.specs.declared.asked.Debugging.{Debugging}
 
 -- the text is printed and no file is written

@@ -3,11 +3,11 @@ use Rattle.std.specs.Prelude.{ℕ, zero, suc, List, [], ◌∷◌, ◌++◌, Opt
 use Rattle.hex.specs.Hex.{encode_lower}
 use Rattle.wtypes.specs.declared.Value.{Value}
 use Rattle.spec_ledger.specs.declared.Outcome.{Outcome}
-use Rattle.debugger.specs.Sight.{Sight, ending_at, place_at, contract_at, level_at, asks_at}
+use Rattle.debugger.specs.SessionView.{SessionView, ending_at, place_at, contract_at, level_at, asks_at}
 use Rattle.debugger.specs.declared.session.Refusal.{Refusal}
 use Rattle.debugger.specs.Commands.{code_of}
-use Rattle.calls_text.specs.Texts.{value_text}
-use Rattle.calls_text.specs.Receipts.{receipt_text}
+use Rattle.wblock_calls.specs.Texts.{value_text}
+use Rattle.wblock_calls.specs.Receipts.{receipt_text}
 
 -- ` in C level L`, where a level is inside the outer one
 abbrev pub level_text : (contract level : ℕ) → List ℕ
@@ -15,13 +15,13 @@ level_text contract zero = []
 level_text contract (suc n) = codes " in " ++ decimal contract ++ codes " level " ++ decimal (suc n)
 
 -- where a call stands: how it has ended, or else the function and the ordinal of the instruction to come
-abbrev pub standing_text : Sight → Option Outcome → Option (ℕ × ℕ) → List ℕ
+abbrev pub standing_text : SessionView → Option Outcome → Option (ℕ × ℕ) → List ℕ
 standing_text s (Some o) place = codes " done " ++ receipt_text (record { outcome = o; used = s.turns; asks = asks_at s })
 standing_text s None (Some p) = codes " at " ++ decimal p.0 ++ codes " " ++ decimal p.1 ++ level_text (contract_at s) (level_at s)
 standing_text s None None = []
 
 -- `K at F O`, `K at F O in C level L` or `K done RECEIPT`
-abbrev pub state_line : Sight → List ℕ
+abbrev pub state_line : SessionView → List ℕ
 state_line s = decimal s.turns ++ standing_text s (ending_at s) (place_at s) ++ 10 ∷ []
 
 -- ` VALUE` for each value

@@ -4,7 +4,7 @@ use Rattle.spec_ledger.specs.Cells.{Cells}
 use Rattle.spec_execution.specs.Configuration.{Setting}
 use Rattle.spec_execution.specs.Run.{ContractCall, opening, Refused}
 use Rattle.debugger.specs.Breaks.{with_break, without_break, instr_there}
-use Rattle.debugger.specs.Sight.{Sight, IsSight, stack_at, locals_at, globals_at, memory_at}
+use Rattle.debugger.specs.SessionView.{SessionView, IsSessionView, stack_at, locals_at, globals_at, memory_at}
 use Rattle.debugger.specs.Commands.{IsOpened, HasStepped, HasGoneBack, HasContinued}
 use Rattle.debugger.specs.declared.session.Refusal.{Refusal}
 use Rattle.debugger.specs.declared.session.Refusal.TheVariants as refusal
@@ -16,7 +16,7 @@ use Rattle.wblock_debug.specs.declared.printed.Printed.{Printed}
 use Rattle.wblock_debug.specs.declared.perform.Said.TheVariants as said
 
 -- A command that is done leads from one state to another, and prints a line: what is read of the state that it comes to.
-abbrev pub Does : Command → Sight → Sight → List ℕ → Type 0
+abbrev pub Does : Command → SessionView → SessionView → List ℕ → Type 0
 Does (Step n) s t line = ((made : ℕ) × HasStepped s n made t) × (line ≡ state_line t)
 Does (Back n) s t line = HasGoneBack s n t × (line ≡ state_line t)
 Does Cont s t line = ((made : ℕ) × HasContinued s made t) × (line ≡ state_line t)
@@ -29,7 +29,7 @@ Does Globals s t line = (t ≡ s) × (line ≡ values_line (codes "globals") (gl
 Does (Bytes from n) s t line = (t ≡ s) × (from + n ≤ length (memory_at t)) × (line ≡ bytes_line (take n (drop from (memory_at t))))
 
 -- a command that is refused, and why
-abbrev pub Refuses : Command → Sight → Refusal → Type 0
+abbrev pub Refuses : Command → SessionView → Refusal → Type 0
 Refuses (Back n) s refusal.BeforeStart = s.turns < n
 Refuses (Break f o) s refusal.NoSuchPlace = instr_there s.contract.deployed.tree (f, o) ≡ None
 Refuses (Clear f o) s refusal.NoSuchPlace = instr_there s.contract.deployed.tree (f, o) ≡ None
@@ -38,19 +38,19 @@ Refuses c s r = ⊥
 
 -- From a first state on, these commands were given one after another: they have come to this state and printed this text. A command that is refused
 -- leaves the state as it is and prints its number.
-pub data IsPrinted (first : Sight) : List Command → Sight → (refused : Bool) → (text : List ℕ) → Type 0 where
+pub data IsPrinted (first : SessionView) : List Command → SessionView → (refused : Bool) → (text : List ℕ) → Type 0 where
   nothing : IsPrinted first [] first false []
-  done : (cs : List Command) (s : Sight) (refused : Bool) (text : List ℕ) (c : Command) (t : Sight) (line : List ℕ) → IsPrinted first cs s refused text → Does c s t line → IsSight t → IsPrinted first (cs ++ c ∷ []) t refused (text ++ line)
-  refused : (cs : List Command) (s : Sight) (refused : Bool) (text : List ℕ) (c : Command) (r : Refusal) → IsPrinted first cs s refused text → Refuses c s r → IsPrinted first (cs ++ c ∷ []) s true (text ++ refusal_line r)
+  done : (cs : List Command) (s : SessionView) (refused : Bool) (text : List ℕ) (c : Command) (t : SessionView) (line : List ℕ) → IsPrinted first cs s refused text → Does c s t line → IsSessionView t → IsPrinted first (cs ++ c ∷ []) t refused (text ++ line)
+  refused : (cs : List Command) (s : SessionView) (refused : Bool) (text : List ℕ) (c : Command) (r : Refusal) → IsPrinted first cs s refused text → Refuses c s r → IsPrinted first (cs ++ c ∷ []) s true (text ++ refusal_line r)
 
 -- what one command does and says
-abbrev pub Performs : {A : Type 0} → Command → Sight → Sight → Said A → Type 0
+abbrev pub Performs : {A : Type 0} → Command → SessionView → SessionView → Said A → Type 0
 Performs c s t (said.Line line) = Does c s t (string_bytes line)
 Performs c s t (said.Refused r) = Refuses c s r × (t ≡ s)
 
 -- one more command was given
-abbrev pub AddsCommand : {A : Type 0} → Command → Sight → Sight → Printed A → Printed A → Type 0
-AddsCommand c s t old new = (first : Sight) (given : List Command) → IsPrinted first given s old.refused (string_bytes old.text) → IsPrinted first (given ++ c ∷ []) t new.refused (string_bytes new.text)
+abbrev pub AddsCommand : {A : Type 0} → Command → SessionView → SessionView → Printed A → Printed A → Type 0
+AddsCommand c s t old new = (first : SessionView) (given : List Command) → IsPrinted first given s old.refused (string_bytes old.text) → IsPrinted first (given ++ c ∷ []) t new.refused (string_bytes new.text)
 
 -- the call does not start, for the cause of a number
 pub record IsNotStarted (setting : Setting) (call : ContractCall) (refused : Bool) (text : List ℕ) : Type 0 where
@@ -61,10 +61,10 @@ pub record IsNotStarted (setting : Setting) (call : ContractCall) (refused : Boo
 
 -- the commands are given to the call alone over the cells, from its first state on
 pub record IsShown (setting : Setting) (cells : Cells) (call : ContractCall) (commands : List Command) (refused : Bool) (text : List ℕ) : Type 0 where
-  pub first : Sight
+  pub first : SessionView
   pub opened : IsOpened setting call cells first
-  pub is_first : IsSight first
-  pub last : Sight
+  pub is_first : IsSessionView first
+  pub last : SessionView
   pub printed : IsPrinted first commands last refused text
 
 abbrev pub IsDebugged : Setting → Cells → ContractCall → List Command → Bool → List ℕ → Type 0

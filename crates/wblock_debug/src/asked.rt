@@ -8,8 +8,8 @@ ghost use Rattle.wblock_debug.specs.Asks.{AreBlockWithFuel, AreBlockWithFuelInAn
 ghost use Rattle.wblock_debug.specs.declared.asked.Debugging.{Debugging as TheDebugging};
 
 use crate::{Command, commands_of};
-use calls_text::number_of;
 use std::alloc::{AllocError, Global};
+use wblock_calls::number_of;
 use wblock_line::Line;
 
 /// What is to be debugged.

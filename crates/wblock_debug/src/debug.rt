@@ -5,20 +5,18 @@ ghost use Rattle.std.specs.Prelude.{◌≡◌, ◌≤◌, ◌<◌, ◌^◌, IsTr
 ghost use Rattle.world.specs.Views.{world_view};
 ghost use Rattle.block_judge.specs.Judging.{told};
 ghost use Rattle.wblock_line.specs.Answers.{CountsFault, IsOfFile};
-ghost use Rattle.wblock_inputs.specs.Rejections.{Rejects};
+ghost use Rattle.wblock_line.specs.Rejections.{Rejects};
 ghost use Rattle.wblock_debug.specs.Debugs.{IsText, TellsAbsent, TellsCall, TellsOfBlock, TellsListed, IsBlockName, IsNextRead, IsNotListed, Debugs};
 
 use crate::{Debugging, Printed, debug_call};
-use block_judge::{Reason, Unfit};
-use block_prefix::met_by;
+use block_judge::{JudgeRefusal, Reason, met_by};
 use call::Call;
 use pace::Pace;
 use spec_ledger::Version;
 use std::alloc::{AllocError, Global};
 use storage::Cells;
-use wblock_inputs::{Inputs, read_inputs, reason_words, reject_line_of};
 use wblock_io::Files;
-use wblock_line::{Answer, Fault, read_file};
+use wblock_line::{Answer, Fault, Inputs, read_file, read_inputs, reason_words, reject_line_of};
 use world::World;
 use wtypes::NoMemory;
 
@@ -100,8 +98,8 @@ fn debug_in_block<'a, P: Pace>(
     ) {
         Ok(Some(met)) => Ok(debug_over(alloc, world, &met.cells, call, task, met.version)?),
         Ok(None) => Ok(absent(alloc, task.call)?),
-        Err(Unfit::Rejected(reason)) => Ok(rejected(alloc, bytes, reason)?),
-        Err(Unfit::NoMemory) => Err(NoMemory),
+        Err(JudgeRefusal::Rejected(reason)) => Ok(rejected(alloc, bytes, reason)?),
+        Err(JudgeRefusal::NoMemory) => Err(NoMemory),
     }
 }
 

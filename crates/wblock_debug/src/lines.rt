@@ -3,11 +3,11 @@
 ghost use Rattle.std.specs.Prelude.{◌≡◌, Some, IfOk, string_bytes};
 ghost use Rattle.wblock_debug.specs.Lines.{level_text, state_line, values_text, values_line, bytes_line};
 
-use calls_text::{ReceiptText, ValueText};
 use debugger::session::Session;
 use spec_ledger::Receipt;
 use std::alloc::{AllocError, Allocator};
 use std::fmt;
+use wblock_calls::{ReceiptText, ValueText};
 use wtypes::Value;
 
 /// The contract and the level that a call is in, printed as ` in C level L`, or as nothing in the outer level.

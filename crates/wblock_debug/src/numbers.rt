@@ -3,8 +3,8 @@
 ghost use Rattle.std.specs.Prelude.{◌≡◌, ◌≢◌, ◌<◌, ◌^◌, ℕ, List, ◌∷◌, ◌++◌, decimal, IfOk, MatchOption};
 ghost use Rattle.wblock_debug.specs.Words.{HasNoColon, with_number, with_numbers};
 
-use calls_text::number_of;
 use std::alloc::{AllocError, Global};
+use wblock_calls::number_of;
 
 /// What stands before and after the first colon of a word.
 fn parts_of<'a>(word: &'a str) -> Option<(&'a str, &'a str)>

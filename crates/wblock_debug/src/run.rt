@@ -3,7 +3,7 @@
 ghost use Rattle.std.specs.Prelude.{◌≡◌, IfOk, OnOk, MatchOption, string_bytes};
 ghost use Rattle.spec_execution.specs.Configuration.{Setting};
 ghost use Rattle.spec_execution.specs.Run.{ContractCall, Opening, Refused, opening};
-ghost use Rattle.interp.specs.Lent.{setting_view};
+ghost use Rattle.interp.specs.Callee.{setting_view};
 ghost use Rattle.interp.specs.Starting.{IsOpened, IsRefusedFor};
 ghost use Rattle.wblock_debug.specs.Lines.{refusal_line};
 ghost use Rattle.wblock_debug.specs.Prints.{IsPrinted, AddsCommand, IsNotStarted, IsDebugged};
@@ -103,7 +103,7 @@ fn perform_all<A: Allocator + Copy>(
     Ok(printed)
 }
 
-/// The number of the cause for which a call does not start. None where that is want of memory.
+/// The number of the cause for which a call does not start. None where that is out of memory.
 fn start_code(refusal: StartRefusal) -> Option<u8>
     ensures { (o : Opening) → IsRefusedFor refusal o → MatchOption result (IsOpened o) (λ code. o ≡ Refused code) }
 {

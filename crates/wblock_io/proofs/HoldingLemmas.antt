@@ -1,7 +1,7 @@
 -- A draft that grows piece by piece and is kept.
 use Rattle.std.proofs.Common.{◌≡◌, ℕ, List, ◌++◌, ◌+◌, ◌≤◌, take, drop, length, Option, Some, ap, sym, subst, ◌∙◌, Result, Ok, Err, OnOk}
 use Rattle.std.proofs.lemmas.List.{take_all}
-use Rattle.codec.proofs.SinkLemmas.{take-add}
+use Rattle.byte_sinks.proofs.SinkLemmas.{take-add}
 use Rattle.wblock_io.specs.Holding.{Holding, Draft, Changes, IsKept}
 
 -- a beginning, and then the next `n` bytes

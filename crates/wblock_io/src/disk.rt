@@ -7,7 +7,7 @@ use crate::cause::Cause;
 use crate::failing::FileFailures;
 use crate::files::{Files, ReadFault, WriteFault};
 use crate::temporary::{Claim, make_temporary};
-use codec::Failures;
+use byte_sinks::Failures;
 use std::alloc::{AllocGlobal, Global};
 use std::fs::{self, File, OpenFile, OpenOptions};
 use std::io::{self, ErrorKind, Read, Write};

@@ -3,7 +3,7 @@
 ghost use Rattle.wblock_io.specs.Holding.{IsFailed, FailsIf};
 
 use boxcar::tag::{Names, Tag};
-use codec::Failures;
+use byte_sinks::Failures;
 use std::fmt;
 use std::fmt::{Debug, Formatter, Write};
 use std::marker::Model;

@@ -7,7 +7,7 @@ ghost use Rattle.wblock_io.specs.Log.{held_by, drafted_by, after};
 use crate::cause::Cause;
 use crate::failing::FileFailures;
 use crate::files::{Files, ReadFault, WriteFault};
-use codec::Failures;
+use byte_sinks::Failures;
 use std::alloc::{AllocError, Global};
 
 /// A file's name, and the bytes that it holds or is to hold.

@@ -2,7 +2,7 @@
 
 ghost use Rattle.std.specs.Prelude.{false, []};
 
-use codec::{Failures, Sink, SinkFault};
+use byte_sinks::{Failures, Sink, SinkFault};
 use std::io::Write;
 
 /// A stream as a sink.

@@ -3,7 +3,7 @@ use Rattle.std.proofs.Common.{◌≡◌, ◌≢◌, ℕ, ◌+◌, List, [], ◌�
 use Rattle.std.proofs.lemmas.List.{length-append, take-append-le}
 use Rattle.std.proofs.Math.Seq.{take-append-add}
 use Rattle.wblock_line.specs.Answers.{IsSaid, sentence_line}
-use Rattle.codec.specs.Putting.{IsCutShort, IsRaised}
+use Rattle.byte_sinks.specs.Putting.{IsCutShort, IsRaised}
 
 -- a beginning of a front that is not all of it is one of the whole
 cut_in_front : (old new front back : List ℕ) → IsCutShort old new front → IsCutShort old new (front ++ back)

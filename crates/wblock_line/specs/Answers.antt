@@ -1,6 +1,6 @@
 -- What a command comes to, and what it is to write and to print.
 use Rattle.std.specs.Prelude.{◌≡◌, ℕ, ◌⊎◌, List, [], ◌∷◌, ◌++◌, codes, map, string_bytes, Bool, IsTrue}
-use Rattle.codec.specs.Putting.{IsCutShort, IsRaised}
+use Rattle.byte_sinks.specs.Putting.{IsCutShort, IsRaised}
 use Rattle.wblock_io.specs.Holding.{Holding, Changes, Failing, IsFailed}
 use Rattle.wblock_line.specs.declared.answer.Answer.{Answer}
 use Rattle.wblock_line.specs.declared.answer.Answer.TheVariants.{Done, Refused}

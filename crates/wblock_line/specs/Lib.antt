@@ -5,3 +5,7 @@ pub mod Refusals
 pub mod Modules
 pub mod Places
 pub mod Worlds
+pub mod Inputs
+pub mod Rejections
+pub mod Lines
+pub mod ProgressOfWords

@@ -1,8 +1,8 @@
 -- Why bytes spell no world.
 use Rattle.std.specs.Prelude.{◌≡◌, ℕ, List, [], ◌∷◌, ◌++◌, codes, decimal}
-use Rattle.world_reader.specs.Reading.{IsNoWorld, Refuses}
-use Rattle.world_reader.specs.declared.read.ReadRefusal.{ReadRefusal}
-use Rattle.world_reader.specs.declared.read.ReadRefusal.TheVariants as world
+use Rattle.world.specs.Reading.{IsNoWorld, Refuses}
+use Rattle.world.specs.declared.read.ReadRefusal.{ReadRefusal}
+use Rattle.world.specs.declared.read.ReadRefusal.TheVariants as world
 
 -- `refused world N P`
 abbrev pub IsWorldLine : ReadRefusal → List ℕ → Type 0

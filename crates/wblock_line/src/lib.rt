@@ -1,18 +1,30 @@
-//! What the commands of the program share: the words of a line, what a command comes to, how that is written and printed, and the reading of
-//! modules and worlds.
+//! What the commands of the program share: the words of a line, what a command comes to, how that is written and printed, the lines of progress, and the
+//! reading of modules and worlds.
 #![tactic(auto)]
 
 mod answer;
+mod inputs;
+mod line;
 mod modules;
 mod perform;
+mod progress;
+mod quiet;
 mod refusals;
+mod rejections;
 mod sites;
+mod wiped;
 mod words;
 mod worlds;
 
 pub use answer::{Answer, Fault, Write, read_file};
+pub use inputs::{Inputs, judge_calls, read_inputs};
+pub use line::WIPE;
 pub use modules::{Stop, read_contract, read_valid};
 pub use perform::{Status, carry_out, tell_fault};
+pub use progress::Progress;
+pub use quiet::{QUIET_NAME, Words, without_quiet};
 pub use refusals::ModuleRefusal;
+pub use rejections::{reason_words, reject_line_of};
+pub use wiped::Wiped;
 pub use words::{BOOSTED_SWITCH, FORCE_SWITCH, JSON_SWITCH, Line, split_words};
 pub use worlds::judge_world;

@@ -1,12 +1,12 @@
 //! What a command comes to is written and printed.
 
 ghost use Rattle.std.specs.Prelude.{◌≡◌, ◌≢◌, ◌⊎◌, ℕ, List, [], ◌∷◌, ◌++◌, codes, IsTrue, IfErr, OnOk, OnErr, map};
-ghost use Rattle.codec.specs.Putting.{IsRaised, IsCutShort};
+ghost use Rattle.byte_sinks.specs.Putting.{IsRaised, IsCutShort};
 ghost use Rattle.wblock_io.specs.Holding.{IsFailed};
 ghost use Rattle.wblock_line.specs.Answers.{Wrote, WroteSome, IsFailing, IsSaid, SaysFile, SaysFault, write_of, writes_of, text_of, status_of, status_of_fault, sentence_line, why_line};
 
 use crate::answer::{Answer, Fault, Write};
-use codec::{Sink, SinkFault, put_all};
+use byte_sinks::{Sink, SinkFault, put_all};
 use wblock_io::{Cause, Files, WriteFault, write_file};
 
 /// What is said of the output where it failed behind the files of an answer.

@@ -11,9 +11,9 @@ use body_typing::rule::Rule;
 use loader::load;
 use module_tree::limit::Limit;
 use module_tree::module::{Export, ExportDesc, Module};
-use rule_sites::{item_text, site_text};
 use std::alloc::{AllocError, Allocator, Global};
 use std::fmt;
+use typing_errors::{item_text, site_text};
 use wblock_words::{
     form_words, import_words, limit_words, room_words, rule_words, segment_words, shown,
 };
@@ -240,7 +240,7 @@ impl ModuleRefusal {
         }
     }
     /// The line of the refusal of a module of these bytes, and its sentence.
-    pub fn told(self, alloc: Global, bytes: &[u8]) -> Result<(String, String), AllocError>
+    pub fn lines_of(self, alloc: Global, bytes: &[u8]) -> Result<(String, String), AllocError>
         ensures { IfOk result (λ told. string_bytes told.0 ≡ refusal_text self ++ 10 ∷ []) }
     {
         let line = format!(in alloc; "{self}\n")?;

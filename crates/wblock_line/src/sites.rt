@@ -1,8 +1,8 @@
 //! What an import of a module is.
 
 use module_tree::module::{Import, ImportDesc, Module};
-use rule_sites::function_text;
 use std::alloc::{AllocError, Allocator, Global};
+use typing_errors::function_text;
 
 /// What an import of a module is: its kind and, of a function, its type.
 pub(crate) fn import_text<A: Allocator>(

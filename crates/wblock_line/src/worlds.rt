@@ -7,8 +7,7 @@ ghost use Rattle.wblock_line.specs.Worlds.{IsWorldLine, TellsNoWorld};
 
 use std::alloc::{AllocError, Global};
 use wblock_words::world_words;
-use world::World;
-use world_reader::{ReadRefusal, read_world};
+use world::{ReadRefusal, World, read_world};
 
 /// The line of a world that is refused.
 fn world_line(alloc: Global, refusal: ReadRefusal) -> Result<String, AllocError>

@@ -17,7 +17,7 @@ use Rattle.wblock_line.specs.Answers.{writes_of, text_of, status_of}
 
 -- ---- refusals
 
--- the number of a refusal, and its place or the number of the limit that is passed; none for want of memory
+-- the number of a refusal, and its place or the number of the limit that is passed; none for lack of memory
 abbrev pub told : AsmRefusal → Option (ℕ × ℕ)
 told (Lex (lexical.BadToken at)) = Some (1, at)
 told (Lex (lexical.Unclosed at)) = Some (1, at)

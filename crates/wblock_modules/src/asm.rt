@@ -32,7 +32,7 @@ fn spell(alloc: Global, text: &str) -> Result<Vec<u8>, AsmRefusal>
     }
 }
 
-/// The number of a refusal, and its place or the number of the limit that is passed; or None for want of memory.
+/// The number of a refusal, and its place or the number of the limit that is passed; or None for lack of memory.
 fn numbered(refusal: AsmRefusal) -> Option<(u8, usize)>
     ensures { result ≡ told refusal }
 {

@@ -60,7 +60,7 @@ fn answer_bytes<'a>(alloc: Global, heap: Option<u32>, bytes: &[u8]) -> Result<An
             Ok(text) => Ok(Answer::Done(Vec::new(alloc), text)),
             Err(AllocError) => Err(Fault::NoMemory),
         },
-        Err(Stop::Refused(refusal)) => match refusal.told(alloc, bytes) {
+        Err(Stop::Refused(refusal)) => match refusal.lines_of(alloc, bytes) {
             Ok((line, why)) => Ok(Answer::Refused(line, why)),
             Err(AllocError) => Err(Fault::NoMemory),
         },

@@ -82,7 +82,7 @@ fn answer_or_refuse<'a>(
             Ok(Answer::Refused(line, why))
         }
         Err(Stop::Refused(refusal)) => {
-            let (line, why) = refusal.told(alloc, bytes)?;
+            let (line, why) = refusal.lines_of(alloc, bytes)?;
             Ok(Answer::Refused(line, why))
         }
         Err(Stop::NoMemory) => Err(AllocError),

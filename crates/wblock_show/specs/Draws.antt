@@ -2,7 +2,7 @@
 use Rattle.std.specs.Prelude.{◌≡◌, ◌⊎◌, ℕ, Option, Some, None, List, [], ◌∷◌, ◌++◌, codes, decimal, length, string_bytes}
 use Rattle.spec_block.specs.Worlds.{Block}
 use Rattle.spec_block.specs.Bytes.{SpellsBlock}
-use Rattle.block_picture.specs.Drawings.{IsPictureOf}
+use Rattle.wblock_picture.specs.Drawings.{IsPictureOf}
 use Rattle.wblock_io.specs.Holding.{Holding}
 use Rattle.wblock_line.specs.declared.answer.Answer.{Answer}
 use Rattle.wblock_line.specs.declared.answer.Answer.TheVariants.{Done, Refused}

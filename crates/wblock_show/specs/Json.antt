@@ -3,9 +3,9 @@ use Rattle.std.specs.Prelude.{◌≡◌, ◌⊎◌, ℕ, Option, Some, None, Lis
 use Rattle.spec_syntax.specs.Syntax.{Module}
 use Rattle.spec_block.specs.Worlds.{Block, Call, World}
 use Rattle.spec_block.specs.Bytes.{SpellsBlock, SpellsWorld}
-use Rattle.show_json.specs.Blocks.{IsBlockJson}
-use Rattle.show_json.specs.Modules.{IsModuleJson}
-use Rattle.show_json.specs.Worlds.{IsWorldJson}
+use Rattle.wblock_json.specs.Blocks.{IsBlockJson}
+use Rattle.wblock_json.specs.Modules.{IsModuleJson}
+use Rattle.wblock_json.specs.Worlds.{IsWorldJson}
 use Rattle.wblock_io.specs.Holding.{Holding}
 use Rattle.wblock_line.specs.declared.answer.Answer.{Answer}
 use Rattle.wblock_line.specs.declared.answer.Answer.TheVariants.{Done, Refused}

@@ -7,15 +7,15 @@ use Rattle.spec_ledger.specs.declared.Lock.{Lock}
 use Rattle.spec_ledger.specs.declared.Entry.{Entry}
 use Rattle.spec_block.specs.Worlds.{Block, Call, Position}
 use Rattle.spec_block.specs.Bytes.{trap_code, version_code}
-use Rattle.calls_text.specs.Texts.{value_text}
-use Rattle.calls_text.specs.Receipts.{position_text}
-use Rattle.block_figures.specs.Words.{hundredth, kind_word, mode_word}
-use Rattle.block_figures.specs.declared.figures.Chains.{Chains}
-use Rattle.block_figures.specs.declared.figures.Figures.{Figures}
-use Rattle.block_figures.specs.declared.hottest.SharedLock.{SharedLock}
-use Rattle.block_figures.specs.declared.outcomes.OutcomeCount.{OutcomeCount}
-use Rattle.block_figures.specs.declared.outcomes.OutcomeKind.{OutcomeKind}
-use Rattle.block_figures.specs.declared.outcomes.OutcomeKind.TheVariants.{Returned, Trapped, OutOfFuel, Rejected}
+use Rattle.wblock_calls.specs.Texts.{value_text}
+use Rattle.wblock_calls.specs.Receipts.{position_text}
+use Rattle.figures.specs.Words.{hundredth, kind_word, mode_word}
+use Rattle.figures.specs.declared.figures.Chains.{Chains}
+use Rattle.figures.specs.declared.figures.Figures.{Figures}
+use Rattle.figures.specs.declared.hottest.SharedLock.{SharedLock}
+use Rattle.figures.specs.declared.outcomes.OutcomeCount.{OutcomeCount}
+use Rattle.figures.specs.declared.outcomes.OutcomeKind.{OutcomeKind}
+use Rattle.figures.specs.declared.outcomes.OutcomeKind.TheVariants.{Returned, Trapped, OutOfFuel, Rejected}
 
 -- the calls, where they are known
 abbrev pub calls_of : Option (Bor (List Call)) → Option (List Call)

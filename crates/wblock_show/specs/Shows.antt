@@ -10,14 +10,14 @@ use Rattle.block.specs.declared.refusal.BlockRefusal.TheVariants.{Malformed, Too
 use Rattle.block.specs.Refusals.{Refuses}
 use Rattle.block.specs.Reading.{block_at}
 use Rattle.records.specs.Reading.{whole}
-use Rattle.block_figures.specs.Figures.{AreFigures}
-use Rattle.block_figures.specs.declared.figures.Figures.{Figures}
+use Rattle.figures.specs.Figures.{AreFigures}
+use Rattle.figures.specs.declared.figures.Figures.{Figures}
 use Rattle.wblock_io.specs.Holding.{Holding}
 use Rattle.wblock_line.specs.declared.answer.Answer.{Answer}
 use Rattle.wblock_line.specs.declared.answer.Answer.TheVariants.{Done, Refused}
 use Rattle.wblock_line.specs.declared.perform.Status.TheVariants as status
 use Rattle.wblock_line.specs.Answers.{writes_of, text_of, status_of}
-use Rattle.wblock_inputs.specs.Inputs.{Holds, HoldsCalls, TellsNoCalls}
+use Rattle.wblock_line.specs.Inputs.{Holds, HoldsCalls, TellsNoCalls}
 use Rattle.wblock_show.specs.declared.show.OtherCalls.{OtherCalls}
 use Rattle.wblock_show.specs.declared.show.OtherCalls.TheVariants.{Digest, At}
 use Rattle.wblock_show.specs.declared.file.Showing.{Showing}

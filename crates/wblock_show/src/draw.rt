@@ -7,11 +7,11 @@ ghost use Rattle.wblock_show.specs.Draws.{Draws, DrawsFile, HasNoPicture, IsDone
 
 use crate::show::judge_bytes;
 use block::Block;
-use block_picture::draw_block;
 use std::alloc::{AllocError, Global};
 use wblock_contents::{Contents, Kind, show_bytes};
 use wblock_io::Files;
 use wblock_line::{Answer, Fault, Write, read_file};
+use wblock_picture::draw_block;
 use wtypes::NoMemory;
 
 /// What is said of a module, which has no picture.

@@ -7,9 +7,8 @@ ghost use Rattle.wblock_show.specs.Shows.{known, GivesCalls, HasFew, HasNamedFew
 use crate::show::show_block;
 use call::Call;
 use std::alloc::{AllocError, Global};
-use wblock_inputs::judge_calls;
 use wblock_io::Files;
-use wblock_line::{Answer, Fault, read_file};
+use wblock_line::{Answer, Fault, judge_calls, read_file};
 use wtypes::NoMemory;
 
 /// How a file is to be shown.

@@ -4,9 +4,9 @@ ghost use Rattle.std.specs.Prelude.{◌≡◌, ◌∷◌, ◌++◌, [], IsTrue, 
 ghost use Rattle.module_tree.specs.Modules.{module_view};
 ghost use Rattle.typing.specs.Parts.{tree_of};
 ghost use Rattle.world.specs.Views.{world_view};
-ghost use Rattle.show_json.specs.Blocks.{IsBlockJson};
-ghost use Rattle.show_json.specs.Modules.{IsModuleJson};
-ghost use Rattle.show_json.specs.Worlds.{IsWorldJson};
+ghost use Rattle.wblock_json.specs.Blocks.{IsBlockJson};
+ghost use Rattle.wblock_json.specs.Modules.{IsModuleJson};
+ghost use Rattle.wblock_json.specs.Worlds.{IsWorldJson};
 ghost use Rattle.wblock_line.specs.Answers.{CountsFault, IsOfFile};
 ghost use Rattle.wblock_line.specs.Refusals.{TellsNoModule};
 ghost use Rattle.wblock_line.specs.Worlds.{TellsNoWorld};
@@ -19,11 +19,11 @@ use crate::file::{Named, Showing, read_named};
 use crate::show::{judge_bytes, other_calls, tell_other};
 use block::Block;
 use call::Call;
-use show_json::{block_json, module_json, world_json};
 use std::alloc::{AllocError, Global};
 use typing::valid::Valid;
 use wblock_contents::{Kind, unknown_answer};
 use wblock_io::Files;
+use wblock_json::{block_json, module_json, world_json};
 use wblock_line::{Answer, Fault, Stop, judge_world, read_file, read_valid};
 use world::World;
 use wtypes::NoMemory;
@@ -48,7 +48,11 @@ fn block_line_of(alloc: Global, block: &Block, calls: Option<&[Call]>) -> Result
 }
 
 /// The answer that tells a block, with its calls where they are known.
-fn told_of<'a>(alloc: Global, block: &Block, calls: Option<&[Call]>) -> Result<Answer<'a>, NoMemory>
+fn block_answer<'a>(
+    alloc: Global,
+    block: &Block,
+    calls: Option<&[Call]>,
+) -> Result<Answer<'a>, NoMemory>
     ensures { IfOk result (IsJsonOf block.now (calls_of calls.entry)) }
 {
     let text = block_line_of(alloc, block, calls)?;
@@ -61,7 +65,7 @@ fn tell_it<'a>(alloc: Global, block: &Block, calls: Option<&[Call]>) -> Result<A
     ensures { IfOk result (TellsIt block.now (calls_of calls.entry)) }
 {
     match other_calls(alloc, block, calls)? {
-        None => told_of(alloc, block, calls),
+        None => block_answer(alloc, block, calls),
         Some(other) => tell_other(alloc, other),
     }
 }
@@ -141,7 +145,7 @@ fn tell_module(alloc: Global, bytes: &[u8]) -> Result<Result<String, (String, St
             Ok(Ok(text))
         }
         Err(Stop::Refused(refusal)) => {
-            let told = refusal.told(alloc, bytes)?;
+            let told = refusal.lines_of(alloc, bytes)?;
             Ok(Err(told))
         }
         Err(Stop::NoMemory) => Err(AllocError),

@@ -4,14 +4,14 @@ ghost use Rattle.std.specs.Prelude.{◌≡◌, ◌≤◌, ◌<◌, ◌^◌, IfOk
 ghost use Rattle.wblock_show.specs.Lines.{args_text, block_text, call_text, called_text, calls_of, chain_line, chain_lines, digest_line, entries_text, entry_text, fuel_line, head_lines, kind_text, lock_text, more_entries, no_chain_lines, outcome_lines, position_line, position_lines, ratio_line, ratio_text, shared_line, shared_lines, version_line, wave_text, waves_line};
 
 use block::{Block, Position};
-use block_figures::{
+use call::Call;
+use figures::{
     Chains, Figures, OutcomeCount, OutcomeKind, SharedLock, hundredth_of, number_of_version,
     word_of_kind, word_of_mode,
 };
-use call::Call;
-use calls_text::{PositionLine, ValueText};
 use spec_ledger::{Entry, Lock};
 use std::alloc::{AllocError, Global};
+use wblock_calls::{PositionLine, ValueText};
 use wtypes::Value;
 
 fn lock_text_of(alloc: Global, lock: Lock) -> Result<String, AllocError>
@@ -314,7 +314,7 @@ pub(crate) fn block_text_of(
     requires { figures.now.total_fuel < 2 ^ 80 }
     ensures { IfOk result (λ text. string_bytes text ≡ block_text block.now (calls_of calls.entry) figures.now) }
 {
-    block.hold();
+    block.use_invariant();
     let head = head_lines_of(alloc, block)?;
     let positions = position_lines_of(alloc, calls, &figures.chains, block.positions())?;
     let chain = chain_lines_of(alloc, &figures.chains, figures.total_fuel)?;

@@ -10,8 +10,8 @@ ghost use Rattle.wblock_show.specs.Shows.{numbers_of, other_line, AreItsCalls, A
 
 use crate::lines::block_text_of;
 use block::{Block, BlockRefusal, Position, digest_calls, read_block};
-use block_figures::figures_of;
 use call::Call;
+use figures::figures_of;
 use std::alloc::{AllocError, Global};
 use wblock_line::Answer;
 use wblock_words::{advice_on, block_words};
@@ -84,7 +84,7 @@ fn judge_its_calls(
     ensures same { IfOk result (λ other. IfNone other (AreTheCalls block.now calls.now)) }
     ensures other { IfOk result (λ other. IfSome other (IsOther block.now calls.now)) }
 {
-    block.hold();
+    block.use_invariant();
     let digest = digest_calls(alloc, calls)?;
     if !is_same(block.calls(), &digest) {
         return Ok(Some(OtherCalls::Digest));

@@ -1,7 +1,7 @@
 -- What sentences begin with.
 use Rattle.std.specs.Prelude.{◌≡◌, ℕ, ◌+◌, List, ◌++◌, ◌==◌, not, Option, Some, None, codes, count_by, decimal, length, reverse, take_while}
-use Rattle.world_reader.specs.declared.read.ReadRefusal.{ReadRefusal}
-use Rattle.world_reader.specs.declared.read.ReadRefusal.TheVariants as world
+use Rattle.world.specs.declared.read.ReadRefusal.{ReadRefusal}
+use Rattle.world.specs.declared.read.ReadRefusal.TheVariants as world
 use Rattle.block.specs.declared.refusal.BlockRefusal.{BlockRefusal}
 use Rattle.block.specs.declared.refusal.BlockRefusal.TheVariants as block
 

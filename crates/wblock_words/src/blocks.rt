@@ -4,7 +4,7 @@ ghost use Rattle.std.specs.Prelude.{IfOk, string_bytes};
 ghost use Rattle.wblock_words.specs.Sentences.{TellsBlock};
 
 use crate::files::kind_of;
-use crate::places::told;
+use crate::places::place_line;
 use block::BlockRefusal;
 use records::{Fault, read_position, read_receipt, read_u32};
 use spec_ledger::Version;
@@ -152,9 +152,9 @@ pub fn block_words(alloc: Global, bytes: &[u8], refusal: BlockRefusal) -> Result
             let fault = fault_at(alloc, bytes, at)?;
             let advice = advice_on(1);
             let said = format!(in alloc; "{fault}; {advice}")?;
-            told(alloc, "block, byte ", at, said.as_str())
+            place_line(alloc, "block, byte ", at, said.as_str())
         }
-        BlockRefusal::TooLarge => told(
+        BlockRefusal::TooLarge => place_line(
             alloc,
             "block, byte ",
             72,

@@ -11,6 +11,6 @@ mod worlds;
 
 pub use blocks::{advice_on, block_words};
 pub use modules::{form_words, import_words, limit_words, room_words, rule_words, segment_words};
-pub use places::{Place, place_of, shown, told};
+pub use places::{LineColumn, place_line, place_of, shown};
 pub use texts::text_words;
 pub use worlds::world_words;

@@ -3,7 +3,7 @@
 ghost use Rattle.std.specs.Prelude.{◌++◌, IfOk, codes, decimal, string_bytes};
 ghost use Rattle.wblock_words.specs.Sentences.{Begins, broken_place};
 
-use crate::places::{shown, told};
+use crate::places::{place_line, shown};
 use body_typing::rule::Rule;
 use module_tree::limit::Limit;
 use std::alloc::{AllocError, Global};
@@ -24,7 +24,7 @@ pub fn form_words(alloc: Global, at: usize, left_out: bool) -> Result<String, Al
     } else {
         ": the bytes are no module: the item that begins here is cut off, or is not what the binary format has here; a module in text is assembled first, by `asm`"
     };
-    told(alloc, "byte ", at, said)
+    place_line(alloc, "byte ", at, said)
 }
 
 /// What is said of a rule that is broken in a function, which is exported by this name, at this instruction.
@@ -61,11 +61,11 @@ pub fn rule_words(
     match func {
         Some(func) => {
             let said = function_fault(alloc, rule, name, ordinal)?;
-            told(alloc, "function ", func as usize, said.as_str())
+            place_line(alloc, "function ", func as usize, said.as_str())
         }
         None => {
             let said = format!(in alloc; " of its list: {rule}; items count from 0")?;
-            told(alloc, "item ", ordinal as usize, said.as_str())
+            place_line(alloc, "item ", ordinal as usize, said.as_str())
         }
     }
 }
@@ -94,14 +94,14 @@ pub fn import_words(
     ensures { IfOk result (λ s. Begins (codes "import " ++ decimal import) (string_bytes s)) }
 {
     let said = import_fault(alloc, names, has_call)?;
-    told(alloc, "import ", import as usize, said.as_str())
+    place_line(alloc, "import ", import as usize, said.as_str())
 }
 
 /// The sentence of a module that cannot be a contract because of this segment.
 pub fn segment_words(alloc: Global, segment: u32) -> Result<String, AllocError>
     ensures { IfOk result (λ s. Begins (codes "segment " ++ decimal segment) (string_bytes s)) }
 {
-    told(
+    place_line(
         alloc,
         "segment ",
         segment as usize,

@@ -7,7 +7,7 @@ use std::alloc::{AllocError, Global};
 
 /// A place in a text, as people count: lines and columns from 1, columns in bytes.
 #[derive(Clone, Copy, Debug, PartialEq, Eq)]
-pub struct Place {
+pub struct LineColumn {
     /// The line.
     pub line: usize,
     /// The column in the line.
@@ -22,13 +22,13 @@ fn behind_newline(bytes: &[u8]) -> usize
 }
 
 /// The place behind these characters of a text.
-pub fn place_of(before: &str) -> Place
+pub fn place_of(before: &str) -> LineColumn
     ensures line { result.line ≡ line_of before.now }
     ensures column { result.column ≡ column_of before.now }
 {
     let bytes = before.as_bytes();
     let newlines = bytes.iter().filter(|b| **b == b'\n').count();
-    Place {
+    LineColumn {
         line: newlines + 1,
         column: behind_newline(bytes) + 1,
     }
@@ -46,7 +46,12 @@ pub fn shown(word: &str) -> &str
 }
 
 /// A sentence: what it speaks of, by its name and number, and what is said of it.
-pub fn told(alloc: Global, name: &str, number: usize, said: &str) -> Result<String, AllocError>
+pub fn place_line(
+    alloc: Global,
+    name: &str,
+    number: usize,
+    said: &str,
+) -> Result<String, AllocError>
     ensures { IfOk result (λ s. Begins (name.now ++ decimal number) (string_bytes s)) }
 {
     format!(in alloc; "{name}{number}{said}")

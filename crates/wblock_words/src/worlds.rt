@@ -4,10 +4,10 @@ ghost use Rattle.std.specs.Prelude.{IfOk, string_bytes};
 ghost use Rattle.wblock_words.specs.Sentences.{TellsWorld};
 
 use crate::files::kind_of;
-use crate::places::told;
+use crate::places::place_line;
 use records::{read_u32, read_u64};
 use std::alloc::{AllocError, Global};
-use world_reader::ReadRefusal;
+use world::ReadRefusal;
 
 /// A field of a world.
 #[derive(Clone, Copy, Debug, PartialEq, Eq)]
@@ -138,9 +138,9 @@ pub fn world_words(alloc: Global, bytes: &[u8], refusal: ReadRefusal) -> Result<
             let said = format!(in alloc;
                 "{fault}; name a file WORLD as `deploy` or `mine` wrote it, whole"
             )?;
-            told(alloc, "world, byte ", at, said.as_str())
+            place_line(alloc, "world, byte ", at, said.as_str())
         }
-        ReadRefusal::TooLarge => told(
+        ReadRefusal::TooLarge => place_line(
             alloc,
             "world, byte ",
             8,

@@ -1,2 +1,7 @@
-mod Contracts
-mod Cells
+mod WorldBytes
+mod CellCounts
+mod Exact
+mod Judging
+mod Parts
+mod Storing
+mod Worlds

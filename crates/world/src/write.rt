@@ -4,14 +4,14 @@ ghost use Rattle.std.specs.Prelude.{◌≡◌, ◌≤◌, ◌++◌, length, map,
 ghost use Rattle.std.specs.List.{filter, flat_map};
 ghost use Rattle.std.specs.Int.{w64, to_le_bytes};
 ghost use Rattle.std.specs.FinMap as finite;
-ghost use Rattle.codec.specs.Putting.{IsCutShort, IsRaised};
+ghost use Rattle.byte_sinks.specs.Putting.{IsCutShort, IsRaised};
 ghost use Rattle.sha2.specs.Sha256.{sha256};
 ghost use Rattle.spec_block.specs.Bytes.{counted, contract_bytes, cell_bytes, cells_bytes, is_counter, is_map, world_bytes};
 ghost use Rattle.world.specs.Views.{contract_view, world_view, is_of, is_cell_of};
 
 use crate::value::World;
 use block::WriteRefusal;
-use codec::{Sink, put_all};
+use byte_sinks::{Sink, put_all};
 use link::deployed::Deployed;
 use records::{append_u32, append_u64};
 use sha2::{Digest, Sha256};

@@ -5,15 +5,15 @@ use Rattle.std.specs.declared.result.Result.TheVariants.{Ok, Err}
 use Rattle.spec_block.specs.Worlds.{Call, World}
 use Rattle.spec_block.specs.Verdicts.{Verdict, HoldsOf}
 use Rattle.world.specs.Views.{world_view}
-use Rattle.block_judge.specs.declared.reason.Unfit.{Unfit}
+use Rattle.block_judge.specs.declared.reason.JudgeRefusal.{JudgeRefusal}
 use Rattle.block_judge.specs.Judging.{IfRejected, IsFirstFrom, NoneFrom}
 use Rattle.block_judge.proofs.Stages.{admissible_known, after_digests, before_turns, on_ok}
 use Rattle.block_judge.proofs.judge_block.Goals as goal
 
 -- an error that is handed on says what it said
-same_err : {X : Type 0} (Holds : Verdict → Type 0) (r : Result X Unfit) (u : Unfit) → IsErrAnd r (λ e. e ≡ u) → IfRejected u (IsFirstFrom Holds 1) → IfErr r (λ e. IfRejected e (IsFirstFrom Holds 1))
+same_err : {X : Type 0} (Holds : Verdict → Type 0) (r : Result X JudgeRefusal) (u : JudgeRefusal) → IsErrAnd r (λ e. e ≡ u) → IfRejected u (IsFirstFrom Holds 1) → IfErr r (λ e. IfRejected e (IsFirstFrom Holds 1))
 same_err Holds (Ok x) u is p = tt
-same_err Holds (Err e) u is p = subst (λ (v : Unfit). IfRejected v (IsFirstFrom Holds 1)) (sym is) p
+same_err Holds (Err e) u is p = subst (λ (v : JudgeRefusal). IfRejected v (IsFirstFrom Holds 1)) (sym is) p
 
 pub returns-in_err-judge_digests-clause-rejected : goal.returns-in_err-judge_digests-clause-rejected
 returns-in_err-judge_digests-clause-rejected g c =

@@ -1,4 +1,4 @@
-use Rattle.interp.specs.Lent.{setting_view}
+use Rattle.interp.specs.Callee.{setting_view}
 use Rattle.in_order.proofs.OneMore.{ran_none}
 use Rattle.in_order.proofs.begin.Goals as goal
 

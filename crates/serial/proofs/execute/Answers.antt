@@ -1,7 +1,7 @@
 use Rattle.std.proofs.Common.{◌∙◌}
 use Rattle.std.proofs.lemmas.Result.{IfOk-weaker, on_err_weaker}
 use Rattle.serial.proofs.Ending.{may_end, ended, taken_back, executed_for}
-use Rattle.interp.specs.Lent.{setting_view}
+use Rattle.interp.specs.Callee.{setting_view}
 use Rattle.serial.proofs.execute.Goals as goal
 
 pub conclude-requires : goal.conclude-requires
@@ -11,7 +11,7 @@ pub returns-clause-executed : goal.returns-clause-executed
 returns-clause-executed g c =
     IfOk-weaker c.conclude.result _ _
     (λ e h. executed_for (setting_view c.args.version c.args.contracts.now) c.args.call.now c.args.cells.now c.play.new.cells c.in_ok-finished.finished c.in_ok-finished.inverses.items c.in_ok-finished.ensures.ok c.conclude.new.cells.cells e.receipt e.touched
-    (h c.args.cells.now c.in_ok-finished.ensures.ok.done c.requires c.hold.ensures.cells))
+    (h c.args.cells.now c.in_ok-finished.ensures.ok.done c.requires c.use_invariant.ensures.cells))
     c.conclude.ensures.executed
 
 pub returns-clause-settled : goal.returns-clause-settled
@@ -20,5 +20,5 @@ returns-clause-settled g c = c.conclude.ensures.unsettled ∙ ended c.args.cells
 pub returns-clause-err : goal.returns-clause-err
 returns-clause-err g c =
     on_err_weaker c.conclude.result
-    (λ back. taken_back c.args.cells.now c.play.new.cells c.in_ok-finished.finished.trace c.in_ok-finished.inverses.items c.in_ok-finished.ensures.ok.done c.requires c.hold.ensures.cells c.conclude.new.cells back c.conclude.ensures.unsettled)
+    (λ back. taken_back c.args.cells.now c.play.new.cells c.in_ok-finished.finished.trace c.in_ok-finished.inverses.items c.in_ok-finished.ensures.ok.done c.requires c.use_invariant.ensures.cells c.conclude.new.cells back c.conclude.ensures.unsettled)
     c.conclude.ensures.err

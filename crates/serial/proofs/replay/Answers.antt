@@ -19,7 +19,7 @@ returns-in_err-conclude-in-Ok-true-clause-settled g c =
 pub returns-in_err-conclude-in-Ok-true-clause-err : goal.returns-in_err-conclude-in-Ok-true-clause-err
 returns-in_err-conclude-in-Ok-true-clause-err g c =
     let some = c.act_again.ensures.some in
-    on_err c.from_residual.result (taken_back c.args.cells.now c.act_again.new.cells some.trace c.act_again.new.inverses.items some.done c.requires c.hold.ensures.cells c.conclude.new.cells
+    on_err c.from_residual.result (taken_back c.args.cells.now c.act_again.new.cells some.trace c.act_again.new.inverses.items some.done c.requires c.use_invariant.ensures.cells c.conclude.new.cells
     c.in_err-conclude-in-Ok-true.ensures.err c.conclude.ensures.unsettled)
 
 pub returns-in_ok-conclude-in-Ok-true-clause-settled : goal.returns-in_ok-conclude-in-Ok-true-clause-settled
@@ -30,7 +30,7 @@ returns-in_ok-conclude-in-Ok-true-clause-settled g c =
 pub returns-in-Ok-false-clause-other : goal.returns-in-Ok-false-clause-other
 returns-in-Ok-false-clause-other g c =
     let some = c.act_again.ensures.some in
-    taken_back c.args.cells.now c.act_again.new.cells some.trace c.act_again.new.inverses.items some.done c.requires c.hold.ensures.cells c.end_all.new.cells c.end_all.ensures.cells c.end_all.ensures.unsettled
+    taken_back c.args.cells.now c.act_again.new.cells some.trace c.act_again.new.inverses.items some.done c.requires c.use_invariant.ensures.cells c.end_all.new.cells c.end_all.ensures.cells c.end_all.ensures.unsettled
 
 pub returns-in-Ok-false-clause-settled : goal.returns-in-Ok-false-clause-settled
 returns-in-Ok-false-clause-settled g c =
@@ -45,4 +45,4 @@ returns-in-Err-clause-settled g c =
 pub returns-in-Err-clause-err : goal.returns-in-Err-clause-err
 returns-in-Err-clause-err g c =
     let some = c.act_again.ensures.some in
-    taken_back c.args.cells.now c.act_again.new.cells some.trace c.act_again.new.inverses.items some.done c.requires c.hold.ensures.cells c.end_all-in-Err.new.cells c.end_all-in-Err.ensures.cells c.end_all-in-Err.ensures.unsettled
+    taken_back c.args.cells.now c.act_again.new.cells some.trace c.act_again.new.inverses.items some.done c.requires c.use_invariant.ensures.cells c.end_all-in-Err.new.cells c.end_all-in-Err.ensures.cells c.end_all-in-Err.ensures.unsettled

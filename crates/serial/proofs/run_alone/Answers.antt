@@ -6,4 +6,4 @@ end_all-requires g c = may_end c.args.cells.now c.play.new.cells c.in_ok-finishe
 
 pub returns-clause-cells : goal.returns-clause-cells
 returns-clause-cells g c =
-    taken_back c.args.cells.now c.play.new.cells c.in_ok-finished.finished.trace c.in_ok-finished.done.items c.in_ok-finished.ensures.ok.done c.requires c.hold.ensures.cells c.end_all.new.cells c.end_all.ensures.cells c.end_all.ensures.unsettled
+    taken_back c.args.cells.now c.play.new.cells c.in_ok-finished.finished.trace c.in_ok-finished.done.items c.in_ok-finished.ensures.ok.done c.requires c.use_invariant.ensures.cells c.end_all.new.cells c.end_all.ensures.cells c.end_all.ensures.unsettled

@@ -1,7 +1,7 @@
 use Rattle.std.proofs.Common.{◌<◌, refl, length, get_or, arith}
 use Rattle.std.proofs.lemmas.List.Elements.{All-get_or}
 use Rattle.std.proofs.lemmas.Option.{slice_get_read}
-use Rattle.interp.specs.Lent.{setting_view}
+use Rattle.interp.specs.Callee.{setting_view}
 use Rattle.serial.proofs.Orders.{length_more, serial_more}
 use Rattle.serial.proofs.serial_core.Goals as goal
 

@@ -2,10 +2,10 @@ use mir.Syntax.{Lifetime}
 use base.Fml.{Lft}
 use denote.Ref.{NamedLft, ShrRef}
 use denote.Param.Send.{IsSend, shr_send, sendable}
-use Rattle.block_judge.proofs.reason.Unfit.TheSendSync as unfit
+use Rattle.block_judge.proofs.reason.JudgeRefusal.TheSendSync as unfit
 use Rattle.validator.specs.contracts.job.Job as job_row
 use Rattle.validator.specs.contracts.judge_and_run as rows
-use Rattle.serial_block.proofs.Crossing.{crosses, vec_send}
+use Rattle.serial.proofs.Crossing.{crosses, vec_send}
 use Rattle.validator.proofs.Crossing.{job_sync}
 use Rattle.validator.proofs.judge_and_run.Goals as goal
 

@@ -1,5 +1,5 @@
 use Rattle.std.proofs.Common.{◌∙◌}
-use Rattle.interp.specs.Lent.{setting_view}
+use Rattle.interp.specs.Callee.{setting_view}
 use Rattle.validator.proofs.Fits.{is_job}
 use Rattle.validator.proofs.verdict_within.Goals as goal
 

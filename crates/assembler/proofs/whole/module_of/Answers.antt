@@ -6,7 +6,7 @@ use Rattle.text_tree.specs.Views.{fields_of}
 use Rattle.text_resolve.specs.Views.{spaces_of}
 use Rattle.text_fields.proofs.Parting.{hand_on}
 use Rattle.assembler.specs.PartsView.{parts_view, with_types}
-use Rattle.module_limits.specs.ListsView.{lists_view}
+use Rattle.assembler.specs.ListsView.{lists_view}
 use Rattle.assembler.proofs.Naming.{not_made}
 use Rattle.assembler.proofs.Sealing.{sealed_resolves, sealed_fits, not_sealed}
 use Rattle.assembler.proofs.whole.module_of.Goals as goal

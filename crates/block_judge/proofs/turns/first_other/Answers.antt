@@ -23,7 +23,7 @@ returns-then-not-branch-clause-other g c =
     let last = get lock_cmp c.loop-at.groups in
     let es = c.entries.result.now in
     let there = listed c.args.positions.now c.loop-at.at c.index-positions-at.result es c.loop-at-test.true c.index-positions-at.is (c.entries.ensures ∙ c.profile-profile.ensures) in
-    let rises : IsProfile es = subst IsProfile (sym c.entries.ensures) c.hold.ensures in
+    let rises : IsProfile es = subst IsProfile (sym c.entries.ensures) c.use_invariant.ensures in
     record {
       holds = (
         es,
@@ -43,7 +43,7 @@ loop-at-preserved g c =
     let ps = lists_of c.args.positions.now in
     let es = c.entries.result.now in
     let there = listed c.args.positions.now c.loop-at.at c.index-positions-at.result es c.loop-at-test.true c.index-positions-at.is (c.entries.ensures ∙ c.profile-profile.ensures) in
-    let rises : IsProfile es = subst IsProfile (sym c.entries.ensures) c.hold.ensures in
+    let rises : IsProfile es = subst IsProfile (sym c.entries.ensures) c.use_invariant.ensures in
     let follow = recursion_from_All (λ (e : Entry). e.turn ≡ turn_next (last e.lock) e.mode) es (c.in_ok-have_turns.ensures.turns.0 c.if-not-branch.false) in
     record {
       turns = turns_more ps c.loop-at.at es there c.loop-at.invariant.turns (turns_here ps c.loop-at.at es there rises last c.loop-at.invariant.groups follow);

@@ -5,9 +5,10 @@ use Rattle.spec_ledger.specs.declared.Lock.{Lock}
 use Rattle.spec_ledger.specs.declared.Entry.{Entry}
 use Rattle.spec_ledger.specs.Cells.{lock_cmp}
 use Rattle.lock_profile.specs.declared.Group.{Group}
-use Rattle.lock_profile.specs.Groups.{latest, turn_next}
+use Rattle.lock_profile.specs.Groups.{turn_next}
+use Rattle.block_judge.specs.Latest.{latest}
 use Rattle.lock_profile.specs.Turns.{IsProfile}
-use Rattle.lock_profile.proofs.Groups.{groups_more}
+use Rattle.block_judge.proofs.Latest.{groups_more}
 use Rattle.block_judge.proofs.Profiles.{not_among}
 use Rattle.block_judge.proofs.turns.have_turns.Goals as goal
 

@@ -3,7 +3,8 @@ use Rattle.std.specs.BTreeMap.{get}
 use Rattle.spec_ledger.specs.declared.Lock.{Lock}
 use Rattle.spec_ledger.specs.declared.Entry.{Entry}
 use Rattle.spec_ledger.specs.Cells.{lock_cmp}
-use Rattle.lock_profile.specs.Groups.{latest, turn_next}
+use Rattle.lock_profile.specs.Groups.{turn_next}
+use Rattle.block_judge.specs.Latest.{latest}
 use Rattle.block_judge.proofs.turns.have_turns.Given as goal
 
 -- so far each entry has its turn after the groups that were there, and the groups are those that the entries are in

@@ -1,4 +1,4 @@
-use Rattle.spec_ledger.specs.declared.Step.TheVariants.{Opened}
+use Rattle.spec_ledger.specs.declared.TraceStep.TheVariants.{Opened}
 use Rattle.debugger.proofs.Turning.{begun_stepped, begun_asked, begun_entered, replied_trace, answered_same, did, marked, not_left, not_done}
 use Rattle.debugger.proofs.Undoing.{on_ok}
 use Rattle.debugger.proofs.cursor.begin_turn.Goals as goal

@@ -1,4 +1,4 @@
-use Rattle.interp.specs.Lent.{setting_view}
+use Rattle.interp.specs.Callee.{setting_view}
 use Rattle.debugger.proofs.Turning.{started, answered_none}
 use Rattle.debugger.proofs.cursor.open.Goals as goal
 

@@ -9,7 +9,7 @@ returns-in_ok-push-clause-is_reply g c = is_reply c.args.op c.args.cells.now.cel
 pub returns-in_ok-push-clause-undo : goal.returns-in_ok-push-clause-undo
 returns-in_ok-push-clause-undo g c = λ p h.
     let was = c.args.undo.now in
-    noted was.inverses.items c.push.new.self.items was.marks.items c.args.cells.now.cells c.do_op.new.cells.cells p c.args.op c.in_ok-reply.reply h c.in_ok-reply.ensures.cells c.hold.ensures.cells
+    noted was.inverses.items c.push.new.self.items was.marks.items c.args.cells.now.cells c.do_op.new.cells.cells p c.args.op c.in_ok-reply.reply h c.in_ok-reply.ensures.cells c.use_invariant.ensures.cells
     c.in_ok-reply.inverse c.in_ok-reply.ensures.inverse c.in_ok-push.ensures.items
 
 pub returns-else-not-is_empty-clause-is_reply : goal.returns-else-not-is_empty-clause-is_reply

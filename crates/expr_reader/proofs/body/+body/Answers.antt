@@ -1,7 +1,7 @@
 use Rattle.std.proofs.Common.{◌≡◌, ◌-◌, ◌∷◌, ◌++◌, [], false, true, length, arith, rules, ap, ◌∙◌}
 use Rattle.std.specs.Prelude.{◌==◌, ◌||◌}
 use Rattle.std.proofs.lemmas.Result.{err_from_is_err_and}
-use Rattle.spec_binary_laws.specs.ReadingExpressions.{one_at, body_at}
+use Rattle.laws_modules.specs.ReadingExpressions.{one_at, body_at}
 use Rattle.module_tree.specs.View.{ordinals}
 use Rattle.expr_reader.specs.Numbering.{numbered_none, numbered_push, numbered_Block, numbered_Loop, numbered_If}
 use Rattle.expr_reader.proofs.Turns.{front_none, body_opens, at_end, at_fault, at_empty, at_more, hand_on, too_deep}

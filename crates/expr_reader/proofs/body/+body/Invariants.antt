@@ -1,5 +1,5 @@
 use Rattle.std.proofs.Common.{◌≡◌, ℕ, ◌+◌, ◌-◌, ◌*◌, ◌≤◌, length}
-use Rattle.spec_binary_laws.specs.ReadingExpressions.{one_at, body_at, seq_at}
+use Rattle.laws_modules.specs.ReadingExpressions.{one_at, body_at, seq_at}
 use Rattle.module_tree.specs.View.{ordinals}
 use Rattle.expr_reader.specs.Numbering.{Numbered}
 use Rattle.expr_reader.proofs.Turns.{front}

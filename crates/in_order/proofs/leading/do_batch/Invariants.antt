@@ -1,7 +1,7 @@
 use Rattle.std.proofs.Common.{◌≡◌, length}
-use Rattle.in_order.specs.Ran.{IsRanOf}
-use Rattle.in_order.specs.Shares.{IsShareOf}
+use Rattle.in_order.specs.Progress.{IsProgressOf}
+use Rattle.in_order.specs.Shares.{AreSpeculativeRunsOf}
 use Rattle.in_order.proofs.leading.do_batch.Given as goal
 
 abbrev pub invariant-loop-position : goal.invariant-loop-position
-invariant-loop-position g l = record { ran : IsRanOf l.job l.ran; at : length l.ran.receipts.items ≡ l._position; share : IsShareOf l.job.task l.share }
+invariant-loop-position g l = record { ran : IsProgressOf l.job l.ran; at : length l.ran.receipts.items ≡ l._position; share : AreSpeculativeRunsOf l.job.task l.share }

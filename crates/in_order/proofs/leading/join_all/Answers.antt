@@ -3,7 +3,7 @@ use base.Fml.{Lft}
 use denote.Ref.{NamedLft, ShrRef}
 use denote.Param.Send.{IsSend, shr_send, sendable}
 use Rattle.in_order.specs.contracts.InOrder as job_row
-use Rattle.in_order.specs.contracts.post.Post as post_row
+use Rattle.in_order.specs.contracts.post.QueueEnd as post_row
 use Rattle.in_order.specs.contracts.leading.join_all as rows
 use Rattle.in_order.proofs.Crossing.{job_sync, post_send}
 use Rattle.in_order.proofs.leading.join_all.Goals as goal

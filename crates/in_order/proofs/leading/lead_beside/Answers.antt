@@ -4,9 +4,9 @@ use denote.Ref.{NamedLft, ShrRef}
 use denote.Param.Send.{IsSend, shr_send, sendable}
 use Rattle.std.specs.contracts.vec.Vec as vec_row
 use Rattle.in_order.specs.contracts.InOrder as job_row
-use Rattle.in_order.specs.contracts.post.Post as post_row
+use Rattle.in_order.specs.contracts.post.QueueEnd as post_row
 use Rattle.in_order.specs.contracts.leading.lead_beside as rows
-use Rattle.serial_block.proofs.Crossing.{vec_send}
+use Rattle.serial.proofs.Crossing.{vec_send}
 use Rattle.in_order.proofs.Crossing.{job_sync, post_send}
 use Rattle.in_order.proofs.leading.lead_beside.Goals as goal
 

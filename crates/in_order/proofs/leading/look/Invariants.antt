@@ -1,5 +1,5 @@
-use Rattle.in_order.specs.Handed.{IsPostOf, IsSupplyOf}
+use Rattle.in_order.specs.Handed.{IsQueueEndOf, IsReorderBufferOf}
 use Rattle.in_order.proofs.leading.look.Given as goal
 
 abbrev pub invariant-loop : goal.invariant-loop
-invariant-loop g l = record { supply : IsSupplyOf l.job.task l.supply; post : IsPostOf l.job l.post }
+invariant-loop g l = record { supply : IsReorderBufferOf l.job.task l.supply; post : IsQueueEndOf l.job l.post }

@@ -1,5 +1,5 @@
 use Rattle.std.proofs.Common.{◌≡◌, ◌+◌, length, arith}
-use Rattle.interp.specs.Lent.{setting_view}
+use Rattle.interp.specs.Callee.{setting_view}
 use Rattle.in_order.proofs.OneMore.{byte_le, ran_more}
 use Rattle.in_order.proofs.turns.do_next.Goals as goal
 

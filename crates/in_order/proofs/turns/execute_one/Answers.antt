@@ -3,7 +3,7 @@ use Rattle.std.proofs.lemmas.Option.{slice_get_read, same_Some}
 use Rattle.storage.specs.Counts.{Store}
 use Rattle.spec_execution.specs.Exec.{Executes}
 use Rattle.spec_execution.specs.Run.{ContractCall}
-use Rattle.interp.specs.Lent.{setting_view}
+use Rattle.interp.specs.Callee.{setting_view}
 use Rattle.in_order.proofs.turns.execute_one.Goals as goal
 
 pub returns-clause-executed : goal.returns-clause-executed

@@ -3,9 +3,9 @@ use base.Fml.{Lft}
 use denote.Ref.{NamedLft, ShrRef}
 use denote.Param.Send.{IsSend, IsSync, shr_sync, sendable}
 use Rattle.in_order.specs.contracts.InOrder as job_row
-use Rattle.in_order.specs.contracts.post.Post as post_row
+use Rattle.in_order.specs.contracts.post.QueueEnd as post_row
 use Rattle.in_order.specs.contracts.working.work_all as rows
-use Rattle.serial_block.proofs.Crossing.{crosses}
+use Rattle.serial.proofs.Crossing.{crosses}
 use Rattle.in_order.proofs.Crossing.{job_sync, post_send}
 use Rattle.in_order.proofs.working.work_all.Goals as goal
 

@@ -1,11 +1,11 @@
 use Rattle.std.proofs.Common.{subst, Bool, ap, ◌∙◌}
 use Rattle.wtypes.specs.declared.TrapCode.TheVariants.{CallDepth}
-use Rattle.frames.specs.Calls.{Enters}
-use Rattle.operands.specs.Lent.{base_of}
-use Rattle.frames.specs.Views.{view}
-use Rattle.frames.specs.Waiting.{tail_of}
+use Rattle.interp_state.specs.Calls.{Enters}
+use Rattle.interp_state.specs.Callee.{base_of}
+use Rattle.interp_state.specs.Views.{view}
+use Rattle.interp_state.specs.Waiting.{tail_of}
 use Rattle.interp.specs.Run.{seen, args_of}
-use Rattle.frames.specs.ViewLaws.{items_nil, last_of}
+use Rattle.interp_state.specs.ViewLaws.{items_nil, last_of}
 use Rattle.interp.proofs.Asking.{fine_call, machine_started, is_started, machine_trapped, is_trapped}
 use Rattle.interp.proofs.functions.start_function.Goals as goal
 

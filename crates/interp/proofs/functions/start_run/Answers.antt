@@ -1,11 +1,11 @@
 use Rattle.std.proofs.Common.{ap, ◌∙◌, sym, subst, length}
-use Rattle.operands.specs.Lent.{base_of}
-use Rattle.frames.specs.Views.{view}
-use Rattle.frames.specs.Waiting.{tail_of}
+use Rattle.interp_state.specs.Callee.{base_of}
+use Rattle.interp_state.specs.Views.{view}
+use Rattle.interp_state.specs.Waiting.{tail_of}
 use Rattle.interp.specs.Run.{seen, args_of}
 use Rattle.interp.specs.Machine.{HasRoom}
 use Rattle.interp.specs.declared.turns.Status.{Status}
-use Rattle.frames.specs.ViewLaws.{items_nil, last_of}
+use Rattle.interp_state.specs.ViewLaws.{items_nil, last_of}
 use Rattle.interp.proofs.Beginning.{start_calling, start_own, machine_entered, has_entered, has_started}
 use Rattle.interp.proofs.functions.start_run.Goals as goal
 

@@ -2,16 +2,16 @@ use Rattle.std.proofs.Common.{sym, ap, ◌∙◌, arith, subst, ℤ, rules, SFit
 use Rattle.std.proofs.lemmas.Int.{to_z-of_z}
 use Rattle.spec_execution.specs.Reduction.{Ask}
 use Rattle.std.specs.Prelude.{slice_index_or}
-use Rattle.sequences.specs.Finding.{read_at}
+use Rattle.laws_reduction.specs.Finding.{read_at}
 use Rattle.wtypes.specs.declared.HostCall.TheVariants.{Get}
-use Rattle.interp.specs.Asked.{wish_of_code}
+use Rattle.interp.specs.Asked.{effect_of_code}
 use Rattle.interp.specs.Run.{seen, IsWished}
 use Rattle.interp.proofs.Asking.{room_of}
 use Rattle.interp.proofs.Wishing.{to_call, is_wished, same_asked, asked_same}
 use Rattle.interp.proofs.imports.ask.Goals as goal
 
-pub wish_for-requires : goal.wish_for-requires
-wish_for-requires g c =
+pub effect_for-requires : goal.effect_for-requires
+effect_for-requires g c =
     let s = seen c.args.run.now in
     let hosts = c.args.run.now.lent.hosts.now in
     let h = slice_index_or hosts c.args.func Get in
@@ -21,7 +21,7 @@ pub ask_host-requires-clause-call : goal.ask_host-requires-clause-call
 ask_host-requires-clause-call g c = to_call c.args.run.now c.args.func c.requires.call
 
 pub ask_host-requires-clause-wished : goal.ask_host-requires-clause-wished
-ask_host-requires-clause-wished g c = is_wished c.args.run.now c.args.func c.requires.call c.requires.hosted _ _ c.args.run.now.parts.stack.ok.0 (ap wish_of_code (sym c.in-Of.is) ∙ c.wish_for.ensures)
+ask_host-requires-clause-wished g c = is_wished c.args.run.now c.args.func c.requires.call c.requires.hosted _ _ c.args.run.now.parts.stack.ok.0 (ap effect_of_code (sym c.in-Of.is) ∙ c.effect_for.ensures)
 
 pub returns-in-Of-clause-turn : goal.returns-in-Of-clause-turn
 returns-in-Of-clause-turn g c = asked_same (seen c.args.run.now) c.args.func c.ask_host.result (seen c.ask_host.new.run) c.ask_host.ensures.turn
@@ -36,7 +36,7 @@ pub ask_contract-requires-clause-wished : goal.ask_contract-requires-clause-wish
 ask_contract-requires-clause-wished g c =
     let r = c.args.run.now in
     let fits : SFits w64 c.in-Ask.argument = search rules in
-    let wished : IsWished (record r { asked = c.args.func }) (Ask c.in-Ask.number c.in-Ask.export c.in-Ask.argument) = is_wished r c.args.func c.requires.call c.requires.hosted _ _ r.parts.stack.ok.0 (ap wish_of_code (sym c.in-Ask.is) ∙ c.wish_for.ensures) in
+    let wished : IsWished (record r { asked = c.args.func }) (Ask c.in-Ask.number c.in-Ask.export c.in-Ask.argument) = is_wished r c.args.func c.requires.call c.requires.hosted _ _ r.parts.stack.ok.0 (ap effect_of_code (sym c.in-Ask.is) ∙ c.effect_for.ensures) in
     subst (λ (z : ℤ). IsWished (record r { asked = c.args.func }) (Ask c.in-Ask.number c.in-Ask.export z)) (sym (to_z-of_z w64 c.in-Ask.argument fits)) wished
 
 pub returns-in-Ask-clause-turn : goal.returns-in-Ask-clause-turn
@@ -49,7 +49,7 @@ pub give_answer-requires-clause-call : goal.give_answer-requires-clause-call
 give_answer-requires-clause-call g c = to_call c.args.run.now c.args.func c.requires.call
 
 pub give_answer-requires-clause-wished : goal.give_answer-requires-clause-wished
-give_answer-requires-clause-wished g c = is_wished c.args.run.now c.args.func c.requires.call c.requires.hosted _ _ c.args.run.now.parts.stack.ok.0 (ap wish_of_code (sym c.in-Answer.is) ∙ c.wish_for.ensures)
+give_answer-requires-clause-wished g c = is_wished c.args.run.now c.args.func c.requires.call c.requires.hosted _ _ c.args.run.now.parts.stack.ok.0 (ap effect_of_code (sym c.in-Answer.is) ∙ c.effect_for.ensures)
 
 pub returns-in-Answer-clause-turn : goal.returns-in-Answer-clause-turn
 returns-in-Answer-clause-turn g c = asked_same (seen c.args.run.now) c.args.func c.give_answer.result (seen c.give_answer.new.run) c.give_answer.ensures.turn

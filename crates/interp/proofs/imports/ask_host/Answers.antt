@@ -1,5 +1,5 @@
 use Rattle.std.proofs.Common.{sym, ap, ◌∙◌, arith, subst, List}
-use Rattle.spec_ledger.specs.declared.Step.{Step}
+use Rattle.spec_ledger.specs.declared.TraceStep.{TraceStep}
 use Rattle.spec_execution.specs.Levels.{asks_in}
 use Rattle.interp.specs.declared.turns.Status.TheVariants.{Asking}
 use Rattle.interp.specs.Machine.{IsMachine}
@@ -11,7 +11,7 @@ pub returns-clause-kept : goal.returns-clause-kept
 returns-clause-kept g c =
     let s = seen c.args.run.now in
     record {
-      machine = subst (λ (t : List Step). IsMachine (record s { trace = t; status = Asking c.args.op })) (sym c.reserve.ensures.items) (machine_asking s s.asked c.requires.call.calling c.args.op c.requires.wished.room c.requires.wished.asks);
+      machine = subst (λ (t : List TraceStep). IsMachine (record s { trace = t; status = Asking c.args.op })) (sym c.reserve.ensures.items) (machine_asking s s.asked c.requires.call.calling c.args.op c.requires.wished.room c.requires.wished.asks);
       counted = c.requires.call.counted;
       suits = c.requires.call.suits;
       waits = c.requires.call.waits;

@@ -5,10 +5,10 @@ use Rattle.wtypes.specs.declared.Value.{Value}
 use Rattle.wtypes.specs.declared.Value.TheVariants.{I64}
 use Rattle.spec_ledger.specs.declared.Reply.TheVariants as reply
 use Rattle.spec_execution.specs.Reduction.{Answer}
-use Rattle.operands.specs.Lent.{base_of}
-use Rattle.frames.specs.Views.{view}
-use Rattle.frames.specs.ViewLaws.{items_nil, last_of, ordered_any}
-use Rattle.frames.specs.Waiting.{tail_of}
+use Rattle.interp_state.specs.Callee.{base_of}
+use Rattle.interp_state.specs.Views.{view}
+use Rattle.interp_state.specs.ViewLaws.{items_nil, last_of, ordered_any}
+use Rattle.interp_state.specs.Waiting.{tail_of}
 use Rattle.interp.specs.Run.{seen, args_of}
 use Rattle.interp.proofs.Leaving.{machine_on, gone_on, ordered_on}
 use Rattle.interp.proofs.imports.give_answer.Goals as goal

@@ -5,11 +5,11 @@ use Rattle.spec_ledger.specs.declared.Reply.TheVariants as reply
 use Rattle.spec_execution.specs.Reduction.{Ask}
 use Rattle.spec_execution.specs.Run.{Opens, Refused}
 use Rattle.spec_execution.specs.Levels.{asked}
-use Rattle.opening.specs.Views.{contract_of}
-use Rattle.operands.specs.Lent.{base_of}
-use Rattle.frames.specs.Views.{view}
-use Rattle.frames.specs.ViewLaws.{items_nil, last_of, ordered_any}
-use Rattle.frames.specs.Waiting.{tail_of}
+use Rattle.instance.specs.Views.{contract_of}
+use Rattle.interp_state.specs.Callee.{base_of}
+use Rattle.interp_state.specs.Views.{view}
+use Rattle.interp_state.specs.ViewLaws.{items_nil, last_of, ordered_any}
+use Rattle.interp_state.specs.Waiting.{tail_of}
 use Rattle.interp.specs.Run.{seen, args_of, IsToEnter}
 use Rattle.interp.proofs.Around.{levels_length}
 use Rattle.interp.proofs.Leaving.{machine_on, gone_on, ordered_on, refused_move}

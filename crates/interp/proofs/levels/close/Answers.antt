@@ -1,8 +1,8 @@
 use Rattle.std.proofs.Common.{◌≡◌, [], ◌∷◌, ◌++◌, sym, ap, ◌∙◌, subst, false, length, length-append, arith}
-use Rattle.spec_ledger.specs.declared.Step.TheVariants.{Dropped}
+use Rattle.spec_ledger.specs.declared.TraceStep.TheVariants.{Dropped}
 use Rattle.spec_execution.specs.Levels.{asks_in}
-use Rattle.operands.specs.Lent.{contract_of}
-use Rattle.frames.specs.Waiting.{tail_of}
+use Rattle.interp_state.specs.Callee.{contract_of}
+use Rattle.interp_state.specs.Waiting.{tail_of}
 use Rattle.interp.specs.declared.run.Run.{Run}
 use Rattle.interp.specs.declared.turns.Status.TheVariants as status
 use Rattle.interp.specs.Progress.{HasLeft}

@@ -1,9 +1,9 @@
 use Rattle.std.proofs.Common.{◌∷◌, [], length, ℤ, refl, sym, subst, rules, SFits, w64}
 use Rattle.std.proofs.lemmas.Int.{to_z-of_z}
 use Rattle.wtypes.specs.declared.Value.TheVariants.{I64}
-use Rattle.frames.specs.Waiting.{IsEntry}
-use Rattle.opening.specs.Views.{contract_of}
-use Rattle.interp.specs.Lent.{setting_view}
+use Rattle.interp_state.specs.Waiting.{IsEntry}
+use Rattle.instance.specs.Views.{contract_of}
+use Rattle.interp.specs.Callee.{setting_view}
 use Rattle.interp.specs.Run.{seen, IsFreshLevel}
 use Rattle.interp.proofs.Pushing.{entry_of, entry_own, begun_of, pushed_from, same_call_of, first_pushed, has_entered}
 use Rattle.interp.proofs.levels.enter_level.Goals as goal

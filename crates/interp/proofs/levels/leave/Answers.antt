@@ -2,13 +2,13 @@ use Rattle.std.proofs.Common.{◌≡◌, ℤ, ◌≤◌, [], ◌∷◌, ◌++◌
 use Rattle.std.specs.Prelude.{vec_len}
 use Rattle.std.proofs.lemmas.Int.{to_z-of_z}
 use Rattle.wtypes.specs.declared.Value.TheVariants.{I32}
-use Rattle.spec_ledger.specs.declared.Step.{Step}
+use Rattle.spec_ledger.specs.declared.TraceStep.{TraceStep}
 use Rattle.spec_execution.specs.Levels.{asks_in}
-use Rattle.operands.specs.Lent.{contract_of, base_of}
-use Rattle.frames.specs.Steps.{IsCounted, IsOrderedParts}
-use Rattle.frames.specs.Views.{view}
-use Rattle.frames.specs.ViewLaws.{items_nil, last_of, ordered_any}
-use Rattle.frames.specs.Waiting.{tail_of, HasEach, AllCome}
+use Rattle.interp_state.specs.Callee.{contract_of, base_of}
+use Rattle.interp_state.specs.Steps.{IsCounted, IsOrderedParts}
+use Rattle.interp_state.specs.Views.{view}
+use Rattle.interp_state.specs.ViewLaws.{items_nil, last_of, ordered_any}
+use Rattle.interp_state.specs.Waiting.{tail_of, HasEach, AllCome}
 use Rattle.interp.specs.declared.run.Run.{Run}
 use Rattle.interp.specs.declared.turns.Status.TheVariants as status
 use Rattle.interp.specs.Progress.{mark_of, HasLeft}
@@ -74,7 +74,7 @@ returns-clause-kept g c =
     let b = base_of l.lent in
     let p = c.settle_all.new.parts in
     let x = c.settle_all.new.waiting in
-    let recorded : c.record_step.new.trace.items ≡ r.trace.items ++ mark_of c.args.keep ∷ [] = c.record_step.ensures.items ∙ ap (λ (m : Step). r.trace.items ++ m ∷ []) c.mark.ensures in
+    let recorded : c.record_step.new.trace.items ≡ r.trace.items ++ mark_of c.args.keep ∷ [] = c.record_step.ensures.items ∙ ap (λ (m : TraceStep). r.trace.items ++ m ∷ []) c.mark.ensures in
     let come = subst (λ (q : Run _). AllCome (record q.parts { stack = c.take_status.new.stack }) q.waiting p x) c.restore.ensures c.settle_all.ensures.comes (contract_of l.lent) (args_of args l.argument) b a.waits in
     subst (λ (z : ℤ). IsKept (record c.restore.new.run { parts = p; waiting = x; answer = z; status = status.Running })) (sym (to_z-of_z w64 c.args.answer c.ranges.answer))
     (subst (λ (q : Run _). IsKept (record q { parts = p; waiting = x; answer = c.args.answer; status = status.Running })) (sym c.restore.ensures) (record {
@@ -102,7 +102,7 @@ returns-clause-turn g c =
     let b = base_of l.lent in
     let p = c.settle_all.new.parts in
     let x = c.settle_all.new.waiting in
-    let recorded : c.record_step.new.trace.items ≡ r.trace.items ++ mark_of c.args.keep ∷ [] = c.record_step.ensures.items ∙ ap (λ (m : Step). r.trace.items ++ m ∷ []) c.mark.ensures in
+    let recorded : c.record_step.new.trace.items ≡ r.trace.items ++ mark_of c.args.keep ∷ [] = c.record_step.ensures.items ∙ ap (λ (m : TraceStep). r.trace.items ++ m ∷ []) c.mark.ensures in
     let come = subst (λ (q : Run _). AllCome (record q.parts { stack = c.take_status.new.stack }) q.waiting p x) c.restore.ensures c.settle_all.ensures.comes (contract_of l.lent) (args_of args l.argument) b a.waits in
     subst (λ (z : ℤ). HasLeft (progress (seen r)) c.args.keep (progress (seen (record c.restore.new.run { parts = p; waiting = x; answer = z; status = status.Running })))) (sym (to_z-of_z w64 c.args.answer c.ranges.answer))
     (subst (λ (q : Run _). HasLeft (progress (seen r)) c.args.keep (progress (seen (record q { parts = p; waiting = x; answer = c.args.answer; status = status.Running })))) (sym c.restore.ensures)

@@ -5,8 +5,8 @@ use Rattle.module_tree.specs.Modules.{module_view}
 use Rattle.spec_typing.specs.Linking.{IsLinked}
 use Rattle.spec_execution.specs.Configuration.{Contract, End, Invoke, arguments, fresh}
 use Rattle.instance.specs.States.{IsFresh}
-use Rattle.opening.specs.Views.{contract_of}
-use Rattle.frames.specs.Waiting.{IsEntry, alone}
+use Rattle.instance.specs.Views.{contract_of}
+use Rattle.interp_state.specs.Waiting.{IsEntry, alone}
 use Rattle.interp.proofs.Beginning.{based_fresh, contract_same, nothing_view, nothing_counted}
 use Rattle.interp.proofs.levels.open_level.Goals as goal
 

@@ -1,6 +1,6 @@
 use Rattle.std.proofs.Common.{◌≡◌, ◌++◌, ◌∷◌, [], ap, ◌∙◌, length, length-append, arith, rules, SFits, to_z, of_z, w64}
 use Rattle.std.proofs.lemmas.Int.{to_z-of_z}
-use Rattle.spec_ledger.specs.declared.Step.TheVariants.{Opened}
+use Rattle.spec_ledger.specs.declared.TraceStep.TheVariants.{Opened}
 use Rattle.interp.specs.declared.run.Level.{Level}
 use Rattle.interp.proofs.Pushing.{waiting_same, pushed_same}
 use Rattle.interp.proofs.levels.push_level.Goals as goal

@@ -5,11 +5,11 @@ use Rattle.interp.specs.declared.turns.Status.{Status}
 use Rattle.interp.specs.Machine.{on, progress}
 use Rattle.interp.specs.Shown.{ending}
 use Rattle.interp.specs.Run.{seen}
-use Rattle.frames.specs.Views.{items_of}
-use Rattle.frames.specs.ViewLaws.{items_nil}
-use Rattle.interp.proofs.Outermost.{none_around, one_around}
+use Rattle.interp_state.specs.Views.{items_of}
+use Rattle.interp_state.specs.ViewLaws.{items_nil}
+use Rattle.interp.proofs.Outermost.{no_items, none_around, one_around}
 use Rattle.interp.proofs.Turning.{result_last}
-use Rattle.interp.proofs.Outlook.{no_items, ends_returned, ends_level, ends_exhausted, goes_on, asks_on, tells_end, tells_fall, falls_on}
+use Rattle.interp.proofs.Outlook.{ends_returned, ends_level, ends_exhausted, goes_on, asks_on, tells_end, tells_fall, falls_on}
 use Rattle.interp.proofs.readers.ending_of_run.Goals as goal
 
 pub returns-then-is_empty : goal.returns-then-is_empty

@@ -2,11 +2,10 @@ use Rattle.std.proofs.Common.{ap, ◌∙◌, sym, true≢false, length, refl, su
 use Rattle.std.specs.Prelude.{◌==◌}
 use Rattle.interp.specs.Progress.{GoesOn}
 use Rattle.interp.specs.Run.{seen}
-use Rattle.frames.specs.Views.{items_of}
-use Rattle.frames.specs.ViewLaws.{items_nil}
-use Rattle.interp.proofs.Outermost.{none_around, one_around}
+use Rattle.interp_state.specs.Views.{items_of}
+use Rattle.interp_state.specs.ViewLaws.{items_nil}
+use Rattle.interp.proofs.Outermost.{no_items, none_around, one_around}
 use Rattle.interp.proofs.LeftNext.{not_left_alone, left_by_code, left_fallen}
-use Rattle.interp.proofs.Outlook.{no_items}
 use Rattle.interp.proofs.readers.is_left_next.Goals as goal
 
 pub returns-then-is_empty : goal.returns-then-is_empty

@@ -1,7 +1,7 @@
 use Rattle.std.proofs.Common.{◌≡◌, ◌∙◌, sym, ap, ap₂, arith, length, drop, refl, false}
-use Rattle.frames.specs.Views.{opens_of}
-use Rattle.sequences.specs.Meaning.{height}
-use Rattle.sequences.specs.Branches.{in_call}
+use Rattle.interp_state.specs.Views.{opens_of}
+use Rattle.laws_reduction.specs.Meaning.{height}
+use Rattle.laws_reduction.specs.Branches.{in_call}
 use Rattle.interp.specs.Run.{seen}
 use Rattle.interp.specs.Shown.{leaves_stack, is_fallen}
 use Rattle.interp.proofs.Outlook.{left_within, stack_left, shows_stack, shows_no_stack, shows_trapped}

@@ -1,14 +1,14 @@
 use Rattle.std.proofs.Common.{ap, sym, ◌∙◌, ◌+◌, ◌-◌, ◌<◌, ◌++◌, ◌∷◌, [], subst, take, length, length-append, arith}
 use Rattle.std.specs.Prelude.{vec_len, vec_capacity}
-use Rattle.spec_ledger.specs.declared.Step.TheVariants.{Did}
+use Rattle.spec_ledger.specs.declared.TraceStep.TheVariants.{Did}
 use Rattle.interp.specs.Machine.{params_of, value_of_reply, HasRoom}
 use Rattle.interp.specs.Progress.{IsAwaited}
 use Rattle.interp.specs.Run.{seen, args_of}
-use Rattle.operands.specs.Lent.{base_of}
-use Rattle.frames.specs.Views.{view}
-use Rattle.frames.specs.Waiting.{tail_of}
+use Rattle.interp_state.specs.Callee.{base_of}
+use Rattle.interp_state.specs.Views.{view}
+use Rattle.interp_state.specs.Waiting.{tail_of}
 use Rattle.interp.specs.declared.turns.Status.{Status}
-use Rattle.frames.specs.ViewLaws.{items_nil, last_of, ordered_any}
+use Rattle.interp_state.specs.ViewLaws.{items_nil, last_of, ordered_any}
 use Rattle.spec_execution.specs.Levels.{asks_in}
 use Rattle.interp.proofs.Asking.{ordered_reply, machine_answered, has_answered}
 use Rattle.interp.proofs.Counting.{asks_same}

@@ -6,7 +6,7 @@ use Rattle.interp.specs.Progress.{NextIs}
 use Rattle.interp.specs.Machine.{IsLeaving, HasRoom, progress}
 use Rattle.interp.specs.Asked.{number_of}
 use Rattle.interp.specs.Run.{seen}
-use Rattle.frames.specs.Views.{items_of}
+use Rattle.interp_state.specs.Views.{items_of}
 use Rattle.interp.proofs.Around.{some_around}
 use Rattle.interp.proofs.Leaving.{leaving_kept}
 use Rattle.interp.proofs.Outermost.{none_at, one_around}

@@ -2,7 +2,7 @@ use Rattle.std.proofs.Common.{ap, ◌∙◌, ◌-◌, length, slice_get, subst}
 use Rattle.interp.specs.declared.turns.Status.{Status}
 use Rattle.interp.specs.Machine.{HasRoom}
 use Rattle.interp.specs.Run.{seen, levels_of}
-use Rattle.frames.specs.Views.{items_of}
+use Rattle.interp_state.specs.Views.{items_of}
 use Rattle.interp.proofs.Turning.{machine_returned, has_returned, result_last}
 use Rattle.interp.proofs.running.give_result.Goals as goal
 

@@ -1,16 +1,16 @@
 use Rattle.std.proofs.Common.{ap, ◌∙◌, sym, subst, true≢false, length, Ok}
 use Rattle.std.specs.Prelude.{◌==◌}
-use Rattle.operands.specs.declared.plain.After.{After}
-use Rattle.operands.specs.Lent.{base_of}
-use Rattle.frames.specs.Views.{view}
-use Rattle.frames.specs.Waiting.{tail_of}
-use Rattle.execute.specs.Steps.{Led, Wants}
+use Rattle.interp_state.specs.declared.plain.After.{After}
+use Rattle.interp_state.specs.Callee.{base_of}
+use Rattle.interp_state.specs.Views.{view}
+use Rattle.interp_state.specs.Waiting.{tail_of}
+use Rattle.interp_steps.specs.Steps.{LeadsTo, Wants}
 use Rattle.interp.specs.Run.{seen, args_of}
 use Rattle.interp.proofs.Copying.{room_kept}
-use Rattle.frames.specs.ViewLaws.{items_nil, ordered_any, last_of}
+use Rattle.interp_state.specs.ViewLaws.{items_nil, ordered_any, last_of}
 use Rattle.interp.proofs.Turning.{live_of, safe_at, machine_stepped, has_stepped, machine_fell, has_fallen}
-use Rattle.sequences.specs.Rest.{Frees_join}
-use Rattle.sequences.specs.Joining.{frees_joined}
+use Rattle.laws_reduction.specs.Rest.{Frees_join}
+use Rattle.laws_reduction.specs.Joining.{frees_joined}
 use Rattle.interp.proofs.Wanting.{may_take}
 use Rattle.interp.proofs.Asking.{calling_of, asked_turn, started_turn}
 use Rattle.interp.proofs.running.make_turn.Goals as goal
@@ -39,7 +39,7 @@ pub settle_all-requires-clause-ordered : goal.settle_all-requires-clause-ordered
 settle_all-requires-clause-ordered g c =
     let r = c.args.run.now in
     let safe = safe_at (seen r) c.requires.kept.machine c.requires.running (λ e. c.if-run-fuel.false (e ∙ sym c.fuel.ensures)) in
-    ordered_any (base_of r.lent) c.execute.new.parts (subst (λ (a : After). Led r.lent r.parts a c.execute.new.parts) c.in-Ok-Ran.field-0-is c.in-Ok-Ran.ensures.led (base_of r.lent) safe c.requires.kept.suits).ordered
+    ordered_any (base_of r.lent) c.execute.new.parts (subst (λ (a : After). LeadsTo r.lent r.parts a c.execute.new.parts) c.in-Ok-Ran.field-0-is c.in-Ok-Ran.ensures.led (base_of r.lent) safe c.requires.kept.suits).ordered
 
 pub ask-requires-clause-call : goal.ask-requires-clause-call
 ask-requires-clause-call g c =
@@ -47,7 +47,7 @@ ask-requires-clause-call g c =
     let k = c.requires.kept in
     record {
       calling = calling_of (seen r) c.in-Ok-Calls.f (view (base_of r.lent) c.execute.new.parts) k.machine c.requires.running (λ e. c.if-run-fuel.false (e ∙ sym c.fuel.ensures))
-          (subst (λ (a : After). Led r.lent r.parts a c.execute.new.parts) c.in-Ok-Calls.field-0-is c.in-Ok-Calls.ensures.led (base_of r.lent) (safe_at (seen r) c.requires.kept.machine c.requires.running (λ e. c.if-run-fuel.false (e ∙ sym c.fuel.ensures))) c.requires.kept.suits);
+          (subst (λ (a : After). LeadsTo r.lent r.parts a c.execute.new.parts) c.in-Ok-Calls.field-0-is c.in-Ok-Calls.ensures.led (base_of r.lent) (safe_at (seen r) c.requires.kept.machine c.requires.running (λ e. c.if-run-fuel.false (e ∙ sym c.fuel.ensures))) c.requires.kept.suits);
       counted = c.in-Ok-Calls.ensures.counted;
       suits = c.execute.ensures.max ∙ k.suits;
       waits = k.waits;
@@ -63,7 +63,7 @@ start_function-requires-clause-call g c =
     let k = c.requires.kept in
     record {
       calling = calling_of (seen r) c.in-Ok-Calls.f (view (base_of r.lent) c.execute.new.parts) k.machine c.requires.running (λ e. c.if-run-fuel.false (e ∙ sym c.fuel.ensures))
-          (subst (λ (a : After). Led r.lent r.parts a c.execute.new.parts) c.in-Ok-Calls.field-0-is c.in-Ok-Calls.ensures.led (base_of r.lent) (safe_at (seen r) c.requires.kept.machine c.requires.running (λ e. c.if-run-fuel.false (e ∙ sym c.fuel.ensures))) c.requires.kept.suits);
+          (subst (λ (a : After). LeadsTo r.lent r.parts a c.execute.new.parts) c.in-Ok-Calls.field-0-is c.in-Ok-Calls.ensures.led (base_of r.lent) (safe_at (seen r) c.requires.kept.machine c.requires.running (λ e. c.if-run-fuel.false (e ∙ sym c.fuel.ensures))) c.requires.kept.suits);
       counted = c.in-Ok-Calls.ensures.counted;
       suits = c.execute.ensures.max ∙ k.suits;
       waits = k.waits;
@@ -78,7 +78,7 @@ returns-in-Ok-Ran-clause-kept g c =
     let r = c.args.run.now in
     let k = c.requires.kept in
     let b = base_of r.lent in
-    let charge = subst (λ (a : After). Led r.lent r.parts a c.execute.new.parts) c.in-Ok-Ran.field-0-is c.in-Ok-Ran.ensures.led b (safe_at (seen r) c.requires.kept.machine c.requires.running (λ e. c.if-run-fuel.false (e ∙ sym c.fuel.ensures))) c.requires.kept.suits in
+    let charge = subst (λ (a : After). LeadsTo r.lent r.parts a c.execute.new.parts) c.in-Ok-Ran.field-0-is c.in-Ok-Ran.ensures.led b (safe_at (seen r) c.requires.kept.machine c.requires.running (λ e. c.if-run-fuel.false (e ∙ sym c.fuel.ensures))) c.requires.kept.suits in
     let q = c.settle_all.new.parts in
     let x = c.settle_all.new.waiting in
     let come = c.settle_all.ensures.comes (seen r).contract (args_of r.call.now.args r.argument) b c.requires.kept.waits in
@@ -98,7 +98,7 @@ returns-in-Ok-Ran-clause-turn g c =
     let r = c.args.run.now in
     let k = c.requires.kept in
     let b = base_of r.lent in
-    let charge = subst (λ (a : After). Led r.lent r.parts a c.execute.new.parts) c.in-Ok-Ran.field-0-is c.in-Ok-Ran.ensures.led b (safe_at (seen r) c.requires.kept.machine c.requires.running (λ e. c.if-run-fuel.false (e ∙ sym c.fuel.ensures))) c.requires.kept.suits in
+    let charge = subst (λ (a : After). LeadsTo r.lent r.parts a c.execute.new.parts) c.in-Ok-Ran.field-0-is c.in-Ok-Ran.ensures.led b (safe_at (seen r) c.requires.kept.machine c.requires.running (λ e. c.if-run-fuel.false (e ∙ sym c.fuel.ensures))) c.requires.kept.suits in
     let q = c.settle_all.new.parts in
     let x = c.settle_all.new.waiting in
     let come = c.settle_all.ensures.comes (seen r).contract (args_of r.call.now.args r.argument) b c.requires.kept.waits in
@@ -109,7 +109,7 @@ returns-in-Ok-Fell-clause-kept g c =
     let r = c.args.run.now in
     let k = c.requires.kept in
     let b = base_of r.lent in
-    let fell = subst (λ (a : After). Led r.lent r.parts a c.execute.new.parts) c.in-Ok-Fell.field-0-is c.in-Ok-Fell.ensures.led b (safe_at (seen r) c.requires.kept.machine c.requires.running (λ e. c.if-run-fuel.false (e ∙ sym c.fuel.ensures))) c.requires.kept.suits in
+    let fell = subst (λ (a : After). LeadsTo r.lent r.parts a c.execute.new.parts) c.in-Ok-Fell.field-0-is c.in-Ok-Fell.ensures.led b (safe_at (seen r) c.requires.kept.machine c.requires.running (λ e. c.if-run-fuel.false (e ∙ sym c.fuel.ensures))) c.requires.kept.suits in
     record {
       machine = machine_fell (seen r) k.machine c.requires.running (λ e. c.if-run-fuel.false (e ∙ sym c.fuel.ensures)) (view b c.execute.new.parts) c.in-Ok-Fell.code fell.reduces;
       counted = c.in-Ok-Fell.ensures.counted;
@@ -126,7 +126,7 @@ returns-in-Ok-Fell-clause-turn g c =
     let r = c.args.run.now in
     let k = c.requires.kept in
     let b = base_of r.lent in
-    let fell = subst (λ (a : After). Led r.lent r.parts a c.execute.new.parts) c.in-Ok-Fell.field-0-is c.in-Ok-Fell.ensures.led b (safe_at (seen r) c.requires.kept.machine c.requires.running (λ e. c.if-run-fuel.false (e ∙ sym c.fuel.ensures))) c.requires.kept.suits in
+    let fell = subst (λ (a : After). LeadsTo r.lent r.parts a c.execute.new.parts) c.in-Ok-Fell.field-0-is c.in-Ok-Fell.ensures.led b (safe_at (seen r) c.requires.kept.machine c.requires.running (λ e. c.if-run-fuel.false (e ∙ sym c.fuel.ensures))) c.requires.kept.suits in
     has_fallen (seen r) k.machine c.requires.running (λ e. c.if-run-fuel.false (e ∙ sym c.fuel.ensures)) (view b c.execute.new.parts) c.in-Ok-Fell.code fell.reduces
 
 pub returns-then-f-run-clause-turn : goal.returns-then-f-run-clause-turn
@@ -134,14 +134,14 @@ returns-then-f-run-clause-turn g c =
     let r = c.args.run.now in
     let b = base_of r.lent in
     asked_turn (seen r) c.in-Ok-Calls.f (view b c.execute.new.parts) c.ask.result (seen c.ask.new.run) c.requires.running
-    (subst (λ (a : After). Led r.lent r.parts a c.execute.new.parts) c.in-Ok-Calls.field-0-is c.in-Ok-Calls.ensures.led b (safe_at (seen r) c.requires.kept.machine c.requires.running (λ e. c.if-run-fuel.false (e ∙ sym c.fuel.ensures))) c.requires.kept.suits) c.ask.ensures.turn
+    (subst (λ (a : After). LeadsTo r.lent r.parts a c.execute.new.parts) c.in-Ok-Calls.field-0-is c.in-Ok-Calls.ensures.led b (safe_at (seen r) c.requires.kept.machine c.requires.running (λ e. c.if-run-fuel.false (e ∙ sym c.fuel.ensures))) c.requires.kept.suits) c.ask.ensures.turn
 
 pub returns-else-f-run-clause-turn : goal.returns-else-f-run-clause-turn
 returns-else-f-run-clause-turn g c =
     let r = c.args.run.now in
     let b = base_of r.lent in
     started_turn (seen r) c.in-Ok-Calls.f (view b c.execute.new.parts) c.start_function.result (seen c.start_function.new.run) c.requires.running
-    (subst (λ (a : After). Led r.lent r.parts a c.execute.new.parts) c.in-Ok-Calls.field-0-is c.in-Ok-Calls.ensures.led b (safe_at (seen r) c.requires.kept.machine c.requires.running (λ e. c.if-run-fuel.false (e ∙ sym c.fuel.ensures))) c.requires.kept.suits) c.start_function.ensures.kept.machine c.start_function.ensures.turn
+    (subst (λ (a : After). LeadsTo r.lent r.parts a c.execute.new.parts) c.in-Ok-Calls.field-0-is c.in-Ok-Calls.ensures.led b (safe_at (seen r) c.requires.kept.machine c.requires.running (λ e. c.if-run-fuel.false (e ∙ sym c.fuel.ensures))) c.requires.kept.suits) c.start_function.ensures.kept.machine c.start_function.ensures.turn
 
 pub returns-then-f-run-clause-no_memory : goal.returns-then-f-run-clause-no_memory
 returns-then-f-run-clause-no_memory g c h =

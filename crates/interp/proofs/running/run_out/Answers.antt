@@ -2,7 +2,7 @@ use Rattle.std.proofs.Common.{subst, length}
 use Rattle.interp.specs.declared.turns.Status.{Status}
 use Rattle.interp.specs.Machine.{HasRoom}
 use Rattle.interp.specs.Run.{seen}
-use Rattle.frames.specs.ViewLaws.{items_nil}
+use Rattle.interp_state.specs.ViewLaws.{items_nil}
 use Rattle.interp.proofs.Turning.{is_shut, stops_here}
 use Rattle.interp.proofs.running.run_out.Goals as goal
 

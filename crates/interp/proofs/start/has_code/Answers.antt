@@ -2,7 +2,7 @@ use Rattle.std.proofs.Common.{ap, ◌∙◌}
 use Rattle.std.specs.Prelude.{unwrap_or}
 use Rattle.spec_execution.specs.Configuration.{function_at}
 use Rattle.spec_execution.specs.Places.{body_of_function}
-use Rattle.opening.specs.Views.{deployed_view}
+use Rattle.instance.specs.Views.{deployed_view}
 use Rattle.interp.proofs.Bodies.{has_some}
 use Rattle.interp.proofs.start.has_code.Goals as goal
 

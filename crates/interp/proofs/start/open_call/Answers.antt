@@ -6,8 +6,8 @@ use Rattle.spec_ledger.specs.declared.Version.TheVariants.{Two}
 use Rattle.spec_execution.specs.Configuration.{Contract, Deployed}
 use Rattle.spec_execution.specs.Run.{by_contract}
 use Rattle.link.specs.Parts.{hosts_of}
-use Rattle.opening.specs.Views.{deployed_view, contract_of, wrong_of, HasPlace}
-use Rattle.interp.specs.Lent.{contract_view, contracts_view}
+use Rattle.instance.specs.Views.{deployed_view, contract_of, wrong_of, HasPlace}
+use Rattle.interp.specs.Callee.{contract_view, contracts_view}
 use Rattle.interp.proofs.Opened.{entry_defined}
 use Rattle.interp.proofs.start.open_call.Goals as goal
 

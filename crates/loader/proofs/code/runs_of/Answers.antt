@@ -2,7 +2,7 @@ use Rattle.std.proofs.Common.{◌≡◌, ◌+◌, ◌-◌, ◌++◌, suc, replic
 use Rattle.std.proofs.lemmas.List.{length-replicate}
 use Rattle.std.proofs.lemmas.Result.{err_from_is_err_and}
 use Rattle.spec_syntax.specs.Profile.{local_limit}
-use Rattle.spec_module_laws.specs.ReadingModules.{u32_at, value_type_at, runs_at}
+use Rattle.laws_modules.specs.ReadingModules.{u32_at, value_type_at, runs_at}
 use Rattle.expr_reader.proofs.Turns.{hand_on}
 use Rattle.loader.proofs.Runs.{run_more, run_uncounted, run_too_long, run_untyped, runs_done}
 use Rattle.loader.proofs.code.runs_of.Goals as goal

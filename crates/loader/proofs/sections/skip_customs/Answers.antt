@@ -2,7 +2,7 @@ use Rattle.std.proofs.Common.{◌≡◌, ◌-◌, ◌∷◌, false, length, arit
 use Rattle.std.specs.Prelude.{◌==◌}
 use Rattle.std.proofs.lemmas.Bool.Decides.{nat_tests}
 use Rattle.std.proofs.lemmas.Result.{err_from_is_err_and}
-use Rattle.spec_module_laws.specs.ReadingModules.{sized_at, name_at, skip}
+use Rattle.laws_modules.specs.ReadingModules.{sized_at, name_at, skip}
 use Rattle.expr_reader.proofs.Turns.{hand_on}
 use Rattle.loader.proofs.Customs.{skip_more, skip_unsized, skip_unnamed, skip_other, skip_empty}
 use Rattle.loader.proofs.Refused.{handed_on}

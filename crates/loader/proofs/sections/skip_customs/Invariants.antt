@@ -1,5 +1,5 @@
 use Rattle.std.proofs.Common.{◌≡◌, ℕ, ◌≤◌, length}
-use Rattle.spec_module_laws.specs.ReadingModules.{skip_at, skip}
+use Rattle.laws_modules.specs.ReadingModules.{skip_at, skip}
 use Rattle.loader.proofs.sections.skip_customs.Given as goal
 
 abbrev pub invariant-loop-first : goal.invariant-loop-first

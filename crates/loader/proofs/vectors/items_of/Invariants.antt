@@ -1,5 +1,5 @@
 use Rattle.std.proofs.Common.{◌≡◌, ◌-◌, ◌≤◌, true, map, length}
-use Rattle.spec_binary_laws.specs.ReadingExpressions.{items_at}
+use Rattle.laws_modules.specs.ReadingExpressions.{items_at}
 use Rattle.std.specs.List.{list_all}
 use Rattle.expr_reader.proofs.Steps.{front}
 use Rattle.loader.proofs.vectors.items_of.Given as goal

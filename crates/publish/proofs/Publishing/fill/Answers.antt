@@ -18,4 +18,4 @@ loop-call-preserved g c =
 pub returns-clause-admissible : goal.returns-clause-admissible
 returns-clause-admissible g c =
     let all = c.loop-call.invariant.all in
-    swept_admissible c.args.self.now c.loop-call.self c.loop-call.call c.loop-call.invariant.gone_on c.hold.ensures (omega arith) c.loop-call.invariant.swept
+    swept_admissible c.args.self.now c.loop-call.self c.loop-call.call c.loop-call.invariant.gone_on c.use_invariant.ensures (omega arith) c.loop-call.invariant.swept

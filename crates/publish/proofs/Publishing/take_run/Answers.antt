@@ -5,10 +5,10 @@ use Rattle.spec_ledger.specs.Book.{GetsReplies}
 use Rattle.spec_execution.specs.Exec.{Executes}
 use Rattle.spec_execution.specs.Run.{ContractCall}
 use Rattle.spec_ledger.specs.declared.Version.TheVariants.{Two}
-use Rattle.interp.specs.Lent.{setting_view}
-use Rattle.serial.specs.Positions.{positions}
+use Rattle.interp.specs.Callee.{setting_view}
+use Rattle.serial.specs.Positions.{results_of}
 use Rattle.publish.specs.Publication.{Publication, MayFollow, HasTaken}
-use Rattle.publish.proofs.Keeping.{Beside, with_parts, fits, fits_used, is_more, kept_after, taken_after}
+use Rattle.publish.proofs.Keeping.{WalkState, with_parts, fits, fits_used, is_more, kept_after, taken_after}
 use Rattle.publish.proofs.Publishing.take_run.Goals as goal
 
 pub returns-then-not-may_follow-clause-answer : goal.returns-then-not-may_follow-clause-answer
@@ -24,16 +24,16 @@ returns-in_default-clause-answer g c =
 pub push-requires-clause-known : goal.push-requires-clause-known
 push-requires-clause-known g c =
     let s = c.self.inside in
-    let p : Publication = record { setting = setting_view Two s.contracts.now; calls = s.calls.now; opening = s.opening.now.cells; fuel = s.fuel; order = s.so_far.order.items; ran = positions s.so_far.receipts.items s.so_far.touched.items; cells = s.cells.cells } in
-    let b : Beside = record { order = s.so_far.order.items; receipts = s.so_far.receipts.items; touched = s.so_far.touched.items; marks = s.so_far.marks.items; remaining = s.so_far.remaining; used = s.so_far.used; counts = s.cells.unsettled } in
+    let p : Publication = record { setting = setting_view Two s.contracts.now; calls = s.calls.now; opening = s.opening.now.cells; fuel = s.fuel; order = s.so_far.order.items; ran = results_of s.so_far.receipts.items s.so_far.touched.items; cells = s.cells.cells } in
+    let b : WalkState = record { order = s.so_far.order.items; receipts = s.so_far.receipts.items; touched = s.so_far.touched.items; marks = s.so_far.marks.items; remaining = s.so_far.remaining; used = s.so_far.used; counts = s.cells.unsettled } in
     let follows : MayFollow (with_parts p p.cells b) c.args.call = subst (λ q. MayFollow q c.args.call) (sym c.self.view_is) (c.may_follow.ensures.0 (search rules)) in
     let known = follows.known in let size = c.self.invariant.size in let same = ap length c.reserve.ensures.marks in omega arith
 
 pub push-requires-clause-fits : goal.push-requires-clause-fits
 push-requires-clause-fits g c =
     let s = c.self.inside in
-    let p : Publication = record { setting = setting_view Two s.contracts.now; calls = s.calls.now; opening = s.opening.now.cells; fuel = s.fuel; order = s.so_far.order.items; ran = positions s.so_far.receipts.items s.so_far.touched.items; cells = s.cells.cells } in
-    let b : Beside = record { order = s.so_far.order.items; receipts = s.so_far.receipts.items; touched = s.so_far.touched.items; marks = s.so_far.marks.items; remaining = s.so_far.remaining; used = s.so_far.used; counts = s.cells.unsettled } in
+    let p : Publication = record { setting = setting_view Two s.contracts.now; calls = s.calls.now; opening = s.opening.now.cells; fuel = s.fuel; order = s.so_far.order.items; ran = results_of s.so_far.receipts.items s.so_far.touched.items; cells = s.cells.cells } in
+    let b : WalkState = record { order = s.so_far.order.items; receipts = s.so_far.receipts.items; touched = s.so_far.touched.items; marks = s.so_far.marks.items; remaining = s.so_far.remaining; used = s.so_far.used; counts = s.cells.unsettled } in
     let follows : MayFollow (with_parts p p.cells b) c.args.call = subst (λ q. MayFollow q c.args.call) (sym c.self.view_is) (c.may_follow.ensures.0 (search rules)) in
     let at = ap (λ (q : Publication). slice_get q.calls c.args.call) c.self.view_is ∙ c.requires.call in
     let limit = c.fuel.ensures ∙ ap (λ (k : ContractCall). k.fuel) c.call.ensures in
@@ -46,8 +46,8 @@ push-requires-clause-fits g c =
 pub push-requires-clause-used : goal.push-requires-clause-used
 push-requires-clause-used g c =
     let s = c.self.inside in
-    let p : Publication = record { setting = setting_view Two s.contracts.now; calls = s.calls.now; opening = s.opening.now.cells; fuel = s.fuel; order = s.so_far.order.items; ran = positions s.so_far.receipts.items s.so_far.touched.items; cells = s.cells.cells } in
-    let b : Beside = record { order = s.so_far.order.items; receipts = s.so_far.receipts.items; touched = s.so_far.touched.items; marks = s.so_far.marks.items; remaining = s.so_far.remaining; used = s.so_far.used; counts = s.cells.unsettled } in
+    let p : Publication = record { setting = setting_view Two s.contracts.now; calls = s.calls.now; opening = s.opening.now.cells; fuel = s.fuel; order = s.so_far.order.items; ran = results_of s.so_far.receipts.items s.so_far.touched.items; cells = s.cells.cells } in
+    let b : WalkState = record { order = s.so_far.order.items; receipts = s.so_far.receipts.items; touched = s.so_far.touched.items; marks = s.so_far.marks.items; remaining = s.so_far.remaining; used = s.so_far.used; counts = s.cells.unsettled } in
     let follows : MayFollow (with_parts p p.cells b) c.args.call = subst (λ q. MayFollow q c.args.call) (sym c.self.view_is) (c.may_follow.ensures.0 (search rules)) in
     let at = ap (λ (q : Publication). slice_get q.calls c.args.call) c.self.view_is ∙ c.requires.call in
     let limit = c.fuel.ensures ∙ ap (λ (k : ContractCall). k.fuel) c.call.ensures in
@@ -60,8 +60,8 @@ push-requires-clause-used g c =
 pub invariant_of-self-2 : goal.invariant_of-self-2
 invariant_of-self-2 g c =
     let s = c.self.inside in
-    let p : Publication = record { setting = setting_view Two s.contracts.now; calls = s.calls.now; opening = s.opening.now.cells; fuel = s.fuel; order = s.so_far.order.items; ran = positions s.so_far.receipts.items s.so_far.touched.items; cells = s.cells.cells } in
-    let b : Beside = record { order = s.so_far.order.items; receipts = s.so_far.receipts.items; touched = s.so_far.touched.items; marks = s.so_far.marks.items; remaining = s.so_far.remaining; used = s.so_far.used; counts = s.cells.unsettled } in
+    let p : Publication = record { setting = setting_view Two s.contracts.now; calls = s.calls.now; opening = s.opening.now.cells; fuel = s.fuel; order = s.so_far.order.items; ran = results_of s.so_far.receipts.items s.so_far.touched.items; cells = s.cells.cells } in
+    let b : WalkState = record { order = s.so_far.order.items; receipts = s.so_far.receipts.items; touched = s.so_far.touched.items; marks = s.so_far.marks.items; remaining = s.so_far.remaining; used = s.so_far.used; counts = s.cells.unsettled } in
     let follows : MayFollow (with_parts p p.cells b) c.args.call = subst (λ q. MayFollow q c.args.call) (sym c.self.view_is) (c.may_follow.ensures.0 (search rules)) in
     let at = ap (λ (q : Publication). slice_get q.calls c.args.call) c.self.view_is ∙ c.requires.call in
     let limit = c.fuel.ensures ∙ ap (λ (k : ContractCall). k.fuel) c.call.ensures in
@@ -72,8 +72,8 @@ invariant_of-self-2 g c =
     let made = c.reserve.ensures in
     let last = c.push.new.self in
     let put = c.push.ensures in
-    let roomy : Beside = record { order = room.order.items; receipts = room.receipts.items; touched = room.touched.items; marks = room.marks.items; remaining = room.remaining; used = room.used; counts = s.cells.unsettled } in
-    let after : Beside = record { order = last.order.items; receipts = last.receipts.items; touched = last.touched.items; marks = last.marks.items; remaining = last.remaining; used = last.used; counts = c.replay.new.cells.unsettled } in
+    let roomy : WalkState = record { order = room.order.items; receipts = room.receipts.items; touched = room.touched.items; marks = room.marks.items; remaining = room.remaining; used = room.used; counts = s.cells.unsettled } in
+    let after : WalkState = record { order = last.order.items; receipts = last.receipts.items; touched = last.touched.items; marks = last.marks.items; remaining = last.remaining; used = last.used; counts = c.replay.new.cells.unsettled } in
     let is = is_more p b c.args.call c.fuel.result c.args.finished.now.call c.replay.new.cells.cells e.receipt e.touched c.self.invariant at limit follows executed roomy after made.order made.receipts made.touched made.marks made.remaining made.used
     put.order put.receipts put.touched put.marks put.remaining put.used c.replay.ensures.settled in
     kept_after p b c.args.call c.fuel.result c.args.finished.now.call c.replay.new.cells.cells e.receipt e.touched c.self.invariant at limit follows executed after is
@@ -88,8 +88,8 @@ returns-clause-answer g c =
 pub returns-clause-taken : goal.returns-clause-taken
 returns-clause-taken g c = λ _.
     let s = c.self.inside in
-    let p : Publication = record { setting = setting_view Two s.contracts.now; calls = s.calls.now; opening = s.opening.now.cells; fuel = s.fuel; order = s.so_far.order.items; ran = positions s.so_far.receipts.items s.so_far.touched.items; cells = s.cells.cells } in
-    let b : Beside = record { order = s.so_far.order.items; receipts = s.so_far.receipts.items; touched = s.so_far.touched.items; marks = s.so_far.marks.items; remaining = s.so_far.remaining; used = s.so_far.used; counts = s.cells.unsettled } in
+    let p : Publication = record { setting = setting_view Two s.contracts.now; calls = s.calls.now; opening = s.opening.now.cells; fuel = s.fuel; order = s.so_far.order.items; ran = results_of s.so_far.receipts.items s.so_far.touched.items; cells = s.cells.cells } in
+    let b : WalkState = record { order = s.so_far.order.items; receipts = s.so_far.receipts.items; touched = s.so_far.touched.items; marks = s.so_far.marks.items; remaining = s.so_far.remaining; used = s.so_far.used; counts = s.cells.unsettled } in
     let follows : MayFollow (with_parts p p.cells b) c.args.call = subst (λ q. MayFollow q c.args.call) (sym c.self.view_is) (c.may_follow.ensures.0 (search rules)) in
     let at = ap (λ (q : Publication). slice_get q.calls c.args.call) c.self.view_is ∙ c.requires.call in
     let limit = c.fuel.ensures ∙ ap (λ (k : ContractCall). k.fuel) c.call.ensures in
@@ -100,8 +100,8 @@ returns-clause-taken g c = λ _.
     let made = c.reserve.ensures in
     let last = c.push.new.self in
     let put = c.push.ensures in
-    let roomy : Beside = record { order = room.order.items; receipts = room.receipts.items; touched = room.touched.items; marks = room.marks.items; remaining = room.remaining; used = room.used; counts = s.cells.unsettled } in
-    let after : Beside = record { order = last.order.items; receipts = last.receipts.items; touched = last.touched.items; marks = last.marks.items; remaining = last.remaining; used = last.used; counts = c.replay.new.cells.unsettled } in
+    let roomy : WalkState = record { order = room.order.items; receipts = room.receipts.items; touched = room.touched.items; marks = room.marks.items; remaining = room.remaining; used = room.used; counts = s.cells.unsettled } in
+    let after : WalkState = record { order = last.order.items; receipts = last.receipts.items; touched = last.touched.items; marks = last.marks.items; remaining = last.remaining; used = last.used; counts = c.replay.new.cells.unsettled } in
     let is = is_more p b c.args.call c.fuel.result c.args.finished.now.call c.replay.new.cells.cells e.receipt e.touched c.self.invariant at limit follows executed roomy after made.order made.receipts made.touched made.marks made.remaining made.used
     put.order put.receipts put.touched put.marks put.remaining put.used c.replay.ensures.settled in
     subst (λ q. HasTaken q c.args.call (with_parts p c.replay.new.cells.cells after)) c.self.view_is (taken_after p b c.args.call c.fuel.result c.args.finished.now.call c.replay.new.cells.cells e.receipt e.touched c.self.invariant at limit follows executed after is)

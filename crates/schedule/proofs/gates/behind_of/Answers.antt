@@ -7,12 +7,12 @@ use Rattle.schedule.proofs.Numbered.{profile_there, profile_of, holders_more}
 use Rattle.schedule.proofs.gates.behind_of.Goals as goal
 
 pub put_profile-requires-clause-profile : goal.put_profile-requires-clause-profile
-put_profile-requires-clause-profile g c = profile_of _ c.entries.result.now c.hold.ensures c.entries.ensures
+put_profile-requires-clause-profile g c = profile_of _ c.entries.result.now c.use_invariant.ensures c.entries.ensures
 
 pub loop-position-preserved : goal.loop-position-preserved
 loop-position-preserved g c =
     let there = profile_there c.args.profiles.now c.loop-position.position _ c.entries.result.now c.loop-position-test.true c.index-profiles-position.is c.entries.ensures in
-    let profile = profile_of _ c.entries.result.now c.hold.ensures c.entries.ensures in (
+    let profile = profile_of _ c.entries.result.now c.use_invariant.ensures c.entries.ensures in (
       c.in_ok-put_profile.ensures.numbered,
       λ q p.
           holders_more c.args.profiles.now c.loop-position.position q p (behind_turn (get turn_cmp c.loop-position.numbers) c.loop-position.behind.items q) (behind_turn (get turn_cmp c.put_profile.new.numbers) c.put_profile.new.behind.items q) c.entries.result.now there profile

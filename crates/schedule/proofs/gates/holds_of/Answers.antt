@@ -13,7 +13,7 @@ next_gates-requires g c =
 pub loop-profile-preserved : goal.loop-profile-preserved
 loop-profile-preserved g c =
     let there = profile_there c.args.profiles.now c.loop-profile.profile-index _ c.entries.result.now c.loop-profile-test.true c.profile-item.is c.entries.ensures in
-    let profile = profile_of _ c.entries.result.now c.hold.ensures c.entries.ensures in
+    let profile = profile_of _ c.entries.result.now c.use_invariant.ensures c.entries.ensures in
     held_more c.args.profiles.now (get turn_cmp c.args.numbers.now) c.loop-profile.profile-index c.entries.result.now c.loop-profile.holds.items c.push.new.self.items c.rising.result.items there profile
     (c.in_ok-push.ensures.items ∙ ap (λ x. c.loop-profile.holds.items ++ x ∷ []) c.from_list.ensures) c.rising.ensures.rises
     (λ gate. (λ k. (c.in_ok-gates.ensures gate).0 ((c.rising.ensures.same gate).0 k), λ h. (c.rising.ensures.same gate).1 ((c.in_ok-gates.ensures gate).1 h)))

@@ -27,7 +27,7 @@ pub loop-profile-preserved : goal.loop-profile-preserved
 loop-profile-preserved g c =
     let n = c.loop-profile.profile-index in
     let there = profile_there c.args.profiles.now n _ c.entries-entries.result.now c.loop-profile-test.true c.profile-item.is c.entries-entries.ensures in
-    let profile = profile_of _ c.entries-entries.result.now c.hold.ensures c.entries-entries.ensures in
+    let profile = profile_of _ c.entries-entries.result.now c.use_invariant.ensures c.entries-entries.ensures in
     let before : (k : ℕ) → IsEdge c.args.profiles.now k n → k < n = λ k e. forward c.args.profiles.now c.requires.turns k n e in
     let top = top_of_edges c.args.profiles.now c.loop-profile.waves.items n c.entries-entries.result.now (least_of (get turn_cmp c.loop-profile.least)) c.wave_of-wave.result there profile before c.loop-profile.invariant.1 c.wave_of-wave.ensures in (
       waves_more c.args.profiles.now n c.loop-profile.waves.items c.push.new.self.items c.wave_of-wave.result c.in_ok-push.ensures.items before top c.loop-profile.invariant.0,

@@ -1,5 +1,5 @@
 use Rattle.std.proofs.Common.{rules, ◌≡◌, true, [], refl, length, take, arith}
-use Rattle.spec_ledger.specs.declared.Step.TheVariants.{Opened, Kept, Dropped}
+use Rattle.spec_ledger.specs.declared.TraceStep.TheVariants.{Opened, Kept, Dropped}
 use Rattle.serial.proofs.Levels.{none_in_levels, may_be_left, same_in_levels, entered}
 use Rattle.serial.proofs.Redoing.{again_more, again_other, not_again, one_more}
 use Rattle.serial.proofs.again.act_again.Goals.{in-Did+in_ok-again-in-Did+else-not-is_same, in-Opened+in_ok-push-in-Opened, in-Kept, in-Dropped}
@@ -28,7 +28,7 @@ leave-requires-in-Dropped g c = let l = c.loop-step in may_be_left c.args.cells.
 pub loop-step-init : goal.loop-step-init
 loop-step-init g c =
     same_in_levels c.args.cells.now c.args.cells.now _ [] _ [] _ [] _ (search rules) (search rules) (search rules) (search rules)
-    (none_in_levels c.args.cells.now c.requires.settled c.hold.ensures.cells)
+    (none_in_levels c.args.cells.now c.requires.settled c.use_invariant.ensures.cells)
 
 pub loop-step-preserved : goal.loop-step-preserved
 loop-step-preserved g c =

@@ -9,4 +9,4 @@ end_all-requires g c =
 pub returns-in_default-clause-err : goal.returns-in_default-clause-err
 returns-in_default-clause-err g c =
     let some = c.in_default.ensures.err in
-    taken_back c.args.cells.now c.run_on.new.cells some.trace c.run_on.new.inverses.items some.done c.requires.settled c.hold.ensures.cells c.end_all.new.cells c.end_all.ensures.cells c.end_all.ensures.unsettled
+    taken_back c.args.cells.now c.run_on.new.cells some.trace c.run_on.new.inverses.items some.done c.requires.settled c.use_invariant.ensures.cells c.end_all.new.cells c.end_all.ensures.cells c.end_all.ensures.unsettled

@@ -1,4 +1,4 @@
-use Rattle.spec_shards.specs.Shards.{shard_of}
+use Rattle.spec_ledger.specs.Shards.{shard_of}
 use Rattle.shards.proofs.Strays.{asked_in}
 use Rattle.shards.proofs.sharded.has_strayed.Goals as goal
 

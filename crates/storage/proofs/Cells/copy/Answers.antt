@@ -1,25 +1,26 @@
-use Rattle.std.proofs.Common.{◌∙◌, ap, sym, ◌++◌}
-use Rattle.std.specs.FinMap.{insert}
-use Rattle.storage.proofs.Listed.{copied_next, copied_condition, copied_all, split_next}
+use Rattle.std.proofs.Common.{rules, tests, ◌∙◌, sym, subst, map}
+use Rattle.std.proofs.lemmas.Iterator.{YieldsList-from_map}
+use Rattle.std.proofs.lemmas.Iterator.Consumers.{YieldsList-from_first, YieldsList-at}
+use Rattle.std.proofs.lemmas.Iterator.Adapters.{fact_from_collect}
+use Rattle.std.proofs.lemmas.Result.{IfOk-at_ok}
+use Rattle.std.specs.BTreeMap.{IsFromIterResult}
+use Rattle.std.specs.FinMap.{entries}
+use Rattle.spec_ledger.specs.Cells.{lock_cmp}
+use Rattle.storage.specs.Counts.{AreKept}
+use Rattle.storage.proofs.Copied.{with_settled, cells_copied, counts_copied}
 use Rattle.storage.proofs.Cells.copy.Goals as goal
 
-pub insert-requires : goal.insert-requires
-insert-requires g c = copied_condition c.args.self.now.cells c.loop-lock.yielded c.in-Some.lock c.in-Some.value c.next.new.self
-    (ap (λ t. c.loop-lock.yielded ++ t) (sym c.in-Some.ensures.steps) ∙ c.loop-lock.invariant.2 ∙ c.into_iter-lock-iterator.ensures.into_iter_gives ∙ c.entries-lock-items.ensures.cells) c.hold.ensures.cells
-
-pub loop-lock-preserved : goal.loop-lock-preserved
-loop-lock-preserved g c = (
-  tt,
-  tt,
-  split_next c.loop-lock.yielded (c.in-Some.lock, c.in-Some.value) c.next.new.self _ _ c.in-Some.ensures.steps c.loop-lock.invariant.2,
-  c.in_ok-insert.ensures.cells
-      ∙ ap (λ m. insert m c.in-Some.lock c.in-Some.value) c.loop-lock.invariant.3
-      ∙ sym (copied_next c.args.self.now.cells c.loop-lock.yielded c.in-Some.lock c.in-Some.value c.next.new.self
-      (ap (λ t. c.loop-lock.yielded ++ t) (sym c.in-Some.ensures.steps) ∙ c.loop-lock.invariant.2 ∙ c.into_iter-lock-iterator.ensures.into_iter_gives ∙ c.entries-lock-items.ensures.cells)),
-  c.in_ok-insert.ensures.unsettled ∙ c.loop-lock.invariant.4,
-)
-
 pub returns-clause-cells : goal.returns-clause-cells
-returns-clause-cells g c = c.loop-lock.invariant.3
-    ∙ copied_all c.args.self.now.cells c.loop-lock.yielded
-    (ap (λ t. c.loop-lock.yielded ++ t) (sym c.in-None.ensures.steps.0) ∙ c.loop-lock.invariant.2 ∙ c.into_iter-lock-iterator.ensures.into_iter_gives ∙ c.entries-lock-items.ensures.cells)
+returns-clause-cells g c =
+    let made = fact_from_collect (IsFromIterResult lock_cmp) c.collect.result c.collect.ensures.ran
+    (YieldsList-from_map _ with_settled (YieldsList-at c.map.ensures.source (YieldsList-from_first (λ e. e) (λ e. e) (entries c.args.self.now.cells) c.entries.ensures.cells)) c.map.ensures.closure (λ x r q k. search (rules, tests))) in
+    cells_copied c.args.self.now.cells c.in_ok-slots.slots (IfOk-at_ok (λ s. IsFromIterResult lock_cmp (map with_settled (entries c.args.self.now.cells)) s) c.in_ok-slots.was made)
+
+pub returns-clause-unsettled : goal.returns-clause-unsettled
+returns-clause-unsettled g c =
+    let made = fact_from_collect (IsFromIterResult lock_cmp) c.collect.result c.collect.ensures.ran
+    (YieldsList-from_map _ with_settled (YieldsList-at c.map.ensures.source (YieldsList-from_first (λ e. e) (λ e. e) (entries c.args.self.now.cells) c.entries.ensures.cells)) c.map.ensures.closure (λ x r q k. search (rules, tests))) in
+    counts_copied c.args.self.now.cells c.in_ok-slots.slots (IfOk-at_ok (λ s. IsFromIterResult lock_cmp (map with_settled (entries c.args.self.now.cells)) s) c.in_ok-slots.was made)
+
+pub invariant_of-result : goal.invariant_of-result
+invariant_of-result g c = subst AreKept (sym (returns-clause-cells g c)) (record { are = c.use_invariant.ensures.cells; types = c.use_invariant.ensures.types })

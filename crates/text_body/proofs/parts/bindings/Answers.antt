@@ -3,7 +3,7 @@ use Rattle.std.specs.Prelude.{IfSome, option_map}
 use Rattle.std.proofs.lemmas.List.{map_push, length-map}
 use Rattle.std.proofs.lemmas.Result.{err_from_is_err_and}
 use Rattle.spec_text.specs.Placed as N
-use Rattle.text_words.specs.Views.{view, views}
+use Rattle.lexer.specs.WordsViews.{view, views}
 use Rattle.text_body.specs.Places.{binding_of}
 use Rattle.text_body.specs.Reading.{binding_at, next_at, bindings_at}
 use Rattle.text_body.proofs.Repeats.{Halfway, hand_on, halfway_end, halfway_fault, halfway_more}

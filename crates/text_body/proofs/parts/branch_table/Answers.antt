@@ -1,7 +1,7 @@
 use Rattle.std.proofs.Common.{◌++◌, map, ap, ◌∙◌}
 use Rattle.std.specs.Option.{option_to_list}
 use Rattle.std.proofs.lemmas.List.{map_push}
-use Rattle.text_words.specs.Views.{views}
+use Rattle.lexer.specs.WordsViews.{views}
 use Rattle.text_body.specs.Places.{index_of}
 use Rattle.text_body.proofs.Repeats.{table_is}
 use Rattle.text_body.proofs.parts.branch_table.Goals as goal

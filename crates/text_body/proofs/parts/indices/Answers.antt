@@ -1,7 +1,7 @@
 use Rattle.std.proofs.Common.{◌<◌, List, length, map, sym, ap, ◌∙◌, subst, arith}
 use Rattle.std.proofs.lemmas.List.{map_push, length-map}
 use Rattle.spec_text.specs.Placed as N
-use Rattle.text_words.specs.Views.{view, views}
+use Rattle.lexer.specs.WordsViews.{view, views}
 use Rattle.text_body.specs.Places.{index_of}
 use Rattle.text_body.specs.Reading.{next_index_at, indices_at}
 use Rattle.text_body.proofs.Repeats.{Halfway, halfway_end, halfway_more}

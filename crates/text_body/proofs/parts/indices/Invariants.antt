@@ -1,5 +1,5 @@
 use Rattle.std.proofs.Common.{◌≤◌, length, map}
-use Rattle.text_words.specs.Views.{views}
+use Rattle.lexer.specs.WordsViews.{views}
 use Rattle.text_body.specs.Places.{index_of}
 use Rattle.text_body.specs.Reading.{next_index_at, indices_at}
 use Rattle.text_body.proofs.Repeats.{Halfway}

@@ -3,7 +3,7 @@ use Rattle.std.specs.Prelude.{IfSome}
 use Rattle.std.proofs.lemmas.List.{length-map}
 use Rattle.std.proofs.lemmas.Result.{err_from_is_err_and}
 use Rattle.wtypes.specs.declared.ValType.{ValType}
-use Rattle.text_words.specs.Views.{view, views}
+use Rattle.lexer.specs.WordsViews.{view, views}
 use Rattle.text_body.specs.Reading.{result_at, results_at}
 use Rattle.text_body.proofs.Repeats.{Halfway, hand_on, halfway_end, halfway_fault, halfway_more}
 use Rattle.text_body.proofs.parts.results.Goals as goal

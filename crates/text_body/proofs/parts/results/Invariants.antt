@@ -1,5 +1,5 @@
 use Rattle.std.proofs.Common.{◌≤◌, length}
-use Rattle.text_words.specs.Views.{views}
+use Rattle.lexer.specs.WordsViews.{views}
 use Rattle.text_body.specs.Reading.{result_at, results_at}
 use Rattle.text_body.proofs.Repeats.{Halfway}
 use Rattle.text_body.proofs.parts.results.Given as goal

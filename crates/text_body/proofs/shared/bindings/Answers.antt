@@ -2,7 +2,7 @@ use Rattle.std.proofs.Common.{List, map}
 use Rattle.spec_text.specs.Words.{Word}
 use Rattle.spec_text.specs.Placed as N
 use Rattle.spec_text.specs.Grammar.{Bindings}
-use Rattle.text_words.specs.Views.{views}
+use Rattle.lexer.specs.WordsViews.{views}
 use Rattle.text_body.specs.Places.{binding_of}
 use Rattle.text_body.specs.Shared.{NoneOf}
 use Rattle.text_body.specs.Reading.{bindings_at, key_of}

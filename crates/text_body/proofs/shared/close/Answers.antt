@@ -1,6 +1,6 @@
 use Rattle.std.proofs.Common.{◌≡◌, ◌∷◌, List, sym, ap, ◌∙◌}
 use Rattle.spec_text.specs.Words.{Word, RightBracket}
-use Rattle.text_words.specs.Views.{views}
+use Rattle.lexer.specs.WordsViews.{views}
 use Rattle.text_body.specs.Reading.{close_at}
 use Rattle.text_body.proofs.Pieces.{some_none}
 use Rattle.text_body.proofs.Sharing.{denied}

@@ -1,7 +1,7 @@
 use Rattle.std.proofs.Common.{List, Option, sym, subst}
 use Rattle.spec_text.specs.Words.{Placed, Word}
 use Rattle.spec_text.specs.Grammar.{OptionalId}
-use Rattle.text_words.specs.Views.{views}
+use Rattle.lexer.specs.WordsViews.{views}
 use Rattle.text_body.proofs.Pieces.{read_is_id}
 use Rattle.text_body.proofs.shared.optional_id.Goals as goal
 

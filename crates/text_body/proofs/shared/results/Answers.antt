@@ -2,7 +2,7 @@ use Rattle.std.proofs.Common.{List}
 use Rattle.spec_text.specs.Words.{Word}
 use Rattle.wtypes.specs.declared.ValType.{ValType}
 use Rattle.spec_text.specs.Grammar.{Results}
-use Rattle.text_words.specs.Views.{views}
+use Rattle.lexer.specs.WordsViews.{views}
 use Rattle.text_body.specs.Shared.{NoneOf}
 use Rattle.text_body.specs.Reading.{results_at}
 use Rattle.text_body.proofs.Pieces.{results_read, results_found}

@@ -1,7 +1,7 @@
 use Rattle.std.proofs.Common.{◌≡◌, ◌≤◌, [], length, reverse, sym, ap, ◌∙◌, subst, arith}
 use Rattle.std.proofs.lemmas.List.{length-map, length-reverse}
 use Rattle.std.proofs.lemmas.Result.{err_from_is_err_and}
-use Rattle.text_words.specs.Views.{views}
+use Rattle.lexer.specs.WordsViews.{views}
 use Rattle.text_body.specs.Places.{flats_of}
 use Rattle.text_body.specs.Turns.{state_of, open_of, move_of, move_at, applied}
 use Rattle.text_body.proofs.Repeats.{hand_on}

@@ -1,5 +1,5 @@
 use Rattle.std.proofs.Common.{◌≤◌, length}
-use Rattle.text_words.specs.Views.{views}
+use Rattle.lexer.specs.WordsViews.{views}
 use Rattle.text_body.specs.Places.{flats_of}
 use Rattle.text_body.specs.Turns.{state_of}
 use Rattle.text_body.proofs.Halfway.{Parsing}

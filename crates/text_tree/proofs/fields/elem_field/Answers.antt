@@ -1,7 +1,7 @@
 use Rattle.std.proofs.Common.{map}
 use Rattle.std.proofs.lemmas.Result.{err_from_is_err_and}
 use Rattle.spec_text.specs.declared.KeyWord.TheVariants as k
-use Rattle.text_words.specs.Views.{views}
+use Rattle.lexer.specs.WordsViews.{views}
 use Rattle.text_body.specs.Places.{index_of, flats_of}
 use Rattle.text_body.proofs.Repeats.{hand_on}
 use Rattle.text_tree.specs.Reading.{segment_head_at, elem_tail_at}

@@ -1,7 +1,7 @@
 use Rattle.std.proofs.Common.{List, sym, ◌∙◌}
 use Rattle.spec_text.specs.Words.{Word}
 use Rattle.spec_text.specs.Placed as N
-use Rattle.text_words.specs.Views.{views}
+use Rattle.lexer.specs.WordsViews.{views}
 use Rattle.text_body.specs.Shared.{NoneOf}
 use Rattle.text_body.proofs.Pieces.{some_none}
 use Rattle.text_body.proofs.Sharing.{granted, denied}

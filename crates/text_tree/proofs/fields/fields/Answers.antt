@@ -5,8 +5,8 @@ use Rattle.std.proofs.lemmas.List.{map_push}
 use Rattle.std.proofs.lemmas.Result.{err_from_is_err_and}
 use Rattle.spec_text.specs.Words as W
 use Rattle.spec_text.specs.Placed as N
-use Rattle.text_words.specs.declared.word.Word.{Word}
-use Rattle.text_words.specs.Views.{view, views}
+use Rattle.lexer.specs.declared.word.Word.{Word}
+use Rattle.lexer.specs.WordsViews.{view, views}
 use Rattle.text_body.proofs.Repeats.{hand_on}
 use Rattle.text_tree.specs.Places.{field_of}
 use Rattle.text_tree.proofs.Halves.{Halves, halves_start, halves_end, halves_fault, halves_behind, halves_late, halves_refused, halves_more, halves_same}

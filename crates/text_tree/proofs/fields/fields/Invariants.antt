@@ -1,5 +1,5 @@
 use Rattle.std.proofs.Common.{length, map}
-use Rattle.text_words.specs.Views.{views}
+use Rattle.lexer.specs.WordsViews.{views}
 use Rattle.text_tree.specs.Places.{field_of}
 use Rattle.text_tree.proofs.Halves.{Halves}
 use Rattle.text_tree.proofs.fields.fields.Given as goal

@@ -1,5 +1,5 @@
 use Rattle.std.proofs.lemmas.Result.{err_from_is_err_and}
-use Rattle.text_words.specs.Views.{views}
+use Rattle.lexer.specs.WordsViews.{views}
 use Rattle.text_body.specs.Places.{text_of}
 use Rattle.text_body.proofs.Repeats.{hand_on}
 use Rattle.text_tree.specs.Places.{fields_of}

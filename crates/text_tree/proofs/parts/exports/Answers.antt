@@ -2,7 +2,7 @@ use Rattle.std.proofs.Common.{◌<◌, ℕ, List, Some, length, map, sym, ap, �
 use Rattle.std.specs.Prelude.{IfSome, option_map, string_bytes}
 use Rattle.std.proofs.lemmas.List.{map_push, length-map}
 use Rattle.std.proofs.lemmas.Result.{err_from_is_err_and}
-use Rattle.text_words.specs.Views.{view, views}
+use Rattle.lexer.specs.WordsViews.{view, views}
 use Rattle.text_body.proofs.Repeats.{Halfway, hand_on, halfway_end, halfway_fault, halfway_more}
 use Rattle.text_tree.specs.Reading.{next_export_at, exports_at}
 use Rattle.text_tree.proofs.parts.exports.Goals as goal

@@ -1,6 +1,6 @@
 use Rattle.std.proofs.Common.{◌≤◌, length, map}
 use Rattle.std.specs.Prelude.{string_bytes}
-use Rattle.text_words.specs.Views.{views}
+use Rattle.lexer.specs.WordsViews.{views}
 use Rattle.text_body.proofs.Repeats.{Halfway}
 use Rattle.text_tree.specs.Reading.{next_export_at, exports_at}
 use Rattle.text_tree.proofs.parts.exports.Given as goal

@@ -1,5 +1,5 @@
 use Rattle.std.proofs.Common.{◌≡◌, ◌≤◌, length}
-use Rattle.text_words.specs.Views.{views}
+use Rattle.lexer.specs.WordsViews.{views}
 use Rattle.text_tree.specs.Reading.{before_strings, all_strings}
 use Rattle.text_tree.proofs.parts.strings.Given as goal
 

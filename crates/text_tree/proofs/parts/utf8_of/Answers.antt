@@ -1,7 +1,7 @@
 use Rattle.std.proofs.Common.{◌≡◌, ℕ, List, Some, ◌++◌, true, false, sym, ap, ◌∙◌, subst}
 use Rattle.std.specs.Prelude.{IsUtf8, string_bytes}
 use Rattle.std.proofs.lemmas.Str.{IsUtf8-string_bytes}
-use Rattle.text_words.specs.Strings.{decoded}
+use Rattle.lexer.specs.Strings.{decoded}
 use Rattle.text_tree.proofs.Strings.{utf8_some, utf8_none}
 use Rattle.text_tree.proofs.parts.utf8_of.Goals as goal
 

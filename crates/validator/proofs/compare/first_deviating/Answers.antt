@@ -1,7 +1,7 @@
 use Rattle.std.proofs.Common.{length, refl, arith}
 use Rattle.std.proofs.lemmas.Option.{slice_get_read, slice_get-get_or}
 use Rattle.validator.proofs.Agreeing.{least_other, none_more, none_other}
-use Rattle.serial.specs.Positions.{positions as ran_of}
+use Rattle.serial.specs.Positions.{results_of}
 use Rattle.validator.proofs.compare.first_deviating.Goals as goal
 
 pub returns-then-not-agrees-clause-other : goal.returns-then-not-agrees-clause-other
@@ -33,4 +33,4 @@ loop-at-preserved g c =
     (c.agrees.ensures.0 c.if-not-agrees.false)
 
 pub returns-clause-same : goal.returns-clause-same
-returns-clause-same g c = none_other c.args.positions.now (ran_of c.args.receipts.now c.args.touched.now) c.loop-at.at c.loop-at-test.false c.loop-at.invariant
+returns-clause-same g c = none_other c.args.positions.now (results_of c.args.receipts.now c.args.touched.now) c.loop-at.at c.loop-at-test.false c.loop-at.invariant

@@ -1,6 +1,6 @@
 use Rattle.std.proofs.Common.{◌≡◌, ◌+◌, take}
-use Rattle.serial_block.specs.Ordered.{used_by}
+use Rattle.serial.specs.Ordered.{fuel_of_receipts}
 use Rattle.validator.proofs.compare.is_total.Given as goal
 
 abbrev pub invariant-loop-receipt : goal.invariant-loop-receipt
-invariant-loop-receipt l = l.rest + used_by (take l.receipt-index l.receipts) ≡ l.fuel
+invariant-loop-receipt l = l.rest + fuel_of_receipts (take l.receipt-index l.receipts) ≡ l.fuel

@@ -4,7 +4,7 @@ use denote.Ref.{ShrRef}
 use denote.Param.Send.{IsSend, shr_send}
 use Rattle.world.specs.contracts.value.World as world_row
 use Rattle.validator.specs.contracts.end.compare_and_digest as rows
-use Rattle.serial_block.proofs.Crossing.{crosses}
+use Rattle.serial.proofs.Crossing.{crosses}
 use Rattle.validator.proofs.Crossing.{world_sync}
 use Rattle.validator.proofs.end.compare_and_digest.Goals as goal
 

@@ -1,10 +1,10 @@
 use Rattle.std.proofs.Common.{List, length, ◌∙◌, sym, subst, arith}
 use Rattle.std.proofs.lemmas.List.{take_all}
-use Rattle.serial.specs.Positions.{positions as ran_of}
+use Rattle.serial.specs.Positions.{results_of}
 use Rattle.spec_block.specs.Worlds.{Call}
 use Rattle.spec_block.specs.Verdicts.{RunOf}
 use Rattle.spec_execution.specs.Serial.{Serial}
-use Rattle.interp.specs.Lent.{setting_view}
+use Rattle.interp.specs.Callee.{setting_view}
 use Rattle.world.specs.Views.{world_view}
 use Rattle.validator.proofs.Fits.{as_many_numbers, first_of_all, run_of}
 use Rattle.validator.proofs.end.end.Goals as goal
@@ -19,7 +19,7 @@ returns-clause-verdict g c =
     let is = c.requires.job in
     let setting = setting_view o.task.version o.task.contracts.now in
     let r = c.args.ran in
-    let ran = ran_of r.receipts.items r.touched.items in
+    let ran = results_of r.receipts.items r.touched.items in
     let whole = c.requires.whole in
     let serial = subst (λ order. Serial setting o.task.calls.now order o.cells.now.cells ran r.cells.cells) (take_all (length r.receipts.items) o.order.now (omega (arith, whole))) c.requires.ran.serial in
     let run = run_of world o.task.calls.now block setting o.order.now o.cells.now.cells ran r.cells.cells is.setting (is.order ∙ is.trial.trial.order) is.cells serial in

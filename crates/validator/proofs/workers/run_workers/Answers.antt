@@ -3,10 +3,10 @@ use base.Fml.{Lft}
 use denote.Ref.{NamedLft, ShrRef}
 use denote.Param.Send.{IsSend, IsSync, shr_sync, sendable}
 use Rattle.validator.specs.contracts.job.Job as job_row
-use Rattle.validator.specs.contracts.job.Part as part_row
+use Rattle.validator.specs.contracts.job.WorkerRuns as part_row
 use Rattle.validator.specs.contracts.shared.Shared as shared_row
 use Rattle.validator.specs.contracts.workers.run_workers as rows
-use Rattle.serial_block.proofs.Crossing.{crosses}
+use Rattle.serial.proofs.Crossing.{crosses}
 use Rattle.validator.proofs.Crossing.{part_send, job_sync, shared_sync}
 use Rattle.validator.proofs.workers.run_workers.Goals as goal
 

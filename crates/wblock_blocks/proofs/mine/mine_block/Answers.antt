@@ -2,7 +2,7 @@ use Rattle.std.proofs.Common.{◌≡◌, inr, subst}
 use Rattle.spec_ledger.specs.Order.{first_fit}
 use Rattle.spec_block.specs.Worlds.{limits, order_of}
 use Rattle.spec_block.specs.Headline.{Headline, IsLeft}
-use Rattle.wblock_inputs.specs.Inputs.{HoldsWorld, HoldsCalls, Gives}
+use Rattle.wblock_line.specs.Inputs.{HoldsWorld, HoldsCalls, Gives}
 use Rattle.world.specs.Views.{world_view}
 use Rattle.wblock_blocks.proofs.mine.mine_block.Goals as goal
 

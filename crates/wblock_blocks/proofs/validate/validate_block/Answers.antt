@@ -1,8 +1,8 @@
 use Rattle.std.proofs.Common.{◌≡◌, IsTrue, Some, inl, inr, subst}
 use Rattle.std.proofs.lemmas.Result.{err_from_is_err_and}
 use Rattle.spec_block.specs.Verdicts.{IsVerdictOf}
-use Rattle.validator.specs.Judged.{told_by}
-use Rattle.wblock_inputs.specs.Inputs.{HoldsWorld, HoldsCalls, Gives, IsNextInput}
+use Rattle.validator.specs.Judged.{verdict_view}
+use Rattle.wblock_line.specs.Inputs.{HoldsWorld, HoldsCalls, Gives, IsNextInput}
 use Rattle.wblock_blocks.specs.Validates.{IsNextFile}
 use Rattle.wblock_line.specs.FaultLaws.{of_file_weaker}
 use Rattle.world.specs.Views.{world_view}
@@ -13,7 +13,7 @@ returns-in-Ok-tell-clause-answers g c = λ t.
     let holds = g.F.Files.holds c.args.files.now in
     let world = world_view c.in-Read.world in
     let bytes = c.in_ok-bytes.bytes.items in
-    let verdict = told_by c.in-Ok.verdict in
+    let verdict = verdict_view c.in-Ok.verdict in
     let held : HoldsWorld holds c.args.task.world.now world × HoldsCalls holds c.args.task.calls.now c.in-Read.calls.items =
     subst (λ inputs. Gives holds c.args.task.world.now c.args.task.calls.now inputs) c.in-Read.is (c.in_ok-world.ensures.gives t) in inr (record {
       world = world;

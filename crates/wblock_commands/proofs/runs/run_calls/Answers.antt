@@ -1,10 +1,10 @@
 use Rattle.std.proofs.Common.{◌≡◌, ◌<◌, length, slice_index_or}
-use Rattle.interp.specs.Lent.{contract_view}
+use Rattle.interp.specs.Callee.{contract_view}
 use Rattle.wblock_commands.specs.Runs.{numbers_from, told_of}
 use Rattle.wblock_commands.proofs.runs.run_calls.Goals as goal
 use Rattle.std.proofs.Common.{subst, sym, ap, arith, ◌∙◌}
 use Rattle.spec_ledger.specs.declared.Version.TheVariants.{Two}
-use Rattle.interp.specs.Lent.{setting_view}
+use Rattle.interp.specs.Callee.{setting_view}
 use Rattle.wblock_commands.proofs.Numbers.{numbers_below, numbers_count, shown}
 
 -- src/runs.rt:61:22

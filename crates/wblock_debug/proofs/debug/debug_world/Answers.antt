@@ -3,7 +3,7 @@ use Rattle.std.proofs.lemmas.Option.{slice_get_read, slice_get_past}
 use Rattle.std.proofs.lemmas.Result.{err_from_is_err_and}
 use Rattle.spec_block.specs.Worlds.{Call}
 use Rattle.world.specs.Views.{world_view}
-use Rattle.wblock_inputs.specs.Inputs.{HoldsWorld, HoldsCalls, Gives, IsNextInput}
+use Rattle.wblock_line.specs.Inputs.{HoldsWorld, HoldsCalls, Gives, IsNextInput}
 use Rattle.wblock_io.specs.Holding.{Holding}
 use Rattle.wblock_line.specs.FaultLaws.{of_file_weaker}
 use Rattle.wblock_debug.specs.Debugs.{TellsListed, IsBlockName, IsNextRead}

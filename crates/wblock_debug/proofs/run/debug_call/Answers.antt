@@ -1,4 +1,4 @@
-use Rattle.interp.specs.Lent.{setting_view}
+use Rattle.interp.specs.Callee.{setting_view}
 use Rattle.wblock_debug.proofs.Telling.{shown, not_started}
 use Rattle.wblock_debug.proofs.run.debug_call.Goals as goal
 

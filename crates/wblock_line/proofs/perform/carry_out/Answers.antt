@@ -1,5 +1,5 @@
 use Rattle.std.proofs.Common.{ℕ, List, [], ◌∷◌, ◌++◌, codes, map, refl, inr, subst}
-use Rattle.codec.specs.Putting.{IsCutShort}
+use Rattle.byte_sinks.specs.Putting.{IsCutShort}
 use Rattle.wblock_line.specs.Answers.{Wrote, IsSaid, write_of}
 use Rattle.wblock_line.proofs.perform.carry_out.Goals as goal
 

@@ -2,7 +2,7 @@ use Rattle.std.proofs.Common.{length, string_bytes, subst, Global}
 use Rattle.std.proofs.lemmas.Result.{IfOk-weaker}
 use Rattle.module_tree.specs.declared.module.Module.{Module}
 use Rattle.module_tree.specs.Modules.{module_view}
-use Rattle.show_json.specs.Modules.{IsModuleJson}
+use Rattle.wblock_json.specs.Modules.{IsModuleJson}
 use Rattle.wblock_show.proofs.json.module_line_of.Goals as goal
 
 pub returns : goal.returns

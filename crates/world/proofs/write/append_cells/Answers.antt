@@ -2,7 +2,7 @@ use Rattle.std.proofs.Common.{sym, ◌∙◌}
 use Rattle.storage.proofs.Listed.{split_next}
 use Rattle.spec_block.specs.Bytes.{cell_bytes}
 use Rattle.world.specs.Views.{is_cell_of}
-use Rattle.world.proofs.Cells.{one_more}
+use Rattle.world.proofs.CellCounts.{one_more}
 use Rattle.world.proofs.write.append_cells.Goals as goal
 
 pub loop-cell-preserved-in-Continue-1 : goal.loop-cell-preserved-in-Continue-1

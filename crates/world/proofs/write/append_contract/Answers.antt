@@ -2,7 +2,7 @@ use Rattle.std.proofs.Common.{◌≡◌, ℕ, List, ◌++◌, length, ap, ◌∙
 use Rattle.spec_binary.specs.Shortest.{shortest}
 use Rattle.module_tree.specs.Modules.{module_view}
 use Rattle.link.specs.Parts.{tree_of}
-use Rattle.world.proofs.Contracts.{counted_text}
+use Rattle.world.proofs.WorldBytes.{counted_text}
 use Rattle.world.proofs.write.append_contract.Goals as goal
 
 pub returns : goal.returns

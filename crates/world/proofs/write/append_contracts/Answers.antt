@@ -6,7 +6,7 @@ use Rattle.link.specs.declared.deployed.Deployed.{Deployed}
 use Rattle.spec_block.specs.Bytes.{contract_bytes}
 use Rattle.records.proofs.Items.{one_more}
 use Rattle.world.specs.Views.{contract_view}
-use Rattle.world.proofs.Contracts.{by_views}
+use Rattle.world.proofs.WorldBytes.{by_views}
 use Rattle.world.proofs.write.append_contracts.Goals as goal
 
 pub loop-contract-preserved : goal.loop-contract-preserved

@@ -5,7 +5,7 @@ use Rattle.std.specs.List.{filter, flat_map}
 use Rattle.spec_ledger.specs.declared.Kind.TheVariants.{Map, Counter}
 use Rattle.spec_block.specs.Bytes.{cell_bytes, cells_bytes, is_map, is_counter}
 use Rattle.world.specs.Views.{is_cell_of}
-use Rattle.world.proofs.Contracts.{then}
+use Rattle.world.proofs.WorldBytes.{then}
 use Rattle.world.proofs.write.append_storage.Goals as goal
 
 pub returns : goal.returns

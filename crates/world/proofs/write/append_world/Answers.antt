@@ -4,7 +4,7 @@ use Rattle.spec_block.specs.Worlds.{Contract}
 use Rattle.spec_ledger.specs.Cells.{Cells}
 use Rattle.spec_block.specs.Bytes.{counted, contract_bytes, cells_bytes, is_map, is_counter}
 use Rattle.world.specs.Views.{world_view}
-use Rattle.world.proofs.Contracts.{then}
+use Rattle.world.proofs.WorldBytes.{then}
 use Rattle.world.proofs.write.append_world.Goals as goal
 
 pub returns : goal.returns

@@ -1,7 +1,7 @@
 use Rattle.std.proofs.Common.{arith}
 use Rattle.spec_ledger.specs.declared.Kind.TheVariants.{Map, Counter}
 use Rattle.world.specs.Views.{is_cell_of}
-use Rattle.world.proofs.Cells.{count_fits}
+use Rattle.world.proofs.CellCounts.{count_fits}
 use Rattle.world.proofs.write.counts_of.Goals as goal
 
 pub overflow_add-maps : goal.overflow_add-maps

@@ -1,5 +1,5 @@
 use Rattle.std.proofs.Common.{rules, ◌≡◌, ℕ, List, ◌∙◌, subst}
-use Rattle.codec.specs.Putting.{IsCutShort}
+use Rattle.byte_sinks.specs.Putting.{IsCutShort}
 use Rattle.spec_block.specs.Bytes.{world_bytes}
 use Rattle.world.specs.Views.{world_view}
 use Rattle.world.proofs.write.write_world.Goals as goal

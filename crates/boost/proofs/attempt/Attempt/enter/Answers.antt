@@ -1,5 +1,5 @@
 use Rattle.std.proofs.Common.{◌≡◌, ◌∙◌, ap, ◌++◌, ◌∷◌, [], arith, length}
-use Rattle.spec_ledger.specs.declared.Step.TheVariants.{Opened}
+use Rattle.spec_ledger.specs.declared.TraceStep.TheVariants.{Opened}
 use Rattle.spec_ledger.specs.Book.{with_step}
 use Rattle.boost.proofs.Marking.{opened_even, opened_marks, with_mark}
 use Rattle.boost.proofs.attempt.Attempt.enter.Goals as goal

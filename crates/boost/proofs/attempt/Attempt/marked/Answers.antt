@@ -1,6 +1,6 @@
 use Rattle.std.proofs.Common.{◌≡◌, List, [], length, map, sym, ◌∙◌, ap, arith}
 use Rattle.std.proofs.lemmas.List.{take_all}
-use Rattle.spec_ledger.specs.declared.Step.{Step}
+use Rattle.spec_ledger.specs.declared.TraceStep.{TraceStep}
 use Rattle.spec_ledger.specs.Book.{standing_at}
 use Rattle.spec_ledger.specs.Modes.{ops_of, touched}
 use Rattle.boost.proofs.Remarking.{standing-marks, one_more}
@@ -16,7 +16,7 @@ invariant_of-result g c =
     let none : ops_of c.reserve.new.self.items ≡ [] = ap ops_of all ∙ c.requires in
     record {
       even = ap length c.new.ensures.items ∙ ap length (sym (standing-marks c.reserve.new.self.items none));
-      marks_are = c.loop-mark.invariant.1 ∙ ap (λ t. map length (standing_at t).marks) (sym {A = List Step} c.reserve.ensures.items);
+      marks_are = c.loop-mark.invariant.1 ∙ ap (λ t. map length (standing_at t).marks) (sym {A = List TraceStep} c.reserve.ensures.items);
       room = search (arith);
     }
 

@@ -2,7 +2,7 @@ use Rattle.std.proofs.Common.{◌≡◌, refl, sym, set, get_or, ◌+◌, ◌≤
 use Rattle.std.proofs.lemmas.Grind.{get_or_default_zero}
 use Rattle.spec_ledger.specs.Book.{Content, call_is_new}
 use Rattle.spec_ledger.specs.Events.{HasNoAttempt}
-use Rattle.boost.specs.declared.standing.Standing.TheVariants.{Live}
+use Rattle.boost.specs.declared.standing.CallState.TheVariants.{Live}
 use Rattle.boost.specs.Kept.{IsBook}
 use Rattle.boost.specs.Numbered.{BegunAs, IsPassed}
 use Rattle.boost.proofs.Room.{no_room, succeeded}

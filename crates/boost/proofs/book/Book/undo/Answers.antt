@@ -2,7 +2,7 @@ use Rattle.std.proofs.Common.{refl, subst, inr, ◌∙◌, arith}
 use Rattle.std.proofs.lemmas.List.{length-set}
 use Rattle.spec_ledger.specs.Book.{Content}
 use Rattle.spec_ledger.specs.Events.{UndoDone}
-use Rattle.boost.specs.declared.standing.Standing.TheVariants.{Idle}
+use Rattle.boost.specs.declared.standing.CallState.TheVariants.{Idle}
 use Rattle.boost.proofs.Events.{are_standing, call_row, call_standing, later_known, may_close_of, IsBook-undo, UndoDone-undo}
 use Rattle.boost.proofs.book.Book.undo.Goals as goal
 

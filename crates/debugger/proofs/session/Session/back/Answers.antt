@@ -5,7 +5,7 @@ use Rattle.debugger.specs.Keeping.{IsNearest}
 use Rattle.debugger.specs.declared.cursor.Cursor.{Cursor}
 use Rattle.debugger.specs.declared.session.Refusal.{Refusal}
 use Rattle.debugger.specs.declared.session.Refusal.TheVariants.{NoMemory}
-use Rattle.debugger.specs.Sight.{Sight, sight_of}
+use Rattle.debugger.specs.SessionView.{SessionView, session_view_of}
 use Rattle.debugger.proofs.Keeping.{kept_on}
 use Rattle.debugger.proofs.Spacing.{again_less}
 use Rattle.debugger.proofs.session.Session.back.Goals as goal
@@ -14,7 +14,7 @@ pub returns-in_err-cursor : goal.returns-in_err-cursor
 returns-in_err-cursor g c =
     refused c.args.self.now c.args.count c.from_residual.result c.from_residual.ensures.1 (omega (arith, c.used-turns.ensures, c.if-count-turns.false, ap (λ s. s.turns) c.self.view_is))
   where
-    refused : (s : Sight) (n : ℕ) (r : Result ℕ Refusal) → IsErrAnd r (λ e. e ≡ NoMemory) → n ≤ s.turns → GoesBack s n r s
+    refused : (s : SessionView) (n : ℕ) (r : Result ℕ Refusal) → IsErrAnd r (λ e. e ≡ NoMemory) → n ≤ s.turns → GoesBack s n r s
     refused s n (Ok again) h le = absurd h
     refused s n (Err e) h le = subst (λ e. GoesBack s n (Err e) s) (sym h) (refl, le, refl)
 
@@ -26,7 +26,7 @@ returns g c =
     let nearest = c.nearest-earlier.result.now in
     let end = c.in_ok-cursor.cursor in
     let went = c.in_ok-cursor.ensures in
-    subst (λ s. HasGoneBack s c.args.count (sight_of end.machine end.start.now.cells c.self.inside.breaks.items) × AreFew s.call.fuel c.in_ok-cursor.again) c.self.view_is (
+    subst (λ s. HasGoneBack s c.args.count (session_view_of end.machine end.start.now.cells c.self.inside.breaks.items) × AreFew s.call.fuel c.in_ok-cursor.again) c.self.view_is (
       record {
         same = record { run = record { setting = went.same.call.setting; call = went.same.call.call; contract = went.same.call.contract; cells = ap (λ s. s.cells) went.same.start }; breaks = refl };
         turns = omega (arith, went.turns, c.used-turns.ensures, c.if-count-turns.false);

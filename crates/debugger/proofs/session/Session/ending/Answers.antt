@@ -1,5 +1,5 @@
 use Rattle.std.proofs.Common.{ap, ◌∙◌}
-use Rattle.debugger.specs.Sight.{ending_at}
+use Rattle.debugger.specs.SessionView.{ending_at}
 use Rattle.debugger.proofs.Turning.{is_shown, ending_is}
 use Rattle.debugger.proofs.session.Session.ending.Goals as goal
 

@@ -1,5 +1,5 @@
 use Rattle.std.proofs.Common.{ap, ◌∙◌}
-use Rattle.debugger.specs.Sight.{place_at}
+use Rattle.debugger.specs.SessionView.{place_at}
 use Rattle.debugger.proofs.Turning.{is_shown, place_is}
 use Rattle.debugger.proofs.session.Session.place.Goals as goal
 

@@ -1,6 +1,6 @@
 use Rattle.std.proofs.Common.{ap, ◌∙◌}
 use Rattle.spec_execution.specs.Turns.{stack_of}
-use Rattle.debugger.specs.Sight.{stack_at}
+use Rattle.debugger.specs.SessionView.{stack_at}
 use Rattle.debugger.proofs.Turning.{is_shown, shown_is}
 use Rattle.debugger.proofs.session.Session.stack.Goals as goal
 

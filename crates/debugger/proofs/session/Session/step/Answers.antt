@@ -1,6 +1,6 @@
 use Rattle.std.proofs.Common.{◌≡◌, ap, refl, subst, arith}
 use Rattle.debugger.specs.Commands.{HasStepped}
-use Rattle.debugger.specs.Sight.{Sight, sight_of}
+use Rattle.debugger.specs.SessionView.{SessionView, session_view_of}
 use Rattle.debugger.proofs.Keeping.{kept_on, kept_still, seen_end}
 use Rattle.debugger.proofs.session.Session.step.Goals as goal
 
@@ -10,7 +10,7 @@ returns g c =
     let end = c.advance.new.cursor in
     let went = c.in_ok-made.ensures in
     let first : c.in_ok-cursor.cursor.machine.used ≡ here.machine.used = ap (λ p. p.used) c.in_ok-cursor.ensures.machine in
-    subst (λ (s : Sight). HasStepped s c.args.count c.in_ok-made.made (sight_of end.machine end.start.now.cells c.self.inside.breaks.items)) c.self.view_is
+    subst (λ (s : SessionView). HasStepped s c.args.count c.in_ok-made.made (session_view_of end.machine end.start.now.cells c.self.inside.breaks.items)) c.self.view_is
     (record {
       same = record {
         run = record { setting = went.cursor.same.call.setting; call = went.cursor.same.call.call; contract = went.cursor.same.call.contract; cells = ap (λ s. s.cells) went.cursor.same.start };

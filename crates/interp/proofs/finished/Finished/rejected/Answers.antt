@@ -1,15 +1,15 @@
 use Rattle.std.proofs.Common.{List, sym, ap, ◌∙◌, subst}
-use Rattle.spec_ledger.specs.declared.Step.{Step}
+use Rattle.spec_ledger.specs.declared.TraceStep.{TraceStep}
 use Rattle.spec_ledger.specs.declared.Outcome.TheVariants.{Rejected}
 use Rattle.spec_execution.specs.Run.{Refused}
 use Rattle.spec_execution.specs.Levels.{RunsWith, refused}
-use Rattle.interp.specs.Lent.{setting_view}
+use Rattle.interp.specs.Callee.{setting_view}
 use Rattle.interp.specs.Played.{Played}
 use Rattle.interp.proofs.finished.Finished.rejected.Goals as goal
 
 pub of-requires-clause-played : goal.of-requires-clause-played
 of-requires-clause-played g c =
-    subst (λ (trace : List Step). RunsWith (setting_view c.args.version c.args.contracts.now) c.args.call.now trace (Rejected c.code.result) 0) (sym c.new.ensures.items)
+    subst (λ (trace : List TraceStep). RunsWith (setting_view c.args.version c.args.contracts.now) c.args.call.now trace (Rejected c.code.result) 0) (sym c.new.ensures.items)
     (refused c.code.result (c.in-Err.ensures.refused c.args.version ∙ ap Refused (sym c.code.ensures)))
 
 pub returns-in-Err-clause-some : goal.returns-in-Err-clause-some

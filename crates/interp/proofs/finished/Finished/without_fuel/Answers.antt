@@ -1,8 +1,8 @@
 use Rattle.std.proofs.Common.{◌≡◌, ◌∙◌, List, true≢false, sym, ap, subst, arith}
-use Rattle.spec_ledger.specs.declared.Step.{Step}
+use Rattle.spec_ledger.specs.declared.TraceStep.{TraceStep}
 use Rattle.spec_ledger.specs.declared.Outcome.TheVariants.{OutOfFuel}
 use Rattle.spec_execution.specs.Levels.{RunsWith}
-use Rattle.interp.specs.Lent.{setting_view}
+use Rattle.interp.specs.Callee.{setting_view}
 use Rattle.interp.specs.Played.{Played}
 use Rattle.interp.specs.Starting.{HasCode}
 use Rattle.interp.proofs.Beginning.{safe_of, all_linked}
@@ -22,7 +22,7 @@ of-requires-clause-played g c =
     let opens = c.in-Ok.ensures.opens c.args.version in
     let code = (c.has_code.ensures c.args.version call.contract).0 c.if-not-has_code.false in
     let none : call.fuel ≡ 0 = omega arith in
-    subst (λ (trace : List Step). RunsWith setting call trace OutOfFuel 0) (sym c.new-trace.ensures.items)
+    subst (λ (trace : List TraceStep). RunsWith setting call trace OutOfFuel 0) (sym c.new-trace.ensures.items)
     (runs_out setting call _ c.in-Ok.field-0.func (safe_of setting call _ c.in-Ok.field-0.func (all_linked c.args.contracts.now) c.deployed_calls_are_safe.ensures opens) opens code none)
 
 pub returns-clause-some : goal.returns-clause-some

@@ -5,8 +5,8 @@ use Rattle.spec_typing.specs.Linking.{IsLinked}
 use Rattle.spec_execution.specs.Configuration.{Contract, End, Invoke, arguments, fresh}
 use Rattle.spec_execution.specs.Levels.{asks_in}
 use Rattle.instance.specs.States.{IsFresh}
-use Rattle.frames.specs.Waiting.{IsEntry, IsPrepared, alone}
-use Rattle.interp.specs.Lent.{setting_view}
+use Rattle.interp_state.specs.Waiting.{IsEntry, IsPrepared, alone}
+use Rattle.interp.specs.Callee.{setting_view}
 use Rattle.interp.specs.Run.{seen, levels_of, AreAround}
 use Rattle.interp.proofs.Beginning.{based_fresh, safe_of, all_linked, contract_same, at_number, nothing_view, nothing_counted}
 use Rattle.interp.proofs.Fresh.{is_first, is_start}

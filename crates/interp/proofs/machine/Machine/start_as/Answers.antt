@@ -1,4 +1,4 @@
-use Rattle.interp.specs.Lent.{setting_view}
+use Rattle.interp.specs.Callee.{setting_view}
 use Rattle.interp.specs.Starting.{wrong_in}
 use Rattle.interp.proofs.machine.Machine.start_as.Goals as goal
 

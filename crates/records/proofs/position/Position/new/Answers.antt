@@ -11,5 +11,5 @@ invariant_of-result g c = record {
   receipt = record { used = c.has_bytes.ensures.used; asks = c.has_bytes.ensures.asks; outcome = c.has_bytes.ensures.outcome.0 (search rules) };
   count = search rules;
   entries = subst (λ (es : List Entry). AllByRecursion IsEntry es) c.entries.ensures c.note_entries.ensures;
-  rising = rising_from c.neighbours_decide.ensures c.args.profile c.hold.ensures;
+  rising = rising_from c.neighbours_decide.ensures c.args.profile c.use_invariant.ensures;
 }

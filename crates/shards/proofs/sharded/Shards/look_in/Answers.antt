@@ -1,6 +1,6 @@
 use Rattle.std.proofs.Common.{◌∙◌, sym, subst}
 use Rattle.spec_ledger.specs.Events.{IsOther, IsStale}
-use Rattle.spec_shards.specs.Shards.{part, shard_of}
+use Rattle.spec_ledger.specs.Shards.{part, shard_of}
 use Rattle.shards.specs.Taking.{HoldsOfAShard}
 use Rattle.shards.proofs.Takings.{of_shard}
 use Rattle.shards.proofs.sharded.Shards.look_in.Goals as goal

@@ -1,7 +1,7 @@
 use Rattle.std.proofs.Common.{subst}
 use Rattle.spec_ledger.specs.Book.{Content}
 use Rattle.spec_ledger.specs.Events.{OpDone}
-use Rattle.shard.specs.Shard.{HasToWait, IsReady, Shard}
+use Rattle.sharding.specs.Shard.{HasToWait, IsReady, Shard}
 use Rattle.shards.specs.Taking.{HoldsOfAShard}
 use Rattle.shards.proofs.sharded.Shards.op.Goals as goal
 

@@ -2,7 +2,7 @@ use Rattle.std.proofs.Common.{◌≤◌, ◌⊎◌, ◌∙◌, length, sym}
 use Rattle.std.proofs.lemmas.Result.{IfOk-weaker}
 use Rattle.spec_ledger.specs.Book.{Content}
 use Rattle.spec_ledger.specs.Events.{OpDone}
-use Rattle.shard.specs.Shard.{HasToWait, IsOver, IsReady, Shard}
+use Rattle.sharding.specs.Shard.{HasToWait, IsOver, IsReady, Shard}
 use Rattle.shards.specs.Taking.{HoldsOfAShard}
 use Rattle.shards.proofs.Takings.{of_shard}
 use Rattle.shards.proofs.sharded.Shards.op_in.Goals as goal

@@ -1,9 +1,0 @@
-pub mod Turns
-pub mod Apart
-pub mod Accepted
-pub mod OneOrder
-pub mod Edges
-pub mod Heaviest
-pub mod Times
-pub mod Soonest
-pub mod Reader

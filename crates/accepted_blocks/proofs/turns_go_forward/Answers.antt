@@ -1,5 +1,0 @@
-use Rattle.accepted_blocks.proofs.Turns.{forward}
-use Rattle.accepted_blocks.proofs.turns_go_forward.Goals as goal
-
-pub returns : goal.returns
-returns _ = forward

@@ -1,9 +1,0 @@
-mod Accesses
-mod Ending
-mod Meeting
-mod Places
-mod Popping
-mod Reading
-mod Rows
-mod Stepping
-mod Wishes

@@ -1,8 +1,0 @@
-mod Counts
-mod Hot
-mod KindSteps
-mod Numbers
-mod Places
-mod Profiles
-mod Steps
-mod Tops

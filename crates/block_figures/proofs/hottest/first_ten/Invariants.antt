@@ -1,5 +1,0 @@
-use Rattle.block_figures.proofs.Hot.{AreSoFar}
-use Rattle.block_figures.proofs.hottest.first_ten.Given as goal
-
-abbrev pub invariant-loop : goal.invariant-loop
-invariant-loop l = AreSoFar l.shared l.hottest.items l.last l.counter

@@ -1,6 +1,0 @@
-use Rattle.std.proofs.Common.{take}
-use Rattle.block_figures.specs.Counting.{IsNext}
-use Rattle.block_figures.proofs.hottest.next_hottest.Given as goal
-
-abbrev pub invariant-loop-s : goal.invariant-loop-s
-invariant-loop-s l = IsNext (take l.s-index l.shared) l.last l.best

@@ -1,7 +1,0 @@
-use Rattle.std.proofs.Common.{take}
-use Rattle.std.specs.BTreeMap.{get}
-use Rattle.block_figures.specs.Turns.{turn_cmp, IsBest}
-use Rattle.block_figures.proofs.sums.best_before.Given as goal
-
-abbrev pub invariant-loop-entry : goal.invariant-loop-entry
-invariant-loop-entry l = IsBest (get turn_cmp l.sums) (take l.entry-index l.entries) l.best

@@ -1,7 +1,0 @@
-use Rattle.std.proofs.Common.{take}
-use Rattle.std.specs.BTreeMap.{get}
-use Rattle.block_figures.specs.Turns.{turn_cmp, AreRaised}
-use Rattle.block_figures.proofs.sums.raise.Given as goal
-
-abbrev pub invariant-loop-entry : goal.invariant-loop-entry
-invariant-loop-entry l = AreRaised (take l.entry-index l.entries) l.sum (get turn_cmp l.initial.sums) (get turn_cmp l.sums)

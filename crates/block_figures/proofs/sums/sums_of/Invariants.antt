@@ -1,8 +1,0 @@
-use Rattle.std.specs.BTreeMap.{get}
-use Rattle.block_figures.specs.Chains.{lists_of}
-use Rattle.block_figures.specs.Turns.{turn_cmp}
-use Rattle.block_figures.proofs.Tops.{AreSums, AreTops}
-use Rattle.block_figures.proofs.sums.sums_of.Given as goal
-
-abbrev pub invariant-loop-at : goal.invariant-loop-at
-invariant-loop-at l = AreSums (lists_of l.positions) l.weights l.list.items l.at × AreTops (lists_of l.positions) l.list.items l.at (get turn_cmp l.sums)

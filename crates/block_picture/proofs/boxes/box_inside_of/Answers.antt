@@ -1,8 +1,0 @@
-use Rattle.std.proofs.Common.{append_assoc}
-use Rattle.block_picture.specs.Boxes.{box_inside}
-use Rattle.block_picture.proofs.Printed.{printed}
-use Rattle.block_picture.proofs.boxes.box_inside_of.Goals as goal
-
-pub returns : goal.returns
-unfolding box_inside
-returns c = printed c.format.result _ _ c.format.ensures.ok (simp append_assoc)

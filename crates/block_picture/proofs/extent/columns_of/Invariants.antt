@@ -1,6 +1,0 @@
-use Rattle.std.proofs.Common.{◌≡◌, ◌≤◌, ◌^◌, drop, max}
-use Rattle.block_picture.specs.Seats.{columns}
-use Rattle.block_picture.proofs.extent.columns_of.Given as goal
-
-abbrev pub invariant-loop-seat : goal.invariant-loop-seat
-invariant-loop-seat l = (l.most ≤ 2 ^ 32) × (max l.most (columns (drop l.seat-index l.seats)) ≡ columns l.seats)

@@ -1,6 +1,0 @@
-use Rattle.std.proofs.Common.{◌≡◌, ◌≤◌, ◌^◌, drop, max}
-use Rattle.block_picture.specs.Seats.{rows}
-use Rattle.block_picture.proofs.extent.rows_of.Given as goal
-
-abbrev pub invariant-loop-seat : goal.invariant-loop-seat
-invariant-loop-seat l = (l.most ≤ 2 ^ 32) × (max l.most (rows (drop l.seat-index l.seats)) ≡ rows l.seats)

@@ -1,6 +1,0 @@
-use Rattle.std.proofs.Common.{append_assoc}
-use Rattle.block_picture.proofs.Printed.{printed}
-use Rattle.block_picture.proofs.head.drawn_text_of.Goals as goal
-
-pub returns : goal.returns
-returns c = printed c.format.result _ _ c.format.ensures.ok (simp (append_assoc, c.more_word_of-more.ensures))

@@ -1,6 +1,0 @@
-use Rattle.std.proofs.Common.{◌≡◌, drop, max}
-use Rattle.block_picture.specs.Seats.{greatest_fuel}
-use Rattle.block_picture.proofs.seat.greatest_fuel_of.Given as goal
-
-abbrev pub invariant-loop-position : goal.invariant-loop-position
-invariant-loop-position l = max l.greatest (greatest_fuel (drop l.position-index l.positions)) ≡ greatest_fuel l.positions

@@ -1,4 +1,0 @@
-mod Fuels
-mod Prefixes
-mod Sums
-mod Told

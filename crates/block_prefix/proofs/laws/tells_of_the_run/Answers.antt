@@ -1,5 +1,0 @@
-use Rattle.block_prefix.proofs.Told.{told}
-use Rattle.block_prefix.proofs.laws.tells_of_the_run.Goals as goal
-
-pub returns : goal.returns
-returns c = told c.one_block_a_spelling.ensures.one c.one_serial_run.ensures.one c.accepts_exactly_the_published.ensures.exactly

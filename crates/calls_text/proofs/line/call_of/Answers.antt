@@ -1,7 +1,0 @@
-use Rattle.std.proofs.Common.{ap, ◌∙◌}
-use Rattle.calls_text.specs.Texts.{words_of}
-use Rattle.calls_text.proofs.WordLemmas.{of_words, texts}
-use Rattle.calls_text.proofs.line.call_of.Goals as goal
-
-pub returns : goal.returns
-returns c = of_words _ c.args.line.now _ (ap texts c.as_slice.ensures.value ∙ (c.in_ok-words.ensures ∙ ap words_of c.in-Ok.ensures.cases.0)) c.in-Ok.ensures.cases.1 c.call_of_words.ensures

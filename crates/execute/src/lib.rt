@@ -1,5 +1,0 @@
-// One instruction: its charged reduction, and the free ones of what it becomes.
-#![tactic(auto)]
-
-pub mod steps;
-pub mod strides;

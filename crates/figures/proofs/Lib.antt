@@ -1,0 +1,9 @@
+mod Counts
+mod Hot
+mod KindSteps
+mod Numbers
+mod Places
+mod Profiles
+mod Steps
+mod Tops
+mod Counting

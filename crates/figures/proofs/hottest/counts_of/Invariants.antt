@@ -1,0 +1,13 @@
+use Rattle.std.proofs.Common.{◌≡◌, ◌+◌, ◌≤◌, drop}
+use Rattle.std.specs.BTreeMap.{get}
+use Rattle.spec_ledger.specs.declared.Lock.{Lock}
+use Rattle.spec_ledger.specs.Cells.{lock_cmp}
+use Rattle.figures.specs.Chains.{lists_of}
+use Rattle.figures.specs.Counting.{number_at}
+use Rattle.figures.specs.Hottest.{holders}
+use Rattle.figures.proofs.hottest.counts_of.Given as goal
+
+abbrev pub invariant-loop-position : goal.invariant-loop-position
+invariant-loop-position l =
+    ((lock : Lock) → number_at (get lock_cmp l.counts) lock ≤ l.position-index)
+    × ((lock : Lock) → number_at (get lock_cmp l.counts) lock + holders (lists_of (drop l.position-index l.positions)) lock ≡ holders (lists_of l.positions) lock)

@@ -1,0 +1,7 @@
+use Rattle.std.proofs.Common.{take}
+use Rattle.std.specs.BTreeMap.{get}
+use Rattle.figures.specs.Turns.{turn_cmp, AreRaised}
+use Rattle.figures.proofs.sums.raise.Given as goal
+
+abbrev pub invariant-loop-entry : goal.invariant-loop-entry
+invariant-loop-entry l = AreRaised (take l.entry-index l.entries) l.sum (get turn_cmp l.initial.sums) (get turn_cmp l.sums)

@@ -1,0 +1,54 @@
+//! Words and numbers of what is told of a block.
+
+ghost use Rattle.std.specs.Prelude.{◌≡◌, IfOk, string_bytes};
+ghost use Rattle.spec_block.specs.Bytes.{version_code};
+ghost use Rattle.figures.specs.Words.{hundredth, kind_word, mode_word};
+
+use spec_ledger::{Kind, Mode, Version};
+use std::alloc::{AllocError, Global};
+
+/// The word of a kind of locks.
+pub fn word_of_kind(kind: Kind) -> &'static str
+    ensures { result.now ≡ kind_word kind }
+{
+    match kind {
+        Kind::Map => "map",
+        Kind::Counter => "counter",
+    }
+}
+
+/// The word of a mode.
+pub fn word_of_mode(mode: Mode) -> &'static str
+    ensures { result.now ≡ mode_word mode }
+{
+    match mode {
+        Mode::Read => "read",
+        Mode::Add => "add",
+        Mode::Excl => "excl",
+    }
+}
+
+/// The number of a version.
+pub fn number_of_version(version: Version) -> u32
+    ensures { result ≡ version_code version }
+{
+    match version {
+        Version::One => 1,
+        Version::Two => 2,
+    }
+}
+
+/// A hundredth of a number, with two decimals.
+///
+/// # Errors
+///
+/// The allocator refused memory.
+pub fn hundredth_of(alloc: Global, number: u128) -> Result<String, AllocError>
+    ensures { IfOk result (λ text. string_bytes text ≡ hundredth number) }
+{
+    let whole = number / 100;
+    let tenths = number / 10 % 10;
+    let hundredths = number % 10;
+    let text = format!(in alloc; "{whole}.{tenths}{hundredths}")?;
+    Ok(text)
+}

@@ -1,6 +1,0 @@
-use Rattle.std.proofs.Common.{All, take}
-use Rattle.spec_footprint.specs.Footprints.{Agrees}
-use Rattle.footprint.proofs.agree.Given as goal
-
-abbrev pub invariant-loop-access : goal.invariant-loop-access
-invariant-loop-access g l = All (Agrees l.cells.cells) (take l.access-index l.accesses)

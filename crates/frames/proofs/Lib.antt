@@ -1,6 +1,0 @@
-pub mod Settling
-pub mod Jumping
-pub mod Repeating
-pub mod Entering
-pub mod Copying
-pub mod Placing

@@ -1,0 +1,7 @@
+use Rattle.std.proofs.Common.{All}
+use Rattle.typed_queue.specs.Passes.{IsPassOf}
+use Rattle.in_order.specs.Handed.{IsQueueEndOf}
+use Rattle.in_order.proofs.line.make_queue_ends.Given as goal
+
+abbrev pub invariant-loop : goal.invariant-loop
+invariant-loop g l = record { own : IsPassOf l.line l.own; posts : All (IsQueueEndOf l.job) l.posts.items }

@@ -1,7 +1,0 @@
-use Rattle.std.proofs.Common.{Some, IfSome}
-use Rattle.std.proofs.lemmas.List.Elements.{All-set}
-use Rattle.in_order.specs.Shares.{IsShareOf}
-use Rattle.in_order.proofs.supply.place.Goals as goal
-
-pub returns-then-nth-len : goal.returns-then-nth-len
-returns-then-nth-len g c = All-set (λ o. IfSome o (IsShareOf c.args._job.now.task)) c.args.supply.now.waiting.items c.args.batch.nth (Some c.args.batch.share) c.requires.batch c.requires.supply

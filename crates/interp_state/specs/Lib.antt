@@ -1,0 +1,16 @@
+pub mod Views
+pub mod Steps
+pub mod Calls
+pub mod Branches
+pub mod Waiting
+pub mod Copies
+pub mod Innermost
+pub mod ViewLaws
+pub mod Numbering
+pub mod CopyLaws
+pub mod Callee
+pub mod Plain
+pub mod Memories
+pub mod Elements
+pub mod Held
+pub mod Taking

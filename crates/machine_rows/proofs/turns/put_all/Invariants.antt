@@ -1,5 +1,0 @@
-use Rattle.interp.specs.Progress.{IsFree}
-use Rattle.machine_rows.proofs.turns.put_all.Given as goal
-
-abbrev pub invariant-asks : goal.invariant-asks
-invariant-asks l = IsFree l.machine.status

@@ -1,5 +1,0 @@
-use Rattle.interp.specs.Progress.{IsFree}
-use Rattle.machine_rows.proofs.turns.put_turns.Given as goal
-
-abbrev pub invariant-turns : goal.invariant-turns
-invariant-turns l = IsFree l.machine.status

@@ -1,0 +1,5 @@
+use Rattle.intake.specs.Intakes.{IsSeatOf}
+use Rattle.miner.proofs.rest.draw_rest.Given as goal
+
+abbrev pub invariant-loop : goal.invariant-loop
+invariant-loop g l = IsSeatOf l.intake l.seat

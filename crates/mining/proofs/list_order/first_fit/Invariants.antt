@@ -1,6 +1,0 @@
-use Rattle.publish.specs.Publication.{limits}
-use Rattle.mining.proofs.ListOrder.{HasFitted}
-use Rattle.mining.proofs.list_order.first_fit.Given as goal
-
-abbrev pub invariant-loop-number : goal.invariant-loop-number
-invariant-loop-number g l = HasFitted (limits l.calls) l.fuel l.number l.remaining l.order.items l.left.items

@@ -1,7 +1,0 @@
-use Rattle.spec_ledger.specs.declared.Version.TheVariants.{Two}
-use Rattle.interp.specs.Lent.{setting_view}
-use Rattle.mining.proofs.Ties.{no_run_more}
-use Rattle.mining.proofs.outcome.places.Goals as goal
-
-pub loop-preserved : goal.loop-preserved
-loop-preserved g c = no_run_more (setting_view Two c.args._contracts.now) c.args._calls.now c.loop.places.items c.push.new.self.items c.in_ok-push.ensures.items c.loop.invariant

@@ -1,5 +1,0 @@
-use Rattle.intake.specs.Intakes.{IsSeatOf}
-use Rattle.mining.proofs.rest.draw_rest.Given as goal
-
-abbrev pub invariant-loop : goal.invariant-loop
-invariant-loop g l = IsSeatOf l.intake l.seat

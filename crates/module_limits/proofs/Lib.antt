@@ -1,3 +1,0 @@
-pub mod Depths
-pub mod Below
-pub mod Fitting

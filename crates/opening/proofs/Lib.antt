@@ -1,3 +1,0 @@
-mod Asking
-pub mod Entering
-mod Finding

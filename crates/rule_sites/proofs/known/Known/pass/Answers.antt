@@ -1,5 +1,0 @@
-use Rattle.std.proofs.lemmas.Result.{on_ok_weaker}
-use Rattle.rule_sites.proofs.known.Known.pass.Goals as goal
-
-pub returns : goal.returns
-returns g c = on_ok_weaker c.apply.result (λ h after e. h after (c.in_ok-effect.ensures _ after e)) c.apply.ensures

@@ -1,5 +1,0 @@
-use Rattle.std.proofs.Common.{◌≡◌}
-use Rattle.rule_sites.proofs.locate.+spot.Given as goal
-
-abbrev pub invariant-spot_in-loop-i : goal.invariant-spot_in-loop-i
-invariant-spot_in-loop-i g l = (l.place ≡ l.i-index) × (l.labels.items ≡ l.fn.labels.items)

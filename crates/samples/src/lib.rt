@@ -1,8 +1,0 @@
-//! Sample contracts for tests and benches: their bytes, and the way from bytes to a contract that can be run.
-#![tactic(auto)]
-
-mod contracts;
-mod modules;
-
-pub use contracts::{Unfit, call, deployed, example, first, typed};
-pub use modules::{ASKING, EXAMPLE, FIRST_MODULE, PROBING};

@@ -1,3 +1,0 @@
-mod Rising
-mod Tickets
-mod Waiting

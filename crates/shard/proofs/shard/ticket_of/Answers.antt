@@ -1,9 +1,0 @@
-use Rattle.std.proofs.Common.{◌≡◌, ◌∙◌, sym, ap, subst}
-use Rattle.spec_ledger.specs.Book.{Attempt}
-use Rattle.spec_ledger.specs.Events.{IsStale}
-use Rattle.shard.proofs.Tickets.{other_number}
-use Rattle.shard.proofs.shard.ticket_of.Goals as goal
-
-pub returns-then-number-clause-none : goal.returns-then-number-clause-none
-returns-then-number-clause-none g c =
-    other_number c.args.book.now.attempts c.args.call c.args.number c.in_ok-ticket.ticket.number c.hold.ensures.modes.apart c.in_ok-ticket.ensures.found.1 (λ e. c.if-number.true (c.number.ensures ∙ e))

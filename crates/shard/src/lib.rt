@@ -1,9 +1,0 @@
-//! One shard of a book: the book of the shard's own locks, whose attempts begin with their first operation there, and where its entries stand in the
-//! journal of all (Dickerson, Gazzillo, Herlihy, Koskinen, "Adding Concurrency to Smart Contracts", PODC 2017, section 3: locks and inverse logs are kept
-//! for each object by itself).
-#![tactic(auto)]
-
-mod first;
-mod shard;
-
-pub use shard::{EndRefusal, Shard};

@@ -1,4 +1,0 @@
-mod Gathering
-mod Moving
-mod Together
-mod Walks

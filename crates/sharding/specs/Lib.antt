@@ -1,0 +1,5 @@
+pub mod Shard
+pub mod Parts
+pub mod Places
+pub mod Steps
+pub mod Journals

@@ -1,5 +1,0 @@
-use Rattle.soundness.proofs.Reducing.{steps_typed}
-use Rattle.soundness.proofs.steps_are_typed.Goals as goal
-
-pub returns : goal.returns
-returns _ = steps_typed

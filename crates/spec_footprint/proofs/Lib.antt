@@ -1,3 +1,0 @@
-pub mod Likeness
-pub mod Footprints
-mod Rows

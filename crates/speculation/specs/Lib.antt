@@ -1,0 +1,5 @@
+pub mod Behind
+pub mod Found
+pub mod Touches
+pub mod Calls
+pub mod Following

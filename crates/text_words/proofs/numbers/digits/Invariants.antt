@@ -1,6 +1,0 @@
-use Rattle.std.proofs.Common.{◌≡◌, drop}
-use Rattle.text_words.specs.Values.{value_at}
-use Rattle.text_words.proofs.numbers.digits.Given as goal
-
-abbrev pub invariant-loop-b : goal.invariant-loop-b
-invariant-loop-b l = value_at l.hexadecimal l.value (drop l.b-index l.text) ≡ value_at l.hexadecimal 0 l.text

@@ -1,5 +1,0 @@
-use Rattle.text_words.proofs.OneWord.{words_are_one}
-use Rattle.text_words.proofs.reading.no_tokens_are_two_lists_of_words.Goals as goal
-
-pub returns : goal.returns
-returns c = words_are_one c.integers_are_tested.ensures

@@ -1,5 +1,0 @@
-pub mod Strings
-pub mod Views
-pub mod Reading
-pub mod Refused
-pub mod Values

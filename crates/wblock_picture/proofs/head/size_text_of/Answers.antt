@@ -1,0 +1,6 @@
+use Rattle.std.proofs.Common.{append_assoc}
+use Rattle.wblock_picture.proofs.Printed.{printed}
+use Rattle.wblock_picture.proofs.head.size_text_of.Goals as goal
+
+pub returns : goal.returns
+returns c = printed c.format.result _ _ c.format.ensures.ok (simp (append_assoc, c.max-width.ensures))

@@ -1,4 +1,0 @@
-pub mod Digests
-pub mod Waves
-pub mod Shared
-pub mod Judged

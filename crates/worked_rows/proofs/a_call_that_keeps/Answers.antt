@@ -1,5 +1,0 @@
-use Rattle.worked_rows.proofs.Rows.{keeps_run, keeps_executes, not_6, not_by_10}
-use Rattle.worked_rows.proofs.a_call_that_keeps.Goals as goal
-
-pub returns : goal.returns
-returns c = let once = c.runs_are_unique.ensures.executes in record { runs = keeps_run; executes = keeps_executes; no_other_reply = not_6 once; no_less_fuel = not_by_10 once }

@@ -1,5 +1,0 @@
-use Rattle.worked_rows.proofs.Text.{one_token, names_nothing}
-use Rattle.worked_rows.proofs.a_text_that_names_nothing.Goals as goal
-
-pub returns : goal.returns
-returns c = record { lexes = one_token; names_nothing = names_nothing }

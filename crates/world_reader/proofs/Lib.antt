@@ -1,5 +1,0 @@
-mod Exact
-mod Judging
-mod Parts
-mod Storing
-mod Worlds
