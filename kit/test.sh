@@ -6,8 +6,8 @@
 # Without a compiler it takes the texts in prebuilt/, which `wblock text` wrote of what the compilers made: `abi` finds no fault, the calls of each example come
 # to the same as over the example's own text, the steps of token.steps and exchange.steps pass, and 10,000 calls of examples/exchange are mined, validated, judged
 # and drawn. Where clang and wasm-ld are there it compiles the contracts in C anew and does the same, runs the native tests, and what has to be refused is refused.
-# Where cargo is there it runs the native test in Rust. Where rustc has wasm32-unknown-unknown or wasm32v1-none it does so with those in Rust. What is not there
-# is said, and is no failure. The status is 0 where all passed, 1 where one failed, 2 where there is no program.
+# Where cargo is there it runs the native test in Rust. Where rustc has wasm32-unknown-unknown or wasm32v1-none it does so with those in Rust, and cargo builds the
+# token offline, as README says. What is not there is said, and is no failure. The status is 0 where all passed, 1 where one failed, 2 where there is no program.
 # shellcheck source=SCRIPTDIR/../examples/checks.sh
 . "$(dirname "${BASH_SOURCE[0]}")/../examples/checks.sh" "$@"
 script=kit
@@ -158,6 +158,12 @@ rust_for_contracts() {
     return 1
 }
 
+# Whether a cargo builds the token without a network, in a copy of the crates that no other cargo was in: $1 the cargo.
+cargo_builds() {
+    cp -r "$kit/rust" built && (cd built && done_well "$1" build --offline --release --target "$TARGET" -p token) &&
+        done_well "$tools/abi" --strip built.wasm "built/target/$TARGET/release/token.wasm"
+}
+
 if command -v wasm-ld >/dev/null && found=$(rust_for_contracts); then
     read -r RUSTC TARGET <<<"$found"
     export RUSTC TARGET
@@ -167,7 +173,14 @@ if command -v wasm-ld >/dev/null && found=$(rust_for_contracts); then
     code_of_guide '#![cfg_attr(target_arch = "wasm32", no_std)]' >deposits.rs
     is "the contract in Rust of GUIDE" way_of_guide deposits.rs "$kit/rust/compile"
     is "a parameter of type bool" says 'the trait bound `bool: Word` is not satisfied' "$kit/rust/compile" "$kit/rust/refused/bool.rs" bool.wasm
+    # the cargo that came with this rustc
+    if cargo=$(dirname "$(command -v "$RUSTC")")/cargo && [ -x "$cargo" ]; then
+        is "cargo builds token" cargo_builds "$cargo"
+        is "cargo: token does what its text does" done_well "$tools/compare" "$program" "$examples/token" built.wasm
+    else
+        echo "kit: there is no cargo beside $RUSTC, so cargo built no contract"
+    fi
 else
-    echo "kit: there is no rustc with wasm32, so contracts in Rust were not compiled"
+    echo "kit: there is no rustc with wasm32, so contracts in Rust were not compiled, and cargo built none"
 fi
 told
