@@ -2,3 +2,4 @@ pub mod Segments
 mod Asking
 pub mod Entering
 mod Finding
+mod Standing

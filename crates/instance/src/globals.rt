@@ -23,6 +23,17 @@ impl<'a, A: Allocator> Model for Globals<'a, A> {
     ghost invariant = { λ g. HasRoom g.own g.lent.now };
 }
 
+// The values that stand: their own, where there are such, and else those that are lent.
+#[inline(always)]
+fn values_in<'b, A: Allocator>(own: &'b Vec<Value, A>, lent: &'b [Value]) -> &'b [Value]
+    ensures { result.now ≡ standing own.now.items lent.now }
+{
+    if own.is_empty() {
+        return lent;
+    }
+    own.as_slice()
+}
+
 // Copies values into room that is there. It stands by itself, since an instance does it at most once.
 #[inline(never)]
 fn copy_all<A: Allocator>(own: &mut Vec<Value, A>, lent: &[Value])
@@ -30,9 +41,30 @@ fn copy_all<A: Allocator>(own: &mut Vec<Value, A>, lent: &[Value])
     requires room { length lent.now ≤ vec_capacity own.old }
     ensures { own.new.items ≡ lent.now }
 {
-    let Ok(()) = own.extend_from_slice(lent) else {
-        unreachable!();
-    };
+    for value in lent {
+        own.push_reserved(*value);
+    }
+}
+
+// Makes the values that stand their own.
+#[inline(always)]
+fn own_all<A: Allocator>(own: &mut Vec<Value, A>, lent: &[Value])
+    requires { HasRoom own.old lent.now }
+    ensures { own.new.items ≡ standing own.old.items lent.now }
+{
+    if own.is_empty() {
+        copy_all(own, lent);
+    }
+}
+
+// Puts a value in the place of this number. Where there is none, nothing changes.
+#[inline(always)]
+fn put_value<A: Allocator>(values: &mut Vec<Value, A>, x: usize, value: Value)
+    ensures { values.new.items ≡ slice_set values.old.items x value }
+{
+    if x < values.len() {
+        values[x] = value;
+    }
 }
 
 impl<'a, A: Allocator> Globals<'a, A> {
@@ -53,10 +85,7 @@ impl<'a, A: Allocator> Globals<'a, A> {
     pub fn as_slice(&self) -> &[Value]
         ensures { result.now ≡ self.now }
     {
-        if self.own.is_empty() {
-            return self.lent;
-        }
-        &self.own
+        values_in(&self.own, self.lent)
     }
 
     /// Sets the global of this number, counted from 0. Where there is none, nothing changes.
@@ -64,12 +93,8 @@ impl<'a, A: Allocator> Globals<'a, A> {
     pub fn set(&mut self, x: u32, value: Value)
         ensures { self.new ≡ slice_set self.old x value }
     {
-        if self.own.is_empty() {
-            copy_all(&mut self.own, self.lent);
-        }
-        if (x as usize) < self.own.len() {
-            self.own[x as usize] = value;
-        }
+        own_all(&mut self.own, self.lent);
+        put_value(&mut self.own, x as usize, value);
     }
 
     /// The same globals, with memory of their own.

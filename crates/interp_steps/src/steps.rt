@@ -157,7 +157,8 @@ fn execute_on_instance<'a, A: Allocator + Copy>(
 {
     match op {
         PlainInstr::GlobalGet(x) => {
-            let value = parts.instance.globals.as_slice()[*x as usize];
+            let globals = parts.instance.globals.as_slice();
+            let value = globals[*x as usize];
             push(&mut parts.stack, value)?;
             parts.code = rest;
             Ok(After::Ran)

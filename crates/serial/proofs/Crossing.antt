@@ -131,11 +131,11 @@ module _ (B : RattleType) (g : Ghosts B.Denot) (send : IsSend B) (sync : IsSync 
   start_sync = declared_sync (start_row.the_type B g) (search (crosses, vec_sync, run.the_field_sync) depth 60 fits 100000, (search (crosses, vec_sync) depth 60 fits 100000, tt))
 
   table_sync : IsSync (table_row.the_row B g)
-  table_sync = declared_sync (table_row.the_type B g) (search crosses depth 60 fits 100000, (search (crosses, vec_sync, filled.the_field_sync) depth 60 fits 100000, tt))
+  table_sync = search (crosses, vec_sync, filled.the_field_sync, filled.the_sync) depth 60 fits 100000
 
   pub contract_sync : IsSync (contract_row.the_row B g)
   contract_sync = declared_sync (contract_row.the_type B g)
-      (search (crosses, tree_sync) depth 60, (search (crosses, hosts_sync) depth 60, (search (crosses, start_sync) depth 60, (search (crosses, table_sync) depth 60, (search (crosses, vec_sync) depth 60 fits 100000, (search (crosses, maps_over.crosses, text_sync) depth 60 fits 100000, tt))))))
+      (search (crosses, tree_sync) depth 60, (search (crosses, hosts_sync) depth 60, (search (crosses, start_sync) depth 60, (search (crosses, table_sync) depth 60, (search (crosses, vec_sync, value.the_sync) depth 60 fits 100000, (search (crosses, maps_over.crosses, text_sync, export_desc.the_sync) depth 60 fits 100000, tt))))))
 
   pub contracts_send : (ℓ : Lifetime) (κ : Lft) → IsSend (ShrSlice ℓ κ (contract_row.the_row B g))
   contracts_send ℓ κ = shr_slice_send ℓ κ _ contract_sync

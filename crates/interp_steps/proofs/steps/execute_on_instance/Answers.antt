@@ -1,7 +1,6 @@
-use Rattle.std.proofs.Common.{◌≡◌, ◌<◌, pos, List, Some, length, slice_get, slice_index_or, arith, refl, sym, ap, ◌∙◌, subst, ◌∷◌, ◌++◌, []}
+use Rattle.std.proofs.Common.{◌<◌, List, length, slice_get, arith, refl, sym, ap, ◌∙◌, subst, ◌∷◌, ◌++◌, []}
 use Rattle.wtypes.specs.declared.PlainInstr.{PlainInstr}
 use Rattle.wtypes.specs.declared.Value.{Value}
-use Rattle.wtypes.specs.declared.Value.TheVariants.{I32}
 use Rattle.spec_syntax.specs.Syntax.{Plain}
 use Rattle.interp_state.specs.declared.parts.Parts.{Parts}
 use Rattle.interp_state.specs.Memories.{DidStore}
@@ -14,14 +13,14 @@ use Rattle.laws_reduction.specs.Finding.{read_at}
 use Rattle.interp_steps.proofs.Reaching.{load_place, load_led, store_place, store_led, size_charged, grow_place, grow_charged}
 use Rattle.interp_steps.proofs.steps.execute_on_instance.Goals as goal
 
-pub bounds-as_slice-x : goal.bounds-as_slice-x
-bounds-as_slice-x g c =
+pub bounds-globals-x : goal.bounds-globals-x
+bounds-globals-x g c =
     let p = c.args.parts.now in
     let r = c.requires.ready in
     let n = c.requires.here.ordinal in
     let is = items_of c.args.rest.now in
     let here = c.requires.here.here ∙ ap (λ (o : PlainInstr). record { ordinal = n; instr = Plain o } ∷ is) c.in-GlobalGet.is in
-    subst (λ (vs : List Value). c.in-GlobalGet.x < length vs) (sym c.as_slice.ensures) (global_there (contract_of c.args.lent.now) (view r.base p) r.safe (r.ordered r.base) n is c.in-GlobalGet.x here)
+    subst (λ (vs : List Value). c.in-GlobalGet.x < length vs) (sym c.as_slice-globals.ensures) (global_there (contract_of c.args.lent.now) (view r.base p) r.safe (r.ordered r.base) n is c.in-GlobalGet.x here)
 
 pub returns-in_ok-push-in-GlobalGet-clause-led : goal.returns-in_ok-push-in-GlobalGet-clause-led
 returns-in_ok-push-in-GlobalGet-clause-led g c b safe suits =
@@ -31,11 +30,10 @@ returns-in_ok-push-in-GlobalGet-clause-led g c b safe suits =
     let n = c.requires.here.ordinal in
     let is = items_of c.args.rest.now in
     let here = c.requires.here.here ∙ ap (λ (o : PlainInstr). record { ordinal = n; instr = Plain o } ∷ is) c.in-GlobalGet.is in
-    let vs = c.as_slice.result.now in
     let x = c.in-GlobalGet.x in
-    let lt : x < length vs = subst (λ (vs : List Value). x < length vs) (sym c.as_slice.ensures) (global_there (contract_of c.args.lent.now) (view r.base p) r.safe (r.ordered r.base) n is x here) in
-    let there : slice_get p.instance.globals x ≡ Some (slice_index_or vs x (I32 (pos 0))) = ap (λ (vs : List Value). slice_get vs x) (sym c.as_slice.ensures) ∙ read_at vs x (I32 (pos 0)) lt in
-    global_got k (view b p) safe (r.ordered b) n is x here (slice_index_or vs x (I32 (pos 0))) there
+    let vs = c.as_slice-globals.result.now in
+    let lt : x < length vs = subst (λ (ws : List Value). x < length ws) (sym c.as_slice-globals.ensures) (global_there (contract_of c.args.lent.now) (view r.base p) r.safe (r.ordered r.base) n is x here) in
+    global_got k (view b p) safe (r.ordered b) n is x here _ (ap (λ (ws : List Value). slice_get ws x) (sym c.as_slice-globals.ensures) ∙ read_at vs x _ lt)
     _ refl refl c.in_ok-push-in-GlobalGet.ensures.items refl refl
 
 pub pop_top-value-requires : goal.pop_top-value-requires
