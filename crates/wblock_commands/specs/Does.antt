@@ -1,5 +1,5 @@
 -- What a command does.
-use Rattle.std.specs.Prelude.{◌≡◌, ℕ, ◌⊎◌, List, [], ◌++◌, string_bytes, Bool, false, IsTrue}
+use Rattle.std.specs.Prelude.{◌≡◌, ℕ, ◌⊎◌, List, [], ◌++◌, string_bytes, Bool, IsTrue}
 use Rattle.wblock_io.specs.Holding.{Holding, Failing, IsFailed}
 use Rattle.wblock_line.specs.declared.answer.Answer.{Answer}
 use Rattle.wblock_line.specs.declared.perform.Status.{Status}
@@ -17,7 +17,7 @@ use Rattle.wblock_debug.specs.Debugs.{Debugs, IsNotListed, IsNextRead}
 use Rattle.wblock_show.specs.Named.{ShowsNamed, IsNextNamed}
 use Rattle.wblock_commands.specs.declared.command.Command.{Command}
 use Rattle.wblock_commands.specs.declared.command.Command.TheVariants.{Stored, Help, Version, Asm, Text, Check, Deploy, Mine, Validate, Debug, Show}
-use Rattle.wblock_commands.specs.Deploying.{IsTaken, DeploysFree, IsNextToDeploy}
+use Rattle.wblock_commands.specs.Deploying.{MayReplace, IsTaken, DeploysFree, IsNextToDeploy}
 
 -- what a command comes to over files
 abbrev pub Answers : Command → Holding → Answer → Type 0
@@ -35,7 +35,7 @@ Answers (Show task) holds answer = ShowsNamed holds task answer
 
 -- files decide whether there is what the command needs: a call of a number, or no file where a world is to be written
 abbrev pub MayMiss : Command → Type 0
-MayMiss (Deploy task) = task.forced ≡ false
+MayMiss (Deploy task) = ¬ MayReplace task
 MayMiss (Debug task) = Unit {0}
 MayMiss c = ⊥
 

@@ -1,11 +1,11 @@
 -- What the words of a line ask for.
-use Rattle.std.specs.Prelude.{◌≡◌, ◌≢◌, ℕ, ◌<◌, ◌≤◌, ◌⊎◌, Bool, true, false, List, [], ◌∷◌, Option, Some, None, IfSome, codes, decimal, length, map}
+use Rattle.std.specs.Prelude.{◌≡◌, ◌≢◌, ℕ, ◌<◌, ◌≤◌, ◌⊎◌, List, [], ◌∷◌, Option, Some, None, IfSome, codes, decimal, length, map}
 use Rattle.std.specs.Borrow.{Bor}
 use Rattle.wblock_line.specs.Words.{Line, Choice, split}
 use Rattle.wblock_commands.specs.declared.command.Command.{Command}
 use Rattle.wblock_commands.specs.declared.command.Command.TheVariants.{Stored, Help, Version, Asm, Text, Check, Deploy, Mine, Validate, Debug, Show}
 use Rattle.wblock_commands.specs.declared.command.Deploying.{Deploying}
-use Rattle.wblock_commands.specs.Options.{AsksFuel, AsksWorkers, AsksTries, AsksBoosted, AsksNext, AsksCalls, AsksForm, HasOnlyMining, HasOnlyValidation, HasOnlyShowing}
+use Rattle.wblock_commands.specs.Options.{AsksFuel, AsksWorkers, AsksTries, AsksBoosted, AsksNext, AsksCalls, AsksForm, AsksForce, AsksOnto, HasOnlyDeploying, HasOnlyMining, HasOnlyValidation, HasOnlyShowing}
 use Rattle.wblock_debug.specs.Asks.{AsksDebug}
 use Rattle.wblock_debug.specs.declared.asked.Debugging.{Debugging}
 use Rattle.wblock_blocks.specs.declared.mine.Mining.{Mining}
@@ -58,11 +58,6 @@ pub record AsksCheck (line : Line) (target : List ℕ) (heap : Option ℕ) : Typ
   pub words : line.words ≡ codes "check" ∷ target ∷ []
   pub options : AsksHeap line.options heap
 
--- `--force`, or nothing
-abbrev pub AsksForce : List Choice → Bool → Type 0
-AsksForce options true = options ≡ (codes "--force", []) ∷ []
-AsksForce options false = options ≡ []
-
 -- `deploy WORLD MODULE...`, WORLD of a name that no MODULE has, whatever the options
 pub record NamesModules (words : List (List ℕ)) (world : List ℕ) (modules : List (List ℕ)) : Type 0 where
   pub words_are : words ≡ codes "deploy" ∷ world ∷ modules
@@ -70,10 +65,12 @@ pub record NamesModules (words : List (List ℕ)) (world : List ℕ) (modules : 
   pub few : length modules ≤ 1024
   pub apart : IsApart world modules
 
--- `deploy WORLD MODULE... [--force]`
+-- `deploy WORLD MODULE... [--onto OLD] [--force]`
 pub record AsksDeploy (line : Line) (d : Deploying) : Type 0 where
   pub names : NamesModules line.words d.world.now (texts d.modules.now)
+  pub onto : AsksOnto line.options d.onto
   pub force : AsksForce line.options d.forced
+  pub only : HasOnlyDeploying line.options
 
 -- what is written takes the place of no input and of no other output: BLOCK has a name of its own, and NEXT another than CALLS; NEXT may be WORLD
 pub record KeepsInputs (m : Mining) : Type 0 where

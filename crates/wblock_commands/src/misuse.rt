@@ -1,6 +1,6 @@
 //! What is wrong with words that the command line's reader takes and that ask for nothing, for people.
 
-use crate::declared::{BLOCK, CALLS, FUEL, NEXT, SVG};
+use crate::declared::{BLOCK, CALLS, FUEL, NEXT, ONTO, SVG};
 use std::alloc::{AllocError, Global};
 use wblock_calls::number_of;
 use wblock_debug::command_of;
@@ -36,7 +36,8 @@ fn deploying_misuse(
     if modules.iter().any(|m| *m == world) {
         return Ok(Some(clash(alloc, "MODULE", "WORLD", world)?));
     }
-    if options.is_empty() {
+    let is_forced = options.iter().any(|option| option.0 == FORCE_SWITCH);
+    if !is_forced && options.len() <= 1 {
         return Ok(Some(format!(in alloc;
             "usage: WORLD `{world}` is there already: {FORCE_SWITCH} writes the new world in its place"
         )?));
@@ -186,7 +187,11 @@ fn names_misuse(
 
 /// Whether the value of the option of this name is a file's name.
 fn names_file(name: &str) -> bool {
-    name == BLOCK.word || name == CALLS.word || name == NEXT.word || name == SVG.word
+    name == BLOCK.word
+        || name == CALLS.word
+        || name == NEXT.word
+        || name == ONTO.word
+        || name == SVG.word
 }
 
 /// `usage`, and what is wrong with words that the command line's reader takes.

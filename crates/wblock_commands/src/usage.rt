@@ -5,8 +5,8 @@ ghost use Rattle.wblock_blocks.specs.Notes.{EndsLine};
 ghost use Rattle.wblock_commands.specs.Texts.{TellsText};
 
 use crate::declared::{
-    BLOCK, BOOSTED, CALLS, FORCE, FUEL, FileOption, HEAP, JSON, NEXT, NumberOption, QUIET, SVG,
-    Switch, TRIES, WORKERS,
+    BLOCK, BOOSTED, CALLS, FORCE, FUEL, FileOption, HEAP, JSON, NEXT, NumberOption, ONTO, QUIET,
+    SVG, Switch, TRIES, WORKERS,
 };
 use crate::misuse::misuse_text;
 use clap::builder::ValueParser;
@@ -94,18 +94,19 @@ fn check<'a>(alloc: Global) -> Result<Command<'a>, AllocError> {
 
 fn deploy<'a>(alloc: Global) -> Result<Command<'a>, AllocError> {
     Command::new(alloc, "deploy")
-        .about("Makes a world of modules, and writes it")
+        .about("Makes a world of modules, or goes on from one, and writes it")
         .arg(required(
             alloc,
             "WORLD",
-            "The file to be written; no MODULE's, and without --force none that is there",
+            "The file to be written; no MODULE's, and without --force none that is there but OLD",
         ))?
         .arg(required(
             alloc,
             "MODULE",
-            "The files of the modules, 1 to 1024; they are the contracts 0, 1, 2 ..",
+            "The files of the modules, 1 to 1024; they are the contracts 0, 1, 2 .., behind those of OLD",
         )
         .num_args(1..))?
+        .arg(file(alloc, ONTO))?
         .arg(switch(alloc, FORCE))
 }
 

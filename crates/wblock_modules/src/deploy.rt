@@ -216,7 +216,7 @@ fn refuse_crowd<'a>(
     let count = contracts + modules;
     let line = format!(in alloc; "refused deploy 6 {count}\n")?;
     let why = format!(in alloc;
-        "world: {contracts} contracts of OLD and {modules} modules: a world has at most 1024 contracts; deploy fewer"
+        "world: {contracts} contracts of OLD and {modules} modules are more than 1,024 contracts; deploy fewer"
     )?;
     Ok(Answer::Refused(line, why))
 }
