@@ -2,6 +2,7 @@
 use Rattle.std.specs.Prelude.{ℕ, ◌/◌, ◌%◌, List, ◌++◌, codes, decimal}
 use Rattle.spec_ledger.specs.declared.Kind.{Kind}
 use Rattle.spec_ledger.specs.declared.Kind.TheVariants.{Map, Counter}
+use Rattle.spec_ledger.specs.declared.Lock.{Lock}
 use Rattle.spec_ledger.specs.declared.Mode.{Mode}
 use Rattle.spec_ledger.specs.declared.Mode.TheVariants.{Read, Add, Excl}
 
@@ -13,6 +14,10 @@ abbrev pub mode_word : Mode → List ℕ
 mode_word Read = codes "read"
 mode_word Add = codes "add"
 mode_word Excl = codes "excl"
+
+-- `map CONTRACT:KEY` or `counter CONTRACT:KEY`
+abbrev pub lock_text : Lock → List ℕ
+lock_text l = kind_word l.kind ++ codes " " ++ decimal l.contract ++ codes ":" ++ decimal l.key
 
 -- a hundredth of a number, with two decimals
 abbrev pub hundredth : ℕ → List ℕ

@@ -3,11 +3,13 @@ use Rattle.std.specs.Prelude.{◌≡◌, ◌≢◌, ℕ, ◌<◌, ◌≤◌, ◌
 use Rattle.std.specs.Borrow.{Bor}
 use Rattle.wblock_line.specs.Words.{Line, Choice, split}
 use Rattle.wblock_commands.specs.declared.command.Command.{Command}
-use Rattle.wblock_commands.specs.declared.command.Command.TheVariants.{Stored, Help, Version, Asm, Text, Check, Deploy, Mine, Validate, Debug, Show}
+use Rattle.wblock_commands.specs.declared.command.Command.TheVariants.{Stored, Help, Version, Asm, Text, Check, Deploy, Mine, Validate, Call, Debug, Show}
 use Rattle.wblock_commands.specs.declared.command.Deploying.{Deploying}
 use Rattle.wblock_commands.specs.Options.{AsksFuel, AsksWorkers, AsksTries, AsksBoosted, AsksNext, AsksCalls, AsksForm, AsksForce, AsksOnto, HasOnlyDeploying, HasOnlyMining, HasOnlyValidation, HasOnlyShowing}
 use Rattle.wblock_debug.specs.Asks.{AsksDebug}
+use Rattle.wblock_debug.specs.Calling.{AsksCall}
 use Rattle.wblock_debug.specs.declared.asked.Debugging.{Debugging}
+use Rattle.wblock_debug.specs.declared.called.Calling.{Calling}
 use Rattle.wblock_blocks.specs.declared.mine.Mining.{Mining}
 use Rattle.wblock_blocks.specs.declared.validate.Validation.{Validation}
 use Rattle.wblock_show.specs.declared.file.Form.{Form}
@@ -136,6 +138,7 @@ pub record AsksShow (line : Line) (s : Showing) : Type 0 where
 pub record AsksNoTask (line : Line) : Type 0 where
   pub mining : (m : Mining) → ¬ AsksMine line m
   pub validation : (v : Validation) → ¬ AsksValidate line v
+  pub calling : (c : Calling) → ¬ AsksCall line c
   pub debugging : (d : Debugging) → ¬ AsksDebug line d
 
 abbrev pub IsLineOf : Line → Command → Type 0
@@ -148,6 +151,7 @@ IsLineOf line (Check target heap) = AsksCheck line target.now heap
 IsLineOf line (Deploy task) = AsksDeploy line task
 IsLineOf line (Mine task) = AsksMine line task
 IsLineOf line (Validate task) = AsksValidate line task
+IsLineOf line (Call task) = AsksCall line task
 IsLineOf line (Debug task) = AsksDebug line task
 IsLineOf line (Show task) = AsksShow line task
 
@@ -180,5 +184,6 @@ HasFew (Check target heap) = Unit {0}
 HasFew (Deploy task) = length task.modules.now ≤ 1024
 HasFew (Mine task) = ((1 ≤ task.workers) × (task.workers ≤ 64)) × ((1 ≤ task.tries) × (task.tries ≤ 16))
 HasFew (Validate task) = (1 ≤ task.workers) × (task.workers ≤ 64)
+HasFew (Call task) = Unit {0}
 HasFew (Debug task) = Unit {0}
 HasFew (Show task) = Unit {0}

@@ -16,7 +16,7 @@ use crate::options::{
 };
 use std::alloc::{AllocError, Global};
 use wblock_blocks::{Mining, Validation};
-use wblock_debug::{Debugging, debugging_of};
+use wblock_debug::{Calling, Debugging, calling_of, debugging_of};
 use wblock_line::Line;
 use wblock_show::{Form, Showing};
 
@@ -54,6 +54,8 @@ pub enum Command<'l, 'w> {
     Mine(Mining<'w>),
     /// `validate WORLD CALLS BLOCK --fuel N [--workers 4] [--next NEXT]`: the verdict on the block, and the world after it.
     Validate(Validation<'w>),
+    /// `call WORLD CONTRACT FUEL ENTRY ARG...`: what one call comes to that runs alone.
+    Call(Calling<'w>),
     /// `debug WORLD CALLS CALL CMD... [--block BLOCK [--fuel N]]`: a call that runs alone, or in a block, turn by turn.
     Debug(Debugging<'w>),
     /// `show FILE [--calls CALLS]`: what is in a module, a world or a block; or `show FILE --svg PICTURE`: a picture of a block.
@@ -386,6 +388,9 @@ fn task_of<'l, 'w>(alloc: Global, line: &'l Line<'w>) -> Result<Option<Command<'
     }
     if let Some(task) = validation_of(alloc, words, options)? {
         return Ok(Some(Command::Validate(task)));
+    }
+    if let Some(task) = calling_of(alloc, words, options)? {
+        return Ok(Some(Command::Call(task)));
     }
     match debugging_of(alloc, line)? {
         Some(task) => Ok(Some(Command::Debug(task))),

@@ -2,7 +2,7 @@
 
 use crate::declared::{BLOCK, CALLS, FUEL, NEXT, ONTO, SVG};
 use std::alloc::{AllocError, Global};
-use wblock_calls::number_of;
+use wblock_calls::{call_words, number_of};
 use wblock_debug::command_of;
 use wblock_line::{BOOSTED_SWITCH, FORCE_SWITCH, JSON_SWITCH, split_words};
 
@@ -159,6 +159,14 @@ fn debugging_misuse(
     format!(in alloc; "usage: there is no call {call} in CALLS: its lines count from 0")
 }
 
+/// What is wrong with the words of a call, or None where each of them may stand.
+fn calling_misuse(alloc: Global, call: &[&str]) -> Result<Option<String>, AllocError> {
+    match call_words(alloc, call)? {
+        Some(fault) => Ok(Some(format!(in alloc; "usage: of the call, {fault}")?)),
+        None => Ok(None),
+    }
+}
+
 /// What is wrong with the words that are no options and with the files that options name, or None.
 fn names_misuse(
     alloc: Global,
@@ -178,6 +186,7 @@ fn names_misuse(
         }
         ["validate", _, calls, block] => validation_misuse(alloc, *calls, *block, options),
         ["show", file] => showing_misuse(alloc, *file, options),
+        ["call", _, call @ ..] => calling_misuse(alloc, call),
         ["debug", _, _, call, commands @ ..] => {
             Ok(Some(debugging_misuse(alloc, *call, commands, options)?))
         }
