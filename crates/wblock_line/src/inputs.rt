@@ -83,11 +83,9 @@ pub fn read_inputs<'a, F: Files>(
     ensures counted { IfErr result (λ f. CountsFault f (F.failures files.old) (F.failures files.new)) }
     ensures next { IfErr result (IsOfFile (λ name. IsTrue F.tells → IsNextInput (F.holds files.old) world.entry.now calls.entry.now name)) }
 {
-    let bytes = read_file(alloc, files, world)?;
-    let world = match judge_world(alloc, bytes.as_slice()) {
-        Ok(Ok(world)) => world,
-        Ok(Err((line, why))) => return Ok(Inputs::Refused(line, why)),
-        Err(AllocError) => return Err(Fault::NoMemory),
+    let world = match read_world_file(alloc, files, world)? {
+        WorldFile::Read(world) => world,
+        WorldFile::Refused(line, why) => return Ok(Inputs::Refused(line, why)),
     };
     let text = read_file(alloc, files, calls)?;
     match judge_calls(alloc, text.as_slice()) {
