@@ -8,7 +8,8 @@ mod receipt;
 mod refusal;
 mod words;
 
-pub use fault::calls_words;
+pub use fault::{call_words, calls_words};
+pub use line::call_of_words;
 pub use reader::{CallsRefusal, MOST_CALLS, read_calls};
 pub use receipt::{PositionLine, ReceiptText, ValueText};
 pub use refusal::refusal_line;

@@ -2,7 +2,7 @@
 use Rattle.std.proofs.Common.{◌≡◌, ℕ, List, [], ◌∷◌, Bor, Option, codes}
 use Rattle.wblock_line.specs.Words.{Line}
 use Rattle.wblock_commands.specs.declared.command.Command.{Command}
-use Rattle.wblock_commands.specs.declared.command.Command.TheVariants.{Stored, Help, Version, Asm, Text, Check, Deploy, Mine, Validate, Debug, Show}
+use Rattle.wblock_commands.specs.declared.command.Command.TheVariants.{Stored, Help, Version, Asm, Text, Check, Deploy, Mine, Validate, Call, Debug, Show}
 use Rattle.wblock_commands.specs.declared.command.Deploying.{Deploying}
 use Rattle.wblock_show.specs.declared.file.Showing.{Showing}
 use Rattle.wblock_commands.specs.Words.{AsksStored, AsksAsm, AsksText, AsksCheck, AsksDeploy, AsksShow, AsksNoTask, AsksHelp, IsTold, IsLineOf}
@@ -19,6 +19,7 @@ nothing_asked l s a w k d h t (Check target heap) x = k target.now heap x
 nothing_asked l s a w k d h t (Deploy task) x = d task x
 nothing_asked l s a w k d h t (Mine task) x = t.mining task x
 nothing_asked l s a w k d h t (Validate task) x = t.validation task x
+nothing_asked l s a w k d h t (Call task) x = t.calling task x
 nothing_asked l s a w k d h t (Debug task) x = t.debugging task x
 nothing_asked l s a w k d h t (Show task) x = h task x
 
@@ -32,6 +33,7 @@ nothing_told words h v (Check target heap) x = x
 nothing_told words h v (Deploy task) x = x
 nothing_told words h v (Mine task) x = x
 nothing_told words h v (Validate task) x = x
+nothing_told words h v (Call task) x = x
 nothing_told words h v (Debug task) x = x
 nothing_told words h v (Show task) x = x
 

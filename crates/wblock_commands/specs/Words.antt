@@ -1,14 +1,16 @@
 -- What the words of a line ask for.
-use Rattle.std.specs.Prelude.{◌≡◌, ◌≢◌, ℕ, ◌<◌, ◌≤◌, ◌⊎◌, Bool, true, false, List, [], ◌∷◌, Option, Some, None, IfSome, codes, decimal, length}
+use Rattle.std.specs.Prelude.{◌≡◌, ◌≢◌, ℕ, ◌<◌, ◌≤◌, ◌⊎◌, List, [], ◌∷◌, Option, Some, None, IfSome, codes, decimal, length, map}
 use Rattle.std.specs.Borrow.{Bor}
 use Rattle.wblock_calls.specs.Words.{texts}
 use Rattle.wblock_line.specs.Words.{Line, Choice, split}
 use Rattle.wblock_commands.specs.declared.command.Command.{Command}
-use Rattle.wblock_commands.specs.declared.command.Command.TheVariants.{Stored, Help, Version, Asm, Text, Check, Deploy, Mine, Validate, Debug, Show}
+use Rattle.wblock_commands.specs.declared.command.Command.TheVariants.{Stored, Help, Version, Asm, Text, Check, Deploy, Mine, Validate, Call, Debug, Show}
 use Rattle.wblock_commands.specs.declared.command.Deploying.{Deploying}
-use Rattle.wblock_commands.specs.Options.{AsksFuel, AsksWorkers, AsksTries, AsksBoosted, AsksNext, AsksCalls, AsksForm, HasOnlyMining, HasOnlyValidation, HasOnlyShowing}
+use Rattle.wblock_commands.specs.Options.{AsksFuel, AsksWorkers, AsksTries, AsksBoosted, AsksNext, AsksCalls, AsksForm, AsksForce, AsksOnto, HasOnlyDeploying, HasOnlyMining, HasOnlyValidation, HasOnlyShowing}
 use Rattle.wblock_debug.specs.Asks.{AsksDebug}
+use Rattle.wblock_debug.specs.Calling.{AsksCall}
 use Rattle.wblock_debug.specs.declared.asked.Debugging.{Debugging}
+use Rattle.wblock_debug.specs.declared.called.Calling.{Calling}
 use Rattle.wblock_blocks.specs.declared.mine.Mining.{Mining}
 use Rattle.wblock_blocks.specs.declared.validate.Validation.{Validation}
 use Rattle.wblock_show.specs.declared.file.Form.{Form}
@@ -53,11 +55,6 @@ pub record AsksCheck (line : Line) (target : List ℕ) (heap : Option ℕ) : Typ
   pub words : line.words ≡ codes "check" ∷ target ∷ []
   pub options : AsksHeap line.options heap
 
--- `--force`, or nothing
-abbrev pub AsksForce : List Choice → Bool → Type 0
-AsksForce options true = options ≡ (codes "--force", []) ∷ []
-AsksForce options false = options ≡ []
-
 -- `deploy WORLD MODULE...`, WORLD of a name that no MODULE has, whatever the options
 pub record NamesModules (words : List (List ℕ)) (world : List ℕ) (modules : List (List ℕ)) : Type 0 where
   pub words_are : words ≡ codes "deploy" ∷ world ∷ modules
@@ -65,10 +62,12 @@ pub record NamesModules (words : List (List ℕ)) (world : List ℕ) (modules : 
   pub few : length modules ≤ 1024
   pub apart : IsApart world modules
 
--- `deploy WORLD MODULE... [--force]`
+-- `deploy WORLD MODULE... [--onto OLD] [--force]`
 pub record AsksDeploy (line : Line) (d : Deploying) : Type 0 where
   pub names : NamesModules line.words d.world.now (texts d.modules.now)
+  pub onto : AsksOnto line.options d.onto
   pub force : AsksForce line.options d.forced
+  pub only : HasOnlyDeploying line.options
 
 -- what is written takes the place of no input and of no other output: BLOCK has a name of its own, and NEXT another than CALLS; NEXT may be WORLD
 pub record KeepsInputs (m : Mining) : Type 0 where
@@ -134,6 +133,7 @@ pub record AsksShow (line : Line) (s : Showing) : Type 0 where
 pub record AsksNoTask (line : Line) : Type 0 where
   pub mining : (m : Mining) → ¬ AsksMine line m
   pub validation : (v : Validation) → ¬ AsksValidate line v
+  pub calling : (c : Calling) → ¬ AsksCall line c
   pub debugging : (d : Debugging) → ¬ AsksDebug line d
 
 abbrev pub IsLineOf : Line → Command → Type 0
@@ -146,6 +146,7 @@ IsLineOf line (Check target heap) = AsksCheck line target.now heap
 IsLineOf line (Deploy task) = AsksDeploy line task
 IsLineOf line (Mine task) = AsksMine line task
 IsLineOf line (Validate task) = AsksValidate line task
+IsLineOf line (Call task) = AsksCall line task
 IsLineOf line (Debug task) = AsksDebug line task
 IsLineOf line (Show task) = AsksShow line task
 
@@ -178,5 +179,6 @@ HasFew (Check target heap) = Unit {0}
 HasFew (Deploy task) = length task.modules.now ≤ 1024
 HasFew (Mine task) = ((1 ≤ task.workers) × (task.workers ≤ 64)) × ((1 ≤ task.tries) × (task.tries ≤ 16))
 HasFew (Validate task) = (1 ≤ task.workers) × (task.workers ≤ 64)
+HasFew (Call task) = Unit {0}
 HasFew (Debug task) = Unit {0}
 HasFew (Show task) = Unit {0}

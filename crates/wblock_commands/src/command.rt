@@ -1,10 +1,10 @@
 //! What a line of words asks for.
 
-ghost use Rattle.std.specs.Prelude.{◌≡◌, ◌≢◌, ◌≤◌, ◌↔◌, ℕ, Bool, List, [], ◌∷◌, Option, IfOk, IfSome, IsTrue, MatchOption, codes, decimal};
+ghost use Rattle.std.specs.Prelude.{◌≡◌, ◌≢◌, ◌≤◌, ◌↔◌, ℕ, List, [], ◌∷◌, Option, IfOk, IfSome, IsTrue, MatchOption, codes, decimal};
 ghost use Rattle.wblock_line.specs.Words.{line_of};
 ghost use Rattle.wblock_calls.specs.Words.{texts};
 ghost use Rattle.wblock_line.specs.Words.{choices};
-ghost use Rattle.wblock_commands.specs.Words.{AsksStored, AsksAsm, AsksText, AsksShow, AsksHeap, IsSize, AsksCheck, AsksForce, NamesModules, AsksDeploy, AsksMine, AsksValidate, CountsValidate, SpellsValidate, AsksNoTask, IsLineOf, IsApart, KeepsInputs, NextIsApart, SpellsShow, PictureIsApart, AsksHelp, IsTold, HasFew};
+ghost use Rattle.wblock_commands.specs.Words.{AsksStored, AsksAsm, AsksText, AsksShow, AsksHeap, IsSize, AsksCheck, NamesModules, AsksDeploy, AsksMine, AsksValidate, CountsValidate, SpellsValidate, AsksNoTask, IsLineOf, IsApart, KeepsInputs, NextIsApart, SpellsShow, PictureIsApart, AsksHelp, IsTold, HasFew};
 ghost use Rattle.wblock_commands.specs.declared.command.Command.{Command as Asked};
 ghost use Rattle.wblock_commands.specs.declared.command.Deploying.{Deploying as TheDeploying};
 ghost use Rattle.wblock_blocks.specs.declared.mine.Mining.{Mining as TheMining};
@@ -13,13 +13,13 @@ ghost use Rattle.wblock_show.specs.declared.file.Showing.{Showing as TheShowing}
 
 use crate::declared::HEAP;
 use crate::options::{
-    boosted_in, calls_in, form_in, fuel_in, has_only_mining, has_only_showing, has_only_validation,
-    next_in, number_within, tries_in, workers_in,
+    boosted_in, calls_in, force_in, form_in, fuel_in, has_only_deploying, has_only_mining,
+    has_only_showing, has_only_validation, next_in, number_within, onto_in, tries_in, workers_in,
 };
 use std::alloc::{AllocError, Global};
 use wblock_blocks::{Mining, Validation};
-use wblock_debug::{Debugging, debugging_of};
-use wblock_line::{FORCE_SWITCH, Line};
+use wblock_debug::{Calling, Debugging, calling_of, debugging_of};
+use wblock_line::Line;
 use wblock_show::{Form, Showing};
 
 /// What is to be deployed.
@@ -29,6 +29,8 @@ pub struct Deploying<'l, 'w> {
     pub world: &'w str,
     /// The names of the files of the modules, 1 to 1,024, in their order.
     pub modules: &'l [&'w str],
+    /// The name of the file of the world that is gone on from; None where that is the world of nothing.
+    pub onto: Option<&'w str>,
     /// Whether the world may be written in the place of a file that is there.
     pub forced: bool,
 }
@@ -48,12 +50,14 @@ pub enum Command<'l, 'w> {
     Text(&'w str, &'w str),
     /// `check MODULE [--heap N]`: whether a module is valid, its tree in an arena or in a heap of N bytes, 1,024 to 16,777,216.
     Check(&'w str, Option<u32>),
-    /// `deploy WORLD MODULE... [--force]`: the world of these modules, 1 to 1,024.
+    /// `deploy WORLD MODULE... [--onto OLD] [--force]`: the world of these modules, 1 to 1,024, behind the contracts of OLD.
     Deploy(Deploying<'l, 'w>),
     /// `mine WORLD CALLS BLOCK NEXT --fuel N [--workers 4] [--boosted] [--tries 3]`: a block of the calls over the world, and the world after it.
     Mine(Mining<'w>),
     /// `validate WORLD CALLS BLOCK --fuel N [--workers 4] [--next NEXT]`: the verdict on the block, and the world after it.
     Validate(Validation<'w>),
+    /// `call WORLD CONTRACT FUEL ENTRY ARG...`: what one call comes to that runs alone.
+    Call(Calling<'w>),
     /// `debug WORLD CALLS CALL CMD... [--block BLOCK [--fuel N]]`: a call that runs alone, or in a block, turn by turn.
     Debug(Debugging<'w>),
     /// `show FILE [--calls CALLS]`: what is in a module, a world or a block; or `show FILE --svg PICTURE`: a picture of a block.
@@ -88,7 +92,7 @@ pub(crate) fn is_apart(word: &str, others: &[&str]) -> bool
 }
 
 /// Whether a word is this one.
-fn is_word(word: &str, name: &str) -> bool
+pub(crate) fn is_word(word: &str, name: &str) -> bool
     ensures { IsTrue result ↔ (word.now ≡ name.now) }
 {
     word == name
@@ -205,19 +209,6 @@ fn showing_of<'w>(
     Ok(Some(showing))
 }
 
-/// Whether options ask that a world be written in the place of a file that is there; or None where they are no options of `deploy`.
-fn force_of(options: &[(&str, &str)]) -> Option<bool>
-    ensures { MatchOption result ((forced : Bool) → ¬ AsksForce (choices options.now) forced) (AsksForce (choices options.now)) }
-{
-    if options.is_empty() {
-        return Some(false);
-    }
-    if options.len() > 1 || !is_word(options[0].0, FORCE_SWITCH) || !options[0].1.is_empty() {
-        return None;
-    }
-    Some(true)
-}
-
 /// The world and the modules of `deploy`, whatever the options.
 fn modules_of<'l, 'w>(words: &'l [&'w str]) -> Option<(&'w str, &'l [&'w str])>
     ensures { MatchOption result ((world : List ℕ) (modules : List (List ℕ)) → ¬ NamesModules (texts words.entry.now) world modules) (λ x. NamesModules (texts words.entry.now) x.0.now (texts x.1.now)) }
@@ -233,16 +224,31 @@ fn modules_of<'l, 'w>(words: &'l [&'w str]) -> Option<(&'w str, &'l [&'w str])>
 }
 
 /// What `deploy` is asked for.
-fn deploying_of<'l, 'w>(words: &'l [&'w str], options: &[(&str, &str)]) -> Option<Deploying<'l, 'w>>
-    ensures { MatchOption result ((d : TheDeploying) → ¬ AsksDeploy (record { words = texts words.entry.now; options = choices options.now }) d) (AsksDeploy (record { words = texts words.entry.now; options = choices options.now })) }
+fn deploying_of<'l, 'w>(
+    alloc: Global,
+    words: &'l [&'w str],
+    options: &[(&'w str, &'w str)],
+) -> Result<Option<Deploying<'l, 'w>>, AllocError>
+    ensures { IfOk result (λ found. MatchOption found ((d : TheDeploying) → ¬ AsksDeploy (record { words = texts words.entry.now; options = choices options.now }) d) (AsksDeploy (record { words = texts words.entry.now; options = choices options.now }))) }
 {
-    let (world, modules) = modules_of(words)?;
-    let forced = force_of(options)?;
-    Some(Deploying {
+    let Some((world, modules)) = modules_of(words) else {
+        return Ok(None);
+    };
+    if !has_only_deploying(options) {
+        return Ok(None);
+    }
+    let Some(onto) = onto_in(alloc, options)? else {
+        return Ok(None);
+    };
+    let Some(forced) = force_in(alloc, options)? else {
+        return Ok(None);
+    };
+    Ok(Some(Deploying {
         world,
         modules,
+        onto,
         forced,
-    })
+    }))
 }
 
 /// Whether BLOCK and NEXT take the place of no file that is read, nor of one another; NEXT may be WORLD.
@@ -385,6 +391,9 @@ fn task_of<'l, 'w>(alloc: Global, line: &'l Line<'w>) -> Result<Option<Command<'
     if let Some(task) = validation_of(alloc, words, options)? {
         return Ok(Some(Command::Validate(task)));
     }
+    if let Some(task) = calling_of(alloc, words, options)? {
+        return Ok(Some(Command::Call(task)));
+    }
     match debugging_of(alloc, line)? {
         Some(task) => Ok(Some(Command::Debug(task))),
         None => Ok(None),
@@ -412,7 +421,7 @@ pub fn command_of<'l, 'w>(
     if let Some((target, heap)) = check_of(alloc, words, options)? {
         return Ok(Some(Command::Check(target, heap)));
     }
-    if let Some(task) = deploying_of(words, options) {
+    if let Some(task) = deploying_of(alloc, words, options)? {
         return Ok(Some(Command::Deploy(task)));
     }
     if let Some(task) = showing_of(alloc, words, options)? {

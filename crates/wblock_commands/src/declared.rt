@@ -134,6 +134,14 @@ pub(crate) const BLOCK: FileOption = FileOption {
     help: "The file of a block: the call runs over the cells that it meets in it; if not given, it runs alone over WORLD",
 };
 
+/// The file of the world that `deploy` goes on from.
+pub(crate) const ONTO: FileOption = FileOption {
+    word: "--onto",
+    name: "onto",
+    value: "OLD",
+    help: "The file of a world: the modules become contracts behind its own, over its cells; it may be WORLD",
+};
+
 /// The file of the calls of a block that is shown.
 pub(crate) const CALLS: FileOption = FileOption {
     word: "--calls",

@@ -16,7 +16,7 @@ use std::alloc::{AllocError, Global};
 use std::sync::Wait;
 use std::thread::Threads;
 use wblock_blocks::{Noted, mine_block, validate_block};
-use wblock_debug::debug_world;
+use wblock_debug::{call_world, debug_world};
 use wblock_io::Files;
 use wblock_line::{Answer, Fault, Status, carry_out, split_words, tell_fault};
 use wblock_modules::{assemble_file, check_module, write_text};
@@ -61,6 +61,7 @@ fn answer_of<'l, 'w, R: Threads + Wait + Sync, F: Files, P: Pace>(
         Command::Mine(task) => return Ok(Some(mine_block(rt, alloc, files, task, pace)?)),
         Command::Validate(task) => validate_block(rt, alloc, files, task, pace)?,
         Command::Show(task) => show_named(alloc, files, task)?,
+        Command::Call(task) => call_world(alloc, files, &task)?,
         Command::Deploy(task) => match deploy_apart(alloc, files, task)? {
             Some(answer) => answer,
             None => return Ok(None),

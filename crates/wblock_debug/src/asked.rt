@@ -32,7 +32,7 @@ pub struct Debugging<'w> {
 }
 
 /// Whether a word is this one.
-fn is_word(word: &str, name: &str) -> bool
+pub(crate) fn is_word(word: &str, name: &str) -> bool
     ensures { IsTrue result ↔ (word.now ≡ name.now) }
 {
     word == name

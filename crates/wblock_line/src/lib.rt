@@ -17,7 +17,7 @@ mod words;
 mod worlds;
 
 pub use answer::{Answer, Fault, Write, read_file, write_counted};
-pub use inputs::{Inputs, judge_calls, read_inputs};
+pub use inputs::{Inputs, WorldFile, judge_calls, read_inputs, read_world_file};
 pub use line::WIPE;
 pub use modules::{Stop, read_contract, read_valid};
 pub use perform::{Status, carry_out, tell_fault};

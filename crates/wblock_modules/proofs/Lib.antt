@@ -1,2 +1,3 @@
+mod Onto
 mod Reading
 mod Told
