@@ -3,6 +3,7 @@
 #![tactic(auto)]
 
 mod answer;
+mod entries;
 mod inputs;
 mod line;
 mod modules;
@@ -17,6 +18,7 @@ mod words;
 mod worlds;
 
 pub use answer::{Answer, Fault, Write, read_file};
+pub use entries::entry_words;
 pub use inputs::{Inputs, judge_calls, read_inputs};
 pub use line::WIPE;
 pub use modules::{Stop, read_contract, read_valid};
