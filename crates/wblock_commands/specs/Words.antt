@@ -5,7 +5,7 @@ use Rattle.wblock_line.specs.Words.{Line, Choice, split}
 use Rattle.wblock_commands.specs.declared.command.Command.{Command}
 use Rattle.wblock_commands.specs.declared.command.Command.TheVariants.{Stored, Help, Version, Asm, Text, Check, Deploy, Mine, Validate, Debug, Show}
 use Rattle.wblock_commands.specs.declared.command.Deploying.{Deploying}
-use Rattle.wblock_commands.specs.Options.{AsksFuel, AsksWorkers, AsksTries, AsksBoosted, AsksNext, AsksCalls, AsksForm, HasOnlyMining, HasOnlyValidation, HasOnlyShowing}
+use Rattle.wblock_commands.specs.Options.{AsksFuel, AsksWorkers, AsksTries, AsksBoosted, AsksNext, AsksCalls, AsksForm, AsksSigned, HasOnlyMining, HasOnlyValidation, HasOnlyShowing}
 use Rattle.wblock_debug.specs.Asks.{AsksDebug}
 use Rattle.wblock_debug.specs.declared.asked.Debugging.{Debugging}
 use Rattle.wblock_blocks.specs.declared.mine.Mining.{Mining}
@@ -114,11 +114,12 @@ pub record AsksValidate (line : Line) (v : Validation) : Type 0 where
   pub spells : SpellsValidate line v
   pub apart : NextIsApart v
 
--- `show FILE [--calls CALLS]`, with `--json` or `--svg PICTURE` or neither, whatever PICTURE is
+-- `show FILE [--calls CALLS] [--signed]`, with `--json` or `--svg PICTURE` or neither, whatever PICTURE is
 pub record SpellsShow (line : Line) (s : Showing) : Type 0 where
   pub words : line.words ≡ codes "show" ∷ s.file.now ∷ []
   pub calls : AsksCalls line.options s.calls
   pub form : AsksForm line.options s.form
+  pub signed : AsksSigned line.options s.signed
   pub only : HasOnlyShowing line.options
 
 -- the picture of a block is drawn without calls, and takes the place of no file that is read
@@ -130,7 +131,7 @@ IsDrawnApart (form.Picture picture) calls file = (calls ≡ None) × (file ≢ p
 abbrev pub PictureIsApart : Showing → Type 0
 PictureIsApart s = IsDrawnApart s.form s.calls s.file.now
 
--- `show FILE [--calls CALLS] [--json]`, or `show FILE --svg PICTURE`, PICTURE of another name than FILE
+-- `show FILE [--calls CALLS] [--json] [--signed]`, or `show FILE --svg PICTURE [--signed]`, PICTURE of another name than FILE
 pub record AsksShow (line : Line) (s : Showing) : Type 0 where
   pub spells : SpellsShow line s
   pub apart : PictureIsApart s

@@ -12,7 +12,7 @@ ghost use Rattle.wblock_show.specs.declared.file.Showing.{Showing as TheShowing}
 use crate::declared::HEAP;
 use crate::options::{
     boosted_in, calls_in, form_in, fuel_in, has_only_mining, has_only_showing, has_only_validation,
-    next_in, number_within, tries_in, workers_in,
+    next_in, number_within, signed_in, tries_in, workers_in,
 };
 use std::alloc::{AllocError, Global};
 use wblock_blocks::{Mining, Validation};
@@ -54,7 +54,7 @@ pub enum Command<'l, 'w> {
     Validate(Validation<'w>),
     /// `debug WORLD CALLS CALL CMD... [--block BLOCK [--fuel N]]`: a call that runs alone, or in a block, turn by turn.
     Debug(Debugging<'w>),
-    /// `show FILE [--calls CALLS]`: what is in a module, a world or a block; or `show FILE --svg PICTURE`: a picture of a block.
+    /// `show FILE [--calls CALLS] [--json] [--signed]`: what is in a module, a world or a block; or `show FILE --svg PICTURE`: a picture of a block.
     Show(Showing<'w>),
 }
 
@@ -168,10 +168,14 @@ fn spelled_showing<'w>(
     let Some(form) = form_in(alloc, options)? else {
         return Ok(None);
     };
+    let Some(signed) = signed_in(alloc, options)? else {
+        return Ok(None);
+    };
     Ok(Some(Showing {
         file: words[1],
         calls,
         form,
+        signed,
     }))
 }
 

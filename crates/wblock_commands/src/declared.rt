@@ -62,6 +62,12 @@ pub(crate) const JSON: Switch = Switch {
     help: "Shows the same as one JSON object on a line",
 };
 
+/// The numbers of cells, signed.
+pub(crate) const SIGNED: Switch = Switch {
+    name: "signed",
+    help: "Shows keys and numbers of a world's cells signed, as CALLS takes them",
+};
+
 /// A world in the place of one that is there.
 pub(crate) const FORCE: Switch = Switch {
     name: "force",

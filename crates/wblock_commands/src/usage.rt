@@ -5,8 +5,8 @@ ghost use Rattle.wblock_blocks.specs.Notes.{EndsLine};
 ghost use Rattle.wblock_commands.specs.Texts.{TellsText};
 
 use crate::declared::{
-    BLOCK, BOOSTED, CALLS, FORCE, FUEL, FileOption, HEAP, JSON, NEXT, NumberOption, QUIET, SVG,
-    Switch, TRIES, WORKERS,
+    BLOCK, BOOSTED, CALLS, FORCE, FUEL, FileOption, HEAP, JSON, NEXT, NumberOption, QUIET, SIGNED,
+    SVG, Switch, TRIES, WORKERS,
 };
 use crate::misuse::misuse_text;
 use clap::builder::ValueParser;
@@ -177,6 +177,7 @@ fn show<'a>(alloc: Global) -> Result<Command<'a>, AllocError> {
         ))?
         .arg(file(alloc, CALLS))?
         .arg(switch(alloc, JSON))?
+        .arg(switch(alloc, SIGNED))?
         .arg(file(alloc, SVG))
 }
 

@@ -28,5 +28,7 @@ pub use quiet::{QUIET_NAME, Words, without_quiet};
 pub use refusals::ModuleRefusal;
 pub use rejections::{reason_words, reject_line_of};
 pub use wiped::Wiped;
-pub use words::{BOOSTED_SWITCH, FORCE_SWITCH, JSON_SWITCH, Line, split_words};
+pub use words::{
+    BOOSTED_SWITCH, FORCE_SWITCH, JSON_SWITCH, Line, SIGNED_SWITCH, UNCHECKED_SWITCH, split_words,
+};
 pub use worlds::judge_world;

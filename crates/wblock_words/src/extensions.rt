@@ -150,8 +150,8 @@ const LINKING: &[u8] = b"\x07linking";
 enum Spot {
     /// Anywhere in an object file.
     Object,
-    /// At the number of the section of this number.
-    Section(u8),
+    /// At the number of the section that this is.
+    Number(u8),
     /// In the section of this number.
     Within(u8),
     /// Somewhere else.
@@ -167,7 +167,7 @@ fn spot_in(sections: &[u8], left: usize) -> Spot {
             return Spot::Object;
         }
         if left == rest.len() {
-            spot = Spot::Section(section.id);
+            spot = Spot::Number(section.id);
         } else if left < rest.len() && left > section.behind.len() {
             spot = Spot::Within(section.id);
         }
@@ -190,13 +190,13 @@ pub(crate) fn extension_at(bytes: &[u8], at: usize) -> Option<Extension> {
     let sections = bytes.get(8..)?;
     match spot_in(sections, bytes.len().saturating_sub(at)) {
         Spot::Object => Some(Extension::ObjectFile),
-        Spot::Section(12) => Some(Extension::BulkMemory),
+        Spot::Number(12) => Some(Extension::BulkMemory),
         Spot::Within(id) => of_section(
             id,
             byte_at(bytes, at.saturating_sub(1)),
             byte_at(bytes, at),
             byte_at(bytes, at.saturating_add(1)),
         ),
-        Spot::Section(_) | Spot::Elsewhere => None,
+        Spot::Number(_) | Spot::Elsewhere => None,
     }
 }
