@@ -47,21 +47,21 @@ pub record AsksAsm (line : Line) (text target : List ℕ) : Type 0 where
   pub options : line.options ≡ []
   pub apart : text ≢ target
 
--- `text MODULE TEXT`, of different names
-pub record AsksText (line : Line) (source target : List ℕ) : Type 0 where
+-- the switch of this name alone and without a value, or nothing
+abbrev pub AsksAlone : (name : List ℕ) → List Choice → Bool → Type 0
+AsksAlone name options true = options ≡ (name, []) ∷ []
+AsksAlone name options false = options ≡ []
+
+-- `text MODULE TEXT [--unchecked]`, of different names
+pub record AsksText (line : Line) (source target : List ℕ) (unchecked : Bool) : Type 0 where
   pub words : line.words ≡ codes "text" ∷ source ∷ target ∷ []
-  pub options : line.options ≡ []
+  pub options : AsksAlone (codes "--unchecked") line.options unchecked
   pub apart : source ≢ target
 
 -- `check MODULE [--heap N]`
 pub record AsksCheck (line : Line) (target : List ℕ) (heap : Option ℕ) : Type 0 where
   pub words : line.words ≡ codes "check" ∷ target ∷ []
   pub options : AsksHeap line.options heap
-
--- `--force`, or nothing
-abbrev pub AsksForce : List Choice → Bool → Type 0
-AsksForce options true = options ≡ (codes "--force", []) ∷ []
-AsksForce options false = options ≡ []
 
 -- `deploy WORLD MODULE...`, WORLD of a name that no MODULE has, whatever the options
 pub record NamesModules (words : List (List ℕ)) (world : List ℕ) (modules : List (List ℕ)) : Type 0 where
@@ -73,7 +73,7 @@ pub record NamesModules (words : List (List ℕ)) (world : List ℕ) (modules : 
 -- `deploy WORLD MODULE... [--force]`
 pub record AsksDeploy (line : Line) (d : Deploying) : Type 0 where
   pub names : NamesModules line.words d.world.now (texts d.modules.now)
-  pub force : AsksForce line.options d.forced
+  pub force : AsksAlone (codes "--force") line.options d.forced
 
 -- what is written takes the place of no input and of no other output: BLOCK has a name of its own, and NEXT another than CALLS; NEXT may be WORLD
 pub record KeepsInputs (m : Mining) : Type 0 where
@@ -147,7 +147,7 @@ IsLineOf line Stored = AsksStored line
 IsLineOf line (Help words) = ⊥
 IsLineOf line Version = ⊥
 IsLineOf line (Asm text target) = AsksAsm line text.now target.now
-IsLineOf line (Text source target) = AsksText line source.now target.now
+IsLineOf line (Text source target unchecked) = AsksText line source.now target.now unchecked
 IsLineOf line (Check target heap) = AsksCheck line target.now heap
 IsLineOf line (Deploy task) = AsksDeploy line task
 IsLineOf line (Mine task) = AsksMine line task
@@ -179,7 +179,7 @@ HasFew Stored = Unit {0}
 HasFew (Help words) = Unit {0}
 HasFew Version = Unit {0}
 HasFew (Asm text target) = Unit {0}
-HasFew (Text source target) = Unit {0}
+HasFew (Text source target unchecked) = Unit {0}
 HasFew (Check target heap) = Unit {0}
 HasFew (Deploy task) = length task.modules.now ≤ 1024
 HasFew (Mine task) = ((1 ≤ task.workers) × (task.workers ≤ 64)) × ((1 ≤ task.tries) × (task.tries ≤ 16))

@@ -2,7 +2,7 @@
 
 ghost use Rattle.std.specs.Prelude.{◌≡◌, ◌≢◌, ◌≤◌, ◌↔◌, ℕ, Bool, List, [], ◌∷◌, Option, IfOk, IfSome, IsTrue, MatchOption, codes, decimal};
 ghost use Rattle.wblock_line.specs.Words.{line_of};
-ghost use Rattle.wblock_commands.specs.Words.{AsksStored, AsksAsm, AsksText, AsksShow, AsksHeap, IsSize, AsksCheck, AsksForce, NamesModules, AsksDeploy, AsksMine, AsksValidate, CountsValidate, SpellsValidate, AsksNoTask, IsLineOf, IsApart, KeepsInputs, NextIsApart, SpellsShow, PictureIsApart, AsksHelp, IsTold, HasFew, texts, choices};
+ghost use Rattle.wblock_commands.specs.Words.{AsksStored, AsksAsm, AsksText, AsksShow, AsksHeap, IsSize, AsksCheck, AsksAlone, NamesModules, AsksDeploy, AsksMine, AsksValidate, CountsValidate, SpellsValidate, AsksNoTask, IsLineOf, IsApart, KeepsInputs, NextIsApart, SpellsShow, PictureIsApart, AsksHelp, IsTold, HasFew, texts, choices};
 ghost use Rattle.wblock_commands.specs.declared.command.Command.{Command as Asked};
 ghost use Rattle.wblock_commands.specs.declared.command.Deploying.{Deploying as TheDeploying};
 ghost use Rattle.wblock_blocks.specs.declared.mine.Mining.{Mining as TheMining};
@@ -17,7 +17,7 @@ use crate::options::{
 use std::alloc::{AllocError, Global};
 use wblock_blocks::{Mining, Validation};
 use wblock_debug::{Debugging, debugging_of};
-use wblock_line::{FORCE_SWITCH, Line};
+use wblock_line::{FORCE_SWITCH, Line, UNCHECKED_SWITCH};
 use wblock_show::{Form, Showing};
 
 /// What is to be deployed.
@@ -42,8 +42,8 @@ pub enum Command<'l, 'w> {
     Version,
     /// `asm TEXT MODULE`: the module that a text names, in its shortest spelling.
     Asm(&'w str, &'w str),
-    /// `text MODULE TEXT`: a text that names a module.
-    Text(&'w str, &'w str),
+    /// `text MODULE TEXT [--unchecked]`: a text that names a module, which is valid; or, with the switch, valid or not.
+    Text(&'w str, &'w str, bool),
     /// `check MODULE [--heap N]`: whether a module is valid, its tree in an arena or in a heap of N bytes, 1,024 to 16,777,216.
     Check(&'w str, Option<u32>),
     /// `deploy WORLD MODULE... [--force]`: the world of these modules, 1 to 1,024.
@@ -138,17 +138,31 @@ fn asm_of<'w>(words: &[&'w str], options: &[(&str, &str)]) -> Option<(&'w str, &
     Some((words[1], words[2]))
 }
 
-/// The module and the text of `text`.
-fn text_of<'w>(words: &[&'w str], options: &[(&str, &str)]) -> Option<(&'w str, &'w str)>
-    ensures { MatchOption result ((source target : List ℕ) → ¬ AsksText (record { words = texts words.now; options = choices options.now }) source target) (λ x. AsksText (record { words = texts words.now; options = choices options.now }) x.0.now x.1.now) }
+/// Whether options are the switch of this name, alone and without a value, or nothing; or None where they are something else.
+fn switch_alone(options: &[(&str, &str)], name: &str) -> Option<bool>
+    ensures { MatchOption result ((given : Bool) → ¬ AsksAlone name.now (choices options.now) given) (AsksAlone name.now (choices options.now)) }
 {
-    if !options.is_empty() || words.len() != 3 || !is_word(words[0], "text") {
+    if options.is_empty() {
+        return Some(false);
+    }
+    if options.len() > 1 || !is_word(options[0].0, name) || !options[0].1.is_empty() {
+        return None;
+    }
+    Some(true)
+}
+
+/// The module and the text of `text`, and whether the module is left unchecked.
+fn text_of<'w>(words: &[&'w str], options: &[(&str, &str)]) -> Option<(&'w str, &'w str, bool)>
+    ensures { MatchOption result ((source target : List ℕ) (unchecked : Bool) → ¬ AsksText (record { words = texts words.now; options = choices options.now }) source target unchecked) (λ x. AsksText (record { words = texts words.now; options = choices options.now }) x.0.now x.1.now x.2) }
+{
+    if words.len() != 3 || !is_word(words[0], "text") {
         return None;
     }
     if is_word(words[1], words[2]) {
         return None;
     }
-    Some((words[1], words[2]))
+    let unchecked = switch_alone(options, UNCHECKED_SWITCH)?;
+    Some((words[1], words[2], unchecked))
 }
 
 /// What `show` is asked for, whatever PICTURE is.
@@ -207,19 +221,6 @@ fn showing_of<'w>(
     Ok(Some(showing))
 }
 
-/// Whether options ask that a world be written in the place of a file that is there; or None where they are no options of `deploy`.
-fn force_of(options: &[(&str, &str)]) -> Option<bool>
-    ensures { MatchOption result ((forced : Bool) → ¬ AsksForce (choices options.now) forced) (AsksForce (choices options.now)) }
-{
-    if options.is_empty() {
-        return Some(false);
-    }
-    if options.len() > 1 || !is_word(options[0].0, FORCE_SWITCH) || !options[0].1.is_empty() {
-        return None;
-    }
-    Some(true)
-}
-
 /// The world and the modules of `deploy`, whatever the options.
 fn modules_of<'l, 'w>(words: &'l [&'w str]) -> Option<(&'w str, &'l [&'w str])>
     ensures { MatchOption result ((world : List ℕ) (modules : List (List ℕ)) → ¬ NamesModules (texts words.entry.now) world modules) (λ x. NamesModules (texts words.entry.now) x.0.now (texts x.1.now)) }
@@ -239,7 +240,7 @@ fn deploying_of<'l, 'w>(words: &'l [&'w str], options: &[(&str, &str)]) -> Optio
     ensures { MatchOption result ((d : TheDeploying) → ¬ AsksDeploy (record { words = texts words.entry.now; options = choices options.now }) d) (AsksDeploy (record { words = texts words.entry.now; options = choices options.now })) }
 {
     let (world, modules) = modules_of(words)?;
-    let forced = force_of(options)?;
+    let forced = switch_alone(options, FORCE_SWITCH)?;
     Some(Deploying {
         world,
         modules,
@@ -408,8 +409,8 @@ pub fn command_of<'l, 'w>(
     if let Some((text, target)) = asm_of(words, options) {
         return Ok(Some(Command::Asm(text, target)));
     }
-    if let Some((source, target)) = text_of(words, options) {
-        return Ok(Some(Command::Text(source, target)));
+    if let Some((source, target, unchecked)) = text_of(words, options) {
+        return Ok(Some(Command::Text(source, target, unchecked)));
     }
     if let Some((target, heap)) = check_of(alloc, words, options)? {
         return Ok(Some(Command::Check(target, heap)));

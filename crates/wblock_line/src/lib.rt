@@ -21,7 +21,7 @@ pub use answer::{Answer, Fault, Write, read_file};
 pub use entries::entry_words;
 pub use inputs::{Inputs, judge_calls, read_inputs};
 pub use line::WIPE;
-pub use modules::{Stop, read_contract, read_valid};
+pub use modules::{Stop, read_contract, read_module, read_valid};
 pub use perform::{Status, carry_out, tell_fault};
 pub use progress::Progress;
 pub use quiet::{QUIET_NAME, Words, without_quiet};
