@@ -30,14 +30,15 @@ fn read_tree(alloc: Global, unchecked: bool, bytes: &[u8]) -> Result<Module<Glob
     ensures none { IfErr result (λ s. unchecked ≡ true → IsUnspelled bytes.now s) }
 {
     if unchecked {
-        return match read_module(alloc, bytes) {
+        match read_module(alloc, bytes) {
             Ok(module) => Ok(module),
             Err(stop) => Err(stop),
-        };
-    }
-    match read_valid(alloc, alloc, bytes) {
-        Ok(valid) => Ok(valid.into_module()),
-        Err(stop) => Err(stop),
+        }
+    } else {
+        match read_valid(alloc, alloc, bytes) {
+            Ok(valid) => Ok(valid.into_module()),
+            Err(stop) => Err(stop),
+        }
     }
 }
 
@@ -47,7 +48,10 @@ fn find_text(alloc: Global, unchecked: bool, bytes: &[u8]) -> Result<Found, Stop
     ensures refused { IfErr result (StopsAt bytes.now) }
     ensures none { IfErr result (λ s. unchecked ≡ true → IsUnspelled bytes.now s) }
 {
-    let tree = read_tree(alloc, unchecked, bytes)?;
+    let tree = match read_tree(alloc, unchecked, bytes) {
+        Ok(tree) => tree,
+        Err(stop) => return Err(stop),
+    };
     match text_of(alloc, &tree) {
         Ok(text) => Ok(Found::Text(text)),
         Err(TextRefusal::TooLong) => Ok(Found::TooLong),
@@ -81,6 +85,7 @@ fn done<'a>(alloc: Global, target: &'a str, text: String) -> Result<Answer<'a>, 
 }
 
 /// The text of the module of these bytes, or why it is refused.
+#[tactic(auto, using(crate::proofs::Unread::tells_unread))]
 fn answer_or_refuse<'a>(
     alloc: Global,
     unchecked: bool,

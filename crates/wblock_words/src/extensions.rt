@@ -125,7 +125,7 @@ struct Section<'b> {
 }
 
 /// The section at the front of these bytes, where they hold one whole.
-fn next_section(bytes: &[u8]) -> Option<Section<'_>>
+fn next_section<'b>(bytes: &'b [u8]) -> Option<Section<'b>>
     ensures shorter { IfSome result (λ s. length s.behind.now < length bytes.now) }
 {
     let (id, rest) = bytes.split_first()?;
@@ -158,6 +158,20 @@ enum Spot {
     Elsewhere,
 }
 
+impl Spot {
+    /// The same, once a section of this number was passed, by the numbers of bytes that are left where the module is refused, where the section begins and
+    /// where it ends.
+    fn behind_section(self, id: u8, left: usize, begins: usize, ends: usize) -> Spot {
+        if left == begins {
+            return Spot::Number(id);
+        }
+        if left < begins && left > ends {
+            return Spot::Within(id);
+        }
+        self
+    }
+}
+
 /// Where the sections are refused, by the number of bytes that are left there.
 fn spot_in(sections: &[u8], left: usize) -> Spot {
     let mut spot = Spot::Elsewhere;
@@ -166,11 +180,7 @@ fn spot_in(sections: &[u8], left: usize) -> Spot {
         if section.id == 0 && section.content.starts_with(LINKING) {
             return Spot::Object;
         }
-        if left == rest.len() {
-            spot = Spot::Number(section.id);
-        } else if left < rest.len() && left > section.behind.len() {
-            spot = Spot::Within(section.id);
-        }
+        spot = spot.behind_section(section.id, left, rest.len(), section.behind.len());
         rest = section.behind;
     }
     spot
