@@ -77,6 +77,10 @@ AsksOnto options old = IsNameOrNone (values_in (codes "--onto") options) old
 abbrev pub AsksBoosted : List Choice → Bool → Type 0
 AsksBoosted options boosted = IsSwitch (values_in (codes "--boosted") options) boosted
 
+-- `--signed`, once and without a value, or not
+abbrev pub AsksSigned : List Choice → Bool → Type 0
+AsksSigned options signed = IsSwitch (values_in (codes "--signed") options) signed
+
 -- no option has another name: together these are as many as there are options
 abbrev pub HasOnlyMining : List Choice → Type 0
 HasOnlyMining options = length options ≡ count_of (codes "--fuel") options + count_of (codes "--workers") options + count_of (codes "--boosted") options + count_of (codes "--tries") options
@@ -88,4 +92,4 @@ abbrev pub HasOnlyDeploying : List Choice → Type 0
 HasOnlyDeploying options = length options ≡ count_of (codes "--onto") options + count_of (codes "--force") options
 
 abbrev pub HasOnlyShowing : List Choice → Type 0
-HasOnlyShowing options = length options ≡ count_of (codes "--calls") options + count_of (codes "--json") options + count_of (codes "--svg") options
+HasOnlyShowing options = length options ≡ count_of (codes "--calls") options + count_of (codes "--json") options + count_of (codes "--svg") options + count_of (codes "--signed") options

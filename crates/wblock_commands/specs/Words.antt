@@ -6,7 +6,7 @@ use Rattle.wblock_line.specs.Words.{Line, Choice, split}
 use Rattle.wblock_commands.specs.declared.command.Command.{Command}
 use Rattle.wblock_commands.specs.declared.command.Command.TheVariants.{Stored, Help, Version, Asm, Text, Check, Deploy, Mine, Validate, Call, Debug, Show}
 use Rattle.wblock_commands.specs.declared.command.Deploying.{Deploying}
-use Rattle.wblock_commands.specs.Options.{AsksFuel, AsksWorkers, AsksTries, AsksBoosted, AsksNext, AsksCalls, AsksForm, AsksForce, AsksOnto, HasOnlyDeploying, HasOnlyMining, HasOnlyValidation, HasOnlyShowing}
+use Rattle.wblock_commands.specs.Options.{AsksFuel, AsksWorkers, AsksTries, AsksBoosted, AsksNext, AsksCalls, AsksForm, AsksSigned, AsksForce, AsksOnto, HasOnlyDeploying, HasOnlyMining, HasOnlyValidation, HasOnlyShowing}
 use Rattle.wblock_debug.specs.Asks.{AsksDebug}
 use Rattle.wblock_debug.specs.Calling.{AsksCall}
 use Rattle.wblock_debug.specs.declared.asked.Debugging.{Debugging}
@@ -44,10 +44,15 @@ pub record AsksAsm (line : Line) (text target : List ℕ) : Type 0 where
   pub options : line.options ≡ []
   pub apart : text ≢ target
 
--- `text MODULE TEXT`, of different names
-pub record AsksText (line : Line) (source target : List ℕ) : Type 0 where
+-- the switch of this name alone and without a value, or nothing
+abbrev pub AsksAlone : (name : List ℕ) → List Choice → Bool → Type 0
+AsksAlone name options true = options ≡ (name, []) ∷ []
+AsksAlone name options false = options ≡ []
+
+-- `text MODULE TEXT [--unchecked]`, of different names
+pub record AsksText (line : Line) (source target : List ℕ) (unchecked : Bool) : Type 0 where
   pub words : line.words ≡ codes "text" ∷ source ∷ target ∷ []
-  pub options : line.options ≡ []
+  pub options : AsksAlone (codes "--unchecked") line.options unchecked
   pub apart : source ≢ target
 
 -- `check MODULE [--heap N]`
@@ -108,11 +113,12 @@ pub record AsksValidate (line : Line) (v : Validation) : Type 0 where
   pub spells : SpellsValidate line v
   pub apart : NextIsApart v
 
--- `show FILE [--calls CALLS]`, with `--json` or `--svg PICTURE` or neither, whatever PICTURE is
+-- `show FILE [--calls CALLS] [--signed]`, with `--json` or `--svg PICTURE` or neither, whatever PICTURE is
 pub record SpellsShow (line : Line) (s : Showing) : Type 0 where
   pub words : line.words ≡ codes "show" ∷ s.file.now ∷ []
   pub calls : AsksCalls line.options s.calls
   pub form : AsksForm line.options s.form
+  pub signed : AsksSigned line.options s.signed
   pub only : HasOnlyShowing line.options
 
 -- the picture of a block is drawn without calls, and takes the place of no file that is read
@@ -124,7 +130,7 @@ IsDrawnApart (form.Picture picture) calls file = (calls ≡ None) × (file ≢ p
 abbrev pub PictureIsApart : Showing → Type 0
 PictureIsApart s = IsDrawnApart s.form s.calls s.file.now
 
--- `show FILE [--calls CALLS] [--json]`, or `show FILE --svg PICTURE`, PICTURE of another name than FILE
+-- `show FILE [--calls CALLS] [--json] [--signed]`, or `show FILE --svg PICTURE [--signed]`, PICTURE of another name than FILE
 pub record AsksShow (line : Line) (s : Showing) : Type 0 where
   pub spells : SpellsShow line s
   pub apart : PictureIsApart s
@@ -141,7 +147,7 @@ IsLineOf line Stored = AsksStored line
 IsLineOf line (Help words) = ⊥
 IsLineOf line Version = ⊥
 IsLineOf line (Asm text target) = AsksAsm line text.now target.now
-IsLineOf line (Text source target) = AsksText line source.now target.now
+IsLineOf line (Text source target unchecked) = AsksText line source.now target.now unchecked
 IsLineOf line (Check target heap) = AsksCheck line target.now heap
 IsLineOf line (Deploy task) = AsksDeploy line task
 IsLineOf line (Mine task) = AsksMine line task
@@ -174,7 +180,7 @@ HasFew Stored = Unit {0}
 HasFew (Help words) = Unit {0}
 HasFew Version = Unit {0}
 HasFew (Asm text target) = Unit {0}
-HasFew (Text source target) = Unit {0}
+HasFew (Text source target unchecked) = Unit {0}
 HasFew (Check target heap) = Unit {0}
 HasFew (Deploy task) = length task.modules.now ≤ 1024
 HasFew (Mine task) = ((1 ≤ task.workers) × (task.workers ≤ 64)) × ((1 ≤ task.tries) × (task.tries ≤ 16))

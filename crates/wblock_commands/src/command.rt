@@ -4,7 +4,7 @@ ghost use Rattle.std.specs.Prelude.{◌≡◌, ◌≢◌, ◌≤◌, ◌↔◌, 
 ghost use Rattle.wblock_line.specs.Words.{line_of};
 ghost use Rattle.wblock_calls.specs.Words.{texts};
 ghost use Rattle.wblock_line.specs.Words.{choices};
-ghost use Rattle.wblock_commands.specs.Words.{AsksStored, AsksAsm, AsksText, AsksShow, AsksHeap, IsSize, AsksCheck, NamesModules, AsksDeploy, AsksMine, AsksValidate, CountsValidate, SpellsValidate, AsksNoTask, IsLineOf, IsApart, KeepsInputs, NextIsApart, SpellsShow, PictureIsApart, AsksHelp, IsTold, HasFew};
+ghost use Rattle.wblock_commands.specs.Words.{AsksStored, AsksAsm, AsksText, AsksShow, AsksHeap, IsSize, AsksCheck, AsksAlone, NamesModules, AsksDeploy, AsksMine, AsksValidate, CountsValidate, SpellsValidate, AsksNoTask, IsLineOf, IsApart, KeepsInputs, NextIsApart, SpellsShow, PictureIsApart, AsksHelp, IsTold, HasFew};
 ghost use Rattle.wblock_commands.specs.declared.command.Command.{Command as Asked};
 ghost use Rattle.wblock_commands.specs.declared.command.Deploying.{Deploying as TheDeploying};
 ghost use Rattle.wblock_blocks.specs.declared.mine.Mining.{Mining as TheMining};
@@ -14,12 +14,13 @@ ghost use Rattle.wblock_show.specs.declared.file.Showing.{Showing as TheShowing}
 use crate::declared::HEAP;
 use crate::options::{
     boosted_in, calls_in, force_in, form_in, fuel_in, has_only_deploying, has_only_mining,
-    has_only_showing, has_only_validation, next_in, number_within, onto_in, tries_in, workers_in,
+    has_only_showing, has_only_validation, next_in, number_within, onto_in, signed_in, tries_in,
+    workers_in,
 };
 use std::alloc::{AllocError, Global};
 use wblock_blocks::{Mining, Validation};
 use wblock_debug::{Calling, Debugging, calling_of, debugging_of};
-use wblock_line::Line;
+use wblock_line::{Line, UNCHECKED_SWITCH};
 use wblock_show::{Form, Showing};
 
 /// What is to be deployed.
@@ -46,8 +47,8 @@ pub enum Command<'l, 'w> {
     Version,
     /// `asm TEXT MODULE`: the module that a text names, in its shortest spelling.
     Asm(&'w str, &'w str),
-    /// `text MODULE TEXT`: a text that names a module.
-    Text(&'w str, &'w str),
+    /// `text MODULE TEXT [--unchecked]`: a text that names a module, which is valid; or, with the switch, valid or not.
+    Text(&'w str, &'w str, bool),
     /// `check MODULE [--heap N]`: whether a module is valid, its tree in an arena or in a heap of N bytes, 1,024 to 16,777,216.
     Check(&'w str, Option<u32>),
     /// `deploy WORLD MODULE... [--onto OLD] [--force]`: the world of these modules, 1 to 1,024, behind the contracts of OLD.
@@ -60,7 +61,7 @@ pub enum Command<'l, 'w> {
     Call(Calling<'w>),
     /// `debug WORLD CALLS CALL CMD... [--block BLOCK [--fuel N]]`: a call that runs alone, or in a block, turn by turn.
     Debug(Debugging<'w>),
-    /// `show FILE [--calls CALLS]`: what is in a module, a world or a block; or `show FILE --svg PICTURE`: a picture of a block.
+    /// `show FILE [--calls CALLS] [--json] [--signed]`: what is in a module, a world or a block; or `show FILE --svg PICTURE`: a picture of a block.
     Show(Showing<'w>),
 }
 
@@ -144,17 +145,31 @@ fn asm_of<'w>(words: &[&'w str], options: &[(&str, &str)]) -> Option<(&'w str, &
     Some((words[1], words[2]))
 }
 
-/// The module and the text of `text`.
-fn text_of<'w>(words: &[&'w str], options: &[(&str, &str)]) -> Option<(&'w str, &'w str)>
-    ensures { MatchOption result ((source target : List ℕ) → ¬ AsksText (record { words = texts words.now; options = choices options.now }) source target) (λ x. AsksText (record { words = texts words.now; options = choices options.now }) x.0.now x.1.now) }
+/// Whether options are the switch of this name, alone and without a value, or nothing; or None where they are something else.
+fn switch_alone(options: &[(&str, &str)], name: &str) -> Option<bool>
+    ensures { MatchOption result ((given : Bool) → ¬ AsksAlone name.now (choices options.now) given) (AsksAlone name.now (choices options.now)) }
 {
-    if !options.is_empty() || words.len() != 3 || !is_word(words[0], "text") {
+    if options.is_empty() {
+        return Some(false);
+    }
+    if options.len() > 1 || !is_word(options[0].0, name) || !options[0].1.is_empty() {
+        return None;
+    }
+    Some(true)
+}
+
+/// The module and the text of `text`, and whether the module is left unchecked.
+fn text_of<'w>(words: &[&'w str], options: &[(&str, &str)]) -> Option<(&'w str, &'w str, bool)>
+    ensures { MatchOption result ((source target : List ℕ) (unchecked : Bool) → ¬ AsksText (record { words = texts words.now; options = choices options.now }) source target unchecked) (λ x. AsksText (record { words = texts words.now; options = choices options.now }) x.0.now x.1.now x.2) }
+{
+    if words.len() != 3 || !is_word(words[0], "text") {
         return None;
     }
     if is_word(words[1], words[2]) {
         return None;
     }
-    Some((words[1], words[2]))
+    let unchecked = switch_alone(options, UNCHECKED_SWITCH)?;
+    Some((words[1], words[2], unchecked))
 }
 
 /// What `show` is asked for, whatever PICTURE is.
@@ -174,10 +189,14 @@ fn spelled_showing<'w>(
     let Some(form) = form_in(alloc, options)? else {
         return Ok(None);
     };
+    let Some(signed) = signed_in(alloc, options)? else {
+        return Ok(None);
+    };
     Ok(Some(Showing {
         file: words[1],
         calls,
         form,
+        signed,
     }))
 }
 
@@ -415,8 +434,8 @@ pub fn command_of<'l, 'w>(
     if let Some((text, target)) = asm_of(words, options) {
         return Ok(Some(Command::Asm(text, target)));
     }
-    if let Some((source, target)) = text_of(words, options) {
-        return Ok(Some(Command::Text(source, target)));
+    if let Some((source, target, unchecked)) = text_of(words, options) {
+        return Ok(Some(Command::Text(source, target, unchecked)));
     }
     if let Some((target, heap)) = check_of(alloc, words, options)? {
         return Ok(Some(Command::Check(target, heap)));

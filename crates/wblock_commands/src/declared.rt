@@ -62,6 +62,18 @@ pub(crate) const JSON: Switch = Switch {
     help: "Shows the same as one JSON object on a line",
 };
 
+/// The numbers of cells, signed.
+pub(crate) const SIGNED: Switch = Switch {
+    name: "signed",
+    help: "Shows keys and numbers of a world's cells signed, as CALLS takes them",
+};
+
+/// The text of a module that need not be valid.
+pub(crate) const UNCHECKED: Switch = Switch {
+    name: "unchecked",
+    help: "Writes the text of a module that is not valid, too, with the numbers that `check` names",
+};
+
 /// A world in the place of one that is there.
 pub(crate) const FORCE: Switch = Switch {
     name: "force",

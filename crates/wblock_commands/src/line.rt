@@ -56,7 +56,9 @@ fn answer_of<'l, 'w, R: Threads + Wait + Sync, F: Files, P: Pace>(
         Command::Help(words) => tell_help(alloc, words)?,
         Command::Version => tell_version(alloc)?,
         Command::Asm(text, target) => assemble_file(alloc, files, text, target)?,
-        Command::Text(source, target) => write_text(alloc, files, source, target)?,
+        Command::Text(source, target, unchecked) => {
+            write_text(alloc, files, source, target, unchecked)?
+        }
         Command::Check(target, heap) => check_module(alloc, files, target, heap)?,
         Command::Mine(task) => return Ok(Some(mine_block(rt, alloc, files, task, pace)?)),
         Command::Validate(task) => validate_block(rt, alloc, files, task, pace)?,

@@ -4,7 +4,9 @@ use crate::declared::{BLOCK, CALLS, FUEL, NEXT, ONTO, SVG};
 use std::alloc::{AllocError, Global};
 use wblock_calls::{call_words, number_of};
 use wblock_debug::command_of;
-use wblock_line::{BOOSTED_SWITCH, FORCE_SWITCH, JSON_SWITCH, split_words};
+use wblock_line::{
+    BOOSTED_SWITCH, FORCE_SWITCH, JSON_SWITCH, SIGNED_SWITCH, UNCHECKED_SWITCH, split_words,
+};
 
 /// Two words of a line that name one file, the second of which would be written.
 fn clash(alloc: Global, first: &str, second: &str, name: &str) -> Result<String, AllocError> {
@@ -203,6 +205,15 @@ fn names_file(name: &str) -> bool {
         || name == SVG.word
 }
 
+/// Whether the option of this name has no value.
+fn is_switch(name: &str) -> bool {
+    name == JSON_SWITCH
+        || name == FORCE_SWITCH
+        || name == BOOSTED_SWITCH
+        || name == SIGNED_SWITCH
+        || name == UNCHECKED_SWITCH
+}
+
 /// `usage`, and what is wrong with words that the command line's reader takes.
 pub(crate) fn misuse_text(alloc: Global, words: &[&str]) -> Result<String, AllocError> {
     let Some(line) = split_words(alloc, words)? else {
@@ -212,7 +223,7 @@ pub(crate) fn misuse_text(alloc: Global, words: &[&str]) -> Result<String, Alloc
         return Ok(text);
     }
     for (name, value) in &line.options {
-        if *name == JSON_SWITCH || *name == FORCE_SWITCH || *name == BOOSTED_SWITCH {
+        if is_switch(*name) {
             if !value.is_empty() {
                 return format!(in alloc; "usage: `{name}` takes no value");
             }

@@ -2,7 +2,7 @@
 
 ghost use Rattle.std.specs.Borrow.{Bor};
 ghost use Rattle.std.specs.Prelude.{◌≡◌, ◌≢◌, ◌≤◌, ◌<◌, ◌+◌, ◌^◌, ◌↔◌, ℕ, Bool, List, [], Option, IfOk, IsTrue, MatchOption, decimal, length};
-ghost use Rattle.wblock_commands.specs.Options.{values_in, IsNumber, IsNumberOr, IsNameOrNone, IsForm, count_of, AsksFuel, AsksWorkers, AsksTries, AsksBoosted, AsksForce, IsSwitch, AsksNext, AsksOnto, AsksCalls, AsksForm, HasOnlyDeploying, HasOnlyMining, HasOnlyValidation, HasOnlyShowing};
+ghost use Rattle.wblock_commands.specs.Options.{values_in, IsNumber, IsNumberOr, IsNameOrNone, IsForm, count_of, AsksFuel, AsksWorkers, AsksTries, AsksBoosted, AsksForce, IsSwitch, AsksNext, AsksOnto, AsksCalls, AsksForm, AsksSigned, HasOnlyDeploying, HasOnlyMining, HasOnlyValidation, HasOnlyShowing};
 ghost use Rattle.wblock_calls.specs.Words.{texts};
 ghost use Rattle.wblock_line.specs.Words.{choices};
 ghost use Rattle.wblock_show.specs.declared.file.Form.{Form as TheForm};
@@ -10,7 +10,7 @@ ghost use Rattle.wblock_show.specs.declared.file.Form.{Form as TheForm};
 use crate::declared::{CALLS, FUEL, NEXT, ONTO, SVG, TRIES, USUAL_TRIES, USUAL_WORKERS, WORKERS};
 use std::alloc::{AllocError, Global};
 use wblock_calls::number_of;
-use wblock_line::{BOOSTED_SWITCH, FORCE_SWITCH, JSON_SWITCH};
+use wblock_line::{BOOSTED_SWITCH, FORCE_SWITCH, JSON_SWITCH, SIGNED_SWITCH};
 use wblock_show::Form;
 
 /// The values of the options of a name, in their order.
@@ -241,6 +241,14 @@ pub(crate) fn form_in<'w>(
     Ok(form_of(switches.as_slice(), pictures.as_slice()))
 }
 
+/// Whether options ask for signed numbers of cells; or None where they ask for them otherwise than once and without a value.
+pub(crate) fn signed_in(alloc: Global, options: &[(&str, &str)]) -> Result<Option<bool>, AllocError>
+    ensures { IfOk result (λ found. MatchOption found ((signed : Bool) → ¬ AsksSigned (choices options.now) signed) (AsksSigned (choices options.now))) }
+{
+    let switches = values_of(alloc, options, SIGNED_SWITCH)?;
+    Ok(switch_of(switches.as_slice()))
+}
+
 /// How many options have this name.
 fn count_of(options: &[(&str, &str)], name: &str) -> usize
     ensures count { result ≡ count_of name.now (choices options.now) }
@@ -293,5 +301,6 @@ pub(crate) fn has_only_showing(options: &[(&str, &str)]) -> bool
     let calls = count_of(options, CALLS.word);
     let switches = count_of(options, JSON_SWITCH);
     let pictures = count_of(options, SVG.word);
-    options.len() == calls + switches + pictures
+    let signed = count_of(options, SIGNED_SWITCH);
+    options.len() == calls + switches + pictures + signed
 }

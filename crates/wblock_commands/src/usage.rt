@@ -6,7 +6,7 @@ ghost use Rattle.wblock_commands.specs.Texts.{TellsText};
 
 use crate::declared::{
     BLOCK, BOOSTED, CALLS, FORCE, FUEL, FileOption, HEAP, JSON, NEXT, NumberOption, ONTO, QUIET,
-    SVG, Switch, TRIES, WORKERS,
+    SIGNED, SVG, Switch, TRIES, UNCHECKED, WORKERS,
 };
 use crate::misuse::misuse_text;
 use clap::builder::ValueParser;
@@ -82,7 +82,8 @@ fn text<'a>(alloc: Global) -> Result<Command<'a>, AllocError> {
             "Writes a module in text, one instruction a line: `asm` of it gives the module again",
         )
         .arg(required(alloc, "MODULE", "The file of the module in binary"))?
-        .arg(required(alloc, "TEXT", "The file to be written; another than MODULE"))
+        .arg(required(alloc, "TEXT", "The file to be written; another than MODULE"))?
+        .arg(switch(alloc, UNCHECKED))
 }
 
 fn check<'a>(alloc: Global) -> Result<Command<'a>, AllocError> {
@@ -196,6 +197,7 @@ fn show<'a>(alloc: Global) -> Result<Command<'a>, AllocError> {
         ))?
         .arg(file(alloc, CALLS))?
         .arg(switch(alloc, JSON))?
+        .arg(switch(alloc, SIGNED))?
         .arg(file(alloc, SVG))
 }
 

@@ -25,7 +25,12 @@ is_option word = slice_index word 0 == 0x2D
 
 -- a switch is an option that has no value; it is taken as one with an empty value
 abbrev pub is_switch : List ℕ → Bool
-is_switch word = bytes_eq word (codes "--json") || bytes_eq word (codes "--force") || bytes_eq word (codes "--boosted")
+is_switch word =
+    bytes_eq word (codes "--json")
+    || bytes_eq word (codes "--force")
+    || bytes_eq word (codes "--boosted")
+    || bytes_eq word (codes "--signed")
+    || bytes_eq word (codes "--unchecked")
 
 -- nothing more is wanted of the next word: `NAME=VALUE`, or a switch
 abbrev pub has_value : List ℕ → Bool

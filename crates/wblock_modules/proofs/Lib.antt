@@ -1,3 +1,4 @@
 mod Onto
 mod Reading
 mod Told
+mod Unread

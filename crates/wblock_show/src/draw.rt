@@ -56,7 +56,7 @@ fn answer_unknown<'a>(alloc: Global, bytes: Vec<u8>) -> Result<Answer<'a>, Alloc
     requires { IsOfKind bytes.items None }
     ensures { IfOk result IsUnknown }
 {
-    match show_bytes(alloc, bytes)? {
+    match show_bytes(alloc, false, bytes)? {
         Contents::Told(answer) => Ok(answer),
         Contents::Block(_) => unreachable!(),
     }
