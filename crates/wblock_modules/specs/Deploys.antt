@@ -36,8 +36,8 @@ AreHeld holds _ _ = ⊥
 
 -- no contracts and no cells
 pub record IsEmpty (w : World) : Type 0 where
-  pub contracts : w.contracts ≡ []
-  pub cells : w.cells ≡ empty
+  pub no_contracts : w.contracts ≡ []
+  pub no_cells : w.cells ≡ empty
 
 -- the file of OLD holds the world; or no OLD is named, and it is the world of nothing
 abbrev pub IsBase : Holding → Option (Bor (List ℕ)) → World → Type 0
@@ -60,12 +60,16 @@ abbrev pub TellsNoBase : Holding → Option (Bor (List ℕ)) → List ℕ → Ty
 TellsNoBase holds None line = ⊥
 TellsNoBase holds (Some old) line = HoldsBytes holds old.now (λ bytes. TellsNoWorld bytes line)
 
--- the contracts of OLD and so many more are above 1,024, and the line tells how many they are: `refused deploy 6 N`
+-- `refused deploy 6 N`
+abbrev pub crowd_line : ℕ → List ℕ
+crowd_line count = codes "refused deploy 6 " ++ decimal count ++ 10 ∷ []
+
+-- the contracts of OLD and so many more are above 1,024, and the line tells how many they are
 pub record TellsCrowd (holds : Holding) (onto : Option (Bor (List ℕ))) (count : ℕ) (line : List ℕ) : Type 0 where
   pub base : World
   pub is_base : IsBase holds onto base
   pub many : 1024 < length base.contracts + count
-  pub line_is : line ≡ codes "refused deploy 6 " ++ decimal (length base.contracts + count) ++ 10 ∷ []
+  pub line_is : line ≡ crowd_line (length base.contracts + count)
 
 -- OLD holds no world, or one without room for so many contracts more
 abbrev pub RefusesOld : Holding → Option (Bor (List ℕ)) → ℕ → Answer → Type 0
@@ -155,7 +159,7 @@ GivesBase holds onto (file.Refused line why) = TellsNoBase holds onto (string_by
 -- the answer's line tells that the contracts are so many
 abbrev pub TellsCount : ℕ → Answer → Type 0
 TellsCount count (Done writes text) = ⊥
-TellsCount count (Refused line why) = string_bytes line ≡ codes "refused deploy 6 " ++ decimal count ++ 10 ∷ []
+TellsCount count (Refused line why) = string_bytes line ≡ crowd_line count
 
 abbrev pub HasCount : ℕ → Modules → Type 0
 HasCount count (modules.Linked contracts) = vec_len contracts ≡ count

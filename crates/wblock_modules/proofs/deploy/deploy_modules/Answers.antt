@@ -1,10 +1,10 @@
-use Rattle.std.proofs.Common.{rules, ◌≡◌, ◌+◌, ◌≤◌, ◌<◌, IsTrue, length, map, subst, sym, inl, inr, arith}
+use Rattle.std.proofs.Common.{◌≡◌, ◌+◌, IsTrue, length, map, subst, inl, inr, arith}
 use Rattle.std.proofs.lemmas.List.{length-map}
 use Rattle.std.proofs.lemmas.Result.{err_from_is_err_and}
 use Rattle.wblock_io.specs.Holding.{Holding}
 use Rattle.world.specs.Views.{world_view}
 use Rattle.wblock_line.specs.FaultLaws.{of_file_weaker}
-use Rattle.wblock_modules.specs.Deploys.{IsBase, IsOld, IsNextModule, IsNextDeployed, GivesBase, Extends, HasRoom}
+use Rattle.wblock_modules.specs.Deploys.{IsBase, IsOld, IsNextModule, IsNextDeployed, GivesBase, Extends, TellsCount}
 use Rattle.wblock_modules.proofs.Onto.{crowded}
 use Rattle.wblock_modules.proofs.deploy.deploy_modules.Goals as goal
 
@@ -15,7 +15,8 @@ returns-then-total-MOST_CONTRACTS-clause-answers g c = λ t.
     let names = map (λ w. w.now) c.args.modules.now in
     let count = length-map (λ w. w.now) c.args.modules.now in
     let is : IsBase holds c.args.onto base = subst (λ found. GivesBase holds c.args.onto found) c.in-Read.is (c.in_ok-base.ensures.gives t) in
-    inl (crowded holds c.args.onto (length names) base c.in-Ok.refused is (omega (arith, count, c.count_of-contracts.ensures.count, c.if-total-MOST_CONTRACTS.true)) (search (rules, count)))
+    let same : c.count_of-contracts.result + length c.args.modules.now ≡ length base.contracts + length names = omega (arith, count, c.count_of-contracts.ensures.count) in
+    inl (crowded holds c.args.onto (length names) base c.in-Ok.refused is (omega (arith, same, c.if-total-MOST_CONTRACTS.true)) (subst (λ n. TellsCount n c.in-Ok.refused) same c.in-Ok.ensures))
 
 pub returns-in-Ok-clause-answers : goal.returns-in-Ok-clause-answers
 returns-in-Ok-clause-answers g c = λ t.
