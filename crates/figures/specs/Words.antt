@@ -19,10 +19,6 @@ mode_word Read = codes "read"
 mode_word Add = codes "add"
 mode_word Excl = codes "excl"
 
--- `map CONTRACT:KEY` or `counter CONTRACT:KEY`
-abbrev pub lock_text : Lock → List ℕ
-lock_text l = kind_word l.kind ++ codes " " ++ decimal l.contract ++ codes ":" ++ decimal l.key
-
 -- a hundredth of a number, with two decimals
 abbrev pub hundredth : ℕ → List ℕ
 hundredth n = decimal (n / 100) ++ codes "." ++ decimal (n / 10 % 10) ++ decimal (n % 10)
