@@ -78,15 +78,14 @@ fn hold<A: Allocator + Copy>(
 /// Holds locks that do not fall, behind those held and the last one, and answers which is the last one now.
 fn hold_all<A: Allocator + Copy>(
     held: &mut Vec<Held, A>,
-    first: Held,
+    mut last: Held,
     rest: &[Held],
 ) -> Result<Held, NoMemory>
-    requires rises { T (finite.is_sorted lock_cmp (with_last held.old.items first)) }
-    requires behind { DoNotFallFrom first.lock rest.now }
-    ensures modes { IfOk result (λ last. modes_in (with_last held.new.items last) ≡ asked_all (modes_in (with_last held.old.items first)) (pairs rest.now)) }
-    ensures rises { IfOk result (λ last. T (finite.is_sorted lock_cmp (with_last held.new.items last))) }
+    requires rises { T (finite.is_sorted lock_cmp (with_last held.old.items last)) }
+    requires behind { DoNotFallFrom last.lock rest.now }
+    ensures modes { IfOk result (λ now. modes_in (with_last held.new.items now) ≡ asked_all (modes_in (with_last held.old.items last)) (pairs rest.now)) }
+    ensures rises { IfOk result (λ now. T (finite.is_sorted lock_cmp (with_last held.new.items now))) }
 {
-    let mut last = first;
     for one in rest {
         let next = hold(held, last, *one)?;
         last = next;

@@ -9,5 +9,5 @@ abbrev pub invariant-loop-one : goal.invariant-loop-one
 invariant-loop-one g l = record {
   rises : T (is_sorted lock_cmp (with_last l.held.items l.last));
   behind : DoNotFallFrom l.last.lock (drop l.one-index l.rest);
-  modes : asked_all (modes_in (with_last l.held.items l.last)) (pairs (drop l.one-index l.rest)) ≡ asked_all (modes_in (with_last l.fn.held.items l.first)) (pairs l.rest);
+  modes : asked_all (modes_in (with_last l.held.items l.last)) (pairs (drop l.one-index l.rest)) ≡ asked_all (modes_in (with_last l.fn.held.items l.fn.last)) (pairs l.rest);
 }
