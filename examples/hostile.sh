@@ -216,8 +216,8 @@ is "65,535 calls over 100,000 data segments" ends 10 mine segments.mixed calls b
 # other lists of a module: no call pays for them either
 for list in table elements globals exports; do
     lists $list >module
-    is "a module with many $list is deployed" ends 10 deploy lists.$list module
-    is "65,535 calls to a module with many $list" ends 10 mine lists.$list calls b n --fuel 65535 --workers 1
+    is "a module with a long list is deployed: $list" ends 10 deploy lists.$list module
+    is "65,535 calls to a module with a long list: $list" ends 10 mine lists.$list calls b n --fuel 65535 --workers 1
 done
 
 told
