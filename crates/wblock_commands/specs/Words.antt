@@ -1,5 +1,5 @@
 -- What the words of a line ask for.
-use Rattle.std.specs.Prelude.{◌≡◌, ◌≢◌, ℕ, ◌<◌, ◌≤◌, ◌⊎◌, List, [], ◌∷◌, Option, Some, None, IfSome, codes, decimal, length, map}
+use Rattle.std.specs.Prelude.{◌≡◌, ◌≢◌, ℕ, ◌<◌, ◌≤◌, ◌⊎◌, Bool, true, false, List, [], ◌∷◌, Option, Some, None, IfSome, codes, decimal, length}
 use Rattle.std.specs.Borrow.{Bor}
 use Rattle.wblock_calls.specs.Words.{texts}
 use Rattle.wblock_line.specs.Words.{Line, Choice, split}
