@@ -139,7 +139,7 @@ module _ (rest : List Held) (i : ℕ) where
     modes_next m n all e was = ap (λ k. asked_all k (pairs (drop (i + 1) rest))) e ∙ sym (ap (λ hs. asked_all m (pairs hs)) (drop_more rest i d below)) ∙ was
 
   pub modes_end : (m all : Modes) → length rest ≤ i → asked_all m (pairs (drop i rest)) ≡ all → m ≡ all
-  modes_end m all past was = sym (ap (λ hs. asked_all m (pairs hs)) (drop_all rest i past)) ∙ was
+  modes_end m all past was = sym (ap (λ hs. asked_all m (pairs hs)) (drop_all i rest past)) ∙ was
 
 pub modes_begin : (held asked rest : List Held) (first : Held) → held ≡ [] → asked ≡ first ∷ rest → asked_all (modes_in (with_last held first)) (pairs rest) ≡ asked_all empty (pairs asked)
 modes_begin held asked rest first e f =
