@@ -1,5 +1,5 @@
 -- The world that modules are deployed onto.
-use Rattle.std.proofs.Common.{◌≡◌, ℕ, ◌+◌, ◌<◌, List, Option, Some, None, Bor, Result, Ok, Err, IfOk, IsTrue, Bool, length, ◌++◌, ◌∙◌, ap, inr}
+use Rattle.std.proofs.Common.{◌≡◌, ℕ, ◌+◌, ◌<◌, List, Option, Some, Bor, Result, Ok, Err, IfOk, IsTrue, Bool, length, ◌++◌, ◌∙◌, ap, inr}
 use Rattle.spec_block.specs.Worlds.{Contract, World}
 use Rattle.spec_block.specs.Bytes.{world_bytes}
 use Rattle.spec_ledger.specs.Cells.{Cells}

@@ -204,7 +204,7 @@ fn deploy_behind<'a, F: Files>(
 }
 
 /// The answer that so many contracts of OLD and so many modules are too many for a world.
-fn refuse_crowd<'a>(
+fn crowd_answer<'a>(
     alloc: Global,
     contracts: usize,
     modules: usize,
@@ -219,6 +219,23 @@ fn refuse_crowd<'a>(
         "world: {contracts} contracts of OLD and {modules} modules are more than 1,024 contracts; deploy fewer"
     )?;
     Ok(Answer::Refused(line, why))
+}
+
+/// The same, with the fault of a command.
+fn refuse_crowd<'a>(
+    alloc: Global,
+    contracts: usize,
+    modules: usize,
+) -> Result<Answer<'a>, Fault<'a>>
+    requires contracts { contracts ≤ 1024 }
+    requires modules { modules ≤ 1024 }
+    ensures line { IfOk result (TellsCount (contracts + modules)) }
+    ensures fault { IfErr result (λ f. f ≡ Fault.NoMemory) }
+{
+    match crowd_answer(alloc, contracts, modules) {
+        Ok(refused) => Ok(refused),
+        Err(AllocError) => Err(Fault::NoMemory),
+    }
 }
 
 /// What `deploy` comes to: the world of the contracts that the modules of the files are, in their order, is to be written. They stand behind the
@@ -244,12 +261,9 @@ pub fn deploy_modules<'a, F: Files>(
         WorldFile::Refused(line, why) => return Ok(Answer::Refused(line, why)),
     };
     let contracts = count_of(&base);
-    let total = contracts + modules.len();
-    if total > World::MOST_CONTRACTS {
-        let Ok(refused) = refuse_crowd(alloc, contracts, modules.len()) else {
-            return Err(Fault::NoMemory);
-        };
-        return Ok(refused);
+    let is_crowded = contracts + modules.len() > World::MOST_CONTRACTS;
+    if is_crowded {
+        return refuse_crowd(alloc, contracts, modules.len());
     }
     match deploy_behind(alloc, files, world, onto, base, modules) {
         Ok(answer) => Ok(answer),

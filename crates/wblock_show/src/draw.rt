@@ -1,6 +1,6 @@
 //! The command `show BLOCK --svg PICTURE`: a picture of the block of a file.
 
-ghost use Rattle.std.specs.Prelude.{◌≡◌, IsTrue, IfOk, IfErr, None, OnOk, string_bytes};
+ghost use Rattle.std.specs.Prelude.{◌≡◌, IsTrue, IfOk, IfErr, None, OnOk};
 ghost use Rattle.wblock_line.specs.Answers.{CountsFault, IsOfFile};
 ghost use Rattle.wblock_contents.specs.Shows.{IsOfKind, IsUnknown};
 ghost use Rattle.wblock_show.specs.Draws.{Draws, DrawsFile, HasNoPicture, IsDrawn, TellsPicture};

@@ -5,6 +5,6 @@ use Rattle.wblock_modules.proofs.deploy.count_of.Goals as goal
 
 pub returns-clause-count : goal.returns-clause-count
 returns-clause-count c =
-    let mapped = length-map contract_view c.contracts.result.now in
-    let same = ap (λ xs. length xs) c.contracts.ensures.contracts in
+    let mapped = length-map c.contracts.result.now contract_view in
+    let same = ap length c.contracts.ensures.contracts in
     omega (arith, mapped, same)

@@ -1,4 +1,3 @@
-use Rattle.std.proofs.Common.{Some, sym}
 use Rattle.wblock_modules.proofs.Onto.{given}
 use Rattle.wblock_modules.proofs.deploy.read_base.Goals as goal
 
