@@ -14,10 +14,9 @@ ghost use Rattle.block_judge.specs.Judging.{IfRejected, IsFirstFrom, NoneFrom};
 ghost use Rattle.block_judge.specs.Turned.{lists_of};
 
 use crate::reason::{JudgeRefusal, Reason};
-use abstract_locks::goes_with;
 use block::{Block, Position};
 use lock_profile::Group;
-use spec_ledger::{Entry, Lock};
+use spec_ledger::{Entry, Lock, goes_with};
 use std::alloc::Allocator;
 use std::collections::BTreeMap;
 use wtypes::NoMemory;
