@@ -121,6 +121,17 @@ impl<A: Allocator> Profile<A> {
     }
 }
 
+impl<A: Allocator + Copy> Profile<A> {
+    /// The same profile once more.
+    pub fn copy(&self, alloc: A) -> Result<Self, NoMemory>
+        ensures { IfOk result (λ copy. copy ≡ self.now) }
+    {
+        self.use_invariant();
+        let entries = Vec::from_slice(alloc, self.entries())?;
+        Ok(Profile { entries })
+    }
+}
+
 fn is_below(a: Lock, b: Lock) -> bool
     ensures { result ≡ is_lt (lock_cmp a b) }
 {

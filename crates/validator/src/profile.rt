@@ -10,19 +10,6 @@ use spec_ledger::{NoMemory, Op};
 use std::alloc::Allocator;
 use storage::{lock, mode};
 
-/// The profile of a position once more.
-fn profile_of<A: Allocator + Copy>(alloc: A, position: &Position<A>) -> Result<Profile<A>, NoMemory>
-    ensures { IfOk result (λ copy. copy ≡ position.now.profile) }
-{
-    let profile = position.profile();
-    profile.use_invariant();
-    let entries = Vec::from_slice(alloc, profile.entries())?;
-    let Some(copy) = Profile::from_sorted(entries) else {
-        unreachable!()
-    };
-    Ok(copy)
-}
-
 /// The profiles of all positions once more.
 pub(crate) fn profiles_of<A: Allocator + Copy>(
     alloc: A,
@@ -32,7 +19,7 @@ pub(crate) fn profiles_of<A: Allocator + Copy>(
 {
     let mut copy = Vec::new(alloc);
     for position in positions {
-        copy.push(profile_of(alloc, position)?)?;
+        copy.push(position.profile().copy(alloc)?)?;
     }
     Ok(copy)
 }
