@@ -72,11 +72,7 @@ fn conclude<A: Allocator + Copy>(
     ensures unsettled { cells.new.unsettled ≡ closed_all inverses.items cells.old.unsettled }
 {
     finished.is_played();
-    let receipt = Receipt {
-        outcome: finished.outcome(),
-        used: finished.used(),
-        asks: finished.asks(),
-    };
+    let receipt = finished.receipt();
     let Ok(touched) = touched_by(alloc, finished.trace()) else {
         end_all(cells, inverses, false);
         return Err(NoMemory);
