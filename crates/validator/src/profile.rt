@@ -1,7 +1,7 @@
 //! The profiles of a block's positions, and what a position's call may ask for.
 
 ghost use Rattle.std.specs.Prelude.{◌≡◌, IfOk};
-ghost use Rattle.block_judge.specs.Turned.{lists_of};
+ghost use Rattle.spec_block.specs.Worlds.{profiles_in};
 
 use abstract_locks::join_to;
 use block::Position;
@@ -15,7 +15,7 @@ pub(crate) fn profiles_of<A: Allocator + Copy>(
     alloc: A,
     positions: &[Position<A>],
 ) -> Result<Vec<Profile<A>, A>, NoMemory>
-    ensures { IfOk result (λ copy. copy.items ≡ lists_of positions.now) }
+    ensures { IfOk result (λ copy. copy.items ≡ profiles_in positions.now) }
 {
     let mut copy = Vec::new(alloc);
     for position in positions {
