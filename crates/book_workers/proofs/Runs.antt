@@ -7,7 +7,8 @@ use Rattle.spec_execution.specs.Configuration.{Setting}
 use Rattle.spec_execution.specs.Run.{ContractCall}
 use Rattle.interp.specs.Played.{Played}
 use Rattle.book_workers.specs.declared.attempt.CommittedRun.{CommittedRun}
-use Rattle.book_workers.specs.Handed.{IsRunOf, IsCommitted, AreAllRuns}
+use Rattle.serial.specs.Runs.{IsRunOf}
+use Rattle.book_workers.specs.Handed.{IsCommitted, AreAllRuns}
 
 -- what a machine that was started with the call of this number ends in
 pub is_run : {E : Type 0} (r : Result Played E) (setting lent : Setting) (calls : List ContractCall) (number : ℕ) (call : ContractCall)

@@ -7,7 +7,8 @@ ghost use Rattle.interp.specs.Callee.{setting_view};
 ghost use Rattle.interp.specs.Starting.{IsOpened, IsRejection};
 ghost use Rattle.interp.specs.Progress.{IsFree, IsSameCall};
 ghost use Rattle.serial.specs.Going.{MayGoOn, IsEnded};
-ghost use Rattle.book_workers.specs.Handed.{IsRunOf, IsCommitted};
+ghost use Rattle.serial.specs.Runs.{IsRunOf};
+ghost use Rattle.book_workers.specs.Handed.{IsCommitted};
 
 use crate::admission::AdmissionLimit;
 use boost::book::{BeginRefusal, CommitRefusal, EnterRefusal, OpRefusal, Run};

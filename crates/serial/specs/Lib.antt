@@ -3,3 +3,4 @@ pub mod Playing
 pub mod Positions
 pub mod Going
 pub mod Ordered
+pub mod Runs

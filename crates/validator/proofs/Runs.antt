@@ -10,7 +10,7 @@ use Rattle.spec_ledger.specs.Cells.{Cells, reply_to}
 use Rattle.spec_execution.specs.Run.{ContractCall, IsReply}
 use Rattle.serial.proofs.Replies.{is_reply}
 use Rattle.interp.specs.Played.{Played}
-use Rattle.in_order.specs.Progress.{IsRunOf}
+use Rattle.serial.specs.Runs.{IsRunOf}
 use Rattle.validator.specs.declared.job.Job.{Job}
 use Rattle.validator.specs.declared.job.PositionRun.{PositionRun}
 use Rattle.validator.specs.Handed.{IsMade, AreMade, AreFound}
