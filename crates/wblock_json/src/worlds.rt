@@ -5,7 +5,7 @@ ghost use Rattle.std.specs.FinMap.{entries};
 ghost use Rattle.sha2.specs.Sha256.{sha256};
 ghost use Rattle.serde_json.specs.View.{view};
 ghost use Rattle.spec_block.specs.Bytes.{world_bytes};
-ghost use Rattle.world.specs.Views.{contract_view, is_of, world_view};
+ghost use Rattle.world.specs.Views.{contract_view, world_view};
 ghost use Rattle.wblock_json.specs.Json.{array_of, numbered};
 ghost use Rattle.wblock_json.specs.Worlds.{cell_data, cells_data, cells_of as cells_in, contract_data, world_data, IsWorldJson};
 
@@ -16,7 +16,7 @@ use link::deployed::Deployed;
 use serde_json::{Map, Value as Json, json, put};
 use std::alloc::{AllocError, Global};
 use storage::{Cells, Kind, Lock};
-use world::{World, digest_world};
+use world::{World, digest_world, is_kind};
 use wtypes::NoMemory;
 
 /// The contract of this number.
@@ -51,15 +51,6 @@ fn cell_of(alloc: Global, lock: Lock, value: u64) -> Result<Json, AllocError>
     let key = large_of(alloc, lock.key as u128)?;
     let value = large_of(alloc, value as u128)?;
     json!(in alloc; {"contract": lock.contract, "key": key, "value": value})
-}
-
-fn is_kind(a: Kind, b: Kind) -> bool
-    ensures { result ≡ is_of a b }
-{
-    matches!(
-        (a, b),
-        (Kind::Map, Kind::Map) | (Kind::Counter, Kind::Counter)
-    )
 }
 
 /// The cells of a kind.
