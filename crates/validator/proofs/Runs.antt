@@ -8,7 +8,7 @@ use Rattle.spec_ledger.specs.declared.Op.{Op}
 use Rattle.spec_ledger.specs.declared.Reply.{Reply}
 use Rattle.spec_ledger.specs.Cells.{Cells, reply_to}
 use Rattle.spec_execution.specs.Run.{ContractCall, IsReply}
-use Rattle.serial.proofs.Replies.{is_reply}
+use Rattle.spec_execution.proofs.Replies.{is_reply}
 use Rattle.interp.specs.Played.{Played}
 use Rattle.serial.specs.Runs.{IsRunOf}
 use Rattle.validator.specs.declared.job.Job.{Job}

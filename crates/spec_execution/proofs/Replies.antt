@@ -17,7 +17,7 @@ one_or_none : (b : Bool) → FitsSigned w32 (cond b (pos 1) (pos 0))
 one_or_none true = omega (arith, ints)
 one_or_none false = omega (arith, ints)
 
-reply_fits : (op : Op) (cells : Cells) → IsReply op (reply_to op cells)
+pub reply_fits : (op : Op) (cells : Cells) → IsReply op (reply_to op cells)
 reply_fits (Get p) cells = to_get p _ (fits (number (get cells (map_at p))))
 reply_fits (Has p) cells = to_has p _ (one_or_none (is_some (get cells (map_at p))))
 reply_fits (Put p v) cells = to_put p v
