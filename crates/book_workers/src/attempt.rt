@@ -1,10 +1,8 @@
 // One attempt at a call.
 ghost use Rattle.std.specs.Prelude.{◌≡◌, ◌↔◌, ◌<◌, ◌≤◌, ◌^◌, Ok, true, false, IfOk, OnOk, IfSome, length};
 ghost use Rattle.spec_execution.specs.Run.{IsReply};
-ghost use Rattle.spec_execution.specs.Run.{opening};
 ghost use Rattle.spec_ledger.specs.declared.Version.TheVariants.{Two};
 ghost use Rattle.interp.specs.Callee.{setting_view};
-ghost use Rattle.interp.specs.Starting.{IsOpened, IsRejection};
 ghost use Rattle.interp.specs.Progress.{IsFree, IsSameCall};
 ghost use Rattle.serial.specs.Going.{MayGoOn, IsEnded};
 ghost use Rattle.serial.specs.Runs.{IsRunOf};
@@ -16,11 +14,10 @@ use call::Call;
 use intake::Intake;
 use interp::finished::Finished;
 use interp::machine::Machine;
-use interp::start::StartRefusal;
 use link::deployed::Deployed as Contract;
 use lock_profile::Touched;
 use pace::{Pace, Step, must_stop_at};
-use serial::{HostRequest, next_request, touched_by};
+use serial::{Begun, HostRequest, begin, next_request, touched_by};
 use shards::{NoGate, Shards, Ticket};
 use spec_ledger::{NoMemory, Op, Reply, Version};
 use std::alloc::Allocator;
@@ -201,21 +198,6 @@ fn run<'a, A: Allocator + Copy, R: Wait, P: Pace>(
     }
 }
 
-/// The empty run of a call that does not start.
-fn rejected<'a, A: Allocator + Copy>(
-    alloc: A,
-    contracts: &'a [Contract<A>],
-    call: &'a Call,
-) -> Finished<'a, A>
-    requires { ¬ IsOpened (opening (setting_view Two contracts.now) call.now) }
-    ensures { IsRejection (setting_view Two contracts.now) call.now result }
-{
-    match Finished::rejected(alloc, contracts, call, Version::Two) {
-        Some(finished) => finished,
-        None => unreachable!(),
-    }
-}
-
 /// Runs a live attempt to its end. A call without fuel for its first instruction is answered before an instance is made.
 fn play<'a, A: Allocator + Copy, R: Wait, P: Pace>(
     rt: &R,
@@ -228,13 +210,10 @@ fn play<'a, A: Allocator + Copy, R: Wait, P: Pace>(
 {
     let call = &job.calls[number as usize];
     let _limit = call.fuel();
-    if let Some(finished) = Finished::without_fuel(job.alloc, job.contracts, call, Version::Two) {
-        return Ok(finished);
-    }
-    match Machine::start(job.alloc, job.contracts, call) {
-        Ok(machine) => run(rt, job, ticket, number, machine),
-        Err(StartRefusal::NoMemory) => Err(Stop::NoMemory),
-        Err(_) => Ok(rejected(job.alloc, job.contracts, call)),
+    match begin(job.alloc, job.contracts, call, Version::Two) {
+        Ok(Begun::Ended(finished)) => Ok(finished),
+        Ok(Begun::Runs(machine)) => run(rt, job, ticket, number, machine),
+        Err(NoMemory) => Err(Stop::NoMemory),
     }
 }
 

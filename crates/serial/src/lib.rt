@@ -3,6 +3,7 @@
 #![tactic(auto)]
 
 mod again;
+mod beginning;
 mod blocks;
 mod contracts;
 mod locks;
@@ -24,6 +25,7 @@ ghost use Rattle.serial.specs.Playing.{AreDone};
 ghost use Rattle.serial.specs.Positions.{results_of};
 
 use crate::again::act_again;
+pub use crate::beginning::{Begun, begin};
 pub use crate::blocks::{build_block, run, run_as};
 pub use crate::locks::touched_by;
 use crate::playing::play;

@@ -1,20 +1,17 @@
 // A call that runs over cells, which answer its operations.
 ghost use Rattle.std.specs.Prelude.{◌≡◌, [], Ok, true, false, IfOk, OnOk, OnErr};
 ghost use Rattle.std.specs.FinMap as finite;
-ghost use Rattle.spec_execution.specs.Run.{opening};
 ghost use Rattle.storage.specs.Counts.{Store};
 ghost use Rattle.interp.specs.Callee.{setting_view};
-ghost use Rattle.interp.specs.Starting.{IsOpened, IsRejection};
 ghost use Rattle.interp.specs.Progress.{IsFree, IsSameCall};
 ghost use Rattle.serial.specs.Going.{MayGoOn, IsEnded};
 ghost use Rattle.serial.specs.Playing.{IsOnItsWay, IsPlayedOver, AreDone, AreSomeDone, MayBeLeft};
 
 use crate::steps::{act, leave};
-use crate::{HostRequest, next_request};
+use crate::{Begun, HostRequest, begin, next_request};
 use call::Call;
 use interp::finished::Finished;
 use interp::machine::Machine;
-use interp::start::StartRefusal;
 use link::deployed::Deployed as Contract;
 use spec_ledger::{Inverse, NoMemory, Version};
 use std::alloc::Allocator;
@@ -103,22 +100,6 @@ fn run<'a, A: Allocator + Copy>(
     }
 }
 
-/// The empty run of a call that does not start.
-fn rejected<'a, A: Allocator + Copy>(
-    alloc: A,
-    contracts: &'a [Contract<A>],
-    call: &'a Call,
-    version: Version,
-) -> Finished<'a, A>
-    requires { ¬ IsOpened (opening (setting_view version contracts.now) call.now) }
-    ensures { IsRejection (setting_view version contracts.now) call.now result }
-{
-    match Finished::rejected(alloc, contracts, call, version) {
-        Some(finished) => finished,
-        None => unreachable!(),
-    }
-}
-
 /// Runs a call over the cells by the rules of this version, and answers its run with the inverses of its operations, first to last. After a refusal of
 /// memory the cells are as they were. A call without fuel for its first instruction is answered before an instance is made.
 pub(crate) fn play<'a, A: Allocator + Copy>(
@@ -132,12 +113,9 @@ pub(crate) fn play<'a, A: Allocator + Copy>(
     ensures ok { IfOk result (λ r. IsPlayedOver (setting_view version contracts.now) call.now cells.old r.0 cells.new r.1.items) }
     ensures err { OnErr result (cells.new ≡ cells.old) }
 {
-    if let Some(finished) = Finished::without_fuel(alloc, contracts, call, version) {
-        return Ok((finished, Vec::new(alloc)));
-    }
-    match Machine::start_as(alloc, contracts, call, version) {
-        Ok(machine) => run(alloc, machine, cells),
-        Err(StartRefusal::NoMemory) => Err(NoMemory),
-        Err(_) => Ok((rejected(alloc, contracts, call, version), Vec::new(alloc))),
+    match begin(alloc, contracts, call, version) {
+        Ok(Begun::Ended(finished)) => Ok((finished, Vec::new(alloc))),
+        Ok(Begun::Runs(machine)) => run(alloc, machine, cells),
+        Err(NoMemory) => Err(NoMemory),
     }
 }

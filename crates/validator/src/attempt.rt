@@ -1,9 +1,8 @@
 //! A worker's run of a position's call, over the cells that the workers share.
 
 ghost use Rattle.std.specs.Prelude.{◌≡◌, ◌<◌, ◌≤◌, ◌^◌, Ok, true, false, IfOk, IfSome, OnOk, length};
-ghost use Rattle.spec_execution.specs.Run.{IsReply, opening};
+ghost use Rattle.spec_execution.specs.Run.{IsReply};
 ghost use Rattle.interp.specs.Callee.{setting_view};
-ghost use Rattle.interp.specs.Starting.{IsOpened, IsRejection};
 ghost use Rattle.interp.specs.Progress.{IsFree, IsSameCall};
 ghost use Rattle.serial.specs.Going.{MayGoOn, IsEnded};
 ghost use Rattle.validator.specs.Handed.{IsMade, IsRunIn};
@@ -16,11 +15,10 @@ use call::Call;
 use in_order::Task;
 use interp::finished::Finished;
 use interp::machine::Machine;
-use interp::start::StartRefusal;
 use link::deployed::Deployed as Contract;
 use lock_profile::Profile;
 use pace::{Pace, Step, acquire, must_stop_at};
-use serial::{HostRequest, next_request};
+use serial::{Begun, HostRequest, begin, next_request};
 use spec_ledger::{NoMemory, Op, Reply, Version};
 use std::alloc::Allocator;
 use std::sync::{Mutex, Wait};
@@ -173,22 +171,6 @@ fn run<'a, A: Allocator + Copy, R: Wait, P: Pace>(
     }
 }
 
-/// The empty run of a call that does not start.
-fn rejected<'a, A: Allocator + Copy>(
-    alloc: A,
-    contracts: &'a [Contract<A>],
-    call: &'a Call,
-    version: Version,
-) -> Finished<'a, A>
-    requires { ¬ IsOpened (opening (setting_view version contracts.now) call.now) }
-    ensures { IsRejection (setting_view version contracts.now) call.now result }
-{
-    match Finished::rejected(alloc, contracts, call, version) {
-        Some(finished) => finished,
-        None => unreachable!(),
-    }
-}
-
 /// Runs the call of a number to its end. A call without fuel for its first instruction is answered before an instance is made.
 fn play<'a, A: Allocator + Copy, R: Wait, P: Pace>(
     rt: &R,
@@ -207,13 +189,10 @@ fn play<'a, A: Allocator + Copy, R: Wait, P: Pace>(
     } = job.ordered.task;
     let call = &calls[number as usize];
     let _limit = call.fuel();
-    if let Some(finished) = Finished::without_fuel(alloc, contracts, call, version) {
-        return Ok(finished);
-    }
-    match Machine::start_as(alloc, contracts, call, version) {
-        Ok(machine) => run(rt, alloc, place, machine),
-        Err(StartRefusal::NoMemory) => Err(Stop::NoMemory),
-        Err(_) => Ok(rejected(alloc, contracts, call, version)),
+    match begin(alloc, contracts, call, version) {
+        Ok(Begun::Ended(finished)) => Ok(finished),
+        Ok(Begun::Runs(machine)) => run(rt, alloc, place, machine),
+        Err(NoMemory) => Err(Stop::NoMemory),
     }
 }
 

@@ -4,9 +4,9 @@ use Rattle.serial.proofs.Meeting.{free_first}
 use Rattle.serial.proofs.playing.play.Goals as goal
 
 pub run-requires-clause-free : goal.run-requires-clause-free
-run-requires-clause-free g c = free_first c.in-Ok.machine.status c.in-Ok.ensures.start.goes_on
+run-requires-clause-free g c = free_first c.in-Ok-Runs.machine.status c.in-Ok-Runs.ensures.start.goes_on
 
-pub returns-in-Ok-clause-ok : goal.returns-in-Ok-clause-ok
-returns-in-Ok-clause-ok g c =
-    subst (λ ds. IfOk c.run.result (λ r. IsPlayedOver ds c.args.call.now c.args.cells.now r.0 c.run.new.cells r.1.items)) c.in-Ok.ensures.start.setting
-    (subst (λ x. IfOk c.run.result (λ r. IsPlayedOver c.in-Ok.machine.setting x c.args.cells.now r.0 c.run.new.cells r.1.items)) c.in-Ok.ensures.start.call_is c.run.ensures.ok)
+pub returns-in-Ok-Runs-clause-ok : goal.returns-in-Ok-Runs-clause-ok
+returns-in-Ok-Runs-clause-ok g c =
+    subst (λ ds. IfOk c.run.result (λ r. IsPlayedOver ds c.args.call.now c.args.cells.now r.0 c.run.new.cells r.1.items)) c.in-Ok-Runs.ensures.start.setting
+    (subst (λ x. IfOk c.run.result (λ r. IsPlayedOver c.in-Ok-Runs.machine.setting x c.args.cells.now r.0 c.run.new.cells r.1.items)) c.in-Ok-Runs.ensures.start.call_is c.run.ensures.ok)

@@ -6,25 +6,18 @@ use Rattle.validator.proofs.Runs.{is_run}
 use Rattle.validator.proofs.attempt.play.Goals as goal
 
 pub run-requires-clause-free : goal.run-requires-clause-free
-run-requires-clause-free g c κs within = free_first c.in-Ok.machine.status c.in-Ok.ensures.start.goes_on
+run-requires-clause-free g c κs within = free_first c.in-Ok-Runs.machine.status c.in-Ok-Runs.ensures.start.goes_on
 
-pub returns-in-Ok : goal.returns-in-Ok
-returns-in-Ok g c =
-    let start = c.in-Ok.ensures.start in
+pub returns-in-Ok-Runs : goal.returns-in-Ok-Runs
+returns-in-Ok-Runs g c =
+    let start = c.in-Ok-Runs.ensures.start in
     let calls = c.args.job.now.ordered.task.calls.now in
     let at = slice_get_read calls (length calls) c.args.number c.index-calls-number.result refl c.requires c.index-calls-number.is in
-    is_run c.run.result _ c.in-Ok.machine.setting _ c.args.number c.in-Ok.machine.call c.run.ensures.setting c.run.ensures.call start.setting (at ∙ ap (λ x. Some x) (sym start.call_is))
+    is_run c.run.result _ c.in-Ok-Runs.machine.setting _ c.args.number c.in-Ok-Runs.machine.call c.run.ensures.setting c.run.ensures.call start.setting (at ∙ ap (λ x. Some x) (sym start.call_is))
 
-pub returns-in-Err : goal.returns-in-Err
-returns-in-Err g c =
-    let r = c.rejected.ensures in
-    let calls = c.args.job.now.ordered.task.calls.now in
-    let at = slice_get_read calls (length calls) c.args.number c.index-calls-number.result refl c.requires c.index-calls-number.is in
-    record { lent = r.lent; call_is = at ∙ ap (λ x. Some x) (sym r.call_is) }
-
-pub returns-in-Some : goal.returns-in-Some
-returns-in-Some g c =
-    let r = c.in-Some.ensures.some in
+pub returns-in-Ok-Ended : goal.returns-in-Ok-Ended
+returns-in-Ok-Ended g c =
+    let r = c.in-Ok-Ended.ensures.ended in
     let calls = c.args.job.now.ordered.task.calls.now in
     let at = slice_get_read calls (length calls) c.args.number c.index-calls-number.result refl c.requires c.index-calls-number.is in
     record { lent = r.lent; call_is = at ∙ ap (λ x. Some x) (sym r.call_is) }
