@@ -9,8 +9,9 @@ use Rattle.spec_ledger.specs.declared.Entry.{Entry}
 use Rattle.lock_profile.specs.Turns.{IsProfile}
 use Rattle.spec_block.specs.Worlds.{Position, profiles_in}
 use Rattle.spec_block.specs.Schedule.{hold_in, Holds, IsEdge, IsPath, here, along}
-use Rattle.figures.specs.declared.lock_turn.LockTurn.{LockTurn}
-use Rattle.figures.specs.Turns.{after, turn_of, AreRaised, IsAt, IsAfter, IsBest, IsPast}
+use Rattle.lock_profile.specs.declared.lock_turn.LockTurn.{LockTurn}
+use Rattle.lock_profile.specs.LockTurns.{after, turn_of}
+use Rattle.figures.specs.Turns.{AreRaised, IsAt, IsAfter, IsBest, IsPast}
 use Rattle.figures.specs.Chains.{path_weight, AreForward, IsHeaviest}
 use Rattle.figures.proofs.Profiles.{some_is, at_is_holder, IsHolder}
 

@@ -5,7 +5,6 @@
 
 mod figures;
 mod hottest;
-mod lock_turn;
 mod module_figures;
 mod names;
 mod outcomes;

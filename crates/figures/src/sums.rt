@@ -3,12 +3,13 @@
 ghost use Rattle.std.specs.Prelude.{◌≡◌, ◌<◌, ◌≤◌, ◌^◌, ◌↔◌, ◌+◌, ◌∷◌, [], ℕ, Some, None, IfOk, OnOk, IfSome, IsSome, IsTrue, length, slice_index, MatchOption};
 ghost use Rattle.std.specs.BTreeMap.{get};
 ghost use Rattle.std.specs.Option.{is_some};
-ghost use Rattle.figures.specs.declared.lock_turn.LockTurn.{LockTurn};
-ghost use Rattle.figures.specs.Turns.{after, turn_cmp, turn_of, AreRaised, IsBefore, IsBest, IsPast, IsRaisedAt};
+ghost use Rattle.lock_profile.specs.declared.lock_turn.LockTurn.{LockTurn};
+ghost use Rattle.lock_profile.specs.LockTurns.{after, turn_cmp, turn_of};
+ghost use Rattle.figures.specs.Turns.{AreRaised, IsBefore, IsBest, IsPast, IsRaisedAt};
 ghost use Rattle.spec_block.specs.Worlds.{profiles_in};
 ghost use Rattle.figures.specs.Chains.{AreForward, AreHeaviest};
 
-use crate::lock_turn::{LockTurn, own_turn};
+use lock_profile::{LockTurn, own_turn};
 use records::Position;
 use spec_ledger::Entry;
 use std::alloc::Global;

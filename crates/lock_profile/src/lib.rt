@@ -10,8 +10,10 @@ ghost use Rattle.lock_profile.specs.Turns.{AreTurns, IsProfile};
 ghost use Rattle.lock_profile.specs.Groups.{turn_next, pairs, is_below_next, is_next_above, group_there, entry_next, numbered, all_held, AllFit, turns_after, turns_from, with_turns};
 
 mod laws;
+mod lock_turn;
 
 pub use laws::neighbours_decide;
+pub use lock_turn::{LockTurn, own_turn};
 use spec_ledger::{Entry, Lock, Mode, goes_with};
 use std::alloc::{Allocator, Global};
 use std::cmp::Ordering;

@@ -2,7 +2,8 @@ use Rattle.std.proofs.Common.{refl, sym, ◌∙◌, subst, arith, List}
 use Rattle.std.specs.BTreeMap.{get}
 use Rattle.spec_ledger.specs.declared.Entry.{Entry}
 use Rattle.lock_profile.specs.Turns.{IsProfile}
-use Rattle.figures.specs.Turns.{turn_cmp, IsPast}
+use Rattle.lock_profile.specs.LockTurns.{turn_cmp}
+use Rattle.figures.specs.Turns.{IsPast}
 use Rattle.spec_block.specs.Worlds.{profiles_in}
 use Rattle.figures.proofs.Tops.{all_forward, back, lists_long, position_there, sums_more, tops_more}
 use Rattle.figures.proofs.sums.sums_of.Goals as goal

@@ -1,6 +1,6 @@
 use Rattle.std.specs.BTreeMap.{get}
 use Rattle.spec_block.specs.Worlds.{profiles_in}
-use Rattle.figures.specs.Turns.{turn_cmp}
+use Rattle.lock_profile.specs.LockTurns.{turn_cmp}
 use Rattle.figures.proofs.Tops.{AreSums, AreTops}
 use Rattle.figures.proofs.sums.sums_of.Given as goal
 

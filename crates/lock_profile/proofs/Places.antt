@@ -9,9 +9,9 @@ use Rattle.spec_ledger.specs.declared.Kind.{Kind}
 use Rattle.spec_ledger.specs.declared.Kind.TheVariants.{Map, Counter}
 use Rattle.spec_ledger.specs.Cells.{lock_cmp}
 use Rattle.spec_ledger.proofs.Maps.{lock_cmp_total, lock_cmp-IsAntisymmetric}
-use Rattle.figures.specs.declared.lock_turn.LockTurn.{LockTurn}
-use Rattle.figures.specs.contracts.lock_turn.LockTurnOrd.TheImpl as derived
-use Rattle.figures.specs.Turns.{turn_cmp}
+use Rattle.lock_profile.specs.declared.lock_turn.LockTurn.{LockTurn}
+use Rattle.lock_profile.specs.contracts.lock_turn.LockTurnOrd.TheImpl as derived
+use Rattle.lock_profile.specs.LockTurns.{turn_cmp}
 
 same_at : (c k t : ℕ) (p q : Kind) (d l u : ℕ) → derived.cmp-value.it (record { lock = record { contract = c; kind = p; key = k }; turn = t }) (record { lock = record { contract = d; kind = q; key = l }; turn = u })
     ≡ turn_cmp (record { lock = record { contract = c; kind = p; key = k }; turn = t }) (record { lock = record { contract = d; kind = q; key = l }; turn = u })
