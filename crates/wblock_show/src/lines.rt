@@ -6,7 +6,8 @@ ghost use Rattle.wblock_show.specs.Lines.{args_text, block_text, call_text, call
 use block::{Block, Position, number_of_version};
 use call::Call;
 use figures::{
-    Chains, Figures, OutcomeCount, OutcomeKind, SharedLock, hundredth_of, lock_text_of, word_of_mode,
+    Chains, Figures, OutcomeCount, OutcomeKind, SharedLock, hundredth_of, lock_text_of,
+    word_of_mode,
 };
 use spec_ledger::Entry;
 use std::alloc::{AllocError, Global};
