@@ -5,3 +5,4 @@ pub mod Beginning
 pub mod Going
 pub mod Ordered
 pub mod Runs
+pub mod Over

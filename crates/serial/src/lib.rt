@@ -10,6 +10,7 @@ mod locks;
 mod playing;
 mod positions;
 mod steps;
+mod storage_loop;
 mod turn_loop;
 
 ghost use Rattle.std.specs.Prelude.{◌≡◌, ◌<◌, ◌↔◌, IfOk, OnErr, IfSome, IfNone, IsSome, length};
@@ -29,6 +30,7 @@ pub use crate::beginning::{Begun, begin};
 pub use crate::blocks::{build_block, run, run_as};
 pub use crate::locks::touched_by;
 use crate::playing::play;
+pub use crate::storage_loop::{Storage, play_over};
 pub use crate::turn_loop::{HostRequest, next_request};
 use call::Call;
 pub use contracts::copied;

@@ -1,12 +1,14 @@
+use Rattle.std.proofs.Common.{◌≤◌, ◌<◌, ◌^◌}
 use Rattle.interp.specs.Progress.{IsSameCall, IsFree, left_of}
-use Rattle.serial.specs.Playing.{IsOnItsWay}
-use Rattle.serial.proofs.playing.run_on.Given as goal
+use Rattle.serial.proofs.storage_loop.run_over.Given as goal
 
 abbrev pub invariant-operations : goal.invariant-operations
 invariant-operations g l = record {
   same : IsSameCall l.fn.machine l.machine;
   free : IsFree l.machine.status;
-  way : IsOnItsWay l.fn.cells l.machine l.cells l.inverses.items l.marks.items;
+  limit : l.machine.call.fuel < 2 ^ 64;
+  asked : l.asked ≤ l.machine.used;
+  led : g.S.Storage.led l.fn.storage l.machine.trace l.storage;
 }
 
 abbrev pub decreases-operations : goal.decreases-operations
