@@ -111,20 +111,28 @@ FQ_INLINE u64 mul64(u64 a, u64 b) {
     return a * b;
 }
 
+/* The digit of 32 bits of `high << 32 | digit` by c, where the upper bit of c is set and high < c (Knuth's algorithm D). */
+FQ_INLINE u64 fq_digit(u64 high, u64 digit, u64 c) {
+    u64 upper = c >> 32, quotient = high / upper, rest = high - quotient * upper;
+    while (quotient >> 32 != 0 || quotient * (c & 0xffffffff) > (rest << 32 | digit)) {
+        quotient--;
+        rest += upper;
+        if (rest >> 32 != 0) break;
+    }
+    return quotient;
+}
+
 /* a * b / c, rounded down, with the product of 128 bits between; refuses where c is 0 or the quotient has more than 64 bits. */
 static __attribute__((unused)) u64 muldiv64(u64 a, u64 b, u64 c) {
     u64 high = mulhi64(a, b), low = a * b;
     require(high < c);
-    for (u32 at = 0; at < 64; at++) {
-        u64 carry = high >> 63;
-        high = high << 1 | low >> 63;
-        low <<= 1;
-        if (carry || high >= c) {
-            high -= c;
-            low |= 1;
-        }
-    }
-    return low;
+    if (high == 0) return low / c;
+    u32 shift = (u32)__builtin_clzll(c);
+    c <<= shift;
+    high = high << shift | low >> 1 >> (63 - shift);
+    low <<= shift;
+    u64 one = fq_digit(high, low >> 32, c), rest = (high << 32 | low >> 32) - one * c;
+    return one << 32 | fq_digit(rest, low & 0xffffffff, c);
 }
 
 /* ---- keys ---- */

@@ -37,7 +37,7 @@ enum Stop {
 
 /// A position, the number of its call, what the call may ask for, the cells that it is run over, and who is told.
 #[derive(Drop)]
-struct Attempt<'s, A: Allocator, P: Pace> {
+struct AttemptContext<'s, A: Allocator, P: Pace> {
     position: u32,
     number: u32,
     profile: &'s Profile<A>,
@@ -65,7 +65,7 @@ fn act<A: Allocator + Copy>(
 /// Does an operation that is within the profile, and tells the pace before it, which may stop the worker.
 fn ask<A: Allocator + Copy, R: Wait, P: Pace>(
     rt: &R,
-    place: &Attempt<'_, A, P>,
+    place: &AttemptContext<'_, A, P>,
     n: u64,
     op: Op,
 ) -> Result<Reply, Stop>
@@ -87,7 +87,7 @@ fn ask<A: Allocator + Copy, R: Wait, P: Pace>(
 /// Notes how many operations a position has done where a level is entered.
 fn enter<A: Allocator + Copy, R: Wait, P: Pace>(
     rt: &R,
-    place: &Attempt<'_, A, P>,
+    place: &AttemptContext<'_, A, P>,
     marks: &mut Vec<usize, A>,
 ) -> Result<(), Stop> {
     let mark = acquire(rt, place.ahead).count(place.position as usize);
@@ -100,7 +100,7 @@ fn enter<A: Allocator + Copy, R: Wait, P: Pace>(
 /// Leaves the innermost level of a position, which the last mark is of: what was done in it stands, or is taken back under the lock of the cells.
 fn leave<A: Allocator + Copy, R: Wait, P: Pace>(
     rt: &R,
-    place: &Attempt<'_, A, P>,
+    place: &AttemptContext<'_, A, P>,
     marks: &mut Vec<usize, A>,
     keep: bool,
 ) {
@@ -116,7 +116,7 @@ fn leave<A: Allocator + Copy, R: Wait, P: Pace>(
 /// Goes on to the next operation, or to the next level that is entered or left, and does it. Answers whether there was one.
 fn do_next<'a, A: Allocator + Copy, R: Wait, P: Pace>(
     rt: &R,
-    place: &Attempt<'_, A, P>,
+    place: &AttemptContext<'_, A, P>,
     machine: &mut Machine<'a, A>,
     marks: &mut Vec<usize, A>,
     asked: &mut u64,
@@ -153,7 +153,7 @@ fn do_next<'a, A: Allocator + Copy, R: Wait, P: Pace>(
 fn run<'a, A: Allocator + Copy, R: Wait, P: Pace>(
     rt: &R,
     alloc: A,
-    place: &Attempt<'_, A, P>,
+    place: &AttemptContext<'_, A, P>,
     mut machine: Machine<'a, A>,
 ) -> Result<Finished<'a, A>, Stop>
     requires free { IsFree machine.status }
@@ -175,7 +175,7 @@ fn run<'a, A: Allocator + Copy, R: Wait, P: Pace>(
 fn play<'a, A: Allocator + Copy, R: Wait, P: Pace>(
     rt: &R,
     job: &Job<'_, 'a, A, P>,
-    place: &Attempt<'_, A, P>,
+    place: &AttemptContext<'_, A, P>,
     number: u32,
 ) -> Result<Finished<'a, A>, Stop>
     requires { number < length job.now.ordered.task.calls.now }
@@ -236,7 +236,7 @@ pub(crate) fn attempt<'a, A: Allocator + Copy, R: Wait, P: Pace>(
             stops: true,
         });
     }
-    let place = Attempt {
+    let place = AttemptContext {
         position,
         number,
         profile: positions[at].profile(),
