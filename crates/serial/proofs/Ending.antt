@@ -1,5 +1,5 @@
 -- The end of a call: its changes stand, or the cells are as they were.
-use Rattle.std.proofs.Common.{◌≡◌, Bool, true, false, cond, List, sym, ◌∙◌, ap, subst}
+use Rattle.std.proofs.Common.{◌≡◌, ℕ, Bool, true, false, cond, List, Some, slice_get, IfOk, sym, ◌∙◌, ap, subst}
 use Rattle.std.specs.Prelude.{Result, Ok, Err, OnErr}
 use Rattle.std.specs.FinMap.{empty}
 use Rattle.spec_ledger.specs.declared.Inverse.{Inverse}
@@ -18,6 +18,7 @@ use Rattle.spec_execution.specs.Levels.{RunsWith}
 use Rattle.spec_execution.specs.Exec.{Executes}
 use Rattle.interp.specs.Played.{Played, IsPlayed, receipt_of}
 use Rattle.serial.specs.Playing.{AreDone, IsPlayedOver}
+use Rattle.serial.specs.Runs.{IsRunOf}
 
 module _ (start now : Store) (t : List TraceStep) (is : List Inverse) (d : AreDone start t now is) (settled : start.unsettled ≡ empty) where
   counted : now.unsettled ≡ opened_all is empty
@@ -60,6 +61,12 @@ module _ (lent : Setting) (call : ContractCall) (start now : Store) (f : Played)
 pub executed_for : (lent : Setting) (call : ContractCall) (start now : Store) (f : Played) (is : List Inverse) → IsPlayedOver lent call start f now is → (later : Cells) (r : Receipt) (locks : Modes)
     → Executes f.setting f.call start.cells later r locks → Executes lent call start.cells later r locks
 executed_for lent call start now f is p later r locks e = subst (λ c. Executes lent c start.cells later r locks) p.call_is (subst (λ ds. Executes ds f.call start.cells later r locks) p.lent e)
+
+-- what was played of the call of this number is a run of it
+pub is_run : {E : Type 0} (r : Result Played E) (setting : Setting) (calls : List ContractCall) (number : ℕ) (call : ContractCall)
+    → IfOk r (λ f. f.setting ≡ setting) → IfOk r (λ f. f.call ≡ call) → slice_get calls number ≡ Some call → IfOk r (IsRunOf setting calls number)
+is_run (Ok f) setting calls number call l c at = record { lent = l; call_is = at ∙ ap (λ x. Some x) (sym c) }
+is_run (Err e) setting calls number call l c at = tt
 
 pub on_err : {T E P : Type 0} (r : Result T E) → P → OnErr r P
 on_err (Ok x) p = tt
