@@ -1,7 +1,7 @@
-use Rattle.std.proofs.Common.{◌≡◌, [], IfOk, refl, sym, subst, rules}
+use Rattle.std.proofs.Common.{◌≡◌, List, [], IfOk, refl, sym, subst, rules}
 use Rattle.std.specs.Prelude.{OnErr}
+use Rattle.spec_ledger.specs.declared.TraceStep.{TraceStep}
 use Rattle.interp.specs.Callee.{setting_view}
-use Rattle.serial.specs.Over.{AreSomeLeft}
 use Rattle.serial.specs.Playing.{AreDone, AreDoneInLevels}
 use Rattle.serial.proofs.Ending.{may_end, taken_back}
 use Rattle.serial.proofs.Levels.{none_in_levels, same_in_levels}
@@ -28,11 +28,11 @@ returns-in-Ok-clause-ok g c =
 pub end_all-requires : goal.end_all-requires
 end_all-requires g c =
     let now = c.play_over-played.new.storage in
-    let some = subst (λ r. OnErr r (AreSomeLeft (λ start t later. AreDone start.cells t later.cells later.inverses.items) c.storage now)) c.in-Err.is c.play_over-played.ensures.rest in
+    let some = subst (λ r. OnErr r ((t : List TraceStep) × AreDone c.replace-taken.result t now.cells now.inverses.items)) c.in-Err.is c.play_over-played.ensures.rest in
     may_end c.args.cells.now now.cells some.0 now.inverses.items (subst (λ s. AreDone s some.0 now.cells now.inverses.items) c.replace-taken.ensures.value some.1) c.requires
 
 pub returns-in-Err-clause-err : goal.returns-in-Err-clause-err
 returns-in-Err-clause-err g c =
     let now = c.play_over-played.new.storage in
-    let some = subst (λ r. OnErr r (AreSomeLeft (λ start t later. AreDone start.cells t later.cells later.inverses.items) c.storage now)) c.in-Err.is c.play_over-played.ensures.rest in
+    let some = subst (λ r. OnErr r ((t : List TraceStep) × AreDone c.replace-taken.result t now.cells now.inverses.items)) c.in-Err.is c.play_over-played.ensures.rest in
     taken_back c.args.cells.now now.cells some.0 now.inverses.items (subst (λ s. AreDone s some.0 now.cells now.inverses.items) c.replace-taken.ensures.value some.1) c.requires c.use_invariant.ensures.cells c.end_all.new.cells c.end_all.ensures.cells c.end_all.ensures.unsettled
