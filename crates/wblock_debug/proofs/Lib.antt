@@ -3,3 +3,6 @@ mod Lists
 mod Options
 mod Printing
 mod Telling
+mod Fuels
+mod PrefixSums
+mod Prefixes

@@ -4,14 +4,18 @@
 mod asked;
 mod command;
 mod debug;
+mod fuel;
 mod lines;
 mod numbers;
 mod perform;
+mod place;
+mod prefix;
 mod printed;
 mod run;
 
 pub use asked::{Debugging, debugging_of};
 pub use command::{Command, command_of, commands_of};
 pub use debug::debug_world;
+pub use prefix::{Met, met_by};
 pub use printed::Printed;
 pub use run::debug_call;

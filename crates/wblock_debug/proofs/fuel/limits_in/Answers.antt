@@ -1,7 +1,7 @@
 use Rattle.std.proofs.Common.{◌-◌, ◌^◌, slice_index, ap, ◌∙◌}
 use Rattle.spec_block.specs.Worlds.{limits}
-use Rattle.block_judge.proofs.PrefixSums.{limits_more}
-use Rattle.block_judge.proofs.fuel.limits_in.Goals as goal
+use Rattle.wblock_debug.proofs.PrefixSums.{limits_more}
+use Rattle.wblock_debug.proofs.fuel.limits_in.Goals as goal
 
 pub loop-position-preserved : goal.loop-position-preserved
 loop-position-preserved g c =

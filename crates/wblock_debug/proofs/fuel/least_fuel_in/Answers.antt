@@ -2,7 +2,7 @@ use Rattle.std.proofs.Common.{◌-◌, ◌^◌, List, ap, map, min, ◌∙◌}
 use Rattle.spec_ledger.specs.Order.{limits_of}
 use Rattle.spec_block.specs.Worlds.{Block, Position, limits}
 use Rattle.block_judge.specs.Meeting.{least_fuel}
-use Rattle.block_judge.proofs.fuel.least_fuel_in.Goals as goal
+use Rattle.wblock_debug.proofs.fuel.least_fuel_in.Goals as goal
 
 pub returns-in-Ok : goal.returns-in-Ok
 returns-in-Ok g c = λ b spelled.

@@ -7,9 +7,9 @@ use Rattle.spec_block.specs.Worlds.{Contract, order_of}
 use Rattle.serial.specs.Positions.{results_of}
 use Rattle.block_judge.specs.Judging.{Passes}
 use Rattle.world.specs.Views.{world_view}
-use Rattle.block_judge.proofs.Fuels.{fuel_is}
-use Rattle.block_judge.proofs.Prefixes.{length_front, front_below}
-use Rattle.block_judge.proofs.prefix.met_by.Goals as goal
+use Rattle.wblock_debug.proofs.Fuels.{fuel_is}
+use Rattle.wblock_debug.proofs.Prefixes.{length_front, front_below}
+use Rattle.wblock_debug.proofs.prefix.met_by.Goals as goal
 
 pub returns-clause-met : goal.returns-clause-met
 returns-clause-met g c =

@@ -8,7 +8,7 @@ ghost use Rattle.block_judge.specs.Meeting.{IsVerdictWith, Meets, IsAbsent};
 
 use crate::fuel::{fuel_for, limits_in};
 use crate::place::place_of;
-use crate::{JudgeRefusal, judge};
+use block_judge::{JudgeRefusal, judge};
 use call::Call;
 use pace::Pace;
 use serial::serial_core;
