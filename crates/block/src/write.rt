@@ -44,7 +44,7 @@ fn append_positions<A: Allocator>(
 }
 
 /// The number that stands for a version.
-fn number_of(version: Version) -> u32
+pub fn number_of_version(version: Version) -> u32
     ensures { result ≡ version_code version }
 {
     match version {
@@ -58,7 +58,7 @@ fn append_block<A: Allocator>(out: &mut Vec<u8, A>, block: &Block<A>) -> Result<
 {
     block.use_invariant();
     append_u32(out, MAGIC)?;
-    append_u32(out, number_of(block.version()))?;
+    append_u32(out, number_of_version(block.version()))?;
     out.extend_from_slice(block.before())?;
     out.extend_from_slice(block.calls())?;
     append_positions(block.version(), out, block.positions())?;

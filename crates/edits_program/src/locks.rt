@@ -3,11 +3,11 @@
 ghost use Rattle.std.specs.Prelude.{◌≡◌};
 ghost use Rattle.spec_ledger.specs.Modes.{goes_with};
 
-use abstract_locks::Mode;
+use spec_ledger::Mode;
 
-/// As [`abstract_locks::goes_with`].
+/// As [`spec_ledger::goes_with`].
 pub fn goes_with(a: Mode, b: Mode) -> bool
     ensures { result ≡ goes_with a b }
 {
-    abstract_locks::goes_with(a, b)
+    spec_ledger::goes_with(a, b)
 }

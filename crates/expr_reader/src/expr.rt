@@ -5,7 +5,7 @@ ghost use Rattle.spec_binary.specs.Spells.{ExpressionFits};
 ghost use Rattle.laws_modules.specs.ReadingExpressions.{expression_at};
 ghost use Rattle.module_tree.specs.View.{instrs_view, ordinals};
 ghost use Rattle.spec_syntax.specs.Limits.{counts_from};
-ghost use Rattle.expr_reader.specs.Numbering.{Numbered};
+ghost use Rattle.module_tree.specs.Numbering.{Numbered};
 ghost use Rattle.expr_reader.specs.Outcome.{Gives, Unless, NoExpression};
 
 use crate::LoadRefusal;

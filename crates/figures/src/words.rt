@@ -1,10 +1,9 @@
 //! Words and numbers of what is told of a block.
 
 ghost use Rattle.std.specs.Prelude.{◌≡◌, IfOk, string_bytes};
-ghost use Rattle.spec_block.specs.Bytes.{version_code};
 ghost use Rattle.figures.specs.Words.{hundredth, kind_word, lock_text, mode_word};
 
-use spec_ledger::{Kind, Lock, Mode, Version};
+use spec_ledger::{Kind, Lock, Mode};
 use std::alloc::{AllocError, Global};
 
 /// The word of a kind of locks.
@@ -40,16 +39,6 @@ pub fn word_of_mode(mode: Mode) -> &'static str
         Mode::Read => "read",
         Mode::Add => "add",
         Mode::Excl => "excl",
-    }
-}
-
-/// The number of a version.
-pub fn number_of_version(version: Version) -> u32
-    ensures { result ≡ version_code version }
-{
-    match version {
-        Version::One => 1,
-        Version::Two => 2,
     }
 }
 

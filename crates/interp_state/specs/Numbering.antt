@@ -11,12 +11,12 @@ use Rattle.module_tree.specs.declared.instr.Instr.{Instr, Plain, BrTable, Block,
 use Rattle.module_tree.specs.declared.instr.Instr.TheOpen.{Instr-F}
 use Rattle.module_tree.specs.declared.module.Func.{Func}
 use Rattle.module_tree.specs.declared.module.Module.{Module}
-use Rattle.module_tree.specs.View.{instr_view, instrs_view, view_step, instr_ordinals, ordinals, ordinals_step}
+use Rattle.module_tree.specs.View.{instr_view, instrs_view, view_step, instr_ordinals, ordinals, ordinals_step, ordinal_of, ordinal_step}
 use Rattle.module_tree.specs.ModuleView.{func_view, func_ordinals, are_numbered}
 use Rattle.spec_execution.specs.Configuration.{instr_size}
 use Rattle.laws_reduction.specs.Meaning.{Item, numbered}
 use Rattle.interp_state.specs.Steps.{AreNumbered}
-use Rattle.interp_state.specs.Views.{item_of, items_of, ordinal_of, ordinal_step}
+use Rattle.interp_state.specs.Views.{item_of, items_of}
 
 -- an instruction has as many ordinals as its syntax
 abbrev Sized : (A : Type 0) → Instr A → Type 0

@@ -4,7 +4,8 @@ ghost use Rattle.spec_execution.specs.Configuration.{End};
 ghost use Rattle.spec_execution.specs.Turns.{place_in};
 ghost use Rattle.laws_reduction.specs.Meaning.{height, listed};
 ghost use Rattle.laws_reduction.specs.Branches.{in_call};
-ghost use Rattle.interp_state.specs.Views.{open_of, opens_of, items_of, ordinal_of};
+ghost use Rattle.module_tree.specs.View.{ordinal_of};
+ghost use Rattle.interp_state.specs.Views.{open_of, opens_of, items_of};
 ghost use Rattle.interp_state.specs.Innermost.{innermost, function_in};
 
 use crate::branches::up_to_call;

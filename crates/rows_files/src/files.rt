@@ -28,7 +28,7 @@ pub(crate) fn block_bytes(alloc: Global, block: &Block) -> Result<Option<Vec<u8>
     }
     let mut sink = whole_sink(alloc);
     match write_block(alloc, block, &mut sink) {
-        Ok(()) => Ok(Some(sink.bytes().to_vec(alloc)?)),
+        Ok(()) => Ok(Some(sink.into_bytes())),
         Err(_) => Err(Refused::NoMemory),
     }
 }

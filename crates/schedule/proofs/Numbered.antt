@@ -12,11 +12,12 @@ use Rattle.spec_ledger.specs.declared.Entry.{Entry}
 use Rattle.spec_ledger.proofs.Maps.{is_key, key_itself}
 use Rattle.lock_profile.specs.Turns.{IsProfile}
 use Rattle.spec_block.specs.Schedule.{hold_in}
-use Rattle.schedule.specs.declared.lock_turn.LockTurn.{LockTurn}
+use Rattle.lock_profile.specs.declared.lock_turn.LockTurn.{LockTurn}
 use Rattle.schedule.specs.Graph.{list_at, AreGates, IsThrough}
-use Rattle.schedule.specs.Turns.{after, turn_cmp, turn_of, next_turn, behind_gate, behind_turn, AreHeld, AreNumbered, HoldsGate, IsAt, IsHeld, IsHolder}
+use Rattle.lock_profile.specs.LockTurns.{after, turn_cmp, turn_of}
+use Rattle.schedule.specs.Turns.{next_turn, behind_gate, behind_turn, AreHeld, AreNumbered, HoldsGate, IsAt, IsHeld, IsHolder}
 use Rattle.schedule.proofs.Lists.{nothing, rising_none, rising_push}
-use Rattle.schedule.proofs.Places.{turn_cmp_total, turn_cmp-IsAntisymmetric}
+use Rattle.lock_profile.proofs.Places.{turn_cmp_total, turn_cmp-IsAntisymmetric}
 use Rattle.schedule.proofs.Profiles.{found_at, entry_published, later_lock}
 
 at_split : (q : LockTurn) (es : List Entry) (e : Entry) → IsAt q (es ++ e ∷ []) → IsAt q es ⊎ (turn_of e ≡ q)

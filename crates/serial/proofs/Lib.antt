@@ -1,4 +1,3 @@
-pub mod Replies
 pub mod Doing
 pub mod Levels
 pub mod Meeting

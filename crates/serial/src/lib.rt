@@ -3,12 +3,14 @@
 #![tactic(auto)]
 
 mod again;
+mod beginning;
 mod blocks;
 mod contracts;
 mod locks;
 mod playing;
 mod positions;
 mod steps;
+mod storage_loop;
 mod turn_loop;
 
 ghost use Rattle.std.specs.Prelude.{◌≡◌, ◌<◌, ◌↔◌, IfOk, OnErr, IfSome, IfNone, IsSome, length};
@@ -24,9 +26,11 @@ ghost use Rattle.serial.specs.Playing.{AreDone};
 ghost use Rattle.serial.specs.Positions.{results_of};
 
 use crate::again::act_again;
+pub use crate::beginning::{Begun, begin};
 pub use crate::blocks::{build_block, run, run_as};
 pub use crate::locks::touched_by;
 use crate::playing::play;
+pub use crate::storage_loop::{Storage, play_over};
 pub use crate::turn_loop::{HostRequest, next_request};
 use call::Call;
 pub use contracts::copied;
@@ -72,11 +76,7 @@ fn conclude<A: Allocator + Copy>(
     ensures unsettled { cells.new.unsettled ≡ closed_all inverses.items cells.old.unsettled }
 {
     finished.is_played();
-    let receipt = Receipt {
-        outcome: finished.outcome(),
-        used: finished.used(),
-        asks: finished.asks(),
-    };
+    let receipt = finished.receipt();
     let Ok(touched) = touched_by(alloc, finished.trace()) else {
         end_all(cells, inverses, false);
         return Err(NoMemory);

@@ -2,4 +2,3 @@ pub mod Behind
 pub mod Found
 pub mod Touches
 pub mod Calls
-pub mod Following

@@ -24,7 +24,7 @@ use call::Call;
 use link::deployed::Deployed as Contract;
 use serial::Executed;
 use spec_execution::{Access, an_execution_has_a_read_write_set};
-use spec_ledger::{Lock, NoMemory, Receipt, Version};
+use spec_ledger::{Lock, NoMemory, Version};
 use std::alloc::Allocator;
 use storage::{Cells, returned};
 
@@ -72,11 +72,7 @@ pub fn run_over<A: Allocator + Copy, V: Reads>(
     an_execution_has_a_read_write_set();
     let (finished, touches) = play(alloc, contracts, call, view, version)?;
     finished.is_played();
-    let receipt = Receipt {
-        outcome: finished.outcome(),
-        used: finished.used(),
-        asks: finished.asks(),
-    };
+    let receipt = finished.receipt();
     let touched = list(alloc, touches, returned(receipt.outcome), accesses)?;
     Ok(Executed { receipt, touched })
 }

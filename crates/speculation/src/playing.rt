@@ -1,117 +1,58 @@
 // A call that runs, and touches cells.
-ghost use Rattle.std.specs.Prelude.{◌≡◌, [], Ok, true, false, IfOk, OnOk};
-ghost use Rattle.spec_execution.specs.Run.{opening};
+ghost use Rattle.std.specs.Prelude.{◌≡◌, IfOk};
 ghost use Rattle.interp.specs.Callee.{setting_view};
-ghost use Rattle.interp.specs.Starting.{IsOpened, IsRejection};
-ghost use Rattle.interp.specs.Progress.{IsFree, IsSameCall};
-ghost use Rattle.serial.specs.Going.{MayGoOn, IsEnded};
-ghost use Rattle.speculation.specs.Touches.{AreFoundBy, AreTouches, AreTouchesOf, IsPlayedBeside, WereTouchedBy};
+ghost use Rattle.speculation.specs.Touches.{AreFoundBy, AreTouchesOf, IsPlayedBeside};
 
 use crate::Reads;
 use crate::touches::{Touch, act, leave};
 use call::Call;
 use interp::finished::Finished;
-use interp::machine::Machine;
-use interp::start::StartRefusal;
 use link::deployed::Deployed as Contract;
-use serial::{HostRequest, next_request};
-use spec_ledger::{Inverse, Lock, NoMemory, Version};
+use serial::{Storage, play_over};
+use spec_ledger::{Inverse, Lock, NoMemory, Op, Reply, Version};
 use std::alloc::Allocator;
 use std::collections::BTreeMap;
 
-/// Goes on to the next operation, or to the next level that is entered or left, and does it. Answers whether there was one. How many inverses there were
-/// where each open level was entered is noted by the marks, the innermost last.
-fn do_next<'a, A: Allocator + Copy, V: Reads>(
-    machine: &mut Machine<'a, A>,
-    view: &V,
-    touches: &mut BTreeMap<Lock, Touch, A>,
-    inverses: &mut Vec<Inverse, A>,
-    marks: &mut Vec<usize, A>,
-) -> Result<bool, NoMemory>
-    requires free { IsFree machine.old.status }
-    requires touches { AreTouches touches.old.entries inverses.old.items marks.old.items }
-    ensures same { OnOk result (IsSameCall machine.old machine.new) }
-    ensures touches { OnOk result (AreTouchesOf machine.old.trace touches.old.entries inverses.old.items marks.old.items → AreTouchesOf machine.new.trace touches.new.entries inverses.new.items marks.new.items) }
-    ensures read { OnOk result (AreFoundBy (V.may_read view.now) touches.old.entries → AreFoundBy (V.may_read view.now) touches.new.entries) }
-    ensures goes_on { result ≡ Ok true → MayGoOn machine.old machine.new }
-    ensures ended { result ≡ Ok false → IsEnded machine.new.status }
-{
-    let Some(wish) = next_request(machine)? else {
-        return Ok(false);
-    };
-    match wish {
-        HostRequest::Do(op) => {
-            let reply = act(view, touches, inverses, op)?;
-            machine.answer(reply);
-            Ok(true)
-        }
-        HostRequest::Enter => {
-            marks.push(inverses.len())?;
-            Ok(true)
-        }
-        HostRequest::Leave(keep) => {
-            leave(touches, inverses, marks, keep);
-            Ok(true)
-        }
+/// A view that a call runs over, with what the call touched and the inverses of what it did, first to last. The marks are how many inverses there were where
+/// each open level was entered, the innermost last.
+#[derive(Drop)]
+struct OverView<'v, V: Reads, A: Allocator> {
+    view: &'v V,
+    touches: BTreeMap<Lock, Touch, A>,
+    inverses: Vec<Inverse, A>,
+    marks: Vec<usize, A>,
+}
+
+impl<V: Reads, A: Allocator + Copy> Storage for OverView<'_, V, A> {
+    type Refusal = NoMemory;
+
+    ghost led = { λ start trace now. (now.view.now ≡ start.view.now) × (AreTouchesOf trace now.touches.entries now.inverses.items now.marks.items × AreFoundBy (V.may_read now.view.now) now.touches.entries) };
+
+    ghost left = { λ _ _ _. Unit {0} };
+
+    ghost stay = { λ _ _ _ _. tt };
+
+    fn act(&mut self, _asked: u64, op: Op) -> Result<Reply, NoMemory> {
+        let reply = act(self.view, &mut self.touches, &mut self.inverses, op)?;
+        Ok(reply)
+    }
+
+    fn enter(&mut self) -> Result<(), NoMemory> {
+        self.marks.push(self.inverses.len())?;
+        Ok(())
+    }
+
+    fn leave(&mut self, keep: bool) -> Result<(), NoMemory> {
+        leave(&mut self.touches, &mut self.inverses, &mut self.marks, keep);
+        Ok(())
+    }
+
+    fn no_memory() -> NoMemory {
+        NoMemory
     }
 }
 
-/// Runs a call to its end.
-fn run_on<'a, A: Allocator + Copy, V: Reads>(
-    alloc: A,
-    machine: &mut Machine<'a, A>,
-    view: &V,
-) -> Result<BTreeMap<Lock, Touch, A>, NoMemory>
-    requires free { IsFree machine.old.status }
-    requires first { machine.old.trace ≡ [] }
-    ensures same { OnOk result (IsSameCall machine.old machine.new) }
-    ensures ended { OnOk result (IsEnded machine.new.status) }
-    ensures touches { IfOk result (λ touches. WereTouchedBy machine.new.trace touches.entries) }
-    ensures read { IfOk result (λ touches. AreFoundBy (V.may_read view.now) touches.entries) }
-{
-    let mut touches = BTreeMap::new(alloc);
-    let mut inverses = Vec::new(alloc);
-    let mut marks = Vec::new(alloc);
-    'operations: while do_next(machine, view, &mut touches, &mut inverses, &mut marks)? {}
-    Ok(touches)
-}
-
-/// The run of a call that starts, with what it touched.
-fn run<'a, A: Allocator + Copy, V: Reads>(
-    alloc: A,
-    mut machine: Machine<'a, A>,
-    view: &V,
-) -> Result<(Finished<'a, A>, BTreeMap<Lock, Touch, A>), NoMemory>
-    requires free { IsFree machine.status }
-    requires first { machine.trace ≡ [] }
-    ensures played { IfOk result (λ r. IsPlayedBeside machine.entry.setting machine.entry.call r.0 r.1.entries) }
-    ensures read { IfOk result (λ r. AreFoundBy (V.may_read view.now) r.1.entries) }
-{
-    let touches = run_on(alloc, &mut machine, view)?;
-    match machine.finish() {
-        Ok(finished) => Ok((finished, touches)),
-        Err(_) => unreachable!(),
-    }
-}
-
-/// The empty run of a call that does not start.
-fn rejected<'a, A: Allocator + Copy>(
-    alloc: A,
-    contracts: &'a [Contract<A>],
-    call: &'a Call,
-    version: Version,
-) -> Finished<'a, A>
-    requires { ¬ IsOpened (opening (setting_view version contracts.now) call.now) }
-    ensures { IsRejection (setting_view version contracts.now) call.now result }
-{
-    match Finished::rejected(alloc, contracts, call, version) {
-        Some(finished) => finished,
-        None => unreachable!(),
-    }
-}
-
-/// Runs a call over a view by the rules of this version, and answers its run with what it touched. A call without fuel for its first instruction is answered
-/// before an instance is made.
+/// Runs a call over a view by the rules of this version, and answers its run with what it touched.
 pub(crate) fn play<'a, A: Allocator + Copy, V: Reads>(
     alloc: A,
     contracts: &'a [Contract<A>],
@@ -122,15 +63,21 @@ pub(crate) fn play<'a, A: Allocator + Copy, V: Reads>(
     ensures played { IfOk result (λ r. IsPlayedBeside (setting_view version contracts.now) call.now r.0 r.1.entries) }
     ensures read { IfOk result (λ r. AreFoundBy (V.may_read view.now) r.1.entries) }
 {
-    if let Some(finished) = Finished::without_fuel(alloc, contracts, call, version) {
-        return Ok((finished, BTreeMap::new(alloc)));
-    }
-    match Machine::start_as(alloc, contracts, call, version) {
-        Ok(machine) => run(alloc, machine, view),
-        Err(StartRefusal::NoMemory) => Err(NoMemory),
-        Err(_) => Ok((
-            rejected(alloc, contracts, call, version),
-            BTreeMap::new(alloc),
-        )),
-    }
+    let touches = BTreeMap::new(alloc);
+    let inverses = Vec::new(alloc);
+    let marks = Vec::new(alloc);
+    let mut storage = OverView {
+        view,
+        touches,
+        inverses,
+        marks,
+    };
+    let finished = play_over(alloc, contracts, call, version, &mut storage)?;
+    let OverView {
+        view: _,
+        touches,
+        inverses: _,
+        marks: _,
+    } = storage;
+    Ok((finished, touches))
 }

@@ -129,7 +129,7 @@ fn written<A: Allocator>(heap: Global, alloc: A, block: &Block<A>) -> Result<Vec
     }
     let mut sink = MemorySink::new(heap, 1_000_000, Failures::none());
     write_block(alloc, block, &mut sink).or(Err("not written"))?;
-    Ok(sink.bytes().to_vec(heap)?)
+    Ok(sink.into_bytes())
 }
 
 /// A call with 100 of fuel.

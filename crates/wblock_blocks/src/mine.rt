@@ -88,8 +88,7 @@ fn encode_block(alloc: Global, block: &Block) -> Result<Vec<u8>, NoMemory>
     if write_block(alloc, block, &mut sink).is_err() {
         return Err(NoMemory);
     }
-    let bytes = sink.bytes().to_vec(alloc)?;
-    Ok(bytes)
+    Ok(sink.into_bytes())
 }
 
 /// The answer that writes a block and the world after it, and prints the block's lines.

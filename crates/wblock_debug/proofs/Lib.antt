@@ -4,3 +4,6 @@ mod Options
 mod Printing
 mod Telling
 mod Untouched
+mod Fuels
+mod PrefixSums
+mod Prefixes

@@ -8,8 +8,8 @@ ghost use Rattle.wblock_line.specs.Answers.{CountsFault, IsOfFile};
 ghost use Rattle.wblock_line.specs.Rejections.{Rejects};
 ghost use Rattle.wblock_debug.specs.Debugs.{IsText, TellsAbsent, TellsCall, TellsOfBlock, TellsListed, IsBlockName, IsNextRead, IsNotListed, Debugs};
 
-use crate::{Debugging, Printed, debug_call};
-use block_judge::{JudgeRefusal, Reason, met_by};
+use crate::{Debugging, Printed, debug_call, met_by};
+use block_judge::{JudgeRefusal, Reason};
 use call::Call;
 use pace::Pace;
 use spec_ledger::Version;

@@ -7,11 +7,11 @@ ghost use Rattle.wblock_json.specs.Json.{array_of, maybe, numbered};
 ghost use Rattle.wblock_json.specs.Blocks.{block_data, call_data, called_data, calls_of, chain_data, code_data, count_data, entry_data, figures_data, kind_of as kind_in, longest_data, outcome_word, position_data, ratio_data, returned_data, shared_data, speed_up_data, typed_data, value_data, wave_data, waves_data, IsBlockJson};
 
 use crate::values::{digest_of, large_of, null, text_of, with_member, word_of};
-use block::{Block, Position};
+use block::{Block, Position, number_of_version};
 use call::Call;
 use figures::{
-    Chains, Figures, OutcomeCount, OutcomeKind, SharedLock, figures_of, hundredth_of,
-    number_of_version, word_of_kind, word_of_mode,
+    Chains, Figures, OutcomeCount, OutcomeKind, SharedLock, figures_of, hundredth_of, word_of_kind,
+    word_of_mode,
 };
 use serde_json::{Map, Value as Json, json};
 use spec_ledger::{Entry, Outcome};

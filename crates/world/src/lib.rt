@@ -14,4 +14,4 @@ mod write;
 pub use cells::read_cells;
 pub use read::{ReadRefusal, read_world};
 pub use value::World;
-pub use write::{digest_world, encode_world, write_world};
+pub use write::{digest_world, encode_world, is_kind, write_world};

@@ -61,7 +61,8 @@ fn append_contracts<A: Allocator + Copy>(
     Ok(())
 }
 
-fn is_kind(a: Kind, b: Kind) -> bool
+/// Whether these are one kind of locks.
+pub fn is_kind(a: Kind, b: Kind) -> bool
     ensures { result ≡ is_of a b }
 {
     matches!(

@@ -14,9 +14,9 @@ returns-clause-read_write_set g c =
     let call = c.args.call.now in
     let es = c.in_ok-finished.touches.entries in
     let p = c.in_ok-finished.ensures.played in
-    let e = executed_beside setting call c.in_ok-finished.finished es p c.is_played.ensures c.outcome.result c.outcome.ensures c.used.result c.used.ensures c.asks.result c.asks.ensures
+    let e = executed_beside setting call c.in_ok-finished.finished es p c.is_played.ensures c.receipt-receipt.result c.receipt-receipt.ensures
     c.returned.result c.returned.ensures c.in_ok-touched.touched c.in_ok-touched.ensures.touched in
-    subst (λ l. IsReadWriteSet setting call l (record { outcome = c.outcome.result; used = c.used.result; asks = c.asks.result }) c.in_ok-touched.touched) (sym (behind_is c.args.accesses.now.items c.list.new.accesses.items _ c.in_ok-touched.ensures.accesses))
+    subst (λ l. IsReadWriteSet setting call l c.receipt-receipt.result c.in_ok-touched.touched) (sym (behind_is c.args.accesses.now.items c.list.new.accesses.items _ c.in_ok-touched.ensures.accesses))
     (c.an_execution_has_a_read_write_set.ensures.read_write_set _ _ _ _ _ _ (found_are setting call c.in_ok-finished.finished es p) e)
 
 pub returns-clause-told : goal.returns-clause-told

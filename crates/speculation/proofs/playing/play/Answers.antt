@@ -1,31 +1,26 @@
-use Rattle.std.proofs.Common.{IfOk, subst}
-use Rattle.interp.specs.Callee.{setting_view}
-use Rattle.serial.proofs.Meeting.{free_first}
-use Rattle.speculation.specs.Touches.{IsPlayedBeside}
+use Rattle.std.proofs.Common.{[], refl, subst}
+use Rattle.speculation.specs.Touches.{AreFoundBy}
 use Rattle.speculation.proofs.Reading.{none_found}
-use Rattle.speculation.proofs.Wishes.{nothing_played}
+use Rattle.speculation.proofs.Wishes.{by_it, started}
 use Rattle.speculation.proofs.playing.play.Goals as goal
 
-pub run-requires-clause-free : goal.run-requires-clause-free
-run-requires-clause-free g c = free_first c.in-Ok.machine.status c.in-Ok.ensures.start.goes_on
+pub play_over-requires : goal.play_over-requires
+play_over-requires g c = (
+  refl,
+  (
+    started [] c.new-touches.result.entries c.new-inverses.result.items c.new-marks.result.items refl c.new-touches.ensures.empty c.new-inverses.ensures.items c.new-marks.ensures.items,
+    none_found (g.V.Reads.may_read c.args.view.now) c.new-touches.result.entries c.new-touches.ensures.empty,
+  ),
+)
 
-pub returns-in-Some-clause-played : goal.returns-in-Some-clause-played
-returns-in-Some-clause-played g c =
-    let is = c.in-Some.ensures.some in
-    nothing_played (setting_view c.args.version c.args.contracts.now) c.args.call.now c.in-Some.finished c.new.result.entries is.lent is.call_is is.trace c.new.ensures.empty
+pub returns-clause-played : goal.returns-clause-played
+returns-clause-played g c =
+    let now = c.play_over.new.storage in
+    let ran = c.in_ok-finished.ensures in
+    record { lent = ran.setting; call_is = ran.call; touched = by_it c.in_ok-finished.finished.trace now.touches.entries now.inverses.items now.marks.items ran.led.1.0 }
 
-pub returns-in-Ok-clause-played : goal.returns-in-Ok-clause-played
-returns-in-Ok-clause-played g c =
-    subst (λ s. IfOk c.run.result (λ r. IsPlayedBeside s c.args.call.now r.0 r.1.entries)) c.in-Ok.ensures.start.setting
-    (subst (λ x. IfOk c.run.result (λ r. IsPlayedBeside c.in-Ok.machine.setting x r.0 r.1.entries)) c.in-Ok.ensures.start.call_is c.run.ensures.played)
-
-pub returns-in-Err-clause-played : goal.returns-in-Err-clause-played
-returns-in-Err-clause-played g c =
-    let is = c.rejected.ensures in
-    nothing_played (setting_view c.args.version c.args.contracts.now) c.args.call.now c.rejected.result c.new-in-Err.result.entries is.lent is.call_is is.trace c.new-in-Err.ensures.empty
-
-pub returns-in-Some-clause-read : goal.returns-in-Some-clause-read
-returns-in-Some-clause-read g c = none_found (g.V.Reads.may_read c.args.view.now) c.new.result.entries c.new.ensures.empty
-
-pub returns-in-Err-clause-read : goal.returns-in-Err-clause-read
-returns-in-Err-clause-read g c = none_found (g.V.Reads.may_read c.args.view.now) c.new-in-Err.result.entries c.new-in-Err.ensures.empty
+pub returns-clause-read : goal.returns-clause-read
+returns-clause-read g c =
+    let now = c.play_over.new.storage in
+    let led = c.in_ok-finished.ensures.led in
+    subst (λ view. AreFoundBy (g.V.Reads.may_read view) now.touches.entries) led.0 led.1.1

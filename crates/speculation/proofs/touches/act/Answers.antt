@@ -1,7 +1,7 @@
 use Rattle.std.proofs.Common.{refl, ◌∙◌, ap}
 use Rattle.std.specs.FinMap.{get}
 use Rattle.spec_ledger.specs.Modes.{join_held}
-use Rattle.serial.proofs.Replies.{is_reply}
+use Rattle.spec_execution.proofs.Replies.{is_reply}
 use Rattle.speculation.specs.Touches.{modes_of}
 use Rattle.speculation.proofs.Places.{one_cell}
 use Rattle.speculation.proofs.Reading.{one_found}

@@ -1,30 +1,14 @@
-use Rattle.std.proofs.Common.{◌∙◌, sym, ap, refl, length}
+use Rattle.std.proofs.Common.{◌∙◌, ap, refl, length}
 use Rattle.std.specs.Prelude.{Some}
 use Rattle.std.proofs.lemmas.Option.{slice_get_read}
-use Rattle.serial.proofs.Meeting.{free_first}
-use Rattle.validator.proofs.Runs.{is_run}
+use Rattle.serial.proofs.Ending.{is_run}
 use Rattle.validator.proofs.attempt.play.Goals as goal
 
-pub run-requires-clause-free : goal.run-requires-clause-free
-run-requires-clause-free g c κs within = free_first c.in-Ok.machine.status c.in-Ok.ensures.start.goes_on
+pub play_over-requires : goal.play_over-requires
+play_over-requires g c = tt
 
-pub returns-in-Ok : goal.returns-in-Ok
-returns-in-Ok g c =
-    let start = c.in-Ok.ensures.start in
+pub returns : goal.returns
+returns g c =
     let calls = c.args.job.now.ordered.task.calls.now in
     let at = slice_get_read calls (length calls) c.args.number c.index-calls-number.result refl c.requires c.index-calls-number.is in
-    is_run c.run.result _ c.in-Ok.machine.setting _ c.args.number c.in-Ok.machine.call c.run.ensures.setting c.run.ensures.call start.setting (at ∙ ap (λ x. Some x) (sym start.call_is))
-
-pub returns-in-Err : goal.returns-in-Err
-returns-in-Err g c =
-    let r = c.rejected.ensures in
-    let calls = c.args.job.now.ordered.task.calls.now in
-    let at = slice_get_read calls (length calls) c.args.number c.index-calls-number.result refl c.requires c.index-calls-number.is in
-    record { lent = r.lent; call_is = at ∙ ap (λ x. Some x) (sym r.call_is) }
-
-pub returns-in-Some : goal.returns-in-Some
-returns-in-Some g c =
-    let r = c.in-Some.ensures.some in
-    let calls = c.args.job.now.ordered.task.calls.now in
-    let at = slice_get_read calls (length calls) c.args.number c.index-calls-number.result refl c.requires c.index-calls-number.is in
-    record { lent = r.lent; call_is = at ∙ ap (λ x. Some x) (sym r.call_is) }
+    is_run c.play_over.result _ calls c.args.number c.index-calls-number.result c.play_over.ensures.setting c.play_over.ensures.call at
