@@ -221,7 +221,8 @@ fewer_above : (o : Option Slot) (top higher : ℕ) → top ≤ higher → counte
 fewer_above None top higher le none = refl
 fewer_above (Some s) top higher le none =
     let nothing : s.unsettled - top ≡ 0 = sym (number-counter (s.unsettled - top)) ∙ ap number none in
-    ap counter (omega (arith, nothing, le))
+    let higher_yet : s.unsettled - higher ≡ 0 = omega (arith, nothing, le) in
+    ap counter higher_yet
 
 -- a higher top is one, too
 pub tops_higher : (es : List (Lock × Slot)) (top higher : ℕ) → top ≤ higher → counts_in top es ≡ finite.empty → counts_in higher es ≡ finite.empty
@@ -234,8 +235,9 @@ tops_higher es top higher le none = finite.same_map lock_cmp_total lock_cmp-IsAn
 pub tops_written : (m n : BTreeMap Lock Slot) (lock : Lock) (next : Slot) → ((q : Lock) → tree.get lock_cmp n q ≡ cond (eq_by_cmp lock_cmp lock q) (Some next) (tree.get lock_cmp m q))
     → (top : ℕ) → next.unsettled ≤ top → counts_in top m.entries ≡ finite.empty → counts_in top n.entries ≡ finite.empty
 tops_written m n lock next h top le none =
+    let nothing : next.unsettled - top ≡ 0 = omega (arith, le) in
     none_emptied (counts_in top m.entries) (counts_in top n.entries) lock
-    (counts_written m n lock (Some next) h top ∙ ap (λ c. set_at (counts_in top m.entries) lock (counter c)) (omega (arith, le))) none
+    (counts_written m n lock (Some next) h top ∙ ap (λ c. set_at (counts_in top m.entries) lock (counter c)) nothing) none
 
 pub tops-none : (es : List (Lock × Slot)) (top : ℕ) → es ≡ [] → counts_in top es ≡ finite.empty
 tops-none es top e = ap (counts_in top) e
