@@ -40,7 +40,7 @@ use lock_profile::Touched;
 pub use positions::positions_of;
 use spec_ledger::{Inverse, NoMemory, Receipt, Version};
 use std::alloc::{Allocator, Global};
-use storage::{Cells, end_all, returned};
+use storage::{Cells, end_all, end_alone, returned};
 
 /// What calls came to that ran one after another.
 #[derive(Drop)]
@@ -70,7 +70,8 @@ fn conclude<A: Allocator + Copy>(
     cells: &mut Cells<A>,
     inverses: Vec<Inverse, A>,
 ) -> Result<Executed<A>, NoMemory>
-    requires { AreUnsettled inverses.items cells.old.unsettled }
+    requires unsettled { AreUnsettled inverses.items cells.old.unsettled }
+    requires alone { closed_all inverses.items cells.old.unsettled ≡ finite.empty }
     ensures executed { IfOk result (λ e. (start : Store) → AreDone start finished.now.trace cells.old inverses.items → start.unsettled ≡ finite.empty → AreCells start.cells → Executes finished.now.setting finished.now.call start.cells cells.new.cells e.receipt e.touched) }
     ensures err { OnErr result (cells.new.cells ≡ back_all inverses.items cells.old.cells) }
     ensures unsettled { cells.new.unsettled ≡ closed_all inverses.items cells.old.unsettled }
@@ -81,7 +82,7 @@ fn conclude<A: Allocator + Copy>(
         end_all(cells, inverses, false);
         return Err(NoMemory);
     };
-    end_all(cells, inverses, returned(receipt.outcome));
+    end_alone(cells, inverses, returned(receipt.outcome));
     Ok(Executed { receipt, touched })
 }
 
