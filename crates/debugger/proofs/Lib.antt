@@ -5,3 +5,4 @@ pub mod Replies
 pub mod Keeping
 pub mod Spacing
 pub mod Places
+mod Finding

@@ -10,6 +10,7 @@ mod kept;
 pub mod session;
 mod undo;
 
+pub use crate::breaks::Place;
 /// A contract, as the machine takes it.
 pub use link::deployed::Deployed as Contract;
 

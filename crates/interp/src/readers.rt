@@ -13,7 +13,7 @@ use instance::Instance;
 use interp_state::callee::Callee;
 use interp_state::copies::{copy_parts, copy_waiting};
 use interp_state::places::{height_of_call, place_in_code};
-use module_tree::module::Module;
+use link::deployed::Deployed;
 use spec_ledger::{NoMemory, Outcome, TraceStep};
 use std::alloc::Allocator;
 use thiserror::Error;
@@ -309,7 +309,7 @@ fn copy_run<'a, A: Allocator + Copy>(run: &Run<'a, A>) -> Result<Run<'a, A>, NoM
 
 impl<'a, A: Allocator + Copy> Machine<'a, A> {
     ghost use Rattle.std.specs.Prelude.{◌≡◌, IfOk, length};
-    ghost use Rattle.module_tree.specs.Modules.{module_view};
+    ghost use Rattle.interp.specs.Callee.{contract_view, contracts_view};
     ghost use Rattle.spec_execution.specs.Turns.{state_of};
     ghost use Rattle.std.specs.Prelude.{◌↔◌, IsTrue};
     ghost use Rattle.spec_execution.specs.Levels.{asks_in};
@@ -328,11 +328,18 @@ impl<'a, A: Allocator + Copy> Machine<'a, A> {
         Ok(Machine { run })
     }
 
-    /// The module of the contract that is called.
-    pub fn module(&self) -> &'a Module<A>
-        ensures { module_view result.now ≡ self.now.contract.deployed.tree }
+    /// The contract that is called.
+    pub fn deployed(&self) -> &'a Deployed<A>
+        ensures { contract_view result.now ≡ self.now.contract.deployed }
     {
-        self.run.deployed.module()
+        self.run.deployed
+    }
+
+    /// The contracts that calls run over, in the order of their numbers.
+    pub fn contracts(&self) -> &'a [Deployed<A>]
+        ensures { contracts_view result.now ≡ self.now.setting.contracts }
+    {
+        self.run.contracts
     }
 
     /// The fuel that is used, which is the number of turns that were made.
