@@ -6,3 +6,4 @@ pub mod Keeping
 pub mod Spacing
 pub mod Places
 mod Finding
+mod Untouched

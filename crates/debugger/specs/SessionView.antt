@@ -1,10 +1,11 @@
 -- What a debugger's session shows.
-use Rattle.std.specs.Prelude.{◌≡◌, ℕ, List, Option, Some, None, IsSome, length, refl}
+use Rattle.std.specs.Prelude.{◌≡◌, ℕ, Bool, true, List, Option, Some, None, IsSome, if◌then◌else◌, length, refl}
 use Rattle.std.specs.Coded.{Coded, code_by, coded×, coded_ℕ, coded_list}
 use Rattle.wtypes.specs.declared.Value.{Value}
 use Rattle.spec_ledger.specs.contracts.TraceStep as step
 use Rattle.spec_ledger.specs.declared.Outcome.{Outcome}
 use Rattle.spec_ledger.specs.declared.TraceStep.{TraceStep}
+use Rattle.spec_ledger.specs.Book.{after, has_returned}
 use Rattle.spec_ledger.specs.Cells.{Cells}
 use Rattle.spec_ledger.specs.Codes.{coded_cells}
 use Rattle.spec_execution.specs.Configuration.{Setting, Contract, State, Config}
@@ -78,6 +79,15 @@ level_at s = length s.config.outer
 -- how many levels were entered
 abbrev pub asks_at : SessionView → ℕ
 asks_at s = asks_in s.trace
+
+-- whether what a call has done stands: while it runs, and where it has returned
+abbrev pub stands : Option Outcome → Bool
+stands None = true
+stands (Some o) = has_returned o
+
+-- the cells that stand: those after its operations, but for those of levels that were dropped, or else those at the start
+abbrev pub cells_at : SessionView → Cells
+cells_at s = if stands (ending_at s) then after s.trace s.cells else s.cells
 
 -- where a break may hold: at the place, in the contract that the innermost level runs
 abbrev pub break_place_at : SessionView → Option Place

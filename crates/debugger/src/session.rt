@@ -5,7 +5,7 @@ ghost use Rattle.interp.specs.Progress.{IsSameCall};
 ghost use Rattle.interp.specs.Shown.{ending, AreReadOf};
 ghost use Rattle.debugger.specs.Breaks.{is_set_at, instr_there, function_of};
 ghost use Rattle.debugger.specs.Cursors.{IsAt, IsSameRun};
-ghost use Rattle.debugger.specs.SessionView.{break_place_shown, memory_shown};
+ghost use Rattle.debugger.specs.SessionView.{break_place_shown, memory_shown, stands};
 ghost use Rattle.debugger.specs.Keeping.{IsOfRun, AreKept, next_turns, IsEarlier, HasNoBreakBetween};
 
 use crate::Contract;
@@ -16,7 +16,7 @@ use call::Call;
 use interp::readers::BytesRefusal;
 use interp::start::StartRefusal;
 use module_tree::module::ExportDesc;
-use spec_ledger::{NoMemory, Outcome, Version};
+use spec_ledger::{NoMemory, Outcome, TraceStep, Version};
 use std::alloc::Allocator;
 use std::marker::Model;
 use storage::Cells;
@@ -164,6 +164,17 @@ fn is_place<'a, A: Allocator + Copy>(cursor: &Cursor<'a, A>, place: Place) -> bo
     }
 }
 
+// Whether what a call has done stands: while it runs, and where it has returned.
+fn stands(ending: Option<Outcome>) -> bool
+    ensures { result ≡ stands ending }
+{
+    match ending {
+        None => true,
+        Some(Outcome::Returned(_)) => true,
+        Some(_) => false,
+    }
+}
+
 // The number of the function that is exported.
 fn function_of(desc: Option<ExportDesc>) -> Option<u32>
     ensures { result ≡ function_of (option_map export_desc_view desc) }
@@ -232,11 +243,14 @@ fn go_on<'a, A: Allocator + Copy>(
 }
 
 impl<'a, A: Allocator + Copy> Session<'a, A> {
-    ghost use Rattle.std.specs.Prelude.{◌≡◌, IfOk, IfErr};
+    ghost use Rattle.std.specs.Prelude.{◌≡◌, None, IfOk, IfErr};
+    ghost use Rattle.std.specs.FinMap.{get};
+    ghost use Rattle.spec_ledger.specs.declared.Lock.{Lock};
+    ghost use Rattle.spec_ledger.specs.Modes.{touched};
     ghost use Rattle.spec_execution.specs.Run.{opening};
     ghost use Rattle.interp.specs.Callee.{setting_view};
     ghost use Rattle.interp.specs.Starting.{IsRefusedFor, HasPlace, wrong_in};
-    ghost use Rattle.debugger.specs.SessionView.{IsSessionView, ending_at, place_at, contract_at, level_at, asks_at, stack_at, locals_at, globals_at};
+    ghost use Rattle.debugger.specs.SessionView.{IsSessionView, ending_at, place_at, contract_at, level_at, asks_at, cells_at, stack_at, locals_at, globals_at};
     ghost use Rattle.debugger.specs.Breaks.{exported_function};
     ghost use Rattle.debugger.specs.Commands.{IsOpened, Steps, GoesBack, Continues, Breaks, Clears, Reads};
 
@@ -418,6 +432,34 @@ impl<'a, A: Allocator + Copy> Session<'a, A> {
         ensures { result ≡ asks_at self.now }
     {
         self.here.machine.entered()
+    }
+
+    /// The operations that the call has asked for with their replies, and the marks of levels.
+    pub fn trace(&self) -> &[TraceStep]
+        ensures { result.now ≡ self.now.trace }
+    {
+        self.here.machine.trace()
+    }
+
+    /// The cells at the start.
+    pub fn start(&self) -> &Cells<A>
+        ensures { result.now.cells ≡ self.now.cells }
+    {
+        self.here.start
+    }
+
+    /// The cells that stand: those after the operations of the call, but for those of levels that were dropped; after an end other
+    /// than a return those at the start. A cell whose lock the call has not asked for is as it was at the start.
+    pub fn cells(&self) -> &Cells<A>
+        ensures cells { result.now.cells ≡ cells_at self.now }
+        ensures others { (lock : Lock) → get (touched self.now.trace) lock ≡ None → get (cells_at self.now) lock ≡ get self.now.cells lock }
+    {
+        self.here.start.use_invariant();
+        if stands(self.here.machine.ending()) {
+            &self.here.cells
+        } else {
+            self.here.start
+        }
     }
 
     /// The values of the innermost frame, bottom first. After the end they are the returned value, if there is one.

@@ -400,6 +400,13 @@ impl<'a, A: Allocator + Copy> Machine<'a, A> {
         self.run.call.contract()
     }
 
+    /// The operations with their replies, and the marks of levels.
+    pub fn trace(&self) -> &[TraceStep]
+        ensures { result.now ≡ self.now.trace }
+    {
+        &self.run.trace
+    }
+
     /// How many levels were entered.
     pub fn entered(&self) -> u32
         ensures { result ≡ asks_in self.now.trace }

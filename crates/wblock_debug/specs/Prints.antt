@@ -13,8 +13,8 @@ use Rattle.debugger.specs.declared.session.Refusal.TheVariants as refusal
 use Rattle.wblock_debug.specs.declared.spot.Spot.{Spot}
 use Rattle.wblock_debug.specs.declared.spot.Spot.TheVariants.{Own, Of, Exported}
 use Rattle.wblock_debug.specs.declared.command.Command.{Command}
-use Rattle.wblock_debug.specs.declared.command.Command.TheVariants.{Step, Back, Cont, Place, Break, Clear, Stack, Locals, Globals, Bytes}
-use Rattle.wblock_debug.specs.Lines.{state_line, values_line, bytes_line, ok_line, refusal_line, start_line}
+use Rattle.wblock_debug.specs.declared.command.Command.TheVariants.{Step, Back, Cont, Place, Break, Clear, Stack, Locals, Globals, Bytes, Cells as CellsShown}
+use Rattle.wblock_debug.specs.Lines.{cells_text, OthersAreAsBefore, state_line, values_line, bytes_line, ok_line, refusal_line, start_line}
 use Rattle.wblock_debug.specs.declared.perform.Said.{Said}
 use Rattle.wblock_debug.specs.declared.printed.Printed.{Printed}
 use Rattle.wblock_debug.specs.declared.perform.Said.TheVariants as said
@@ -37,7 +37,7 @@ abbrev pub without_break_at : List Place → Option Place → List Place
 without_break_at breaks None = breaks
 without_break_at breaks (Some p) = without_break breaks p
 
--- A command that is done leads from one state to another, and prints a line: what is read of the state that it comes to.
+-- A command that is done leads from one state to another, and prints a line, or several: what is read of the state that it comes to.
 abbrev pub Does : Command → SessionView → SessionView → List ℕ → Type 0
 Does (Step n) s t line = ((made : ℕ) × HasStepped s n made t) × (line ≡ state_line t)
 Does (Back n) s t line = HasGoneBack s n t × (line ≡ state_line t)
@@ -48,6 +48,7 @@ Does (Clear spot) s t line = IsSome (instr_named s spot) × (t ≡ record s { br
 Does Stack s t line = (t ≡ s) × (line ≡ values_line (codes "stack") (stack_at t))
 Does Locals s t line = (t ≡ s) × (line ≡ values_line (codes "locals") (locals_at t))
 Does Globals s t line = (t ≡ s) × (line ≡ values_line (codes "globals") (globals_at t))
+Does CellsShown s t line = (t ≡ s) × (line ≡ cells_text t) × OthersAreAsBefore t
 Does (Bytes from n) s t line = (t ≡ s) × (from + n ≤ length (memory_at t)) × (line ≡ bytes_line (take n (drop from (memory_at t))))
 
 -- a command that is refused, and why

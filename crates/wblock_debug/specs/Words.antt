@@ -6,7 +6,7 @@ use Rattle.wblock_line.specs.Words.{Choice}
 use Rattle.wblock_debug.specs.declared.spot.Spot.{Spot}
 use Rattle.wblock_debug.specs.declared.spot.Spot.TheVariants.{Own, Of, Exported}
 use Rattle.wblock_debug.specs.declared.command.Command.{Command}
-use Rattle.wblock_debug.specs.declared.command.Command.TheVariants.{Step, Back, Cont, Place, Break, Clear, Stack, Locals, Globals, Bytes}
+use Rattle.wblock_debug.specs.declared.command.Command.TheVariants.{Step, Back, Cont, Place, Break, Clear, Stack, Locals, Globals, Bytes, Cells}
 
 -- `NAME:N`
 abbrev pub with_number : List ℕ → ℕ → List ℕ
@@ -52,6 +52,7 @@ word_of (Clear spot) = codes "clear" ++ 58 ∷ spot_text spot
 word_of Stack = codes "stack"
 word_of Locals = codes "locals"
 word_of Globals = codes "globals"
+word_of Cells = codes "cells"
 word_of (Bytes from n) = with_numbers (codes "bytes") from n
 
 -- numbers have 64 bits, but for those of places
@@ -66,6 +67,7 @@ IsInRange Place = Unit {0}
 IsInRange Stack = Unit {0}
 IsInRange Locals = Unit {0}
 IsInRange Globals = Unit {0}
+IsInRange Cells = Unit {0}
 
 -- the word spells the command
 pub record Spells (word : List ℕ) (c : Command) : Type 0 where
@@ -85,7 +87,7 @@ abbrev pub HasNoColon : List ℕ → Type 0
 HasNoColon word = AllByRecursion (λ b. b ≢ 58) word
 
 abbrev pub IsNotPlain : List ℕ → Type 0
-IsNotPlain word = (word ≢ codes "cont") × (word ≢ codes "place") × (word ≢ codes "stack") × (word ≢ codes "locals") × (word ≢ codes "globals")
+IsNotPlain word = (word ≢ codes "cont") × (word ≢ codes "place") × (word ≢ codes "stack") × (word ≢ codes "locals") × (word ≢ codes "globals") × (word ≢ codes "cells")
 
 abbrev pub IsNoMove : List ℕ → Type 0
 IsNoMove word = (n : ℕ) → n < 2 ^ 64 → (word ≢ word_of (Step n)) × (word ≢ word_of (Back n))

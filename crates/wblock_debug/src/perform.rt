@@ -3,6 +3,7 @@
 ghost use Rattle.std.specs.Prelude.{◌≡◌, IfOk};
 ghost use Rattle.wblock_debug.specs.Prints.{Performs, place_named};
 
+use crate::effects::cells_text_of;
 use crate::lines::{bytes_line_of, state_line_of, values_line_of};
 use crate::{Command, Spot};
 use debugger::Place;
@@ -13,7 +14,7 @@ use wtypes::NoMemory;
 /// What a command prints.
 #[derive(Debug, Drop)]
 pub(crate) enum Said<A: Allocator> {
-    /// This line, with its newline.
+    /// This line or these lines, each with its newline.
     Line(String<A>),
     /// That it is refused.
     Refused(Refusal),
@@ -154,6 +155,7 @@ pub(crate) fn perform<A: Allocator + Copy>(
         Command::Stack => Ok(Said::Line(values_line_of(alloc, "stack", session.stack())?)),
         Command::Locals => Ok(Said::Line(values_line_of(alloc, "locals", session.locals())?)),
         Command::Globals => Ok(Said::Line(values_line_of(alloc, "globals", session.globals())?)),
+        Command::Cells => Ok(Said::Line(cells_text_of(alloc, session)?)),
         Command::Bytes(from, count) => bytes(alloc, session, from, count),
     }
 }
