@@ -14,6 +14,8 @@ use Rattle.spec_execution.specs.Levels.{Level, Levels, asks_in}
 use Rattle.spec_execution.specs.Turns.{shown, state_of, stack_of, locals_of, place_of}
 use Rattle.spec_execution.specs.Turning.{IsState}
 use Rattle.interp.specs.Codes.{coded_setting, coded_contract, coded_levels, coded_call}
+use Rattle.interp.specs.declared.frames.OpenFrame.{OpenFrame}
+use Rattle.interp.specs.Chains.{chain}
 use Rattle.interp.specs.Progress.{Progress}
 use Rattle.interp.specs.Shown.{ending_of, unless_ended, place_shown, outermost}
 use Rattle.debugger.specs.contracts.breaks.Place as place
@@ -79,6 +81,10 @@ level_at s = length s.config.outer
 -- how many levels were entered
 abbrev pub asks_at : SessionView → ℕ
 asks_at s = asks_in s.trace
+
+-- the frames that are open at all levels, from the outer level on, each with what it goes on with
+abbrev pub frames_at : SessionView → List OpenFrame
+frames_at s = chain s.config
 
 -- whether what a call has done stands: while it runs, and where it has returned
 abbrev pub stands : Option Outcome → Bool

@@ -11,6 +11,8 @@ pub mod session;
 mod undo;
 
 pub use crate::breaks::Place;
+/// A frame that is open.
+pub use interp::frames::OpenFrame;
 /// A contract, as the machine takes it.
 pub use link::deployed::Deployed as Contract;
 

@@ -13,6 +13,7 @@ use crate::breaks::{Place, clear_break, has_break, set_break};
 use crate::cursor::{Cursor, copy, make_turns, open};
 use crate::kept::{Kept, nearest, none_kept, turn_and_keep};
 use call::Call;
+use interp::frames::OpenFrame;
 use interp::readers::BytesRefusal;
 use interp::start::StartRefusal;
 use module_tree::module::ExportDesc;
@@ -250,7 +251,7 @@ impl<'a, A: Allocator + Copy> Session<'a, A> {
     ghost use Rattle.spec_execution.specs.Run.{opening};
     ghost use Rattle.interp.specs.Callee.{setting_view};
     ghost use Rattle.interp.specs.Starting.{IsRefusedFor, HasPlace, wrong_in};
-    ghost use Rattle.debugger.specs.SessionView.{IsSessionView, ending_at, place_at, contract_at, level_at, asks_at, cells_at, stack_at, locals_at, globals_at};
+    ghost use Rattle.debugger.specs.SessionView.{IsSessionView, ending_at, place_at, contract_at, level_at, asks_at, cells_at, frames_at, stack_at, locals_at, globals_at};
     ghost use Rattle.debugger.specs.Breaks.{exported_function};
     ghost use Rattle.debugger.specs.Commands.{IsOpened, Steps, GoesBack, Continues, Breaks, Clears, Reads};
 
@@ -432,6 +433,19 @@ impl<'a, A: Allocator + Copy> Session<'a, A> {
         ensures { result ≡ asks_at self.now }
     {
         self.here.machine.entered()
+    }
+
+    /// The frames that are open at all levels, from the outer level and its outer frame on, each with the instruction that it goes
+    /// on with once those inside it are left. Where the call has returned or trapped there is none; where the fuel is out they are
+    /// those that were open.
+    ///
+    /// # Errors
+    ///
+    /// Memory was refused.
+    pub fn frames(&self) -> Result<Vec<OpenFrame, A>, NoMemory>
+        ensures { IfOk result (λ frames. frames.items ≡ frames_at self.now) }
+    {
+        self.here.machine.frames()
     }
 
     /// The operations that the call has asked for with their replies, and the marks of levels.

@@ -5,7 +5,7 @@ ghost use Rattle.spec_execution.specs.Turns.{place_in};
 ghost use Rattle.laws_reduction.specs.Meaning.{height, listed};
 ghost use Rattle.laws_reduction.specs.Branches.{in_call};
 ghost use Rattle.interp_state.specs.Views.{open_of, opens_of, items_of, ordinal_of};
-ghost use Rattle.interp_state.specs.Innermost.{innermost, function_in};
+ghost use Rattle.interp_state.specs.Innermost.{innermost, first_ordinal, function_in};
 
 use crate::branches::up_to_call;
 use crate::parts::{Entry, Kind, Parts};
@@ -35,6 +35,16 @@ fn ordinal<A: Allocator + Copy>(instr: &Instr<A>) -> u32
         Instr::Block(ordinal, _, _) => *ordinal,
         Instr::Loop(ordinal, _, _) => *ordinal,
         Instr::If(ordinal, _, _, _) => *ordinal,
+    }
+}
+
+/// The ordinal of the first of these instructions.
+pub fn next_ordinal<A: Allocator + Copy>(code: &[Instr<A>]) -> Option<u32>
+    ensures { result ≡ first_ordinal (items_of code.now) }
+{
+    match code {
+        [] => None,
+        [instr, ..] => Some(ordinal(instr)),
     }
 }
 

@@ -13,8 +13,8 @@ use Rattle.debugger.specs.declared.session.Refusal.TheVariants as refusal
 use Rattle.wblock_debug.specs.declared.spot.Spot.{Spot}
 use Rattle.wblock_debug.specs.declared.spot.Spot.TheVariants.{Own, Of, Exported}
 use Rattle.wblock_debug.specs.declared.command.Command.{Command}
-use Rattle.wblock_debug.specs.declared.command.Command.TheVariants.{Step, Back, Cont, Place, Break, Clear, Stack, Locals, Globals, Bytes, Cells as CellsShown}
-use Rattle.wblock_debug.specs.Lines.{cells_text, OthersAreAsBefore, state_line, values_line, bytes_line, ok_line, refusal_line, start_line}
+use Rattle.wblock_debug.specs.declared.command.Command.TheVariants.{Step, Back, Cont, Place, Break, Clear, Stack, Locals, Globals, Bytes, Cells as CellsShown, Where}
+use Rattle.wblock_debug.specs.Lines.{cells_text, OthersAreAsBefore, where_text, state_line, values_line, bytes_line, ok_line, refusal_line, start_line}
 use Rattle.wblock_debug.specs.declared.perform.Said.{Said}
 use Rattle.wblock_debug.specs.declared.printed.Printed.{Printed}
 use Rattle.wblock_debug.specs.declared.perform.Said.TheVariants as said
@@ -49,6 +49,7 @@ Does Stack s t line = (t ≡ s) × (line ≡ values_line (codes "stack") (stack_
 Does Locals s t line = (t ≡ s) × (line ≡ values_line (codes "locals") (locals_at t))
 Does Globals s t line = (t ≡ s) × (line ≡ values_line (codes "globals") (globals_at t))
 Does CellsShown s t line = (t ≡ s) × (line ≡ cells_text t) × OthersAreAsBefore t
+Does Where s t line = (t ≡ s) × (line ≡ where_text t)
 Does (Bytes from n) s t line = (t ≡ s) × (from + n ≤ length (memory_at t)) × (line ≡ bytes_line (take n (drop from (memory_at t))))
 
 -- a command that is refused, and why

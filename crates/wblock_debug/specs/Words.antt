@@ -6,7 +6,7 @@ use Rattle.wblock_line.specs.Words.{Choice}
 use Rattle.wblock_debug.specs.declared.spot.Spot.{Spot}
 use Rattle.wblock_debug.specs.declared.spot.Spot.TheVariants.{Own, Of, Exported}
 use Rattle.wblock_debug.specs.declared.command.Command.{Command}
-use Rattle.wblock_debug.specs.declared.command.Command.TheVariants.{Step, Back, Cont, Place, Break, Clear, Stack, Locals, Globals, Bytes, Cells}
+use Rattle.wblock_debug.specs.declared.command.Command.TheVariants.{Step, Back, Cont, Place, Break, Clear, Stack, Locals, Globals, Bytes, Cells, Where}
 
 -- `NAME:N`
 abbrev pub with_number : List ℕ → ℕ → List ℕ
@@ -53,6 +53,7 @@ word_of Stack = codes "stack"
 word_of Locals = codes "locals"
 word_of Globals = codes "globals"
 word_of Cells = codes "cells"
+word_of Where = codes "where"
 word_of (Bytes from n) = with_numbers (codes "bytes") from n
 
 -- numbers have 64 bits, but for those of places
@@ -68,6 +69,7 @@ IsInRange Stack = Unit {0}
 IsInRange Locals = Unit {0}
 IsInRange Globals = Unit {0}
 IsInRange Cells = Unit {0}
+IsInRange Where = Unit {0}
 
 -- the word spells the command
 pub record Spells (word : List ℕ) (c : Command) : Type 0 where
@@ -87,7 +89,7 @@ abbrev pub HasNoColon : List ℕ → Type 0
 HasNoColon word = AllByRecursion (λ b. b ≢ 58) word
 
 abbrev pub IsNotPlain : List ℕ → Type 0
-IsNotPlain word = (word ≢ codes "cont") × (word ≢ codes "place") × (word ≢ codes "stack") × (word ≢ codes "locals") × (word ≢ codes "globals") × (word ≢ codes "cells")
+IsNotPlain word = (word ≢ codes "cont") × (word ≢ codes "place") × (word ≢ codes "stack") × (word ≢ codes "locals") × (word ≢ codes "globals") × (word ≢ codes "cells") × (word ≢ codes "where")
 
 abbrev pub IsNoMove : List ℕ → Type 0
 IsNoMove word = (n : ℕ) → n < 2 ^ 64 → (word ≢ word_of (Step n)) × (word ≢ word_of (Back n))

@@ -33,6 +33,8 @@ pub enum Command<'w> {
     Globals,
     /// `cells`: shows the cells that stand otherwise than at the start.
     Cells,
+    /// `where`: shows the frames that are open at all levels.
+    Where,
     /// `bytes:FROM:N`: shows so many bytes from this address on of the same level's memory.
     Bytes(u64, u64),
 }
@@ -65,6 +67,9 @@ fn plain_of<'w>(word: &str) -> Option<Command<'w>>
     }
     if is_word(word, "cells") {
         return Some(Command::Cells);
+    }
+    if is_word(word, "where") {
+        return Some(Command::Where);
     }
     None
 }
@@ -117,7 +122,7 @@ fn bytes_of<'w>(alloc: Global, word: &str) -> Result<Option<Command<'w>>, AllocE
 }
 
 /// The command that a word spells: `step:N`, `back:N`, `cont`, `place`, `break:F:O`, `break:C:F:O`, `break:NAME:O`, `clear` with the same, `stack`, `locals`,
-/// `globals`, `cells` or `bytes:FROM:N`. Numbers are decimal with no needless zero, C, F and O of 32 bits and the others of 64. NAME is all that stands before the last
+/// `globals`, `cells`, `where` or `bytes:FROM:N`. Numbers are decimal with no needless zero, C, F and O of 32 bits and the others of 64. NAME is all that stands before the last
 /// colon, and neither a number of 32 bits nor two with a colon between them. None where the word spells none.
 pub fn command_of<'w>(alloc: Global, word: &'w str) -> Result<Option<Command<'w>>, AllocError>
     ensures { IfOk result (λ found. MatchOption found ((c : Asked) → ¬ Spells word.entry.now c) (Spells word.entry.now)) }

@@ -3,7 +3,7 @@
 ghost use Rattle.std.specs.Prelude.{◌≡◌, Some, IfOk, OnOk, string_bytes};
 ghost use Rattle.lock_profile.specs.Groups.{pair_of, pairs};
 ghost use Rattle.wblock_debug.specs.Lines.{cells_text, OthersAreAsBefore};
-ghost use Rattle.wblock_debug.specs.Effects.{cell_text, change_line, change_lines, effects_text, is_same, lock_line, lock_lines};
+ghost use Rattle.wblock_debug.specs.Effects.{change_line, change_lines, effects_text, is_same, lock_line, lock_lines, number_text};
 
 use debugger::session::Session;
 use figures::{lock_text_of, word_of_mode};
@@ -16,12 +16,12 @@ use storage::Cells;
 use wblock_calls::ReceiptText;
 use wtypes::NoMemory;
 
-/// The number in a cell, printed in decimal, or as `-` where the cell is absent.
+/// A number, printed in decimal, or as `-` where there is none.
 #[derive(Clone, Copy)]
-struct CellText(Option<u64>);
+pub(crate) struct NumberText(pub(crate) Option<u64>);
 
-impl fmt::Display for CellText {
-    ghost output = { λ c. Some (cell_text c.0) };
+impl fmt::Display for NumberText {
+    ghost output = { λ c. Some (number_text c.0) };
 
     fn fmt<W: fmt::Write>(&self, f: &mut fmt::Formatter<W>) -> fmt::Result {
         match self.0 {
@@ -77,8 +77,8 @@ fn change_line_of<A: Allocator + Copy>(
         return Ok(String::new(alloc));
     }
     let lock = lock_text_of(alloc, lock)?;
-    let before = CellText(before);
-    let later = CellText(later);
+    let before = NumberText(before);
+    let later = NumberText(later);
     let line = format!(in alloc; "{lock} {before} -> {later}\n")?;
     Ok(line)
 }

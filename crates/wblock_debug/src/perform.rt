@@ -4,7 +4,7 @@ ghost use Rattle.std.specs.Prelude.{◌≡◌, IfOk};
 ghost use Rattle.wblock_debug.specs.Prints.{Performs, place_named};
 
 use crate::effects::cells_text_of;
-use crate::lines::{bytes_line_of, state_line_of, values_line_of};
+use crate::lines::{bytes_line_of, state_line_of, values_line_of, where_text_of};
 use crate::{Command, Spot};
 use debugger::Place;
 use debugger::session::{Refusal, Session};
@@ -156,6 +156,7 @@ pub(crate) fn perform<A: Allocator + Copy>(
         Command::Locals => Ok(Said::Line(values_line_of(alloc, "locals", session.locals())?)),
         Command::Globals => Ok(Said::Line(values_line_of(alloc, "globals", session.globals())?)),
         Command::Cells => Ok(Said::Line(cells_text_of(alloc, session)?)),
+        Command::Where => Ok(Said::Line(where_text_of(alloc, session)?)),
         Command::Bytes(from, count) => bytes(alloc, session, from, count),
     }
 }
