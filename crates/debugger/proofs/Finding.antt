@@ -7,7 +7,7 @@ use Rattle.link.specs.Parts.{tree_of}
 use Rattle.module_tree.specs.Modules.{module_view}
 use Rattle.spec_execution.specs.Configuration.{Deployed}
 use Rattle.interp.specs.Callee.{contract_view, contracts_view}
-use Rattle.debugger.specs.declared.breaks.Place.{Place}
+use Rattle.debugger.specs.declared.place.Place.{Place}
 use Rattle.debugger.specs.Breaks.{instr_of, instr_there}
 
 module _ {A : Type 0} (lent : List (in_memory.Deployed A)) (contracts : List Deployed) (is : contracts_view lent ≡ contracts) (p : Place) where

@@ -14,7 +14,7 @@ use Rattle.spec_execution.specs.Turns.{shown, place_of}
 use Rattle.spec_execution.specs.Turning.{Turned, opened, turned, IsState}
 use Rattle.interp.specs.Progress.{Progress}
 use Rattle.interp.specs.Shown.{ending, ending_of}
-use Rattle.debugger.specs.declared.breaks.Place.{Place}
+use Rattle.debugger.specs.declared.place.Place.{Place}
 use Rattle.debugger.specs.declared.cursor.Cursor.{Cursor}
 use Rattle.debugger.specs.declared.kept.Kept.{Kept}
 use Rattle.debugger.specs.Breaks.{is_set_at, placed}

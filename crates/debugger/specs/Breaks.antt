@@ -6,7 +6,7 @@ use Rattle.spec_syntax.specs.Shape.{instr_at}
 use Rattle.spec_execution.specs.Configuration.{Deployed}
 use Rattle.spec_execution.specs.Run.{exported}
 use Rattle.module_tree.specs.Readers.{defined_func}
-use Rattle.debugger.specs.declared.breaks.Place.{Place}
+use Rattle.debugger.specs.declared.place.Place.{Place}
 
 abbrev pub is_same : Place → Place → Bool
 is_same p q = ((p.contract == q.contract) && (p.func == q.func)) && (p.ordinal == q.ordinal)
@@ -28,9 +28,12 @@ with_break bs p = if is_set bs p then bs else bs ++ p ∷ []
 abbrev pub without_break : List Place → Place → List Place
 without_break bs p = filter (λ b. not (is_same b p)) bs
 
+abbrev pub place_in : (contract func ordinal : ℕ) → Place
+place_in contract func ordinal = record { contract = contract; func = func; ordinal = ordinal }
+
 -- a function and an ordinal, as a place of the contract of this number
 abbrev pub placed : ℕ → Option (ℕ × ℕ) → Option Place
-placed number place = option_map (λ x. record { contract = number; func = x.0; ordinal = x.1 }) place
+placed contract place = option_map (λ x. place_in contract x.0 x.1) place
 
 -- the instruction of this ordinal in the body of a function of the module's own
 abbrev pub instr_of : Module → (func ordinal : ℕ) → Option Instr

@@ -1,6 +1,6 @@
 -- What the commands of a session do.
 use Rattle.std.specs.Prelude.{◌≡◌, ℕ, ◌+◌, ◌*◌, ◌<◌, ◌≤◌, ◌⊎◌, false, true, List, [], Result, Ok, Err, None, IsSome, take, drop, length, Vec}
-use Rattle.debugger.specs.declared.breaks.Place.{Place}
+use Rattle.debugger.specs.declared.place.Place.{Place}
 use Rattle.debugger.specs.declared.session.Refusal.{Refusal}
 use Rattle.debugger.specs.declared.session.Refusal.TheVariants.{BeforeStart, NoSuchPlace, OutOfRange, NoMemory}
 use Rattle.spec_ledger.specs.Cells.{Cells}

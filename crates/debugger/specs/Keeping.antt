@@ -1,6 +1,6 @@
 -- What a session keeps.
 use Rattle.std.specs.Prelude.{◌≡◌, ℕ, ◌+◌, ◌*◌, ◌<◌, ◌≤◌, ◌⊎◌, false, List, [], ◌∷◌, length, All}
-use Rattle.debugger.specs.declared.breaks.Place.{Place}
+use Rattle.debugger.specs.declared.place.Place.{Place}
 use Rattle.debugger.specs.declared.cursor.Cursor.{Cursor}
 use Rattle.debugger.specs.declared.kept.Kept.{Kept}
 use Rattle.debugger.specs.SessionView.{SessionView, IsSessionView, session_view_of, break_place_at}

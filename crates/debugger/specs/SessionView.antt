@@ -18,8 +18,8 @@ use Rattle.interp.specs.declared.frames.OpenFrame.{OpenFrame}
 use Rattle.interp.specs.Chains.{chain}
 use Rattle.interp.specs.Progress.{Progress}
 use Rattle.interp.specs.Shown.{ending_of, unless_ended, place_shown, outermost}
-use Rattle.debugger.specs.contracts.breaks.Place as place
-use Rattle.debugger.specs.declared.breaks.Place.{Place}
+use Rattle.debugger.specs.contracts.place.Place as place
+use Rattle.debugger.specs.declared.place.Place.{Place}
 use Rattle.debugger.specs.Breaks.{placed}
 
 -- a call alone over cells, how many of its turns were made, with which steps, and the configuration that it has come to; and the breaks

@@ -1,20 +1,10 @@
-// Places of instructions, and breaks at them.
+// Breaks.
 ghost use Rattle.std.specs.Prelude.{◌≡◌, OnErr, OnOk};
 ghost use Rattle.debugger.specs.Breaks.{is_same, is_set, with_break, without_break};
 
+use crate::place::Place;
 use spec_ledger::NoMemory;
 use std::alloc::Allocator;
-
-/// The place of an instruction.
-#[derive(Clone, Copy, Debug, PartialEq, Eq)]
-pub struct Place {
-    /// The number of the contract.
-    pub contract: u32,
-    /// The number of the function, imports counted first.
-    pub func: u32,
-    /// The ordinal of the instruction in the body, from 0.
-    pub ordinal: u32,
-}
 
 fn is_the_same(a: Place, b: Place) -> bool
     ensures { result ≡ is_same a b }

@@ -7,10 +7,11 @@ ghost use Rattle.debugger.specs.SessionView.{StatesHavePlaces};
 mod breaks;
 mod cursor;
 mod kept;
+mod place;
 pub mod session;
 mod undo;
 
-pub use crate::breaks::Place;
+pub use crate::place::Place;
 /// A frame that is open.
 pub use interp::frames::OpenFrame;
 /// A contract, as the machine takes it.

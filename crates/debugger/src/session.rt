@@ -9,9 +9,10 @@ ghost use Rattle.debugger.specs.SessionView.{break_place_shown, memory_shown, st
 ghost use Rattle.debugger.specs.Keeping.{IsOfRun, AreKept, next_turns, IsEarlier, HasNoBreakBetween};
 
 use crate::Contract;
-use crate::breaks::{Place, clear_break, has_break, set_break};
+use crate::breaks::{clear_break, has_break, set_break};
 use crate::cursor::{Cursor, copy, make_turns, open};
 use crate::kept::{Kept, nearest, none_kept, turn_and_keep};
+use crate::place::Place;
 use call::Call;
 use interp::frames::OpenFrame;
 use interp::readers::BytesRefusal;

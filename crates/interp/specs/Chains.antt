@@ -6,9 +6,12 @@ use Rattle.interp_state.specs.Unwinding.{part_frames}
 use Rattle.interp.specs.declared.frames.OpenFrame.{OpenFrame}
 use Rattle.interp.specs.declared.run.Level as waiting
 
--- as frames of a level, around which so many are, and of the contract that it runs
+-- as a frame of a level, around which so many are, and of the contract that it runs
+abbrev pub frame_in : (level contract : ℕ) → ℕ × Option ℕ → OpenFrame
+frame_in level contract frame = record { contract = contract; level = level; func = frame.0; ordinal = frame.1 }
+
 abbrev pub in_level : (level contract : ℕ) → List (ℕ × Option ℕ) → List OpenFrame
-in_level level contract frames = map (λ f. record { contract = contract; level = level; func = f.0; ordinal = f.1 }) frames
+in_level level contract frames = map (frame_in level contract) frames
 
 abbrev pub chain_from : ℕ → List Level → List OpenFrame
 chain_from n [] = []
