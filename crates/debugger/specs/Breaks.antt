@@ -28,12 +28,12 @@ with_break bs p = if is_set bs p then bs else bs ++ p ∷ []
 abbrev pub without_break : List Place → Place → List Place
 without_break bs p = filter (λ b. not (is_same b p)) bs
 
-abbrev pub place_in : (contract func ordinal : ℕ) → Place
-place_in contract func ordinal = record { contract = contract; func = func; ordinal = ordinal }
+abbrev pub as_place : (contract func ordinal : ℕ) → Place
+as_place contract func ordinal = record { contract = contract; func = func; ordinal = ordinal }
 
 -- a function and an ordinal, as a place of the contract of this number
 abbrev pub placed : ℕ → Option (ℕ × ℕ) → Option Place
-placed contract place = option_map (λ x. place_in contract x.0 x.1) place
+placed contract place = option_map (λ x. as_place contract x.0 x.1) place
 
 -- the instruction of this ordinal in the body of a function of the module's own
 abbrev pub instr_of : Module → (func ordinal : ℕ) → Option Instr

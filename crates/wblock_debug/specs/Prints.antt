@@ -5,7 +5,7 @@ use Rattle.spec_execution.specs.Configuration.{Setting}
 use Rattle.spec_execution.specs.Run.{ContractCall, opening, Refused}
 use Rattle.spec_syntax.specs.Syntax.{Instr}
 use Rattle.debugger.specs.declared.place.Place.{Place}
-use Rattle.debugger.specs.Breaks.{place_in, with_break, without_break, instr_there, exported_function}
+use Rattle.debugger.specs.Breaks.{as_place, with_break, without_break, instr_there, exported_function}
 use Rattle.debugger.specs.SessionView.{SessionView, IsSessionView, stack_at, locals_at, globals_at, memory_at}
 use Rattle.debugger.specs.Commands.{IsOpened, HasStepped, HasGoneBack, HasContinued}
 use Rattle.debugger.specs.declared.session.Refusal.{Refusal}
@@ -21,9 +21,9 @@ use Rattle.wblock_debug.specs.declared.perform.Said.TheVariants as said
 
 -- the place that a spot names: a function of the contract that is called, by its number or its name, or a function of another one
 abbrev pub place_named : SessionView → Spot → Option Place
-place_named s (Own f o) = Some (place_in s.call.contract f o)
-place_named s (Of c f o) = Some (place_in c f o)
-place_named s (Exported name o) = option_map (λ f. place_in s.call.contract f o) (exported_function s.contract.deployed.tree name.now)
+place_named s (Own f o) = Some (as_place s.call.contract f o)
+place_named s (Of c f o) = Some (as_place c f o)
+place_named s (Exported name o) = option_map (λ f. as_place s.call.contract f o) (exported_function s.contract.deployed.tree name.now)
 
 -- the instruction there
 abbrev pub instr_named : SessionView → Spot → Option Instr
