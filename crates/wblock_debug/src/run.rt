@@ -153,8 +153,8 @@ fn refuse_start<A: Allocator + Copy>(
     })
 }
 
-/// What the commands print of the call alone over the cells, by the rules of this version: a line for each, one after another. It is `K at F O` (at level 1 and above `K at F O in C level L`) or `K done RECEIPT` for a
-/// command that moves or asks for the place, `ok` for one that sets or clears a break, a name and the values, the bytes or the cells for one that shows
+/// What the commands print of the call alone over the cells, by the rules of this version: the line or the lines of each, one after another. It is `K at F O` (at level 1 and above `K at F O in C level L`) or `K done RECEIPT` for a
+/// command that moves or asks for the place, `ok` for one that sets or clears a break, a name and the values, the bytes, the cells or the frames for one that shows
 /// them, and `refused N` for one that is refused. The line is `refused start N` where the call does not start.
 ///
 /// # Errors
