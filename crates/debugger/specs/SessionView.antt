@@ -14,7 +14,7 @@ use Rattle.spec_execution.specs.Levels.{Level, Levels, asks_in}
 use Rattle.spec_execution.specs.Turns.{shown, state_of, stack_of, locals_of, place_of}
 use Rattle.spec_execution.specs.Turning.{IsState}
 use Rattle.interp.specs.Codes.{coded_setting, coded_contract, coded_levels, coded_call}
-use Rattle.interp.specs.declared.frames.OpenFrame.{OpenFrame}
+use Rattle.interp_state.specs.declared.frames.OpenFrame.{OpenFrame}
 use Rattle.interp.specs.Chains.{chain}
 use Rattle.interp.specs.Progress.{Progress}
 use Rattle.interp.specs.Shown.{ending_of, unless_ended, place_shown, outermost}

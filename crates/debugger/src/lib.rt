@@ -13,7 +13,7 @@ mod undo;
 
 pub use crate::place::Place;
 /// A frame that is open.
-pub use interp::frames::OpenFrame;
+pub use interp_state::frames::OpenFrame;
 /// A contract, as the machine takes it.
 pub use link::deployed::Deployed as Contract;
 

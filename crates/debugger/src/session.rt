@@ -8,13 +8,12 @@ ghost use Rattle.debugger.specs.Cursors.{IsAt, IsSameRun};
 ghost use Rattle.debugger.specs.SessionView.{break_place_shown, memory_shown, stands};
 ghost use Rattle.debugger.specs.Keeping.{IsOfRun, AreKept, next_turns, IsEarlier, HasNoBreakBetween};
 
-use crate::Contract;
 use crate::breaks::{clear_break, has_break, set_break};
 use crate::cursor::{Cursor, copy, make_turns, open};
 use crate::kept::{Kept, nearest, none_kept, turn_and_keep};
 use crate::place::Place;
+use crate::{Contract, OpenFrame};
 use call::Call;
-use interp::frames::OpenFrame;
 use interp::readers::BytesRefusal;
 use interp::start::StartRefusal;
 use module_tree::module::ExportDesc;

@@ -8,17 +8,17 @@ use Rattle.spec_execution.specs.Configuration.{Invoke, End}
 use Rattle.spec_execution.specs.Levels as spec
 use Rattle.laws_reduction.specs.Meaning.{listed, sequence, invoking}
 use Rattle.laws_reduction.specs.Tails.{with_tail}
-use Rattle.interp_state.specs.Frames.{frames_of}
+use Rattle.interp_state.specs.Frames.{frames_of, in_level}
+use Rattle.interp_state.specs.declared.frames.OpenFrame.{OpenFrame}
 use Rattle.interp_state.specs.Unwinding.{frames_from, part_frames}
 use Rattle.interp_state.specs.Views.{opens_of, items_of}
 use Rattle.interp_state.specs.Waiting.{tail_of}
 use Rattle.interp_state.proofs.Unwinding.{next_listed, frames_listed, frames_whole, frames_joined, frames_tail}
 use Rattle.interp.specs.declared.turns.Status.{Status}
 use Rattle.interp.specs.declared.turns.Status.TheVariants as status
-use Rattle.interp.specs.declared.frames.OpenFrame.{OpenFrame}
 use Rattle.interp.specs.declared.run.Level.{Level}
 use Rattle.interp.specs.declared.run.Run.{Run}
-use Rattle.interp.specs.Chains.{in_level, chain_from, chain, waiting_frames}
+use Rattle.interp.specs.Chains.{chain_from, chain, waiting_frames}
 use Rattle.interp.specs.Machine.{config_at, progress}
 use Rattle.interp.specs.Run.{args_of, level_of, levels_of, seen, view_of}
 

@@ -1,17 +1,10 @@
 -- The frames of all levels of a call that runs.
-use Rattle.std.specs.Prelude.{ℕ, ◌+◌, List, [], ◌∷◌, ◌++◌, Option, map, reverse}
+use Rattle.std.specs.Prelude.{ℕ, ◌+◌, List, [], ◌∷◌, ◌++◌, reverse}
 use Rattle.spec_execution.specs.Levels.{Level, Levels}
-use Rattle.interp_state.specs.Frames.{frames_of}
+use Rattle.interp_state.specs.Frames.{frames_of, in_level}
 use Rattle.interp_state.specs.Unwinding.{part_frames}
-use Rattle.interp.specs.declared.frames.OpenFrame.{OpenFrame}
+use Rattle.interp_state.specs.declared.frames.OpenFrame.{OpenFrame}
 use Rattle.interp.specs.declared.run.Level as waiting
-
--- as a frame of a level, around which so many are, and of the contract that it runs
-abbrev pub frame_in : (level contract : ℕ) → ℕ × Option ℕ → OpenFrame
-frame_in level contract frame = record { contract = contract; level = level; func = frame.0; ordinal = frame.1 }
-
-abbrev pub in_level : (level contract : ℕ) → List (ℕ × Option ℕ) → List OpenFrame
-in_level level contract frames = map (frame_in level contract) frames
 
 abbrev pub chain_from : ℕ → List Level → List OpenFrame
 chain_from n [] = []

@@ -1,7 +1,7 @@
 // The frames that are open in a machine, over its levels.
-ghost use Rattle.std.specs.Prelude.{◌≡◌, ◌++◌, IfOk, OnOk};
+ghost use Rattle.std.specs.Prelude.{◌≡◌, IfOk};
 ghost use Rattle.interp_state.specs.Frames.{frames_of};
-ghost use Rattle.interp.specs.Chains.{chain, in_level};
+ghost use Rattle.interp.specs.Chains.{chain};
 ghost use Rattle.interp.specs.Machine.{progress};
 ghost use Rattle.interp.specs.Progress.{GoesOn};
 ghost use Rattle.interp.specs.Run.{seen};
@@ -9,43 +9,9 @@ ghost use Rattle.interp.specs.Run.{seen};
 use crate::machine::Machine;
 use crate::run::Run;
 use crate::turns::Status;
-use interp_state::frames::frames_of;
+use interp_state::frames::{OpenFrame, add_frames, frames_of};
 use spec_ledger::NoMemory;
 use std::alloc::Allocator;
-
-/// A frame that is open.
-#[derive(Clone, Copy, Debug, PartialEq, Eq)]
-pub struct OpenFrame {
-    /// The number of the contract that its level runs.
-    pub contract: u32,
-    /// How many levels are around its level.
-    pub level: usize,
-    /// The number of its function.
-    pub func: u32,
-    /// The ordinal of the instruction that it goes on with, once the frames and the levels inside it are left. None at the end of its body.
-    pub ordinal: Option<u32>,
-}
-
-// Adds frames of a level, of the contract that it runs.
-fn add_frames<A: Allocator + Copy>(
-    chain: &mut Vec<OpenFrame, A>,
-    level: usize,
-    contract: u32,
-    frames: &[(u32, Option<u32>)],
-) -> Result<(), NoMemory>
-    ensures { OnOk result (chain.new.items ≡ chain.old.items ++ in_level level contract frames.now) }
-{
-    for frame in frames {
-        let (func, ordinal) = *frame;
-        chain.push(OpenFrame {
-            contract,
-            level,
-            func,
-            ordinal,
-        })?;
-    }
-    Ok(())
-}
 
 // The frames of the innermost level. One that has trapped has none.
 fn innermost_frames<'a, A: Allocator + Copy>(

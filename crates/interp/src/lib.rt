@@ -2,7 +2,7 @@
 #![tactic(auto)]
 
 pub mod finished;
-pub mod frames;
+mod frames;
 mod functions;
 mod imports;
 mod levels;

@@ -1,5 +1,5 @@
 // What a debugger reads off a machine.
-ghost use Rattle.std.specs.Prelude.{◌≡◌, ◌↔◌, ◌<◌, ◌≤◌, ◌+◌, IfOk, IsTrue, length, drop, vec_len, vec_capacity};
+ghost use Rattle.std.specs.Prelude.{◌≡◌, ◌↔◌, ◌<◌, ◌≤◌, ◌+◌, IfOk, IsTrue, length, vec_len, vec_capacity};
 ghost use Rattle.spec_execution.specs.Turns.{state_of};
 ghost use Rattle.interp.specs.Machine.{progress};
 ghost use Rattle.interp.specs.Run.{seen, IsKept};
@@ -12,7 +12,7 @@ use crate::turns::Status;
 use instance::Instance;
 use interp_state::callee::Callee;
 use interp_state::copies::{copy_parts, copy_waiting};
-use interp_state::places::{height_of_call, place_in_code};
+use interp_state::places::{above, height_of_call, place_in_code};
 use link::deployed::Deployed;
 use spec_ledger::{NoMemory, Outcome, TraceStep};
 use std::alloc::Allocator;
@@ -69,17 +69,6 @@ fn has_run_out<'a, A: Allocator + Copy>(run: &Run<'a, A>) -> bool
     ensures { IsShown run.now.status → result ≡ is_out (ending (progress (seen run.now))) }
 {
     matches!(ending_of_run(run), Some(Outcome::OutOfFuel))
-}
-
-// The values from this one on.
-fn above(stack: &[Value], height: usize) -> &[Value]
-    ensures { height ≤ length stack.now → result.now ≡ drop height stack.now }
-{
-    if height <= stack.len() {
-        &stack[height..]
-    } else {
-        &[]
-    }
 }
 
 // Whether there are values to show: while the run goes on, and where it has returned.

@@ -1,6 +1,7 @@
 -- The frames in a sequence, and what each goes on with (Core 4.2.12, Stack).
-use Rattle.std.specs.Prelude.{ℕ, List, [], ◌∷◌, Option, Some, None}
+use Rattle.std.specs.Prelude.{ℕ, List, [], ◌∷◌, Option, Some, None, map}
 use Rattle.spec_execution.specs.Configuration.{Seq, End, Val, Code, Free, Label, Frame, Invoke, Config, Running, Trap}
+use Rattle.interp_state.specs.declared.frames.OpenFrame.{OpenFrame}
 
 -- the first of two that is there
 abbrev pub first_of : Option ℕ → Option ℕ → Option ℕ
@@ -30,3 +31,10 @@ frames_in (Invoke f rest) = []
 abbrev pub frames_of : Config → List (ℕ × Option ℕ)
 frames_of (Running s seq) = frames_in seq
 frames_of (Trap s t) = []
+
+-- as a frame of a level, around which so many are, and of the contract that it runs
+abbrev pub frame_in : (level contract : ℕ) → ℕ × Option ℕ → OpenFrame
+frame_in level contract frame = record { contract = contract; level = level; func = frame.0; ordinal = frame.1 }
+
+abbrev pub in_level : (level contract : ℕ) → List (ℕ × Option ℕ) → List OpenFrame
+in_level level contract frames = map (frame_in level contract) frames

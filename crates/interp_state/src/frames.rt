@@ -1,6 +1,6 @@
 // The frames that are open, and what each goes on with.
 ghost use Rattle.std.specs.Prelude.{◌≡◌, ◌++◌, IfOk, OnOk, reverse};
-ghost use Rattle.interp_state.specs.Frames.{first_of};
+ghost use Rattle.interp_state.specs.Frames.{first_of, in_level};
 ghost use Rattle.interp_state.specs.Unwinding.{frame_at, next_out, part_frames};
 ghost use Rattle.interp_state.specs.Views.{items_of, scope_of};
 
@@ -8,6 +8,19 @@ use crate::blocks::behind;
 use crate::parts::{Entry, Kind, Parts};
 use crate::places::next_ordinal;
 use std::alloc::{AllocError, Allocator};
+
+/// A frame that is open.
+#[derive(Clone, Copy, Debug, PartialEq, Eq)]
+pub struct OpenFrame {
+    /// The number of the contract that its level runs.
+    pub contract: u32,
+    /// How many levels are around its level.
+    pub level: usize,
+    /// The number of its function.
+    pub func: u32,
+    /// The ordinal of the instruction that it goes on with, once the frames and the levels inside it are left. None at the end of its body.
+    pub ordinal: Option<u32>,
+}
 
 // The first of two ordinals that is there.
 fn first_of(first: Option<u32>, second: Option<u32>) -> Option<u32>
@@ -56,4 +69,25 @@ pub fn frames_of<'a, A: Allocator + Copy>(
     }
     frames.reverse();
     Ok(frames)
+}
+
+/// Adds frames of a level, around which so many are, and of the contract that it runs.
+pub fn add_frames<A: Allocator + Copy>(
+    chain: &mut Vec<OpenFrame, A>,
+    level: usize,
+    contract: u32,
+    frames: &[(u32, Option<u32>)],
+) -> Result<(), AllocError>
+    ensures { OnOk result (chain.new.items ≡ chain.old.items ++ in_level level contract frames.now) }
+{
+    for frame in frames {
+        let (func, ordinal) = *frame;
+        chain.push(OpenFrame {
+            contract,
+            level,
+            func,
+            ordinal,
+        })?;
+    }
+    Ok(())
 }

@@ -1,5 +1,5 @@
 // The innermost call, and the place of the code that is left in it.
-ghost use Rattle.std.specs.Prelude.{◌≡◌, option_map};
+ghost use Rattle.std.specs.Prelude.{◌≡◌, ◌≤◌, drop, length, option_map};
 ghost use Rattle.spec_execution.specs.Configuration.{End};
 ghost use Rattle.spec_execution.specs.Turns.{place_in};
 ghost use Rattle.laws_reduction.specs.Meaning.{height, listed};
@@ -11,6 +11,7 @@ use crate::branches::up_to_call;
 use crate::parts::{Entry, Kind, Parts};
 use module_tree::instr::Instr;
 use std::alloc::Allocator;
+use wtypes::Value;
 
 // The innermost call that is open.
 fn innermost_call<'b, 'a, A: Allocator + Copy>(
@@ -68,5 +69,16 @@ pub fn place_in_code<'a, A: Allocator + Copy>(parts: &Parts<'a, A>) -> Option<(u
     match &entry.kind {
         Kind::Frame(func, _) => Some((*func, ordinal(instr))),
         Kind::Block | Kind::Loop => None,
+    }
+}
+
+/// The values from this one on.
+pub fn above(stack: &[Value], height: usize) -> &[Value]
+    ensures { height ≤ length stack.now → result.now ≡ drop height stack.now }
+{
+    if height <= stack.len() {
+        &stack[height..]
+    } else {
+        &[]
     }
 }

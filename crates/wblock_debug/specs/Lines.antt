@@ -6,7 +6,7 @@ use Rattle.std.specs.FinMap.{entries, get}
 use Rattle.spec_ledger.specs.declared.Lock.{Lock}
 use Rattle.spec_ledger.specs.declared.Outcome.{Outcome}
 use Rattle.spec_ledger.specs.Modes.{touched}
-use Rattle.interp.specs.declared.frames.OpenFrame.{OpenFrame}
+use Rattle.interp_state.specs.declared.frames.OpenFrame.{OpenFrame}
 use Rattle.debugger.specs.SessionView.{SessionView, ending_at, place_at, contract_at, level_at, asks_at, cells_at, frames_at}
 use Rattle.debugger.specs.declared.session.Refusal.{Refusal}
 use Rattle.debugger.specs.Commands.{code_of}
