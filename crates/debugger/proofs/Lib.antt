@@ -4,3 +4,5 @@ pub mod Undoing
 pub mod Keeping
 pub mod Spacing
 pub mod Places
+mod Finding
+mod Untouched

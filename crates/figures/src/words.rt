@@ -4,7 +4,7 @@ ghost use Rattle.std.specs.Prelude.{◌≡◌, IfOk, string_bytes};
 ghost use Rattle.figures.specs.Words.{hundredth, kind_word, lock_text, mode_word};
 
 use spec_ledger::{Kind, Lock, Mode};
-use std::alloc::{AllocError, Global};
+use std::alloc::{AllocError, Allocator, Global};
 
 /// The word of a kind of locks.
 pub fn word_of_kind(kind: Kind) -> &'static str
@@ -21,7 +21,7 @@ pub fn word_of_kind(kind: Kind) -> &'static str
 /// # Errors
 ///
 /// The allocator refused memory.
-pub fn lock_text_of(alloc: Global, lock: Lock) -> Result<String, AllocError>
+pub fn lock_text_of<A: Allocator>(alloc: A, lock: Lock) -> Result<String<A>, AllocError>
     ensures { IfOk result (λ text. string_bytes text ≡ lock_text lock) }
 {
     let kind = word_of_kind(lock.kind);

@@ -2,6 +2,7 @@ mod Colons
 mod Lists
 mod Options
 mod Printing
+mod Spots
 mod Telling
 mod Untouched
 mod Fuels

@@ -15,6 +15,7 @@ mod place;
 mod prefix;
 mod printed;
 mod run;
+mod spot;
 
 pub use asked::{Debugging, debugging_of};
 pub use called::{Calling, calling_of};
@@ -24,3 +25,4 @@ pub use one_call::call_world;
 pub use prefix::{Met, met_by};
 pub use printed::Printed;
 pub use run::debug_call;
+pub use spot::Spot;
