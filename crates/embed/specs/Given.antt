@@ -28,7 +28,7 @@ pub record IsNothing (bytes : List ℕ) : Type 0 where
 -- the bytes of the world with the contract that the module is behind its own
 pub record IsExtension (world code bytes : List ℕ) : Type 0 where
   pub contract : Contract
-  pub module : IsContractOf code contract.tree contract.hosts
+  pub is_contract : IsContractOf code contract.tree contract.hosts
   pub has : HasWorld world (λ w. bytes ≡ world_bytes (extended w (contract ∷ [])))
 
 abbrev pub IsDigestOf : (world : List ℕ) → (digest : List ℕ) → Type 0

@@ -54,12 +54,7 @@ fn mine_over(
 /// # Errors
 ///
 /// Why the bytes spell no world, or the text no calls; or memory was refused, or a call touched 2^32 locks or more.
-pub fn mine(
-    alloc: Global,
-    world: &[u8],
-    calls: &[u8],
-    fuel: u64,
-) -> Result<BlockAndWorld, Failure>
+pub fn mine(alloc: Global, world: &[u8], calls: &[u8], fuel: u64) -> Result<BlockAndWorld, Failure>
     ensures mined { IfOk result (λ made. Mines world.now calls.now fuel made.block.items made.next.items) }
     ensures refused { IfErr result (λ f. IfRefused f (RefusesInputs world.now calls.now)) }
 {
@@ -73,12 +68,13 @@ pub fn mine(
 fn reject(alloc: Global, block: &[u8], reason: Reason) -> Failure
     ensures { IfRefused result (λ r. r ≡ told.refusal subject.Block (place (judged.told reason)) (judged.place_in (judged.told reason))) }
 {
-    Refusal::at(
-        Subject::Block,
-        u32::from(reason.number()),
-        reason.place().map(u64::from),
-    )
-    .with_sentence(reason_words(alloc, block, reason))
+    let place = match reason.place() {
+        Some(place) => Some(u64::from(place)),
+        None => None,
+    };
+    Refusal::at(Subject::Block, u32::from(reason.number()), place).with_sentence(reason_words(
+        alloc, block, reason,
+    ))
 }
 
 /// The world after a block of calls over a world, where it is accepted.

@@ -15,7 +15,9 @@ use std::alloc::{AllocError, Global};
 use std::str::from_utf8;
 use text_resolve::AsmRefusal;
 use wblock_line::Stop;
-use wblock_modules::{Found, count_functions, find_text, front_of, numbered, place_of_fault, spell};
+use wblock_modules::{
+    Found, count_functions, find_text, front_of, numbered, place_of_fault, spell,
+};
 use wblock_words::text_words;
 
 /// How many functions the valid module of these bytes defines.
@@ -40,8 +42,9 @@ fn refuse_text(alloc: Global, text: &str, refusal: AsmRefusal) -> Failure
 {
     match numbered(refusal) {
         Some((number, place)) => {
-            Refusal::at(Subject::Assemble, u32::from(number), Some(place as u64))
-                .with_sentence(text_words(alloc, text, refusal))
+            Refusal::at(Subject::Assemble, u32::from(number), Some(place as u64)).with_sentence(
+                text_words(alloc, text, refusal),
+            )
         }
         None => Failure::NoMemory,
     }
@@ -87,10 +90,12 @@ pub fn text_of(alloc: Global, module: &[u8]) -> Result<String, Failure>
 {
     match find_text(alloc, false, module) {
         Ok(Found::Text(text)) => Ok(text),
-        Ok(Found::TooLong) => Err(Refusal::at(Subject::Text, 1, None)
-            .with_sentence(Found::TooLong.advice().to_string(alloc))),
-        Ok(Found::Unwritten) => Err(Refusal::at(Subject::Text, 2, None)
-            .with_sentence(Found::Unwritten.advice().to_string(alloc))),
+        Ok(Found::TooLong) => Err(Refusal::at(Subject::Text, 1, None).with_sentence(
+            Found::TooLong.advice().to_string(alloc),
+        )),
+        Ok(Found::Unwritten) => Err(Refusal::at(Subject::Text, 2, None).with_sentence(
+            Found::Unwritten.advice().to_string(alloc),
+        )),
         Err(Stop::Refused(refusal)) => Err(refuse_module(alloc, module, refusal)),
         Err(Stop::NoMemory) => Err(Failure::NoMemory),
     }

@@ -35,8 +35,8 @@ returns g c =
     let ran = results_of core.receipts.items core.touched.items in
     let setting = setting_view c.version.result c.contracts.result.now in
     let run =
-        run_of world t.calls.now block setting t.order.now c.cells.result.now.cells ran core.cells.cells (λ k. record { contracts = c.contracts.ensures.contracts k; version = c.version.ensures k })
-        c.requires.trial.trial.order c.cells.ensures c.in_ok-serial_core.ensures.serial in
+    run_of world t.calls.now block setting t.order.now c.cells.result.now.cells ran core.cells.cells (λ k. record { contracts = c.contracts.ensures.contracts k; version = c.version.ensures k })
+    c.requires.trial.trial.order c.cells.ensures c.in_ok-serial_core.ensures.serial in
     first_of_all t _ c.requires.fit
     (c.verdict_by.ensures world t.calls.now t.fuel core.receipts.items core.touched.items core.cells.cells
     (record {
