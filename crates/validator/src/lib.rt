@@ -206,17 +206,17 @@ fn spelled_for<A: Allocator + Copy>(
 /// The verdict on a block that was read, by the caller alone. No call runs of a block that its order, its limits, its digests or its turns speak against.
 fn verdict_alone<A: Allocator + Copy>(
     alloc: A,
-    trial: &Trial<'_, A>,
+    tried: &Trial<'_, A>,
 ) -> Result<Validated<A>, NoMemory>
-    requires trial { IsTrial trial.now }
-    ensures { IfOk result (λ found. IsFirst trial.now (verdict_view found.verdict)) }
+    requires { IsTrial tried.now }
+    ensures { IfOk result (λ found. IsFirst tried.now (verdict_view found.verdict)) }
 {
-    match judge_order(alloc, trial.calls, trial.fuel, trial.order) {
-        Ok(()) => match trial.judge(alloc) {
-            Ok(()) => end_alone(alloc, trial),
+    match judge_order(alloc, tried.calls, tried.fuel, tried.order) {
+        Ok(()) => match tried.judge(alloc) {
+            Ok(()) => end_alone(alloc, tried),
             Err(unfit) => verdict_on(unfit),
         },
-        Err(JudgeRefusal::Rejected(reason)) => verdict_on(first_unfit(alloc, trial, reason)),
+        Err(JudgeRefusal::Rejected(reason)) => verdict_on(first_unfit(alloc, tried, reason)),
         Err(JudgeRefusal::NoMemory) => Err(NoMemory),
     }
 }
