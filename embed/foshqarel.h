@@ -45,7 +45,7 @@ extern "C" {
 #define FOSHQAREL_ASSEMBLE 4 /* a text that names no module: number 1 to 6, place a character from 0, or the number of the limit */
 #define FOSHQAREL_TEXT 5     /* a module without a text: number 1 or 2 */
 #define FOSHQAREL_WORLD 6    /* bytes that spell no world: number 1 or 2, place a byte from 0 */
-#define FOSHQAREL_CALLS 7    /* a text that spells no calls: number 1 or 2, place a line from 1 */
+#define FOSHQAREL_CALLS 7    /* a text that spells no calls: number 1 or 2, place a line from 1; or that lacks the call asked for: number 3, place how many there are */
 #define FOSHQAREL_BLOCK 8    /* a block that is rejected: number 1 to 9, the first reason that holds, place a position or a call */
 
 /* No place: of `place` and `function`. */
@@ -74,7 +74,7 @@ uint32_t foshqarel_text(const uint8_t *module, size_t module_size, uint8_t *text
 
 /* ---- Worlds ---- */
 
-/* The world of no contracts and no cells. It is refused nothing. */
+/* The world of no contracts and no cells. Nothing is refused. */
 uint32_t foshqarel_world_new(uint8_t *world, size_t world_room, struct foshqarel_told *told);
 
 /* The world with the contract that a module is behind its own: their numbers and all cells stay, and the new one has the next number. From the world of nothing,
@@ -156,10 +156,10 @@ struct foshqarel_change {
     uint32_t presence;  /* 1 where the cell was there, and 2 where it is there then, added */
 };
 
-/* Runs one call alone over a world, by the rules of blocks that are produced, and changes nothing: what it comes to, and each cell that it asked for, in the order of
- * locks. `line` is one line of a text of calls with its newline. Puts as many changes as `changes` holds; the others stay as they were. `told->size` is how many there
- * are. It is never short. `receipt->call` is 0. Else FOSHQAREL_WORLD or FOSHQAREL_CALLS: number 2 tells here that there is not one line, place how many. */
-uint32_t foshqarel_call(const uint8_t *world, size_t world_size, const uint8_t *line, size_t line_size, struct foshqarel_receipt *receipt,
+/* Runs the call of this number of a text, from 0, alone over a world, by the rules of blocks that are produced, and changes nothing: what it comes to, and each cell that
+ * it asked for, in the order of locks. The calls before it do not run. Puts as many changes as `changes` holds; the others stay as they were. `told->size` is how many
+ * there are. It is never short. Else FOSHQAREL_WORLD or FOSHQAREL_CALLS, of which number 3 says that there is no such call, and place how many there are. */
+uint32_t foshqarel_call(const uint8_t *world, size_t world_size, const uint8_t *calls, size_t calls_size, uint32_t number, struct foshqarel_receipt *receipt,
                         struct foshqarel_change *changes, size_t changes_room, uint8_t *sentence, size_t sentence_room, struct foshqarel_told *told);
 
 #ifdef __cplusplus
