@@ -176,6 +176,7 @@ bad cut.wasm '\0asm\01\0\0\0\01'
 bad later.wasm '\0asm\02\0\0\0'
 bad nothing.wat ''
 bad open.wat '(module'
+# shellcheck disable=SC2016 # a name of the text begins so
 bad name.wat '(module (func $f (call $g)))'
 bad number.wat '(module (func (drop (i32.const 4294967296))))'
 bad bytes.wat '(module "\xff")'

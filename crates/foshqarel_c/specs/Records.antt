@@ -1,5 +1,5 @@
 -- Cells, receipts and changes as C has them.
-use Rattle.std.specs.Prelude.{◌≡◌, ℕ, ℤ, ◌+◌, List, Option, Some, None, map, pos}
+use Rattle.std.specs.Prelude.{◌≡◌, ℕ, ℤ, zero, suc, List, Option, Some, None, map, pos}
 use Rattle.std.specs.FinMap.{entries, get}
 use Rattle.wtypes.specs.declared.Value.TheVariants.{I32, I64}
 use Rattle.spec_ledger.specs.declared.Kind.{Kind}
@@ -31,9 +31,9 @@ pub record AreRecords (world : List ℕ) (records : List CellRecord) : Type 0 wh
 
 -- the kind of this number
 abbrev pub kind_of : ℕ → Option Kind
-kind_of 0 = Some Map
-kind_of 1 = Some Counter
-kind_of _ = None
+kind_of zero = Some Map
+kind_of (suc zero) = Some Counter
+kind_of (suc (suc n)) = None
 
 -- what a record that names a cell is then: with the number that the cell holds, where there is one
 abbrev pub filled : CellRecord → Option ℕ → CellRecord
