@@ -49,7 +49,7 @@ pub extern "C" fn foshqarel_world_digest(
     ensures { Comes (IsDigestOf world.now) (RefusesWorld world.now) digest.old digest.new told.new result }
 {
     match embed::digest_of(alloc, world) {
-        Ok(bytes) => give(&bytes, digest, told),
+        Ok(bytes) => give(bytes.as_slice(), digest, told),
         Err(failure) => fail(&failure, digest, told),
     }
 }
