@@ -28,7 +28,7 @@ is "make install" done_well make -s -C "$embed" install PREFIX="$prefix"
 for file in include/foshqarel.h lib/libfoshqarel.a lib/libfoshqarel.so lib/pkgconfig/foshqarel.pc; do
     is "$file is there" [ -s "$prefix/$file" ]
 done
-flags=(-I "$prefix/include" -L "$prefix/lib" -lfoshqarel)
+flags=(-I "$prefix/include" -L "$prefix/lib" -l:libfoshqarel.a)
 if command -v pkg-config >/dev/null; then
     read -r -a flags <<<"$(PKG_CONFIG_PATH=$prefix/lib/pkgconfig pkg-config --cflags --libs foshqarel)"
 fi
@@ -62,6 +62,8 @@ else
 fi
 
 # ---- the sessions ----
+
+: >mined
 
 # Whether a user does a command as the program did: $1 the user, $2 the example, and the words. The program's lines are in wanted, its sentence in said, its status in status.
 # `deploy` says behind a refusal which module it is of.
@@ -106,7 +108,9 @@ session() {
                 cp -r "program/$1/." "$user/$1"
             fi
         done
-        if [ "$status" = 0 ] && [ "${words[0]}" = mine ] && [ "${words[5]}" = --fuel ] && is_known "${words[@]}"; then
+        if [ "$status" = 0 ] && [ "${words[0]}" = mine ] && [ "${words[5]:-}" = --fuel ] && is_known "${words[@]}"; then
+            # a file that is written again holds the later block
+            sed -i "\\:^$1 [^ ]* [^ ]* ${words[3]} :d" mined
             echo "$1 ${words[1]} ${words[2]} ${words[3]} ${words[4]} ${words[6]}" >>mined
         fi
     done < <(grep '^\$ wblock ' "$examples/$1/session.txt")
@@ -137,6 +141,7 @@ spread() {
     for user in "${users[@]}"; do cp "program/$1/$2" "$user/$1/$2"; done
 }
 
+forged=" "
 while read -r name world calls block next fuel; do
     for user in "${users[@]}"; do
         is "$user: $name: the world after $block" done_well env -C "$user/$name" "$work/user-$user" validate "$world" "$calls" "$block" after.world --fuel "$fuel"
@@ -145,6 +150,9 @@ while read -r name world calls block next fuel; do
         "$work/user-$user" cells "program/$name/$next" | sort >printed
         is "$user: $name: the cells of $next" cmp printed wanted
     done
+    # of each example one block is forged
+    case "$forged" in *" $name "*) continue ;; esac
+    forged="$forged$name "
     for at in 0 4 8 40 72 76 80 84 -1 -33 -40; do
         cp "program/$name/$block" "program/$name/forged.block"
         turn_bit "program/$name/forged.block" $at

@@ -122,6 +122,8 @@ int main(int count, char **words) {
         pthread_join(threads[i], &wrong);
         if (wrong) fail("a thread got other bytes");
     }
+    free(out);
+    free(after);
     printf("borders: all so, with %ld requests for memory refused\n", requests);
     return 0;
 }

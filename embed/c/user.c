@@ -14,10 +14,15 @@ struct bytes {
     size_t size;
 };
 
+/* All memory of this program, which it keeps to its end. So what is lost when it ends, the library lost. */
+static void **kept;
+static size_t many_kept;
+
 static void *room_for(size_t size) {
-    void *at = malloc(size ? size : 1);
-    if (!at) exit(4);
-    return at;
+    void *at = calloc(size + 1, 1);
+    kept = realloc(kept, (many_kept + 1) * sizeof *kept);
+    if (!at || !kept) exit(4);
+    return kept[many_kept++] = at;
 }
 
 static struct bytes read_file(const char *name) {
@@ -80,9 +85,7 @@ static struct bytes ask(call_fn *call, struct task *task) {
             out.size = told.size;
             return out;
         }
-        free(out.at);
         out = (struct bytes){room_for(told.size), told.size};
-        free(task->next.at);
         task->next = (struct bytes){room_for(told.next_size), told.next_size};
     }
 }
@@ -137,7 +140,6 @@ static void print_digest(const char *word, struct bytes world) {
     printf("%s ", word);
     for (size_t i = 0; i < found.size; i++) printf("%02x", found.at[i]);
     printf("\n");
-    free(found.at);
 }
 
 static void print_lock(struct foshqarel_change c) {
@@ -148,11 +150,7 @@ static void print_lock(struct foshqarel_change c) {
 
 static struct bytes extended(struct bytes world, const char *module) {
     struct task task = {.first = world, .second = read_file(module)};
-    struct bytes next = ask(extend, &task);
-    free(task.second.at);
-    free(task.next.at);
-    free(world.at);
-    return next;
+    return ask(extend, &task);
 }
 
 static int deploy(int count, char **words) {
@@ -180,8 +178,7 @@ static int mine_block(char **words, uint64_t fuel) {
     struct foshqarel_told told;
     struct foshqarel_receipt receipt;
     uint64_t calls = count_calls(task.second), used = 0;
-    bool *listed = calloc(calls + 1, sizeof *listed);
-    if (!listed) exit(4);
+    bool *listed = room_for(calls * sizeof *listed);
     /* one by one: a list of one receipt */
     for (uint64_t position = 0;; position++) {
         uint32_t status = foshqarel_receipts(block.at, block.size, position, &receipt, 1, sentence, sizeof sentence, &told);

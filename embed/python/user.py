@@ -69,7 +69,7 @@ def deploy(world, *modules):
     return [f"deployed {len(modules)} contracts{behind}"]
 
 
-def mine(world, calls, block, next_world, fuel):
+def mine(world, calls, block, next_world, fuel=0):
     before, listed = read(world), read(calls)
     made, after = foshqarel.mine(before, listed, fuel)
     pathlib.Path(block).write_bytes(made)

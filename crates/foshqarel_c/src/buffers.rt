@@ -1,6 +1,6 @@
 //! The caller's buffers: what is written to them, and what is answered.
 
-ghost use Rattle.std.specs.Prelude.{◌≡◌, ◌<◌, ◌^◌, length, drop};
+ghost use Rattle.std.specs.Prelude.{◌≡◌, length, drop};
 ghost use Rattle.foshqarel_c.specs.Buffers.{ArePut, IsFailure, IsPut, done, laid, no_memory, told_given};
 
 use crate::told::Told;
@@ -33,7 +33,6 @@ pub(crate) fn lay<T: Copy>(items: &[T], out: &mut [T])
 
 /// What stands from this place on.
 pub(crate) fn rest_of<T>(items: &[T], from: u64) -> &[T]
-    requires { length items.entry.now < 2 ^ 63 }
     ensures { result.now ≡ drop from items.entry.now }
 {
     if from >= items.len() as u64 {
