@@ -1,7 +1,7 @@
 /* Foshqarel as a library: blocks of contract calls, checked and produced in your own process.
  *
  * Link libfoshqarel.a (pkg-config foshqarel). What each function does is proved, and is what the program `wblock` does with files of the same bytes:
- * docs/REFERENCE.md has the formats, the numbers of the refusals and their sentences.
+ * docs/REFERENCE.md has the formats, the numbers of the refusals and their sentences. (Another header of this name, kit/c/foshqarel.h, is for contracts in C.)
  *
  * THERE ARE NO HANDLES AND NO STATE. Each function is a function of the bytes that it is passed. A world, a list of calls, a block and a module are the bytes of
  * their files, and the library keeps nothing from one call to the next. So any number of threads may call it at once.

@@ -8,7 +8,7 @@ ghost use Rattle.spec_block.specs.Headline.{Headline, IsLeft};
 ghost use Rattle.world.specs.Views.{world_view};
 
 use crate::Mined;
-use crate::list_order::{FirstFit, first_fit};
+use crate::list_order::{self, FirstFit};
 use call::Call;
 use serial::{build_block, serial_core};
 use spec_ledger::Version;
@@ -35,7 +35,7 @@ pub fn mine_alone<A: Allocator + Copy>(
     ensures left { IfOk result (λ mined. IsLeft calls.now (order_of mined.block) mined.left.items) }
 {
     first_fit_is_admissible();
-    let FirstFit { order, left } = first_fit(alloc, calls, block_fuel)?;
+    let FirstFit { order, left } = list_order::first_fit(alloc, calls, block_fuel)?;
     let core = serial_core(
         alloc,
         world.contracts(),
