@@ -61,9 +61,7 @@ else
     echo "embed: there is no python3, so the user in Python is left out"
 fi
 
-# ---- the sessions ----
-
-: >mined
+# ---- what users do beside the program ----
 
 # Whether a user does a command as the program did: $1 the user, $2 the example, and the words. The program's lines are in wanted, its sentence in said, its status in status.
 # `deploy` says behind a refusal which module it is of.
@@ -83,41 +81,19 @@ does() {
     if [ "$status" = 1 ] && [ "$3" != deploy ]; then cmp -s why said; fi
 }
 
-# Whether a user knows the command with these words: it has no options but the fuel, the workers and an older world.
-is_known() {
-    local word
-    case "$1" in asm | check | text | deploy | mine | validate | call) ;; *) return 1 ;; esac
-    for word in "$@"; do
-        case "$word" in --fuel | --workers | --onto) ;; --*) return 1 ;; esac
-    done
+# Whether each user refuses or takes what the program does: $1 what it is, $2 the example, and the words.
+alike() {
+    local user
+    (cd "program/$2" && "$program" "${@:3}") >wanted 2>said
+    status=$?
+    for user in "${users[@]}"; do is "$user: $2: $1" does "$user" "$2" "${@:3}"; done
 }
 
-# Does a session by the program and by each user: $1 the example. Blocks that are mined are noted with their world, calls, block, next world and fuel.
-session() {
-    local line words user
-    for user in program "${users[@]}"; do mkdir -p "$user" && cp -r "$examples/$1" "$user/$1"; done
-    while IFS= read -r line; do
-        read -r -a words <<<"${line#\$ wblock }"
-        (cd "program/$1" && "$program" "${words[@]}") >wanted 2>said
-        status=$?
-        for user in "${users[@]}"; do
-            if [ "$status" -lt 2 ] && is_known "${words[@]}"; then
-                is "$user: $1: ${words[*]}" does "$user" "$1" "${words[@]}"
-                is "$user: $1: the files of ${words[*]}" diff -r "program/$1" "$user/$1"
-            else
-                cp -r "program/$1/." "$user/$1"
-            fi
-        done
-        if [ "$status" = 0 ] && [ "${words[0]}" = mine ] && [ "${words[5]:-}" = --fuel ] && is_known "${words[@]}"; then
-            # a file that is written again holds the later block
-            sed -i "\\:^$1 [^ ]* [^ ]* ${words[3]} :d" mined
-            echo "$1 ${words[1]} ${words[2]} ${words[3]} ${words[4]} ${words[6]}" >>mined
-        fi
-    done < <(grep '^\$ wblock ' "$examples/$1/session.txt")
+# Gives each user a file of the program's folder: $1 the example, $2 its name.
+spread() {
+    local user
+    for user in "${users[@]}"; do cp "program/$1/$2" "$user/$1/$2"; done
 }
-for name in "$examples"/*/session.txt; do session "$(basename "$(dirname "$name")")"; done
-
-# ---- the blocks, and what was forged of them ----
 
 # Changes one bit of a file: $1 the file, $2 the byte, counted from the end where it is below 0.
 turn_bit() {
@@ -127,51 +103,82 @@ turn_bit() {
     printf '%b' "\\x$(printf %02x $((byte ^ 1)))" | dd of="$1" bs=1 seek="$at" conv=notrunc status=none
 }
 
-# Whether each user refuses or takes what the program does: $1 what it is, $2 the example, and the words.
-alike() {
-    local user
-    (cd "program/$2" && "$program" "${@:3}") >wanted 2>said
-    status=$?
-    for user in "${users[@]}"; do is "$user: $2: $1" does "$user" "$2" "${@:3}"; done
-}
-
-# A forged file stands in the folder of each: $1 the example, $2 its name.
-spread() {
-    local user
-    for user in "${users[@]}"; do cp "program/$1/$2" "$user/$1/$2"; done
-}
-
-forged=" "
-while read -r name world calls block next fuel; do
-    for user in "${users[@]}"; do
-        is "$user: $name: the world after $block" done_well env -C "$user/$name" "$work/user-$user" validate "$world" "$calls" "$block" after.world --fuel "$fuel"
-        is "$user: $name: it is $next" cmp "$user/$name/after.world" "program/$name/$next"
-        "$program" show "program/$name/$next" | grep -E '^(map|counter) ' | sort >wanted
-        "$work/user-$user" cells "program/$name/$next" | sort >printed
-        is "$user: $name: the cells of $next" cmp printed wanted
-    done
-    # of each example one block is forged
-    case "$forged" in *" $name "*) continue ;; esac
-    forged="$forged$name "
+# Tries what was forged of a block: $1 the example, $2 the world, $3 the calls, $4 the block, $5 the world after it, $6 the fuel.
+forge() {
+    local at
     for at in 0 4 8 40 72 76 80 84 -1 -33 -40; do
-        cp "program/$name/$block" "program/$name/forged.block"
-        turn_bit "program/$name/forged.block" $at
-        spread "$name" forged.block
-        alike "a block with another byte $at" "$name" validate "$world" "$calls" forged.block --fuel "$fuel"
+        cp "program/$1/$4" "program/$1/forged.block"
+        turn_bit "program/$1/forged.block" $at
+        spread "$1" forged.block
+        alike "a block with another byte $at" "$1" validate "$2" "$3" forged.block --fuel "$6"
     done
-    head -c -1 "program/$name/$block" >"program/$name/forged.block"
-    spread "$name" forged.block
-    alike "a block that is cut" "$name" validate "$world" "$calls" forged.block --fuel "$fuel"
-    alike "a block with little fuel" "$name" validate "$world" "$calls" "$block" --fuel 1
-    alike "a block over the world after it" "$name" validate "$next" "$calls" "$block" --fuel "$fuel"
-    head -c -1 "program/$name/$world" >"program/$name/cut.world"
-    spread "$name" cut.world
-    alike "a world that is cut" "$name" validate cut.world "$calls" "$block" --fuel "$fuel"
-    (cat "program/$name/$calls" && printf '0 1\tf\n') >"program/$name/bad.calls"
-    spread "$name" bad.calls
-    alike "calls that are none" "$name" validate "$world" bad.calls "$block" --fuel "$fuel"
-    [ -x borders ] && is "c: $name: the borders with $block" done_well ./borders "program/$name/$world" "program/$name/$calls" "program/$name/$block" "$fuel"
-done <mined
+    head -c -1 "program/$1/$4" >"program/$1/forged.block"
+    spread "$1" forged.block
+    alike "a block that is cut" "$1" validate "$2" "$3" forged.block --fuel "$6"
+    alike "a block with little fuel" "$1" validate "$2" "$3" "$4" --fuel 1
+    alike "a block over the world after it" "$1" validate "$5" "$3" "$4" --fuel "$6"
+    head -c -1 "program/$1/$2" >"program/$1/cut.world"
+    spread "$1" cut.world
+    alike "a world that is cut" "$1" validate cut.world "$3" "$4" --fuel "$6"
+    (cat "program/$1/$3" && printf '0 1\tf\n') >"program/$1/bad.calls"
+    spread "$1" bad.calls
+    alike "calls that are none" "$1" validate "$2" bad.calls "$4" --fuel "$6"
+    [ -x borders ] && is "c: $1: the borders with $4" done_well ./borders "program/$1/$2" "program/$1/$3" "program/$1/$4" "$6"
+}
+
+# Tries a block that was mined, and of each example one that is forged: as for `forge`.
+tried=" "
+try_block() {
+    local user
+    # whoever writes over what was read has nothing to validate by
+    [ "$(printf '%s\n' "$2" "$3" "$4" "$5" | sort -u | wc -l)" = 4 ] || return 0
+    for user in "${users[@]}"; do
+        is "$user: $1: the world after $4" done_well env -C "$user/$1" "$work/user-$user" validate "$2" "$3" "$4" after.world --fuel "$6"
+        is "$user: $1: it is $5" cmp "$user/$1/after.world" "program/$1/$5"
+        rm -f "$user/$1/after.world"
+        "$program" show "program/$1/$5" | grep -E '^(map|counter) ' | sort >wanted
+        "$work/user-$user" cells "program/$1/$5" | sort >printed
+        is "$user: $1: the cells of $5" cmp printed wanted
+    done
+    case "$tried" in *" $1 "*) return 0 ;; esac
+    tried="$tried$1 "
+    forge "$@"
+}
+
+# ---- the sessions ----
+
+# Whether a user knows the command with these words: it has no options but the fuel, the workers and an older world.
+is_known() {
+    local word
+    case "$1" in asm | check | text | deploy | mine | validate | call) ;; *) return 1 ;; esac
+    for word in "$@"; do
+        case "$word" in --fuel | --workers | --onto) ;; --*) return 1 ;; esac
+    done
+}
+
+# Does a session by the program and by each user: $1 the example.
+session() {
+    local line words user ended
+    for user in program "${users[@]}"; do mkdir -p "$user" && cp -r "$examples/$1" "$user/$1"; done
+    while IFS= read -r line; do
+        read -r -a words <<<"${line#\$ wblock }"
+        (cd "program/$1" && "$program" "${words[@]}") >wanted 2>said
+        status=$?
+        ended=$status
+        for user in "${users[@]}"; do
+            if [ "$ended" -lt 2 ] && is_known "${words[@]}"; then
+                is "$user: $1: ${words[*]}" does "$user" "$1" "${words[@]}"
+                is "$user: $1: the files of ${words[*]}" diff -r "program/$1" "$user/$1"
+            else
+                cp -r "program/$1/." "$user/$1"
+            fi
+        done
+        if [ "$ended" = 0 ] && [ "${words[0]}" = mine ] && [ "${words[5]:-}" = --fuel ] && is_known "${words[@]}"; then
+            try_block "$1" "${words[1]}" "${words[2]}" "${words[3]}" "${words[4]}" "${words[6]}"
+        fi
+    done < <(grep '^\$ wblock ' "$examples/$1/session.txt")
+}
+for name in "$examples"/*/session.txt; do session "$(basename "$(dirname "$name")")"; done
 
 # ---- modules and texts that are none ----
 
