@@ -13,3 +13,4 @@ pub mod Copies
 pub mod Crossing
 pub mod BlocksLimits
 pub mod BlocksOrders
+pub mod Untouched

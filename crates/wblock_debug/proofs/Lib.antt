@@ -4,7 +4,6 @@ mod Options
 mod Printing
 mod Spots
 mod Telling
-mod Untouched
 mod Fuels
 mod PrefixSums
 mod Prefixes
