@@ -1,8 +1,8 @@
 -- What the words of a line ask for.
-use Rattle.std.specs.Prelude.{◌≡◌, ◌≢◌, ℕ, ◌<◌, ◌≤◌, ◌⊎◌, List, [], ◌∷◌, Option, Some, None, IfSome, codes, decimal, length, map}
+use Rattle.std.specs.Prelude.{◌≡◌, ◌≢◌, ℕ, ◌<◌, ◌≤◌, ◌⊎◌, List, [], ◌∷◌, Bool, Option, Some, None, IfSome, codes, decimal, length, map}
 use Rattle.std.specs.Borrow.{Bor}
 use Rattle.wblock_calls.specs.Words.{texts}
-use Rattle.wblock_line.specs.Words.{Line, Choice, split}
+use Rattle.wblock_line.specs.Words.{AsksAlone, Line, Choice, split}
 use Rattle.wblock_commands.specs.declared.command.Command.{Command}
 use Rattle.wblock_commands.specs.declared.command.Command.TheVariants.{Stored, Help, Version, Asm, Text, Check, Deploy, Mine, Validate, Call, Debug, Show}
 use Rattle.wblock_commands.specs.declared.command.Deploying.{Deploying}
@@ -43,11 +43,6 @@ pub record AsksAsm (line : Line) (text target : List ℕ) : Type 0 where
   pub words : line.words ≡ codes "asm" ∷ text ∷ target ∷ []
   pub options : line.options ≡ []
   pub apart : text ≢ target
-
--- the switch of this name alone and without a value, or nothing
-abbrev pub AsksAlone : (name : List ℕ) → List Choice → Bool → Type 0
-AsksAlone name options true = options ≡ (name, []) ∷ []
-AsksAlone name options false = options ≡ []
 
 -- `text MODULE TEXT [--unchecked]`, of different names
 pub record AsksText (line : Line) (source target : List ℕ) (unchecked : Bool) : Type 0 where

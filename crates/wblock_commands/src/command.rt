@@ -1,10 +1,10 @@
 //! What a line of words asks for.
 
-ghost use Rattle.std.specs.Prelude.{◌≡◌, ◌≢◌, ◌≤◌, ◌↔◌, ℕ, List, [], ◌∷◌, Option, IfOk, IfSome, IsTrue, MatchOption, codes, decimal};
+ghost use Rattle.std.specs.Prelude.{◌≡◌, ◌≢◌, ◌≤◌, ◌↔◌, ℕ, List, [], ◌∷◌, Bool, Option, IfOk, IfSome, IsTrue, MatchOption, codes, decimal};
 ghost use Rattle.wblock_line.specs.Words.{line_of};
 ghost use Rattle.wblock_calls.specs.Words.{texts};
 ghost use Rattle.wblock_line.specs.Words.{choices};
-ghost use Rattle.wblock_commands.specs.Words.{AsksStored, AsksAsm, AsksText, AsksShow, AsksHeap, IsSize, AsksCheck, AsksAlone, NamesModules, AsksDeploy, AsksMine, AsksValidate, CountsValidate, SpellsValidate, AsksNoTask, IsLineOf, IsApart, KeepsInputs, NextIsApart, SpellsShow, PictureIsApart, AsksHelp, IsTold, HasFew};
+ghost use Rattle.wblock_commands.specs.Words.{AsksStored, AsksAsm, AsksText, AsksShow, AsksHeap, IsSize, AsksCheck, NamesModules, AsksDeploy, AsksMine, AsksValidate, CountsValidate, SpellsValidate, AsksNoTask, IsLineOf, IsApart, KeepsInputs, NextIsApart, SpellsShow, PictureIsApart, AsksHelp, IsTold, HasFew};
 ghost use Rattle.wblock_commands.specs.declared.command.Command.{Command as Asked};
 ghost use Rattle.wblock_commands.specs.declared.command.Deploying.{Deploying as TheDeploying};
 ghost use Rattle.wblock_blocks.specs.declared.mine.Mining.{Mining as TheMining};
@@ -20,7 +20,7 @@ use crate::options::{
 use std::alloc::{AllocError, Global};
 use wblock_blocks::{Mining, Validation};
 use wblock_debug::{Calling, Debugging, calling_of, debugging_of};
-use wblock_line::{Line, UNCHECKED_SWITCH};
+use wblock_line::{Line, UNCHECKED_SWITCH, is_word, switch_alone};
 use wblock_show::{Form, Showing};
 
 /// What is to be deployed.
@@ -57,7 +57,7 @@ pub enum Command<'l, 'w> {
     Mine(Mining<'w>),
     /// `validate WORLD CALLS BLOCK --fuel N [--workers 4] [--next NEXT]`: the verdict on the block, and the world after it.
     Validate(Validation<'w>),
-    /// `call WORLD CONTRACT FUEL ENTRY ARG...`: what one call comes to that runs alone.
+    /// `call WORLD CONTRACT FUEL ENTRY ARG... [--json]`: what one call comes to that runs alone.
     Call(Calling<'w>),
     /// `debug WORLD CALLS CALL CMD... [--block BLOCK [--fuel N]]`: a call that runs alone, or in a block, turn by turn.
     Debug(Debugging<'w>),
@@ -90,13 +90,6 @@ pub(crate) fn is_apart(word: &str, others: &[&str]) -> bool
         [] => true,
         [other, rest @ ..] => !is_word(*other, word) && is_apart(word, rest),
     }
-}
-
-/// Whether a word is this one.
-pub(crate) fn is_word(word: &str, name: &str) -> bool
-    ensures { IsTrue result ↔ (word.now ≡ name.now) }
-{
-    word == name
 }
 
 /// The heap that options ask for, if any; or None where they are no options of `check`.
@@ -143,19 +136,6 @@ fn asm_of<'w>(words: &[&'w str], options: &[(&str, &str)]) -> Option<(&'w str, &
         return None;
     }
     Some((words[1], words[2]))
-}
-
-/// Whether options are the switch of this name, alone and without a value, or nothing; or None where they are something else.
-fn switch_alone(options: &[(&str, &str)], name: &str) -> Option<bool>
-    ensures { MatchOption result ((given : Bool) → ¬ AsksAlone name.now (choices options.now) given) (AsksAlone name.now (choices options.now)) }
-{
-    if options.is_empty() {
-        return Some(false);
-    }
-    if options.len() > 1 || !is_word(options[0].0, name) || !options[0].1.is_empty() {
-        return None;
-    }
-    Some(true)
 }
 
 /// The module and the text of `text`, and whether the module is left unchecked.

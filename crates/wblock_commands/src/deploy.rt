@@ -5,10 +5,9 @@ ghost use Rattle.wblock_line.specs.Answers.{CountsFault, IsOfFile};
 ghost use Rattle.wblock_commands.specs.Deploying.{MayReplace, IsTaken, DeploysFree, IsNextToDeploy};
 
 use crate::Deploying;
-use crate::command::is_word;
 use std::alloc::Global;
 use wblock_io::Files;
-use wblock_line::{Answer, Fault};
+use wblock_line::{Answer, Fault, is_word};
 use wblock_modules::deploy_modules;
 
 /// Whether the line asks that the file of the world be written over: by `--force`, or since it is OLD, too.

@@ -163,7 +163,8 @@ fn call<'a>(alloc: Global) -> Result<Command<'a>, AllocError> {
             Arg::new(alloc, "ARG").num_args(0..).help(
                 "The arguments, each `i32:N` or `i64:N` with N in signed decimal",
             ),
-        )
+        )?
+        .arg(switch(alloc, JSON))
 }
 
 fn debug<'a>(alloc: Global) -> Result<Command<'a>, AllocError> {

@@ -1,4 +1,5 @@
 mod Colons
+mod FlatEffects
 mod Lists
 mod Options
 mod Printing

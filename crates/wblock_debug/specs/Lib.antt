@@ -2,6 +2,7 @@ pub mod Asks
 pub mod Calling
 pub mod Debugs
 pub mod Effects
+pub mod EffectsJson
 pub mod Lines
 pub mod Prints
 pub mod Words

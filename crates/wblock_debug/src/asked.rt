@@ -1,6 +1,6 @@
 //! What the words of a line ask to debug.
 
-ghost use Rattle.std.specs.Prelude.{◌≡◌, ◌↔◌, ℕ, List, Option, IfOk, IfSome, IsTrue, MatchOption};
+ghost use Rattle.std.specs.Prelude.{◌≡◌, ℕ, List, Option, IfOk, IfSome, MatchOption};
 ghost use Rattle.std.specs.Borrow.{Bor};
 ghost use Rattle.wblock_line.specs.Words.{line_of};
 ghost use Rattle.wblock_calls.specs.Words.{texts};
@@ -12,7 +12,7 @@ ghost use Rattle.wblock_debug.specs.declared.asked.Debugging.{Debugging as TheDe
 use crate::{Command, commands_of};
 use std::alloc::{AllocError, Global};
 use wblock_calls::number_of;
-use wblock_line::Line;
+use wblock_line::{Line, is_word};
 
 /// What is to be debugged.
 #[derive(Debug, Drop)]
@@ -29,13 +29,6 @@ pub struct Debugging<'w> {
     pub block: Option<&'w str>,
     /// The fuel with which the block is judged, where one is given; else it is the least that the calls of the block need.
     pub fuel: Option<u64>,
-}
-
-/// Whether a word is this one.
-pub(crate) fn is_word(word: &str, name: &str) -> bool
-    ensures { IsTrue result ↔ (word.now ≡ name.now) }
-{
-    word == name
 }
 
 /// The world, the calls, the word of the call and the words of the commands.

@@ -6,6 +6,7 @@ mod called;
 mod command;
 mod debug;
 mod effects;
+mod effects_json;
 mod lines;
 mod numbers;
 mod one_call;

@@ -1,8 +1,9 @@
 -- What `show --json` answers.
-use Rattle.std.specs.Prelude.{◌≡◌, ◌⊎◌, ℕ, Bool, Option, Some, None, List, [], ◌∷◌, ◌++◌, length}
+use Rattle.std.specs.Prelude.{◌≡◌, ◌⊎◌, ℕ, Bool, Option, Some, None, List, [], length}
 use Rattle.spec_syntax.specs.Syntax.{Module}
 use Rattle.spec_block.specs.Worlds.{Block, Call, World}
 use Rattle.spec_block.specs.Bytes.{SpellsBlock, SpellsWorld}
+use Rattle.wblock_json.specs.Json.{IsLineOf}
 use Rattle.wblock_json.specs.Blocks.{IsBlockJson}
 use Rattle.wblock_json.specs.Modules.{IsModuleJson}
 use Rattle.wblock_json.specs.Worlds.{IsWorldJson}
@@ -19,12 +20,6 @@ use Rattle.wblock_contents.specs.declared.kind.Kind.TheVariants as kind
 use Rattle.wblock_contents.specs.Shows.{Answers, IsOfKind, IsUnknown}
 use Rattle.wblock_show.specs.declared.file.Showing.{Showing}
 use Rattle.wblock_show.specs.Shows.{AreItsCalls, HoldsNamedCalls, IsOfOther, IsUnspelled, TellsCallsRefusal}
-
--- a line of which this is true, and its newline
-pub record IsLineOf (Is : List ℕ → Type 0) (text : List ℕ) : Type 0 where
-  pub line : List ℕ
-  pub is : Is line
-  pub text_is : text ≡ line ++ 10 ∷ []
 
 -- ---- blocks
 

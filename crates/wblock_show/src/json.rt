@@ -1,9 +1,10 @@
 //! The command `show FILE --json [--calls CALLS] [--signed]`: what is in a module, a world or a block, as one JSON object on a line.
 
-ghost use Rattle.std.specs.Prelude.{◌≡◌, ◌∷◌, ◌++◌, [], IsTrue, IfOk, IfErr, MatchResult, OnOk, length, string_bytes};
+ghost use Rattle.std.specs.Prelude.{◌≡◌, IsTrue, IfOk, IfErr, MatchResult, OnOk, length, string_bytes};
 ghost use Rattle.module_tree.specs.Modules.{module_view};
 ghost use Rattle.typing.specs.Parts.{tree_of};
 ghost use Rattle.world.specs.Views.{world_view};
+ghost use Rattle.wblock_json.specs.Json.{IsLineOf};
 ghost use Rattle.wblock_json.specs.Blocks.{IsBlockJson};
 ghost use Rattle.wblock_json.specs.Modules.{IsModuleJson};
 ghost use Rattle.wblock_json.specs.Worlds.{IsWorldJson};
@@ -11,7 +12,7 @@ ghost use Rattle.wblock_line.specs.Answers.{CountsFault, IsOfFile};
 ghost use Rattle.wblock_line.specs.Refusals.{TellsNoModule};
 ghost use Rattle.wblock_line.specs.Worlds.{TellsNoWorld};
 ghost use Rattle.wblock_contents.specs.Shows.{Answers};
-ghost use Rattle.wblock_show.specs.Json.{IsJsonOf, IsLineOf, IsTold, TellsBlock, TellsFileBlock, TellsIt, TellsModuleJson, TellsNamed, TellsWorldJson};
+ghost use Rattle.wblock_show.specs.Json.{IsJsonOf, IsTold, TellsBlock, TellsFileBlock, TellsIt, TellsModuleJson, TellsNamed, TellsWorldJson};
 ghost use Rattle.wblock_show.specs.Lines.{calls_of};
 ghost use Rattle.wblock_show.specs.Shows.{known, HasFew, IsNextFile};
 
@@ -23,19 +24,10 @@ use std::alloc::{AllocError, Global};
 use typing::valid::Valid;
 use wblock_contents::{Kind, unknown_answer};
 use wblock_io::Files;
-use wblock_json::{block_json, module_json, world_json};
+use wblock_json::{block_json, line_of, module_json, world_json};
 use wblock_line::{Answer, Fault, Stop, judge_world, read_file, read_valid};
 use world::World;
 use wtypes::NoMemory;
-
-/// A text with a newline at its end.
-fn line_of(text: String) -> Result<String, AllocError>
-    ensures { IfOk result (λ line. string_bytes line ≡ string_bytes text ++ 10 ∷ []) }
-{
-    let mut line = text;
-    line.push_str("\n")?;
-    Ok(line)
-}
 
 // ---- blocks
 

@@ -1,0 +1,12 @@
+-- A refusal in the form that is asked for.
+use Rattle.std.specs.Prelude.{◌≡◌, ℕ, Bool, true, false, List, None, string_bytes}
+use Rattle.wblock_json.specs.Json.{IsJson, IsLineOf}
+use Rattle.wblock_json.specs.Refusals.{refusal_data}
+use Rattle.wblock_line.specs.declared.answer.Answer.{Answer}
+use Rattle.wblock_line.specs.declared.answer.Answer.TheVariants.{Done, Refused}
+
+-- the answer is the refusal of this line: the line is printed, or the object of it and of the sentence that is said
+abbrev pub IsRefusalIn : (json : Bool) → (line : List ℕ) → Answer → Type 0
+IsRefusalIn json line (Done writes text) = ⊥
+IsRefusalIn false line (Refused told why) = string_bytes told ≡ line
+IsRefusalIn true line (Refused told why) = IsLineOf (IsJson (refusal_data None line (string_bytes why))) (string_bytes told)
