@@ -1,2 +1,4 @@
+mod FlatObjects
 mod Notes
+mod Rejected
 mod Versions

@@ -77,6 +77,10 @@ AsksOnto options old = IsNameOrNone (values_in (codes "--onto") options) old
 abbrev pub AsksBoosted : List Choice → Bool → Type 0
 AsksBoosted options boosted = IsSwitch (values_in (codes "--boosted") options) boosted
 
+-- `--json`, once and without a value, or not
+abbrev pub AsksJson : List Choice → Bool → Type 0
+AsksJson options json = IsSwitch (values_in (codes "--json") options) json
+
 -- `--signed`, once and without a value, or not
 abbrev pub AsksSigned : List Choice → Bool → Type 0
 AsksSigned options signed = IsSwitch (values_in (codes "--signed") options) signed
@@ -86,7 +90,7 @@ abbrev pub HasOnlyMining : List Choice → Type 0
 HasOnlyMining options = length options ≡ count_of (codes "--fuel") options + count_of (codes "--workers") options + count_of (codes "--boosted") options + count_of (codes "--tries") options
 
 abbrev pub HasOnlyValidation : List Choice → Type 0
-HasOnlyValidation options = length options ≡ count_of (codes "--fuel") options + count_of (codes "--workers") options + count_of (codes "--boosted") options + count_of (codes "--next") options
+HasOnlyValidation options = length options ≡ count_of (codes "--fuel") options + count_of (codes "--workers") options + count_of (codes "--boosted") options + count_of (codes "--next") options + count_of (codes "--json") options
 
 abbrev pub HasOnlyDeploying : List Choice → Type 0
 HasOnlyDeploying options = length options ≡ count_of (codes "--onto") options + count_of (codes "--force") options

@@ -6,7 +6,7 @@ use Rattle.wblock_line.specs.Words.{AsksAlone, Line, Choice, split}
 use Rattle.wblock_commands.specs.declared.command.Command.{Command}
 use Rattle.wblock_commands.specs.declared.command.Command.TheVariants.{Stored, Help, Version, Asm, Text, Check, Deploy, Mine, Validate, Call, Debug, Show}
 use Rattle.wblock_commands.specs.declared.command.Deploying.{Deploying}
-use Rattle.wblock_commands.specs.Options.{AsksFuel, AsksWorkers, AsksTries, AsksBoosted, AsksNext, AsksCalls, AsksForm, AsksSigned, AsksForce, AsksOnto, HasOnlyDeploying, HasOnlyMining, HasOnlyValidation, HasOnlyShowing}
+use Rattle.wblock_commands.specs.Options.{AsksFuel, AsksWorkers, AsksTries, AsksBoosted, AsksNext, AsksCalls, AsksForm, AsksJson, AsksSigned, AsksForce, AsksOnto, HasOnlyDeploying, HasOnlyMining, HasOnlyValidation, HasOnlyShowing}
 use Rattle.wblock_debug.specs.Asks.{AsksDebug}
 use Rattle.wblock_debug.specs.Calling.{AsksCall}
 use Rattle.wblock_debug.specs.declared.asked.Debugging.{Debugging}
@@ -86,24 +86,25 @@ pub record AsksMine (line : Line) (m : Mining) : Type 0 where
   pub only : HasOnlyMining line.options
   pub apart : KeepsInputs m
 
--- `validate WORLD CALLS BLOCK --fuel N [--workers 4]`, and maybe `--boosted` and `--next`
+-- `validate WORLD CALLS BLOCK --fuel N [--workers 4]`, and maybe `--boosted`, `--next` and `--json`
 pub record CountsValidate (line : Line) (world calls block : List ℕ) (fuel workers : ℕ) : Type 0 where
   pub words : line.words ≡ codes "validate" ∷ world ∷ calls ∷ block ∷ []
   pub fuel_is : AsksFuel line.options fuel
   pub workers_are : AsksWorkers line.options workers
   pub only : HasOnlyValidation line.options
 
--- `validate WORLD CALLS BLOCK --fuel N [--workers 4] [--boosted] [--next NEXT]`, whatever NEXT is
+-- `validate WORLD CALLS BLOCK --fuel N [--workers 4] [--boosted] [--next NEXT] [--json]`, whatever NEXT is
 pub record SpellsValidate (line : Line) (v : Validation) : Type 0 where
   pub counts : CountsValidate line v.world.now v.calls.now v.block.now v.fuel v.workers
   pub boosted : AsksBoosted line.options v.boosted
   pub next : AsksNext line.options v.next
+  pub json : AsksJson line.options v.json
 
 -- the world after the block takes the place of neither the calls nor the block; it may take that of the world
 abbrev pub NextIsApart : Validation → Type 0
 NextIsApart v = IfSome v.next (λ next. (v.calls.now ≢ next.now) × (v.block.now ≢ next.now))
 
--- `validate WORLD CALLS BLOCK --fuel N [--workers 4] [--boosted] [--next NEXT]`, NEXT of a name that neither CALLS nor BLOCK has
+-- `validate WORLD CALLS BLOCK --fuel N [--workers 4] [--boosted] [--next NEXT] [--json]`, NEXT of a name that neither CALLS nor BLOCK has
 pub record AsksValidate (line : Line) (v : Validation) : Type 0 where
   pub spells : SpellsValidate line v
   pub apart : NextIsApart v

@@ -14,8 +14,8 @@ ghost use Rattle.wblock_show.specs.declared.file.Showing.{Showing as TheShowing}
 use crate::declared::HEAP;
 use crate::options::{
     boosted_in, calls_in, force_in, form_in, fuel_in, has_only_deploying, has_only_mining,
-    has_only_showing, has_only_validation, next_in, number_within, onto_in, signed_in, tries_in,
-    workers_in,
+    has_only_showing, has_only_validation, json_in, next_in, number_within, onto_in, signed_in,
+    tries_in, workers_in,
 };
 use std::alloc::{AllocError, Global};
 use wblock_blocks::{Mining, Validation};
@@ -55,7 +55,7 @@ pub enum Command<'l, 'w> {
     Deploy(Deploying<'l, 'w>),
     /// `mine WORLD CALLS BLOCK NEXT --fuel N [--workers 4] [--boosted] [--tries 3]`: a block of the calls over the world, and the world after it.
     Mine(Mining<'w>),
-    /// `validate WORLD CALLS BLOCK --fuel N [--workers 4] [--next NEXT]`: the verdict on the block, and the world after it.
+    /// `validate WORLD CALLS BLOCK --fuel N [--workers 4] [--next NEXT] [--json]`: the verdict on the block, and the world after it.
     Validate(Validation<'w>),
     /// `call WORLD CONTRACT FUEL ENTRY ARG... [--json]`: what one call comes to that runs alone.
     Call(Calling<'w>),
@@ -334,6 +334,7 @@ fn counted_validation<'w>(
         workers,
         boosted: false,
         next: None,
+        json: false,
     }))
 }
 
@@ -354,9 +355,13 @@ fn spelled_validation<'w>(
     let Some(next) = next_in(alloc, options)? else {
         return Ok(None);
     };
+    let Some(json) = json_in(alloc, options)? else {
+        return Ok(None);
+    };
     Ok(Some(Validation {
         boosted,
         next,
+        json,
         ..counted
     }))
 }

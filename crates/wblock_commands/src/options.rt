@@ -2,7 +2,7 @@
 
 ghost use Rattle.std.specs.Borrow.{Bor};
 ghost use Rattle.std.specs.Prelude.{◌≡◌, ◌≢◌, ◌≤◌, ◌<◌, ◌+◌, ◌^◌, ◌↔◌, ℕ, Bool, List, [], Option, IfOk, IsTrue, MatchOption, decimal, length};
-ghost use Rattle.wblock_commands.specs.Options.{values_in, IsNumber, IsNumberOr, IsNameOrNone, IsForm, count_of, AsksFuel, AsksWorkers, AsksTries, AsksBoosted, AsksForce, IsSwitch, AsksNext, AsksOnto, AsksCalls, AsksForm, AsksSigned, HasOnlyDeploying, HasOnlyMining, HasOnlyValidation, HasOnlyShowing};
+ghost use Rattle.wblock_commands.specs.Options.{values_in, IsNumber, IsNumberOr, IsNameOrNone, IsForm, count_of, AsksFuel, AsksWorkers, AsksTries, AsksBoosted, AsksForce, IsSwitch, AsksNext, AsksOnto, AsksCalls, AsksForm, AsksJson, AsksSigned, HasOnlyDeploying, HasOnlyMining, HasOnlyValidation, HasOnlyShowing};
 ghost use Rattle.wblock_calls.specs.Words.{texts};
 ghost use Rattle.wblock_line.specs.Words.{choices};
 ghost use Rattle.wblock_show.specs.declared.file.Form.{Form as TheForm};
@@ -141,6 +141,14 @@ pub(crate) fn boosted_in(
     ensures { IfOk result (λ found. MatchOption found ((boosted : Bool) → ¬ AsksBoosted (choices options.now) boosted) (AsksBoosted (choices options.now))) }
 {
     let switches = values_of(alloc, options, BOOSTED_SWITCH)?;
+    Ok(switch_of(switches.as_slice()))
+}
+
+/// Whether options ask for JSON; or None where they ask for it otherwise than once and without a value.
+pub(crate) fn json_in(alloc: Global, options: &[(&str, &str)]) -> Result<Option<bool>, AllocError>
+    ensures { IfOk result (λ found. MatchOption found ((json : Bool) → ¬ AsksJson (choices options.now) json) (AsksJson (choices options.now))) }
+{
+    let switches = values_of(alloc, options, JSON_SWITCH)?;
     Ok(switch_of(switches.as_slice()))
 }
 
@@ -291,7 +299,8 @@ pub(crate) fn has_only_validation(options: &[(&str, &str)]) -> bool
     let workers = count_of(options, WORKERS.word);
     let boosted = count_of(options, BOOSTED_SWITCH);
     let next = count_of(options, NEXT.word);
-    options.len() == fuel + workers + boosted + next
+    let json = count_of(options, JSON_SWITCH);
+    options.len() == fuel + workers + boosted + next + json
 }
 
 /// Whether all are options of `show`.

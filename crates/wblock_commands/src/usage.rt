@@ -145,6 +145,7 @@ fn validate<'a>(alloc: Global) -> Result<Command<'a>, AllocError> {
         .arg(number(alloc, WORKERS))?
         .arg(switch(alloc, BOOSTED))?
         .arg(file(alloc, NEXT))?
+        .arg(switch(alloc, JSON))?
         .arg(switch(alloc, QUIET))
 }
 

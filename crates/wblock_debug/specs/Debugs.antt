@@ -1,5 +1,5 @@
 -- What `debug` answers.
-use Rattle.std.specs.Prelude.{◌≡◌, ℕ, ◌⊎◌, Bool, List, [], Option, Some, None, slice_get, string_bytes, if◌then◌else◌}
+use Rattle.std.specs.Prelude.{◌≡◌, ℕ, ◌⊎◌, Bool, false, List, [], Option, Some, None, slice_get, string_bytes, if◌then◌else◌}
 use Rattle.std.specs.Borrow.{Bor}
 use Rattle.spec_ledger.specs.declared.Version.{Version}
 use Rattle.spec_ledger.specs.declared.Version.TheVariants.{Two}
@@ -41,7 +41,7 @@ TellsAbsent number (Refused line why) = string_bytes line ≡ left_line number
 pub record IsRejected (world : World) (calls : List Call) (task : Debugging) (bytes : List ℕ) (a : Answer) : Type 0 where
   pub verdict : Verdict
   pub is : IsVerdictWith world calls task.fuel bytes verdict
-  pub tells : Rejects verdict a
+  pub tells : Rejects false verdict a
 
 -- the call does not stand in the block
 pub record IsLeftOut (world : World) (calls : List Call) (task : Debugging) (bytes : List ℕ) (a : Answer) : Type 0 where

@@ -3,20 +3,18 @@
 
 ghost use Rattle.std.specs.Prelude.{◌≡◌, ◌≤◌, ◌<◌, ◌^◌, IsTrue, IfOk, IfErr, OnOk, MatchOption, Some, length, slice_get, string_bytes};
 ghost use Rattle.world.specs.Views.{world_view};
-ghost use Rattle.block_judge.specs.Judging.{told};
 ghost use Rattle.wblock_line.specs.Answers.{CountsFault, IsOfFile};
-ghost use Rattle.wblock_line.specs.Rejections.{Rejects};
 ghost use Rattle.wblock_debug.specs.Debugs.{IsText, TellsAbsent, TellsCall, TellsOfBlock, TellsListed, IsBlockName, IsNextRead, IsNotListed, Debugs};
 
 use crate::{Debugging, Printed, debug_call};
-use block_judge::{JudgeRefusal, Reason, met_by};
+use block_judge::{JudgeRefusal, met_by};
 use call::Call;
 use pace::Pace;
 use spec_ledger::Version;
 use std::alloc::{AllocError, Global};
 use storage::Cells;
 use wblock_io::Files;
-use wblock_line::{Answer, Fault, Inputs, read_file, read_inputs, reason_words, reject_line_of};
+use wblock_line::{Answer, Fault, Inputs, read_file, read_inputs, reject};
 use world::World;
 use wtypes::NoMemory;
 
@@ -64,15 +62,6 @@ fn absent<'a>(alloc: Global, number: u64) -> Result<Answer<'a>, AllocError>
     Ok(Answer::Refused(line, why))
 }
 
-/// The answer that a block of these bytes is rejected.
-fn rejected<'a>(alloc: Global, bytes: &[u8], reason: Reason) -> Result<Answer<'a>, AllocError>
-    ensures { IfOk result (Rejects (told reason)) }
-{
-    let line = reject_line_of(alloc, reason)?;
-    let why = reason_words(alloc, bytes, reason)?;
-    Ok(Answer::Refused(line, why))
-}
-
 /// What the commands print of the call of the task's number over the cells that it meets in the block of these bytes.
 fn debug_in_block<'a, P: Pace>(
     alloc: Global,
@@ -98,7 +87,7 @@ fn debug_in_block<'a, P: Pace>(
     ) {
         Ok(Some(met)) => Ok(debug_over(alloc, world, &met.cells, call, task, met.version)?),
         Ok(None) => Ok(absent(alloc, task.call)?),
-        Err(JudgeRefusal::Rejected(reason)) => Ok(rejected(alloc, bytes, reason)?),
+        Err(JudgeRefusal::Rejected(reason)) => Ok(reject(alloc, false, bytes, reason)?),
         Err(JudgeRefusal::NoMemory) => Err(NoMemory),
     }
 }

@@ -1,3 +1,4 @@
 mod Beginning
+mod FlatRejections
 mod Saying
 mod Splitting

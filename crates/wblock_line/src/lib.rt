@@ -27,7 +27,7 @@ pub use perform::{Status, carry_out, tell_fault};
 pub use progress::Progress;
 pub use quiet::{QUIET_NAME, Words, without_quiet};
 pub use refusals::ModuleRefusal;
-pub use rejections::{reason_words, reject_line_of};
+pub use rejections::reject;
 pub use told::refuse;
 pub use wiped::Wiped;
 pub use words::{
