@@ -1,4 +1,5 @@
 mod FlatObjects
 mod Notes
 mod Rejected
+mod Silent
 mod Versions

@@ -87,7 +87,7 @@ AsksSigned options signed = IsSwitch (values_in (codes "--signed") options) sign
 
 -- no option has another name: together these are as many as there are options
 abbrev pub HasOnlyMining : List Choice → Type 0
-HasOnlyMining options = length options ≡ count_of (codes "--fuel") options + count_of (codes "--workers") options + count_of (codes "--boosted") options + count_of (codes "--tries") options
+HasOnlyMining options = length options ≡ count_of (codes "--fuel") options + count_of (codes "--workers") options + count_of (codes "--boosted") options + count_of (codes "--tries") options + count_of (codes "--json") options
 
 abbrev pub HasOnlyValidation : List Choice → Type 0
 HasOnlyValidation options = length options ≡ count_of (codes "--fuel") options + count_of (codes "--workers") options + count_of (codes "--boosted") options + count_of (codes "--next") options + count_of (codes "--json") options

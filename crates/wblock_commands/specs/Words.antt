@@ -76,13 +76,14 @@ pub record KeepsInputs (m : Mining) : Type 0 where
   pub block : m.next.now ≢ m.block.now
   pub list : m.calls.now ≢ m.next.now
 
--- `mine WORLD CALLS BLOCK NEXT --fuel N [--workers 4] [--boosted] [--tries 3]`
+-- `mine WORLD CALLS BLOCK NEXT --fuel N [--workers 4] [--boosted] [--tries 3] [--json]`
 pub record AsksMine (line : Line) (m : Mining) : Type 0 where
   pub words : line.words ≡ codes "mine" ∷ m.world.now ∷ m.calls.now ∷ m.block.now ∷ m.next.now ∷ []
   pub fuel : AsksFuel line.options m.fuel
   pub workers : AsksWorkers line.options m.workers
   pub tries : AsksTries line.options m.tries
   pub boosted : AsksBoosted line.options m.boosted
+  pub json : AsksJson line.options m.json
   pub only : HasOnlyMining line.options
   pub apart : KeepsInputs m
 

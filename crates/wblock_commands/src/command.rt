@@ -53,7 +53,7 @@ pub enum Command<'l, 'w> {
     Check(&'w str, Option<u32>),
     /// `deploy WORLD MODULE... [--onto OLD] [--force]`: the world of these modules, 1 to 1,024, behind the contracts of OLD.
     Deploy(Deploying<'l, 'w>),
-    /// `mine WORLD CALLS BLOCK NEXT --fuel N [--workers 4] [--boosted] [--tries 3]`: a block of the calls over the world, and the world after it.
+    /// `mine WORLD CALLS BLOCK NEXT --fuel N [--workers 4] [--boosted] [--tries 3] [--json]`: a block of the calls over the world, and the world after it.
     Mine(Mining<'w>),
     /// `validate WORLD CALLS BLOCK --fuel N [--workers 4] [--next NEXT] [--json]`: the verdict on the block, and the world after it.
     Validate(Validation<'w>),
@@ -283,6 +283,9 @@ fn mining_of<'w>(
     let Some(boosted) = boosted_in(alloc, options)? else {
         return Ok(None);
     };
+    let Some(json) = json_in(alloc, options)? else {
+        return Ok(None);
+    };
     let mining = Mining {
         world: words[1],
         calls: words[2],
@@ -292,6 +295,7 @@ fn mining_of<'w>(
         workers,
         tries,
         boosted,
+        json,
     };
     if !keeps_inputs(mining) {
         return Ok(None);

@@ -288,7 +288,8 @@ pub(crate) fn has_only_mining(options: &[(&str, &str)]) -> bool
     let workers = count_of(options, WORKERS.word);
     let boosted = count_of(options, BOOSTED_SWITCH);
     let tries = count_of(options, TRIES.word);
-    options.len() == fuel + workers + boosted + tries
+    let json = count_of(options, JSON_SWITCH);
+    options.len() == fuel + workers + boosted + tries + json
 }
 
 /// Whether all options are options of `validate`.

@@ -130,6 +130,7 @@ fn mine<'a>(alloc: Global) -> Result<Command<'a>, AllocError> {
         .arg(number(alloc, WORKERS))?
         .arg(switch(alloc, BOOSTED))?
         .arg(number(alloc, TRIES))?
+        .arg(switch(alloc, JSON))?
         .arg(switch(alloc, QUIET))
 }
 

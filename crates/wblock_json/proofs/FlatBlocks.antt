@@ -128,8 +128,8 @@ figures_flat f =
     let members : List (List ℕ × Data) = (codes "total_fuel", large f.total_fuel) ∷ (codes "waves", waves_data f.chains) ∷ (codes "chain", chain_data f.chains) ∷ (codes "speed_up", speed_up_data f.chains f.total_fuel) ∷ (codes "shared", array_of (map shared_data f.hottest.items)) ∷ (codes "outcomes", array_of (map count_data f.outcomes.items)) ∷ [] in
     object_flat 2 3 members (omega arith) (string_flat 2 _, (waves_flat 2 f.chains, (deeper 1 2 _ (omega arith) (chain_flat f.chains), (speed_up_flat 2 f.chains f.total_fuel, (hottest_flat f.hottest.items, (outcomes_flat f.outcomes.items, tt))))))
 
-pub block_flat : (b : Block) (calls : Option (List Call)) (f : Figures) → IsFlat 127 (block_data b calls f)
+pub block_flat : (b : Block) (calls : Option (List Call)) (f : Figures) → IsFlat 6 (block_data b calls f)
 unfolding block_data
 block_flat b calls f =
     let members : List (List ℕ × Data) = (codes "kind", string (codes "block")) ∷ (codes "version", small (version_code b.version)) ∷ (codes "before", hex_data b.before) ∷ (codes "calls", hex_data b.calls) ∷ (codes "after", hex_data b.after) ∷ (codes "fuel", large b.fuel) ∷ (codes "positions", array_of (numbered (position_data calls f.chains) 0 b.positions)) ∷ (codes "figures", figures_data f) ∷ [] in
-    object_flat 5 127 members (omega arith) (string_flat 5 _, (small_flat 5 _, (string_flat 5 _, (string_flat 5 _, (string_flat 5 _, (string_flat 5 _, (positions_flat calls f.chains b.positions, (deeper 3 5 _ (omega arith) (figures_flat f), tt))))))))
+    object_flat 5 6 members (omega arith) (string_flat 5 _, (small_flat 5 _, (string_flat 5 _, (string_flat 5 _, (string_flat 5 _, (string_flat 5 _, (positions_flat calls f.chains b.positions, (deeper 3 5 _ (omega arith) (figures_flat f), tt))))))))

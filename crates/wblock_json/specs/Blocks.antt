@@ -1,5 +1,5 @@
 -- A block as JSON, with its figures.
-use Rattle.std.specs.Prelude.{◌==◌, ℕ, ◌*◌, ◌/◌, Option, Some, None, List, [], ◌∷◌, if◌then◌else◌, codes, map, slice_get, slice_index}
+use Rattle.std.specs.Prelude.{◌≡◌, ◌==◌, ℕ, ◌*◌, ◌/◌, Option, Some, None, List, [], ◌∷◌, if◌then◌else◌, codes, map, slice_get, slice_index}
 use Rattle.std.specs.Borrow.{Bor}
 use Rattle.std.specs.Fmt.{signed_decimal}
 use Rattle.serde_json.specs.Data.{Data, null, string}
@@ -182,6 +182,12 @@ block_data b calls f =
     ∷ (codes "positions", array_of (numbered (position_data calls f.chains) 0 b.positions))
     ∷ (codes "figures", figures_data f)
     ∷ [])
+
+-- the value of a block with its figures
+pub record IsBlockData (b : Block) (calls : Option (List Call)) (d : Data) : Type 0 where
+  pub figures : Figures
+  pub are : AreFigures b figures
+  pub data_is : d ≡ block_data b calls figures
 
 -- the text of a block with its figures
 pub record IsBlockJson (b : Block) (calls : Option (List Call)) (text : List ℕ) : Type 0 where

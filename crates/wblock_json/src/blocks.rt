@@ -4,7 +4,7 @@ ghost use Rattle.std.specs.Prelude.{◌≡◌, ◌≤◌, ◌<◌, ◌^◌, IfOk
 ghost use Rattle.serde_json.specs.View.{members_view, view};
 ghost use Rattle.figures.specs.Figures.{AreFigures};
 ghost use Rattle.wblock_json.specs.Json.{array_of, maybe, numbered, with_members};
-ghost use Rattle.wblock_json.specs.Blocks.{block_data, call_data, called_data, calls_of, chain_data, code_data, count_data, entry_data, figures_data, kind_of as kind_in, longest_data, outcome_word, position_data, ratio_data, receipt_members, returned_data, shared_data, speed_up_data, typed_data, value_data, wave_data, waves_data, IsBlockJson};
+ghost use Rattle.wblock_json.specs.Blocks.{block_data, call_data, called_data, calls_of, chain_data, code_data, count_data, entry_data, figures_data, kind_of as kind_in, longest_data, outcome_word, position_data, ratio_data, receipt_members, returned_data, shared_data, speed_up_data, typed_data, value_data, wave_data, waves_data, IsBlockData, IsBlockJson};
 
 use crate::values::{digest_of, large_of, null, text_of, with_member, word_of};
 use block::{Block, Position};
@@ -380,8 +380,20 @@ fn bounded_figures(alloc: Global, block: &Block) -> Result<Figures, AllocError>
     }
 }
 
-/// A block as JSON: an object with its version, digests and fuel, its positions with their waves and locks, and its figures; with their calls, where
-/// these are known. The text has no spaces and no newline.
+/// A block as the value of its JSON: an object with its version, digests and fuel, its positions with their waves and locks, and its figures; with their
+/// calls, where these are known.
+///
+/// # Errors
+///
+/// Memory was refused.
+pub fn block_value(alloc: Global, block: &Block, calls: Option<&[Call]>) -> Result<Json, AllocError>
+    ensures { IfOk result (λ v. IsBlockData block.now (calls_of calls.entry) (view v)) }
+{
+    let figures = bounded_figures(alloc, block)?;
+    block_of(alloc, block, calls, &figures)
+}
+
+/// The text of [`block_value`]. It has no spaces and no newline.
 ///
 /// # Errors
 ///
@@ -393,7 +405,6 @@ pub fn block_json(
 ) -> Result<String, AllocError>
     ensures { IfOk result (λ text. IsBlockJson block.now (calls_of calls.entry) (string_bytes text)) }
 {
-    let figures = bounded_figures(alloc, block)?;
-    let value = block_of(alloc, block, calls, &figures)?;
+    let value = block_value(alloc, block, calls)?;
     text_of(alloc, &value)
 }

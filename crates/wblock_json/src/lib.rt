@@ -11,7 +11,7 @@ mod types;
 mod values;
 mod worlds;
 
-pub use blocks::{block_json, with_receipt};
+pub use blocks::{block_json, block_value, with_receipt};
 pub use modules::module_json;
 pub use refusals::json_refusal;
 pub use types::maybe_number;
