@@ -93,7 +93,7 @@ abbrev pub HasOnlyValidation : List Choice → Type 0
 HasOnlyValidation options = length options ≡ count_of (codes "--fuel") options + count_of (codes "--workers") options + count_of (codes "--boosted") options + count_of (codes "--next") options + count_of (codes "--json") options
 
 abbrev pub HasOnlyDeploying : List Choice → Type 0
-HasOnlyDeploying options = length options ≡ count_of (codes "--onto") options + count_of (codes "--force") options
+HasOnlyDeploying options = length options ≡ count_of (codes "--onto") options + count_of (codes "--force") options + count_of (codes "--json") options
 
 abbrev pub HasOnlyShowing : List Choice → Type 0
 HasOnlyShowing options = length options ≡ count_of (codes "--calls") options + count_of (codes "--json") options + count_of (codes "--svg") options + count_of (codes "--signed") options

@@ -62,11 +62,12 @@ pub record NamesModules (words : List (List ℕ)) (world : List ℕ) (modules : 
   pub few : length modules ≤ 1024
   pub apart : IsApart world modules
 
--- `deploy WORLD MODULE... [--onto OLD] [--force]`
+-- `deploy WORLD MODULE... [--onto OLD] [--force] [--json]`
 pub record AsksDeploy (line : Line) (d : Deploying) : Type 0 where
   pub names : NamesModules line.words d.world.now (texts d.modules.now)
   pub onto : AsksOnto line.options d.onto
   pub force : AsksForce line.options d.forced
+  pub json : AsksJson line.options d.json
   pub only : HasOnlyDeploying line.options
 
 -- what is written takes the place of no input and of no other output: BLOCK has a name of its own, and NEXT another than CALLS; NEXT may be WORLD

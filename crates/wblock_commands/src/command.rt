@@ -34,6 +34,8 @@ pub struct Deploying<'l, 'w> {
     pub onto: Option<&'w str>,
     /// Whether the world may be written in the place of a file that is there.
     pub forced: bool,
+    /// Whether it is told as JSON.
+    pub json: bool,
 }
 
 /// A command with its words.
@@ -51,7 +53,7 @@ pub enum Command<'l, 'w> {
     Text(&'w str, &'w str, bool),
     /// `check MODULE [--heap N]`: whether a module is valid, its tree in an arena or in a heap of N bytes, 1,024 to 16,777,216.
     Check(&'w str, Option<u32>),
-    /// `deploy WORLD MODULE... [--onto OLD] [--force]`: the world of these modules, 1 to 1,024, behind the contracts of OLD.
+    /// `deploy WORLD MODULE... [--onto OLD] [--force] [--json]`: the world of these modules, 1 to 1,024, behind the contracts of OLD.
     Deploy(Deploying<'l, 'w>),
     /// `mine WORLD CALLS BLOCK NEXT --fuel N [--workers 4] [--boosted] [--tries 3] [--json]`: a block of the calls over the world, and the world after it.
     Mine(Mining<'w>),
@@ -242,11 +244,15 @@ fn deploying_of<'l, 'w>(
     let Some(forced) = force_in(alloc, options)? else {
         return Ok(None);
     };
+    let Some(json) = json_in(alloc, options)? else {
+        return Ok(None);
+    };
     Ok(Some(Deploying {
         world,
         modules,
         onto,
         forced,
+        json,
     }))
 }
 

@@ -1,4 +1,4 @@
-//! The command `deploy WORLD MODULE... [--onto OLD] [--force]`, which writes over no file unasked.
+//! The command `deploy WORLD MODULE... [--onto OLD] [--force] [--json]`, which writes over no file unasked.
 
 ghost use Rattle.std.specs.Prelude.{◌≡◌, ◌≤◌, ◌↔◌, IsTrue, IfOk, IfErr, OnOk, MatchOption, length};
 ghost use Rattle.wblock_line.specs.Answers.{CountsFault, IsOfFile};
@@ -39,7 +39,7 @@ pub(crate) fn deploy_apart<'l, 'w, F: Files>(
     if !may_replace(task) && files.is_there(task.world) {
         return Ok(None);
     }
-    match deploy_modules(alloc, files, task.world, task.onto, task.modules) {
+    match deploy_modules(alloc, files, task.json, task.world, task.onto, task.modules) {
         Ok(answer) => Ok(Some(answer)),
         Err(fault) => Err(fault),
     }

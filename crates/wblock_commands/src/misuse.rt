@@ -39,7 +39,12 @@ fn deploying_misuse(
         return Ok(Some(clash(alloc, "MODULE", "WORLD", world)?));
     }
     let is_forced = options.iter().any(|option| option.0 == FORCE_SWITCH);
-    if !is_forced && options.len() <= 1 {
+    let is_once = match options {
+        [] | [_] => true,
+        [first, second] => first.0 != second.0,
+        _ => false,
+    };
+    if !is_forced && is_once {
         return Ok(Some(format!(in alloc;
             "usage: WORLD `{world}` is there already: {FORCE_SWITCH} writes the new world in its place"
         )?));

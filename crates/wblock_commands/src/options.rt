@@ -277,7 +277,8 @@ pub(crate) fn has_only_deploying(options: &[(&str, &str)]) -> bool
 {
     let onto = count_of(options, ONTO.word);
     let force = count_of(options, FORCE_SWITCH);
-    options.len() == onto + force
+    let json = count_of(options, JSON_SWITCH);
+    options.len() == onto + force + json
 }
 
 /// Whether all options are options of `mine`.

@@ -108,7 +108,8 @@ fn deploy<'a>(alloc: Global) -> Result<Command<'a>, AllocError> {
         )
         .num_args(1..))?
         .arg(file(alloc, ONTO))?
-        .arg(switch(alloc, FORCE))
+        .arg(switch(alloc, FORCE))?
+        .arg(switch(alloc, JSON))
 }
 
 fn mine<'a>(alloc: Global) -> Result<Command<'a>, AllocError> {

@@ -4,10 +4,9 @@ ghost use Rattle.std.specs.Prelude.{◌≡◌, IfOk, map, string_bytes};
 ghost use Rattle.std.specs.List.{before_first};
 ghost use Rattle.serde_json.specs.View.{view};
 ghost use Rattle.wblock_calls.specs.Words.{texts};
-ghost use Rattle.wblock_json.specs.Json.{array_of, IsJson, IsLineOf};
+ghost use Rattle.wblock_json.specs.Json.{array_of, maybe, small, IsJson, IsLineOf};
 ghost use Rattle.wblock_json.specs.Refusals.{is_newline, kind_data, number_data, numbers_in, reason_data, refusal_data};
 
-use crate::types::maybe_number;
 use crate::values::{null, value_line, with_member, word_of};
 use serde_json::{Map, Value as Json, json};
 use std::alloc::{AllocError, Global};
@@ -66,11 +65,21 @@ fn numbers_of(alloc: Global, words: &[&str]) -> Result<Json, AllocError>
     Ok(Json::from(values))
 }
 
+/// The number of a module, where one is at fault.
+fn count_of(number: Option<usize>) -> Json
+    ensures { view result ≡ maybe small number }
+{
+    match number {
+        None => Json::Null,
+        Some(number) => Json::from(number),
+    }
+}
+
 /// What is told of a line of these words and its sentence, and of the module of this number.
 #[tactic(auto, unfolding(crate::specs::Refusals::reason_data))]
 fn reason_of(
     alloc: Global,
-    number: Option<u32>,
+    number: Option<usize>,
     words: &[&str],
     sentence: &str,
 ) -> Result<Json, AllocError>
@@ -78,7 +87,7 @@ fn reason_of(
 {
     let members = Map::new(alloc);
     let members = with_member(alloc, members, "kind", kind_of(alloc, words)?)?;
-    let members = with_member(alloc, members, "module", maybe_number(number))?;
+    let members = with_member(alloc, members, "module", count_of(number))?;
     let numbers = numbers_of(alloc, numbers_behind(words))?;
     let members = with_member(alloc, members, "numbers", numbers)?;
     let members = with_member(alloc, members, "sentence", word_of(alloc, sentence)?)?;
@@ -88,7 +97,7 @@ fn reason_of(
 #[tactic(auto, unfolding(crate::specs::Refusals::refusal_data))]
 fn refusal_of(
     alloc: Global,
-    number: Option<u32>,
+    number: Option<usize>,
     line: &str,
     sentence: &str,
 ) -> Result<Json, AllocError>
@@ -107,7 +116,7 @@ fn refusal_of(
 /// Memory was refused.
 pub fn json_refusal(
     alloc: Global,
-    number: Option<u32>,
+    number: Option<usize>,
     line: &str,
     sentence: &str,
 ) -> Result<String, AllocError>
