@@ -37,6 +37,14 @@ AsksWorkers options n = IsNumberOr 4 (values_in (codes "--workers") options) 1 6
 abbrev pub AsksTries : List Choice → ℕ → Type 0
 AsksTries options n = IsNumberOr 3 (values_in (codes "--tries") options) 1 16 n
 
+-- `--heap N`, a number of bytes that a heap may have; or nothing
+abbrev pub IsHeap : List (List ℕ) → Option ℕ → Type 0
+IsHeap values None = values ≡ []
+IsHeap values (Some n) = IsNumber values 1024 16777216 n
+
+abbrev pub AsksHeap : List Choice → Option ℕ → Type 0
+AsksHeap options heap = IsHeap (values_in (codes "--heap") options) heap
+
 -- an option is given once, and its value is this name; or it is not given
 abbrev pub IsNameOrNone : List (List ℕ) → Option (Bor (List ℕ)) → Type 0
 IsNameOrNone values (Some name) = values ≡ name.now ∷ []
@@ -91,6 +99,9 @@ HasOnlyMining options = length options ≡ count_of (codes "--fuel") options + c
 
 abbrev pub HasOnlyValidation : List Choice → Type 0
 HasOnlyValidation options = length options ≡ count_of (codes "--fuel") options + count_of (codes "--workers") options + count_of (codes "--boosted") options + count_of (codes "--next") options + count_of (codes "--json") options
+
+abbrev pub HasOnlyChecking : List Choice → Type 0
+HasOnlyChecking options = length options ≡ count_of (codes "--heap") options + count_of (codes "--json") options
 
 abbrev pub HasOnlyDeploying : List Choice → Type 0
 HasOnlyDeploying options = length options ≡ count_of (codes "--onto") options + count_of (codes "--force") options + count_of (codes "--json") options

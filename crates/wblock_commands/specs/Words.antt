@@ -6,7 +6,7 @@ use Rattle.wblock_line.specs.Words.{AsksAlone, Line, Choice, split}
 use Rattle.wblock_commands.specs.declared.command.Command.{Command}
 use Rattle.wblock_commands.specs.declared.command.Command.TheVariants.{Stored, Help, Version, Asm, Text, Check, Deploy, Mine, Validate, Call, Debug, Show}
 use Rattle.wblock_commands.specs.declared.command.Deploying.{Deploying}
-use Rattle.wblock_commands.specs.Options.{AsksFuel, AsksWorkers, AsksTries, AsksBoosted, AsksNext, AsksCalls, AsksForm, AsksJson, AsksSigned, AsksForce, AsksOnto, HasOnlyDeploying, HasOnlyMining, HasOnlyValidation, HasOnlyShowing}
+use Rattle.wblock_commands.specs.Options.{AsksFuel, AsksWorkers, AsksTries, AsksBoosted, AsksNext, AsksCalls, AsksForm, AsksJson, AsksSigned, AsksForce, AsksHeap, AsksOnto, HasOnlyChecking, HasOnlyDeploying, HasOnlyMining, HasOnlyValidation, HasOnlyShowing}
 use Rattle.wblock_debug.specs.Asks.{AsksDebug}
 use Rattle.wblock_debug.specs.Calling.{AsksCall}
 use Rattle.wblock_debug.specs.declared.asked.Debugging.{Debugging}
@@ -21,17 +21,6 @@ use Rattle.wblock_show.specs.declared.file.Showing.{Showing}
 abbrev pub IsApart : List ℕ → List (List ℕ) → Type 0
 IsApart word [] = Unit {0}
 IsApart word (other ∷ others) = (other ≢ word) × IsApart word others
-
--- the word is a number of bytes that a heap may have
-pub record IsSize (word : List ℕ) (n : ℕ) : Type 0 where
-  pub spelled : word ≡ decimal n
-  pub enough : 1024 ≤ n
-  pub few : n ≤ 16777216
-
--- `--heap N`, or nothing
-abbrev pub AsksHeap : List Choice → Option ℕ → Type 0
-AsksHeap options None = options ≡ []
-AsksHeap options (Some n) = (word : List ℕ) × (options ≡ (codes "--heap", word) ∷ []) × IsSize word n
 
 -- no words
 pub record AsksStored (line : Line) : Type 0 where
@@ -50,10 +39,12 @@ pub record AsksText (line : Line) (source target : List ℕ) (unchecked : Bool) 
   pub options : AsksAlone (codes "--unchecked") line.options unchecked
   pub apart : source ≢ target
 
--- `check MODULE [--heap N]`
-pub record AsksCheck (line : Line) (target : List ℕ) (heap : Option ℕ) : Type 0 where
+-- `check MODULE [--heap N] [--json]`
+pub record AsksCheck (line : Line) (target : List ℕ) (heap : Option ℕ) (json : Bool) : Type 0 where
   pub words : line.words ≡ codes "check" ∷ target ∷ []
-  pub options : AsksHeap line.options heap
+  pub heap_is : AsksHeap line.options heap
+  pub json_is : AsksJson line.options json
+  pub only : HasOnlyChecking line.options
 
 -- `deploy WORLD MODULE...`, WORLD of a name that no MODULE has, whatever the options
 pub record NamesModules (words : List (List ℕ)) (world : List ℕ) (modules : List (List ℕ)) : Type 0 where
@@ -146,7 +137,7 @@ IsLineOf line (Help words) = ⊥
 IsLineOf line Version = ⊥
 IsLineOf line (Asm text target) = AsksAsm line text.now target.now
 IsLineOf line (Text source target unchecked) = AsksText line source.now target.now unchecked
-IsLineOf line (Check target heap) = AsksCheck line target.now heap
+IsLineOf line (Check target heap json) = AsksCheck line target.now heap json
 IsLineOf line (Deploy task) = AsksDeploy line task
 IsLineOf line (Mine task) = AsksMine line task
 IsLineOf line (Validate task) = AsksValidate line task
@@ -179,7 +170,7 @@ HasFew (Help words) = Unit {0}
 HasFew Version = Unit {0}
 HasFew (Asm text target) = Unit {0}
 HasFew (Text source target unchecked) = Unit {0}
-HasFew (Check target heap) = Unit {0}
+HasFew (Check target heap json) = Unit {0}
 HasFew (Deploy task) = length task.modules.now ≤ 1024
 HasFew (Mine task) = ((1 ≤ task.workers) × (task.workers ≤ 64)) × ((1 ≤ task.tries) × (task.tries ≤ 16))
 HasFew (Validate task) = (1 ≤ task.workers) × (task.workers ≤ 64)

@@ -1,21 +1,20 @@
 //! What a line of words asks for.
 
-ghost use Rattle.std.specs.Prelude.{◌≡◌, ◌≢◌, ◌≤◌, ◌↔◌, ℕ, List, [], ◌∷◌, Bool, Option, IfOk, IfSome, IsTrue, MatchOption, codes, decimal};
+ghost use Rattle.std.specs.Prelude.{◌≡◌, ◌↔◌, ℕ, List, [], ◌∷◌, Bool, Option, IfOk, IfSome, IsTrue, MatchOption, codes};
 ghost use Rattle.wblock_line.specs.Words.{line_of};
 ghost use Rattle.wblock_calls.specs.Words.{texts};
 ghost use Rattle.wblock_line.specs.Words.{choices};
-ghost use Rattle.wblock_commands.specs.Words.{AsksStored, AsksAsm, AsksText, AsksShow, AsksHeap, IsSize, AsksCheck, NamesModules, AsksDeploy, AsksMine, AsksValidate, CountsValidate, SpellsValidate, AsksNoTask, IsLineOf, IsApart, KeepsInputs, NextIsApart, SpellsShow, PictureIsApart, AsksHelp, IsTold, HasFew};
+ghost use Rattle.wblock_commands.specs.Words.{AsksStored, AsksAsm, AsksText, AsksShow, AsksCheck, NamesModules, AsksDeploy, AsksMine, AsksValidate, CountsValidate, SpellsValidate, AsksNoTask, IsLineOf, IsApart, KeepsInputs, NextIsApart, SpellsShow, PictureIsApart, AsksHelp, IsTold, HasFew};
 ghost use Rattle.wblock_commands.specs.declared.command.Command.{Command as Asked};
 ghost use Rattle.wblock_commands.specs.declared.command.Deploying.{Deploying as TheDeploying};
 ghost use Rattle.wblock_blocks.specs.declared.mine.Mining.{Mining as TheMining};
 ghost use Rattle.wblock_blocks.specs.declared.validate.Validation.{Validation as TheValidation};
 ghost use Rattle.wblock_show.specs.declared.file.Showing.{Showing as TheShowing};
 
-use crate::declared::HEAP;
 use crate::options::{
-    boosted_in, calls_in, force_in, form_in, fuel_in, has_only_deploying, has_only_mining,
-    has_only_showing, has_only_validation, json_in, next_in, number_within, onto_in, signed_in,
-    tries_in, workers_in,
+    boosted_in, calls_in, force_in, form_in, fuel_in, has_only_checking, has_only_deploying,
+    has_only_mining, has_only_showing, has_only_validation, heap_in, json_in, next_in, onto_in,
+    signed_in, tries_in, workers_in,
 };
 use std::alloc::{AllocError, Global};
 use wblock_blocks::{Mining, Validation};
@@ -51,8 +50,8 @@ pub enum Command<'l, 'w> {
     Asm(&'w str, &'w str),
     /// `text MODULE TEXT [--unchecked]`: a text that names a module, which is valid; or, with the switch, valid or not.
     Text(&'w str, &'w str, bool),
-    /// `check MODULE [--heap N]`: whether a module is valid, its tree in an arena or in a heap of N bytes, 1,024 to 16,777,216.
-    Check(&'w str, Option<u32>),
+    /// `check MODULE [--heap N] [--json]`: whether a module is valid, its tree in an arena or in a heap of N bytes, 1,024 to 16,777,216; told as JSON or not.
+    Check(&'w str, Option<u32>, bool),
     /// `deploy WORLD MODULE... [--onto OLD] [--force] [--json]`: the world of these modules, 1 to 1,024, behind the contracts of OLD.
     Deploy(Deploying<'l, 'w>),
     /// `mine WORLD CALLS BLOCK NEXT --fuel N [--workers 4] [--boosted] [--tries 3] [--json]`: a block of the calls over the world, and the world after it.
@@ -74,16 +73,6 @@ fn is_stored(words: &[&str], options: &[(&str, &str)]) -> bool
     words.is_empty() && options.is_empty()
 }
 
-/// The size of a heap that a word spells, in decimal with no needless zero.
-fn size_of(alloc: Global, word: &str) -> Result<Option<u32>, AllocError>
-    ensures { IfOk result (λ found. MatchOption found ((n : ℕ) → 1024 ≤ n → n ≤ 16777216 → word.now ≢ decimal n) (λ n. IsSize word.now n)) }
-{
-    match number_within(alloc, word, HEAP.least, HEAP.most)? {
-        Some(size) => Ok(Some(size as u32)),
-        None => Ok(None),
-    }
-}
-
 /// Whether a word is none of these.
 pub(crate) fn is_apart(word: &str, others: &[&str]) -> bool
     ensures { IsTrue result ↔ IsApart word.now (texts others.now) }
@@ -94,37 +83,24 @@ pub(crate) fn is_apart(word: &str, others: &[&str]) -> bool
     }
 }
 
-/// The heap that options ask for, if any; or None where they are no options of `check`.
-fn heap_of(alloc: Global, options: &[(&str, &str)]) -> Result<Option<Option<u32>>, AllocError>
-    ensures { IfOk result (λ found. MatchOption found ((heap : Option ℕ) → ¬ AsksHeap (choices options.now) heap) (AsksHeap (choices options.now))) }
-{
-    if options.is_empty() {
-        return Ok(Some(None));
-    }
-    if options.len() > 1 || !is_word(options[0].0, HEAP.word) {
-        return Ok(None);
-    }
-    match size_of(alloc, options[0].1)? {
-        Some(size) => Ok(Some(Some(size))),
-        None => Ok(None),
-    }
-}
-
-/// The module and the heap of `check`.
+/// The module and the heap of `check`, and whether it is told as JSON.
 fn check_of<'w>(
     alloc: Global,
     words: &[&'w str],
     options: &[(&str, &str)],
-) -> Result<Option<(&'w str, Option<u32>)>, AllocError>
-    ensures { IfOk result (λ found. MatchOption found ((target : List ℕ) (heap : Option ℕ) → ¬ AsksCheck (record { words = texts words.now; options = choices options.now }) target heap) (λ x. AsksCheck (record { words = texts words.now; options = choices options.now }) x.0.now x.1)) }
+) -> Result<Option<(&'w str, Option<u32>, bool)>, AllocError>
+    ensures { IfOk result (λ found. MatchOption found ((target : List ℕ) (heap : Option ℕ) (json : Bool) → ¬ AsksCheck (record { words = texts words.now; options = choices options.now }) target heap json) (λ x. AsksCheck (record { words = texts words.now; options = choices options.now }) x.0.now x.1 x.2)) }
 {
-    if words.len() != 2 || !is_word(words[0], "check") {
+    if words.len() != 2 || !is_word(words[0], "check") || !has_only_checking(options) {
         return Ok(None);
     }
-    match heap_of(alloc, options)? {
-        Some(heap) => Ok(Some((words[1], heap))),
-        None => Ok(None),
-    }
+    let Some(heap) = heap_in(alloc, options)? else {
+        return Ok(None);
+    };
+    let Some(json) = json_in(alloc, options)? else {
+        return Ok(None);
+    };
+    Ok(Some((words[1], heap, json)))
 }
 
 /// The text and the module of `asm`.
@@ -432,8 +408,8 @@ pub fn command_of<'l, 'w>(
     if let Some((source, target, unchecked)) = text_of(words, options) {
         return Ok(Some(Command::Text(source, target, unchecked)));
     }
-    if let Some((target, heap)) = check_of(alloc, words, options)? {
-        return Ok(Some(Command::Check(target, heap)));
+    if let Some((target, heap, json)) = check_of(alloc, words, options)? {
+        return Ok(Some(Command::Check(target, heap, json)));
     }
     if let Some(task) = deploying_of(alloc, words, options)? {
         return Ok(Some(Command::Deploy(task)));

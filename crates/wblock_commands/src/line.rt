@@ -59,7 +59,7 @@ fn answer_of<'l, 'w, R: Threads + Wait + Sync, F: Files, P: Pace>(
         Command::Text(source, target, unchecked) => {
             write_text(alloc, files, source, target, unchecked)?
         }
-        Command::Check(target, heap) => check_module(alloc, files, target, heap)?,
+        Command::Check(target, heap, json) => check_module(alloc, files, target, heap, json)?,
         Command::Mine(task) => return Ok(Some(mine_block(rt, alloc, files, task, pace)?)),
         Command::Validate(task) => validate_block(rt, alloc, files, task, pace)?,
         Command::Show(task) => show_named(alloc, files, task)?,

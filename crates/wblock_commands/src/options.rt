@@ -2,12 +2,14 @@
 
 ghost use Rattle.std.specs.Borrow.{Bor};
 ghost use Rattle.std.specs.Prelude.{◌≡◌, ◌≢◌, ◌≤◌, ◌<◌, ◌+◌, ◌^◌, ◌↔◌, ℕ, Bool, List, [], Option, IfOk, IsTrue, MatchOption, decimal, length};
-ghost use Rattle.wblock_commands.specs.Options.{values_in, IsNumber, IsNumberOr, IsNameOrNone, IsForm, count_of, AsksFuel, AsksWorkers, AsksTries, AsksBoosted, AsksForce, IsSwitch, AsksNext, AsksOnto, AsksCalls, AsksForm, AsksJson, AsksSigned, HasOnlyDeploying, HasOnlyMining, HasOnlyValidation, HasOnlyShowing};
+ghost use Rattle.wblock_commands.specs.Options.{values_in, IsNumber, IsNumberOr, IsNameOrNone, IsForm, count_of, AsksFuel, AsksWorkers, AsksTries, AsksBoosted, AsksForce, AsksHeap, IsHeap, IsSwitch, AsksNext, AsksOnto, AsksCalls, AsksForm, AsksJson, AsksSigned, HasOnlyChecking, HasOnlyDeploying, HasOnlyMining, HasOnlyValidation, HasOnlyShowing};
 ghost use Rattle.wblock_calls.specs.Words.{texts};
 ghost use Rattle.wblock_line.specs.Words.{choices};
 ghost use Rattle.wblock_show.specs.declared.file.Form.{Form as TheForm};
 
-use crate::declared::{CALLS, FUEL, NEXT, ONTO, SVG, TRIES, USUAL_TRIES, USUAL_WORKERS, WORKERS};
+use crate::declared::{
+    CALLS, FUEL, HEAP, NEXT, ONTO, SVG, TRIES, USUAL_TRIES, USUAL_WORKERS, WORKERS,
+};
 use std::alloc::{AllocError, Global};
 use wblock_calls::number_of;
 use wblock_line::{BOOSTED_SWITCH, FORCE_SWITCH, JSON_SWITCH, SIGNED_SWITCH};
@@ -31,7 +33,7 @@ fn values_of<'w>(
 }
 
 /// The number that a word spells, in decimal with no needless zero, where it is in the range.
-pub(crate) fn number_within(
+fn number_within(
     alloc: Global,
     word: &str,
     least: u64,
@@ -92,6 +94,31 @@ pub(crate) fn fuel_in(alloc: Global, options: &[(&str, &str)]) -> Result<Option<
 {
     let values = values_of(alloc, options, FUEL.word)?;
     number_in(alloc, values.as_slice(), FUEL.least, FUEL.most)
+}
+
+/// The bytes of the heap that the only value spells, if there is one; or None where it spells none that a heap may have.
+#[tactic(auto, using(crate::proofs::Heaps::no_heap))]
+fn heap_of(alloc: Global, values: &[&str]) -> Result<Option<Option<u32>>, AllocError>
+    ensures { IfOk result (λ found. MatchOption found ((heap : Option ℕ) → ¬ IsHeap (texts values.now) heap) (IsHeap (texts values.now))) }
+{
+    if values.is_empty() {
+        return Ok(Some(None));
+    }
+    match number_in(alloc, values, HEAP.least, HEAP.most)? {
+        Some(size) => Ok(Some(Some(size as u32))),
+        None => Ok(None),
+    }
+}
+
+/// The heap that options ask for, if any; or None where they ask for one otherwise than once and in its range.
+pub(crate) fn heap_in(
+    alloc: Global,
+    options: &[(&str, &str)],
+) -> Result<Option<Option<u32>>, AllocError>
+    ensures { IfOk result (λ found. MatchOption found ((heap : Option ℕ) → ¬ AsksHeap (choices options.now) heap) (AsksHeap (choices options.now))) }
+{
+    let values = values_of(alloc, options, HEAP.word)?;
+    heap_of(alloc, values.as_slice())
 }
 
 /// How many workers options ask for, 1 to 64, or 4 where they do not say; or None where they say something else.
@@ -269,6 +296,15 @@ fn count_of(options: &[(&str, &str)], name: &str) -> usize
         }
     }
     count
+}
+
+/// Whether all options are options of `check`.
+pub(crate) fn has_only_checking(options: &[(&str, &str)]) -> bool
+    ensures { IsTrue result ↔ HasOnlyChecking (choices options.now) }
+{
+    let heap = count_of(options, HEAP.word);
+    let json = count_of(options, JSON_SWITCH);
+    options.len() == heap + json
 }
 
 /// Whether all options are options of `deploy`.

@@ -90,7 +90,8 @@ fn check<'a>(alloc: Global) -> Result<Command<'a>, AllocError> {
     Command::new(alloc, "check")
         .about("Says whether a module is valid")
         .arg(required(alloc, "MODULE", "The file of the module in binary"))?
-        .arg(number(alloc, HEAP))
+        .arg(number(alloc, HEAP))?
+        .arg(switch(alloc, JSON))
 }
 
 fn deploy<'a>(alloc: Global) -> Result<Command<'a>, AllocError> {

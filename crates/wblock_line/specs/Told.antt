@@ -10,3 +10,8 @@ abbrev pub IsRefusalIn : (json : Bool) → (line : List ℕ) → Answer → Type
 IsRefusalIn json line (Done writes text) = ⊥
 IsRefusalIn false line (Refused told why) = string_bytes told ≡ line
 IsRefusalIn true line (Refused told why) = IsLineOf (IsJson (refusal_data None line (string_bytes why))) (string_bytes told)
+
+-- the answer in the form that is asked for: a refusal as above, and what is done as it is
+abbrev pub IsInForm : (json : Bool) → (plain : Answer) → Answer → Type 0
+IsInForm json (Done writes text) a = a ≡ Done writes text
+IsInForm json (Refused line why) a = IsRefusalIn json (string_bytes line) a

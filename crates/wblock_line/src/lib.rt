@@ -28,7 +28,7 @@ pub use progress::Progress;
 pub use quiet::{QUIET_NAME, Words, without_quiet};
 pub use refusals::ModuleRefusal;
 pub use rejections::reject;
-pub use told::refuse;
+pub use told::{in_form, refuse};
 pub use wiped::Wiped;
 pub use words::{
     BOOSTED_SWITCH, FORCE_SWITCH, JSON_SWITCH, Line, SIGNED_SWITCH, UNCHECKED_SWITCH, is_word,

@@ -1,7 +1,7 @@
 //! A refusal in the form that is asked for.
 
 ghost use Rattle.std.specs.Prelude.{◌≡◌, IfOk, IfErr, string_bytes};
-ghost use Rattle.wblock_line.specs.Told.{IsRefusalIn};
+ghost use Rattle.wblock_line.specs.Told.{IsInForm, IsRefusalIn};
 
 use crate::answer::{Answer, Fault};
 use std::alloc::{AllocError, Global};
@@ -27,5 +27,20 @@ pub fn refuse<'a>(
     match json_refusal(alloc, None, line.as_str(), why.as_str()) {
         Ok(told) => Ok(Answer::Refused(told, why)),
         Err(AllocError) => Err(Fault::NoMemory),
+    }
+}
+
+/// An answer in the form that is asked for: of a refusal the line or the JSON object, and else the answer as it is.
+///
+/// # Errors
+///
+/// `NoMemory` alone.
+pub fn in_form<'a>(alloc: Global, json: bool, answer: Answer<'a>) -> Result<Answer<'a>, Fault<'a>>
+    ensures told { IfOk result (IsInForm json answer.entry) }
+    ensures fault { IfErr result (λ f. f ≡ Fault.NoMemory) }
+{
+    match answer {
+        Answer::Refused(line, why) => refuse(alloc, json, line, why),
+        Answer::Done(writes, text) => Ok(Answer::Done(writes, text)),
     }
 }

@@ -12,3 +12,7 @@ onto_data (Some old) before = small before
 -- so many contracts were deployed, behind so many of OLD
 unfoldable pub deployed_data : (count : ℕ) → Option (Bor (List ℕ)) → (before : ℕ) → Data
 deployed_data count onto before = object_of ((codes "contracts", small count) ∷ (codes "onto", onto_data onto before) ∷ [])
+
+-- a valid module defines so many functions
+unfoldable pub valid_data : (count : ℕ) → Data
+valid_data count = object_of ((codes "functions", small count) ∷ [])
