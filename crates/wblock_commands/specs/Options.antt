@@ -89,6 +89,10 @@ AsksBoosted options boosted = IsSwitch (values_in (codes "--boosted") options) b
 abbrev pub AsksJson : List Choice → Bool → Type 0
 AsksJson options json = IsSwitch (values_in (codes "--json") options) json
 
+-- `--unchecked`, once and without a value, or not
+abbrev pub AsksUnchecked : List Choice → Bool → Type 0
+AsksUnchecked options unchecked = IsSwitch (values_in (codes "--unchecked") options) unchecked
+
 -- `--signed`, once and without a value, or not
 abbrev pub AsksSigned : List Choice → Bool → Type 0
 AsksSigned options signed = IsSwitch (values_in (codes "--signed") options) signed
@@ -100,8 +104,8 @@ HasOnlyMining options = length options ≡ count_of (codes "--fuel") options + c
 abbrev pub HasOnlyValidation : List Choice → Type 0
 HasOnlyValidation options = length options ≡ count_of (codes "--fuel") options + count_of (codes "--workers") options + count_of (codes "--boosted") options + count_of (codes "--next") options + count_of (codes "--json") options
 
-abbrev pub HasOnlyChecking : List Choice → Type 0
-HasOnlyChecking options = length options ≡ count_of (codes "--heap") options + count_of (codes "--json") options
+abbrev pub HasOnlyTwo : (first second : List ℕ) → List Choice → Type 0
+HasOnlyTwo first second options = length options ≡ count_of first options + count_of second options
 
 abbrev pub HasOnlyDeploying : List Choice → Type 0
 HasOnlyDeploying options = length options ≡ count_of (codes "--onto") options + count_of (codes "--force") options + count_of (codes "--json") options

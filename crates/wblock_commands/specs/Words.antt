@@ -6,7 +6,7 @@ use Rattle.wblock_line.specs.Words.{AsksAlone, Line, Choice, split}
 use Rattle.wblock_commands.specs.declared.command.Command.{Command}
 use Rattle.wblock_commands.specs.declared.command.Command.TheVariants.{Stored, Help, Version, Asm, Text, Check, Deploy, Mine, Validate, Call, Debug, Show}
 use Rattle.wblock_commands.specs.declared.command.Deploying.{Deploying}
-use Rattle.wblock_commands.specs.Options.{AsksFuel, AsksWorkers, AsksTries, AsksBoosted, AsksNext, AsksCalls, AsksForm, AsksJson, AsksSigned, AsksForce, AsksHeap, AsksOnto, HasOnlyChecking, HasOnlyDeploying, HasOnlyMining, HasOnlyValidation, HasOnlyShowing}
+use Rattle.wblock_commands.specs.Options.{AsksFuel, AsksWorkers, AsksTries, AsksBoosted, AsksNext, AsksCalls, AsksForm, AsksJson, AsksSigned, AsksUnchecked, AsksForce, AsksHeap, AsksOnto, HasOnlyDeploying, HasOnlyMining, HasOnlyTwo, HasOnlyValidation, HasOnlyShowing}
 use Rattle.wblock_debug.specs.Asks.{AsksDebug}
 use Rattle.wblock_debug.specs.Calling.{AsksCall}
 use Rattle.wblock_debug.specs.declared.asked.Debugging.{Debugging}
@@ -27,16 +27,18 @@ pub record AsksStored (line : Line) : Type 0 where
   pub words : line.words ≡ []
   pub options : line.options ≡ []
 
--- `asm TEXT MODULE`, of different names
-pub record AsksAsm (line : Line) (text target : List ℕ) : Type 0 where
+-- `asm TEXT MODULE [--json]`, of different names
+pub record AsksAsm (line : Line) (text target : List ℕ) (json : Bool) : Type 0 where
   pub words : line.words ≡ codes "asm" ∷ text ∷ target ∷ []
-  pub options : line.options ≡ []
+  pub options : AsksAlone (codes "--json") line.options json
   pub apart : text ≢ target
 
--- `text MODULE TEXT [--unchecked]`, of different names
-pub record AsksText (line : Line) (source target : List ℕ) (unchecked : Bool) : Type 0 where
+-- `text MODULE TEXT [--unchecked] [--json]`, of different names
+pub record AsksText (line : Line) (source target : List ℕ) (unchecked json : Bool) : Type 0 where
   pub words : line.words ≡ codes "text" ∷ source ∷ target ∷ []
-  pub options : AsksAlone (codes "--unchecked") line.options unchecked
+  pub unchecked_is : AsksUnchecked line.options unchecked
+  pub json_is : AsksJson line.options json
+  pub only : HasOnlyTwo (codes "--unchecked") (codes "--json") line.options
   pub apart : source ≢ target
 
 -- `check MODULE [--heap N] [--json]`
@@ -44,7 +46,7 @@ pub record AsksCheck (line : Line) (target : List ℕ) (heap : Option ℕ) (json
   pub words : line.words ≡ codes "check" ∷ target ∷ []
   pub heap_is : AsksHeap line.options heap
   pub json_is : AsksJson line.options json
-  pub only : HasOnlyChecking line.options
+  pub only : HasOnlyTwo (codes "--heap") (codes "--json") line.options
 
 -- `deploy WORLD MODULE...`, WORLD of a name that no MODULE has, whatever the options
 pub record NamesModules (words : List (List ℕ)) (world : List ℕ) (modules : List (List ℕ)) : Type 0 where
@@ -135,8 +137,8 @@ abbrev pub IsLineOf : Line → Command → Type 0
 IsLineOf line Stored = AsksStored line
 IsLineOf line (Help words) = ⊥
 IsLineOf line Version = ⊥
-IsLineOf line (Asm text target) = AsksAsm line text.now target.now
-IsLineOf line (Text source target unchecked) = AsksText line source.now target.now unchecked
+IsLineOf line (Asm text target json) = AsksAsm line text.now target.now json
+IsLineOf line (Text source target unchecked json) = AsksText line source.now target.now unchecked json
 IsLineOf line (Check target heap json) = AsksCheck line target.now heap json
 IsLineOf line (Deploy task) = AsksDeploy line task
 IsLineOf line (Mine task) = AsksMine line task
@@ -168,8 +170,8 @@ abbrev pub HasFew : Command → Type 0
 HasFew Stored = Unit {0}
 HasFew (Help words) = Unit {0}
 HasFew Version = Unit {0}
-HasFew (Asm text target) = Unit {0}
-HasFew (Text source target unchecked) = Unit {0}
+HasFew (Asm text target json) = Unit {0}
+HasFew (Text source target unchecked json) = Unit {0}
 HasFew (Check target heap json) = Unit {0}
 HasFew (Deploy task) = length task.modules.now ≤ 1024
 HasFew (Mine task) = ((1 ≤ task.workers) × (task.workers ≤ 64)) × ((1 ≤ task.tries) × (task.tries ≤ 16))

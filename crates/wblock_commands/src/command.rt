@@ -11,15 +11,16 @@ ghost use Rattle.wblock_blocks.specs.declared.mine.Mining.{Mining as TheMining};
 ghost use Rattle.wblock_blocks.specs.declared.validate.Validation.{Validation as TheValidation};
 ghost use Rattle.wblock_show.specs.declared.file.Showing.{Showing as TheShowing};
 
+use crate::declared::HEAP;
 use crate::options::{
-    boosted_in, calls_in, force_in, form_in, fuel_in, has_only_checking, has_only_deploying,
-    has_only_mining, has_only_showing, has_only_validation, heap_in, json_in, next_in, onto_in,
-    signed_in, tries_in, workers_in,
+    boosted_in, calls_in, force_in, form_in, fuel_in, has_only_deploying, has_only_mining,
+    has_only_showing, has_only_two, has_only_validation, heap_in, json_in, next_in, onto_in,
+    signed_in, tries_in, unchecked_in, workers_in,
 };
 use std::alloc::{AllocError, Global};
 use wblock_blocks::{Mining, Validation};
 use wblock_debug::{Calling, Debugging, calling_of, debugging_of};
-use wblock_line::{Line, UNCHECKED_SWITCH, is_word, switch_alone};
+use wblock_line::{JSON_SWITCH, Line, UNCHECKED_SWITCH, is_word, switch_alone};
 use wblock_show::{Form, Showing};
 
 /// What is to be deployed.
@@ -46,10 +47,10 @@ pub enum Command<'l, 'w> {
     Help(&'l [&'w str]),
     /// `--version` alone: the program's name and version.
     Version,
-    /// `asm TEXT MODULE`: the module that a text names, in its shortest spelling.
-    Asm(&'w str, &'w str),
-    /// `text MODULE TEXT [--unchecked]`: a text that names a module, which is valid; or, with the switch, valid or not.
-    Text(&'w str, &'w str, bool),
+    /// `asm TEXT MODULE [--json]`: the module that a text names, in its shortest spelling; told as JSON or not.
+    Asm(&'w str, &'w str, bool),
+    /// `text MODULE TEXT [--unchecked] [--json]`: a text that names a module, which is valid; or, with the first switch, valid or not; told as JSON or not.
+    Text(&'w str, &'w str, bool, bool),
     /// `check MODULE [--heap N] [--json]`: whether a module is valid, its tree in an arena or in a heap of N bytes, 1,024 to 16,777,216; told as JSON or not.
     Check(&'w str, Option<u32>, bool),
     /// `deploy WORLD MODULE... [--onto OLD] [--force] [--json]`: the world of these modules, 1 to 1,024, behind the contracts of OLD.
@@ -91,7 +92,10 @@ fn check_of<'w>(
 ) -> Result<Option<(&'w str, Option<u32>, bool)>, AllocError>
     ensures { IfOk result (λ found. MatchOption found ((target : List ℕ) (heap : Option ℕ) (json : Bool) → ¬ AsksCheck (record { words = texts words.now; options = choices options.now }) target heap json) (λ x. AsksCheck (record { words = texts words.now; options = choices options.now }) x.0.now x.1 x.2)) }
 {
-    if words.len() != 2 || !is_word(words[0], "check") || !has_only_checking(options) {
+    if words.len() != 2
+        || !is_word(words[0], "check")
+        || !has_only_two(options, HEAP.word, JSON_SWITCH)
+    {
         return Ok(None);
     }
     let Some(heap) = heap_in(alloc, options)? else {
@@ -103,31 +107,44 @@ fn check_of<'w>(
     Ok(Some((words[1], heap, json)))
 }
 
-/// The text and the module of `asm`.
-fn asm_of<'w>(words: &[&'w str], options: &[(&str, &str)]) -> Option<(&'w str, &'w str)>
-    ensures { MatchOption result ((text target : List ℕ) → ¬ AsksAsm (record { words = texts words.now; options = choices options.now }) text target) (λ x. AsksAsm (record { words = texts words.now; options = choices options.now }) x.0.now x.1.now) }
+/// The text and the module of `asm`, and whether it is told as JSON.
+fn asm_of<'w>(words: &[&'w str], options: &[(&str, &str)]) -> Option<(&'w str, &'w str, bool)>
+    ensures { MatchOption result ((text target : List ℕ) (json : Bool) → ¬ AsksAsm (record { words = texts words.now; options = choices options.now }) text target json) (λ x. AsksAsm (record { words = texts words.now; options = choices options.now }) x.0.now x.1.now x.2) }
 {
-    if !options.is_empty() || words.len() != 3 || !is_word(words[0], "asm") {
+    if words.len() != 3 || !is_word(words[0], "asm") {
         return None;
     }
     if is_word(words[1], words[2]) {
         return None;
     }
-    Some((words[1], words[2]))
+    let json = switch_alone(options, JSON_SWITCH)?;
+    Some((words[1], words[2], json))
 }
 
-/// The module and the text of `text`, and whether the module is left unchecked.
-fn text_of<'w>(words: &[&'w str], options: &[(&str, &str)]) -> Option<(&'w str, &'w str, bool)>
-    ensures { MatchOption result ((source target : List ℕ) (unchecked : Bool) → ¬ AsksText (record { words = texts words.now; options = choices options.now }) source target unchecked) (λ x. AsksText (record { words = texts words.now; options = choices options.now }) x.0.now x.1.now x.2) }
+/// The module and the text of `text`, whether the module is left unchecked, and whether it is told as JSON.
+fn text_of<'w>(
+    alloc: Global,
+    words: &[&'w str],
+    options: &[(&str, &str)],
+) -> Result<Option<(&'w str, &'w str, bool, bool)>, AllocError>
+    ensures { IfOk result (λ found. MatchOption found ((source target : List ℕ) (unchecked json : Bool) → ¬ AsksText (record { words = texts words.now; options = choices options.now }) source target unchecked json) (λ x. AsksText (record { words = texts words.now; options = choices options.now }) x.0.now x.1.now x.2 x.3)) }
 {
-    if words.len() != 3 || !is_word(words[0], "text") {
-        return None;
+    if words.len() != 3
+        || !is_word(words[0], "text")
+        || !has_only_two(options, UNCHECKED_SWITCH, JSON_SWITCH)
+    {
+        return Ok(None);
     }
     if is_word(words[1], words[2]) {
-        return None;
+        return Ok(None);
     }
-    let unchecked = switch_alone(options, UNCHECKED_SWITCH)?;
-    Some((words[1], words[2], unchecked))
+    let Some(unchecked) = unchecked_in(alloc, options)? else {
+        return Ok(None);
+    };
+    let Some(json) = json_in(alloc, options)? else {
+        return Ok(None);
+    };
+    Ok(Some((words[1], words[2], unchecked, json)))
 }
 
 /// What `show` is asked for, whatever PICTURE is.
@@ -402,11 +419,11 @@ pub fn command_of<'l, 'w>(
     if is_stored(words, options) {
         return Ok(Some(Command::Stored));
     }
-    if let Some((text, target)) = asm_of(words, options) {
-        return Ok(Some(Command::Asm(text, target)));
+    if let Some((text, target, json)) = asm_of(words, options) {
+        return Ok(Some(Command::Asm(text, target, json)));
     }
-    if let Some((source, target, unchecked)) = text_of(words, options) {
-        return Ok(Some(Command::Text(source, target, unchecked)));
+    if let Some((source, target, unchecked, json)) = text_of(alloc, words, options)? {
+        return Ok(Some(Command::Text(source, target, unchecked, json)));
     }
     if let Some((target, heap, json)) = check_of(alloc, words, options)? {
         return Ok(Some(Command::Check(target, heap, json)));

@@ -2,7 +2,7 @@
 
 ghost use Rattle.std.specs.Borrow.{Bor};
 ghost use Rattle.std.specs.Prelude.{◌≡◌, ◌≢◌, ◌≤◌, ◌<◌, ◌+◌, ◌^◌, ◌↔◌, ℕ, Bool, List, [], Option, IfOk, IsTrue, MatchOption, decimal, length};
-ghost use Rattle.wblock_commands.specs.Options.{values_in, IsNumber, IsNumberOr, IsNameOrNone, IsForm, count_of, AsksFuel, AsksWorkers, AsksTries, AsksBoosted, AsksForce, AsksHeap, IsHeap, IsSwitch, AsksNext, AsksOnto, AsksCalls, AsksForm, AsksJson, AsksSigned, HasOnlyChecking, HasOnlyDeploying, HasOnlyMining, HasOnlyValidation, HasOnlyShowing};
+ghost use Rattle.wblock_commands.specs.Options.{values_in, IsNumber, IsNumberOr, IsNameOrNone, IsForm, count_of, AsksFuel, AsksWorkers, AsksTries, AsksBoosted, AsksForce, AsksHeap, IsHeap, IsSwitch, AsksNext, AsksOnto, AsksCalls, AsksForm, AsksJson, AsksSigned, AsksUnchecked, HasOnlyDeploying, HasOnlyMining, HasOnlyTwo, HasOnlyValidation, HasOnlyShowing};
 ghost use Rattle.wblock_calls.specs.Words.{texts};
 ghost use Rattle.wblock_line.specs.Words.{choices};
 ghost use Rattle.wblock_show.specs.declared.file.Form.{Form as TheForm};
@@ -12,7 +12,7 @@ use crate::declared::{
 };
 use std::alloc::{AllocError, Global};
 use wblock_calls::number_of;
-use wblock_line::{BOOSTED_SWITCH, FORCE_SWITCH, JSON_SWITCH, SIGNED_SWITCH};
+use wblock_line::{BOOSTED_SWITCH, FORCE_SWITCH, JSON_SWITCH, SIGNED_SWITCH, UNCHECKED_SWITCH};
 use wblock_show::Form;
 
 /// The values of the options of a name, in their order.
@@ -284,6 +284,17 @@ pub(crate) fn signed_in(alloc: Global, options: &[(&str, &str)]) -> Result<Optio
     Ok(switch_of(switches.as_slice()))
 }
 
+/// Whether options ask for the text of a module that need not be valid; or None where they ask for it otherwise than once and without a value.
+pub(crate) fn unchecked_in(
+    alloc: Global,
+    options: &[(&str, &str)],
+) -> Result<Option<bool>, AllocError>
+    ensures { IfOk result (λ found. MatchOption found ((unchecked : Bool) → ¬ AsksUnchecked (choices options.now) unchecked) (AsksUnchecked (choices options.now))) }
+{
+    let switches = values_of(alloc, options, UNCHECKED_SWITCH)?;
+    Ok(switch_of(switches.as_slice()))
+}
+
 /// How many options have this name.
 fn count_of(options: &[(&str, &str)], name: &str) -> usize
     ensures count { result ≡ count_of name.now (choices options.now) }
@@ -298,13 +309,13 @@ fn count_of(options: &[(&str, &str)], name: &str) -> usize
     count
 }
 
-/// Whether all options are options of `check`.
-pub(crate) fn has_only_checking(options: &[(&str, &str)]) -> bool
-    ensures { IsTrue result ↔ HasOnlyChecking (choices options.now) }
+/// Whether all options have one of these two names.
+pub(crate) fn has_only_two(options: &[(&str, &str)], first: &str, second: &str) -> bool
+    ensures { IsTrue result ↔ HasOnlyTwo first.now second.now (choices options.now) }
 {
-    let heap = count_of(options, HEAP.word);
-    let json = count_of(options, JSON_SWITCH);
-    options.len() == heap + json
+    let firsts = count_of(options, first);
+    let seconds = count_of(options, second);
+    options.len() == firsts + seconds
 }
 
 /// Whether all options are options of `deploy`.

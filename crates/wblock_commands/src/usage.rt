@@ -73,7 +73,8 @@ fn asm<'a>(alloc: Global) -> Result<Command<'a>, AllocError> {
     Command::new(alloc, "asm")
         .about("Assembles a module in text, and writes it in binary")
         .arg(required(alloc, "TEXT", "The file of the module in text"))?
-        .arg(required(alloc, "MODULE", "The file to be written; another than TEXT"))
+        .arg(required(alloc, "MODULE", "The file to be written; another than TEXT"))?
+        .arg(switch(alloc, JSON))
 }
 
 fn text<'a>(alloc: Global) -> Result<Command<'a>, AllocError> {
@@ -83,7 +84,8 @@ fn text<'a>(alloc: Global) -> Result<Command<'a>, AllocError> {
         )
         .arg(required(alloc, "MODULE", "The file of the module in binary"))?
         .arg(required(alloc, "TEXT", "The file to be written; another than MODULE"))?
-        .arg(switch(alloc, UNCHECKED))
+        .arg(switch(alloc, UNCHECKED))?
+        .arg(switch(alloc, JSON))
 }
 
 fn check<'a>(alloc: Global) -> Result<Command<'a>, AllocError> {

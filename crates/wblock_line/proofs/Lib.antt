@@ -1,4 +1,4 @@
 mod Beginning
-mod FlatRejections
+mod FlatObjects
 mod Saying
 mod Splitting

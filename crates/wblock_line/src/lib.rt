@@ -31,7 +31,7 @@ pub use rejections::reject;
 pub use told::{in_form, refuse};
 pub use wiped::Wiped;
 pub use words::{
-    BOOSTED_SWITCH, FORCE_SWITCH, JSON_SWITCH, Line, SIGNED_SWITCH, UNCHECKED_SWITCH, is_word,
-    split_words, switch_alone,
+    BOOSTED_SWITCH, FORCE_SWITCH, JSON_SWITCH, Line, SIGNED_SWITCH, UNCHECKED_SWITCH, is_switch,
+    is_word, split_words, switch_alone,
 };
 pub use worlds::judge_world;

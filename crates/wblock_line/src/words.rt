@@ -42,7 +42,8 @@ pub const SIGNED_SWITCH: &str = "--signed";
 /// The switch that asks for the text of a module that need not be valid.
 pub const UNCHECKED_SWITCH: &str = "--unchecked";
 
-fn is_switch(word: &str) -> bool
+/// Whether the option of this name has no value.
+pub fn is_switch(word: &str) -> bool
     ensures { result ≡ is_switch word.now }
 {
     word == JSON_SWITCH

@@ -2,7 +2,7 @@ use Rattle.std.proofs.Common.{string_bytes, subst, sym}
 use Rattle.std.proofs.lemmas.Result.{IfOk-weaker}
 use Rattle.serde_json.specs.Data.{Data}
 use Rattle.wblock_json.specs.Json.{IsFlat, IsJson, IsLineOf}
-use Rattle.wblock_line.proofs.FlatRejections.{reject_flat}
+use Rattle.wblock_line.proofs.FlatObjects.{reject_flat}
 use Rattle.wblock_line.proofs.rejections.reject_json_of.Goals as goal
 
 pub value_line-requires : goal.value_line-requires
