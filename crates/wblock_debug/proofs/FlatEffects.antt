@@ -10,10 +10,10 @@ use Rattle.spec_execution.specs.Serial.{CallResult}
 use Rattle.figures.specs.Words.{kind_word, mode_word}
 use Rattle.wblock_json.specs.Json.{IsFlat, array_of, large, maybe, small}
 use Rattle.wblock_json.specs.Blocks.{receipt_members}
-use Rattle.wblock_json.proofs.Flat.{array_flat, deeper, map_flat, maybe_flat, object_flat, small_flat, string_flat}
+use Rattle.wblock_json.proofs.Flat.{array_flat, map_flat, maybe_flat, object_flat, small_flat, string_flat}
 use Rattle.wblock_json.proofs.FlatBlocks.{receipt_flat}
 use Rattle.wblock_debug.specs.Effects.{is_same}
-use Rattle.wblock_debug.specs.EffectsJson.{change_data, change_item, change_items, effects_data, lock_data}
+use Rattle.wblock_debug.specs.EffectsJson.{change_data, change_items, effects_data, lock_data}
 
 lock_flat : (held : Lock × Mode) → IsFlat 1 (lock_data held)
 unfolding lock_data

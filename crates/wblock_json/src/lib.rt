@@ -15,5 +15,5 @@ pub use blocks::{block_json, block_value, with_receipt};
 pub use modules::module_json;
 pub use refusals::json_refusal;
 pub use types::maybe_number;
-pub use values::{digest_of, large_of, line_of, value_line, with_member, word_of};
+pub use values::{digest_of, large_of, line_of, value_line, with_member};
 pub use worlds::world_json;

@@ -32,7 +32,7 @@ pub fn digest_of(alloc: Global, digest: &[u8; 32]) -> Result<Value, AllocError>
 }
 
 /// A word, as a string.
-pub fn word_of(alloc: Global, word: &str) -> Result<Value, AllocError>
+pub(crate) fn word_of(alloc: Global, word: &str) -> Result<Value, AllocError>
     ensures { IfOk result (λ v. view v ≡ string word.now) }
 {
     Value::try_from_str(alloc, word)

@@ -1,7 +1,7 @@
 //! The command `deploy WORLD MODULE... [--onto OLD] [--json]`: the world of the contracts that modules are, with no cells; or the world OLD with these contracts
 //! behind its own.
 
-ghost use Rattle.std.specs.Prelude.{◌≡◌, ◌+◌, ◌≤◌, IsTrue, IfOk, IfErr, OnOk, length, vec_len, map, string_bytes};
+ghost use Rattle.std.specs.Prelude.{◌≡◌, ◌+◌, ◌≤◌, false, IsTrue, IfOk, IfErr, OnOk, length, vec_len, map, string_bytes};
 ghost use Rattle.spec_block.specs.Bytes.{world_bytes};
 ghost use Rattle.serde_json.specs.View.{view};
 ghost use Rattle.wblock_json.specs.Json.{IsJson, IsLineOf};
