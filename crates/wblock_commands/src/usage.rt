@@ -191,6 +191,7 @@ fn debug<'a>(alloc: Global) -> Result<Command<'a>, AllocError> {
         .arg(number(alloc, FUEL).help(
             "The fuel with which BLOCK is judged, 0 to 18446744073709551615: the calls before CALL run for at most this; if not given, it is the least that its calls need",
         ))?
+        .arg(switch(alloc, JSON))?
         .arg(switch(alloc, QUIET))
 }
 

@@ -5,4 +5,6 @@ pub mod Effects
 pub mod EffectsJson
 pub mod Lines
 pub mod Prints
+pub mod StatesJson
+pub mod Tells
 pub mod Words

@@ -13,6 +13,8 @@ mod one_call;
 mod perform;
 mod printed;
 mod run;
+mod states_json;
+mod told;
 
 pub use asked::{Debugging, debugging_of};
 pub use called::{Calling, calling_of};

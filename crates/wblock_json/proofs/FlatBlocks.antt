@@ -27,7 +27,7 @@ typed_flat type digits =
     let members : List (List ℕ × Data) = (codes "type", string type) ∷ (codes "value", string digits) ∷ [] in
     object_flat 0 1 members (omega arith) (string_flat 0 _, (string_flat 0 _, tt))
 
-value_flat : (v : Value) → IsFlat 1 (value_data v)
+pub value_flat : (v : Value) → IsFlat 1 (value_data v)
 value_flat (I32 n) = typed_flat _ _
 value_flat (I64 n) = typed_flat _ _
 

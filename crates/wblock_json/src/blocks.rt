@@ -37,11 +37,12 @@ fn value_of(alloc: Global, value: Value) -> Result<Json, AllocError>
     }
 }
 
-fn args_of(alloc: Global, args: &[Value]) -> Result<Json, AllocError>
-    ensures { IfOk result (λ v. view v ≡ array_of (map value_data args.now)) }
+/// Values with their types.
+pub fn values_of(alloc: Global, list: &[Value]) -> Result<Json, AllocError>
+    ensures { IfOk result (λ v. view v ≡ array_of (map value_data list.now)) }
 {
     let mut values = Vec::new(alloc);
-    for value in args {
+    for value in list {
         values.push(value_of(alloc, *value)?)?;
     }
     Ok(Json::from(values))
@@ -53,7 +54,7 @@ fn call_of(alloc: Global, call: &Call) -> Result<Json, AllocError>
 {
     let contract = call.contract();
     let entry = call.entry();
-    let args = args_of(alloc, call.args())?;
+    let args = values_of(alloc, call.args())?;
     json!(in alloc; {"contract": contract, "entry": entry, "args": args})
 }
 

@@ -11,9 +11,9 @@ mod types;
 mod values;
 mod worlds;
 
-pub use blocks::{block_json, block_value, with_receipt};
+pub use blocks::{block_json, block_value, values_of, with_receipt};
 pub use modules::module_json;
 pub use refusals::json_refusal;
 pub use types::maybe_number;
-pub use values::{digest_of, large_of, line_of, value_line, with_member};
+pub use values::{digest_of, hex_of, large_of, line_of, value_line, with_member};
 pub use worlds::world_json;

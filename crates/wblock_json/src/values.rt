@@ -31,6 +31,14 @@ pub fn digest_of(alloc: Global, digest: &[u8; 32]) -> Result<Value, AllocError>
     Ok(Value::from(digits))
 }
 
+/// Bytes, as the string of their hexadecimal digits.
+pub fn hex_of(alloc: Global, bytes: &[u8]) -> Result<Value, AllocError>
+    ensures { IfOk result (λ v. view v ≡ hex_data bytes.now) }
+{
+    let digits = hex::encode(alloc, bytes)?;
+    Ok(Value::from(digits))
+}
+
 /// A word, as a string.
 pub(crate) fn word_of(alloc: Global, word: &str) -> Result<Value, AllocError>
     ensures { IfOk result (λ v. view v ≡ string word.now) }
