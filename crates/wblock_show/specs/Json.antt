@@ -1,5 +1,5 @@
 -- What `show --json` answers.
-use Rattle.std.specs.Prelude.{◌≡◌, ◌⊎◌, ℕ, Bool, Option, Some, None, List, [], length}
+use Rattle.std.specs.Prelude.{◌≡◌, ◌⊎◌, ℕ, Bool, true, Option, Some, None, List, [], length}
 use Rattle.spec_syntax.specs.Syntax.{Module}
 use Rattle.spec_block.specs.Worlds.{Block, Call, World}
 use Rattle.spec_block.specs.Bytes.{SpellsBlock, SpellsWorld}
@@ -14,6 +14,7 @@ use Rattle.wblock_line.specs.Answers.{writes_of, text_of, status_of}
 use Rattle.wblock_line.specs.declared.perform.Status.TheVariants as status
 use Rattle.wblock_line.specs.Modules.{IsValidOf}
 use Rattle.wblock_line.specs.Refusals.{TellsNoModule}
+use Rattle.wblock_line.specs.Told.{IsInForm}
 use Rattle.wblock_line.specs.Worlds.{TellsNoWorld}
 use Rattle.wblock_contents.specs.declared.kind.Kind.{Kind}
 use Rattle.wblock_contents.specs.declared.kind.Kind.TheVariants as kind
@@ -91,3 +92,9 @@ pub record TellsContents (holds : Holding) (task : Showing) (a : Answer) : Type 
 -- the block is told with its calls, where they are named, or else what is in the file, whatever its kind
 abbrev pub TellsNamed : Holding → Showing → Answer → Type 0
 TellsNamed holds task a = TellsContents holds task a ⊎ TellsFileBlock holds task a
+
+-- the same, and a refusal is an object, too
+pub record TellsJson (holds : Holding) (task : Showing) (a : Answer) : Type 0 where
+  pub plain : Answer
+  pub tells : TellsNamed holds task plain
+  pub told : IsInForm true plain a
