@@ -1,1 +1,4 @@
+mod FlatObjects
 mod Notes
+mod Rejected
+mod Silent

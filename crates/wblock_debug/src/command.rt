@@ -1,6 +1,6 @@
 //! A command and its word.
 
-ghost use Rattle.std.specs.Prelude.{◌≡◌, ◌≢◌, ◌↔◌, List, ◌∷◌, ◌++◌, IfOk, IsTrue, MatchOption};
+ghost use Rattle.std.specs.Prelude.{◌≡◌, ◌≢◌, List, ◌∷◌, ◌++◌, IfOk, MatchOption};
 ghost use Rattle.wblock_calls.specs.Words.{texts};
 ghost use Rattle.wblock_debug.specs.Words.{AreNoBytes, HasNoColon, IsNotPlain, IsNoMove, IsNoBreak, IsSpotInRange, Spells, Spell, spot_text};
 ghost use Rattle.wblock_debug.specs.declared.command.Command.{Command as Asked};
@@ -9,6 +9,7 @@ ghost use Rattle.wblock_debug.specs.declared.spot.Spot.{Spot as Named};
 use crate::numbers::{after_name, number_after, numbers_after};
 use crate::spot::{Spot, spot_of};
 use std::alloc::{AllocError, Global};
+use wblock_line::is_word;
 
 /// A command of a debugger.
 #[derive(Clone, Copy, Debug)]
@@ -37,13 +38,6 @@ pub enum Command<'w> {
     Where,
     /// `bytes:FROM:N`: shows so many bytes from this address on of the same level's memory.
     Bytes(u64, u64),
-}
-
-/// Whether a word is this one.
-fn is_word(word: &str, name: &str) -> bool
-    ensures { IsTrue result ↔ (word.now ≡ name.now) }
-{
-    word == name
 }
 
 /// The command of a word that has no numbers.

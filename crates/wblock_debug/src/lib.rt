@@ -6,6 +6,7 @@ mod called;
 mod command;
 mod debug;
 mod effects;
+mod effects_json;
 mod fuel;
 mod lines;
 mod numbers;
@@ -16,6 +17,8 @@ mod prefix;
 mod printed;
 mod run;
 mod spot;
+mod states_json;
+mod told;
 
 pub use asked::{Debugging, debugging_of};
 pub use called::{Calling, calling_of};

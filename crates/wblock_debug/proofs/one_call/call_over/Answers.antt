@@ -1,4 +1,4 @@
-use Rattle.std.proofs.Common.{rules, ◌≡◌, List, ap, subst, ◌∙◌}
+use Rattle.std.proofs.Common.{rules, ◌≡◌, List, ap, string_bytes, subst, ◌∙◌}
 use Rattle.spec_ledger.specs.declared.Version.TheVariants.{Two}
 use Rattle.spec_execution.specs.Exec.{Executes}
 use Rattle.spec_ledger.specs.Cells.{AreCells, Cells}
@@ -6,8 +6,8 @@ use Rattle.spec_block.specs.Worlds.{Contract}
 use Rattle.spec_block.specs.Serial.{setting_of}
 use Rattle.interp.specs.Callee.{setting_view}
 use Rattle.world.specs.Views.{world_view}
-use Rattle.wblock_debug.specs.Effects.{effects_text}
 use Rattle.serial.proofs.Untouched.{untouched}
+use Rattle.wblock_debug.specs.Calling.{TellsEffects}
 use Rattle.wblock_debug.proofs.one_call.call_over.Goals as goal
 
 pub returns : goal.returns
@@ -30,7 +30,7 @@ returns c =
       told = record {
         status_is = search rules;
         writes = search rules;
-        text_is = c.in_ok-text.ensures ∙ ap (λ (cells : Cells). effects_text (record { receipt = receipt; touched = touched }) cells later) c.cells-before.ensures;
+        text_is = subst (λ (cells : Cells). TellsEffects c.args.json (record { receipt = receipt; touched = touched }) cells later (string_bytes c.in_ok-text.text)) c.cells-before.ensures c.in_ok-text.ensures;
       };
       others = λ lock none. untouched world.cells later touched lock (law.left (setting_of Two world) call world.cells later receipt touched are executes) (law.kept world.cells later world.cells touched lock) none;
     }
