@@ -15,7 +15,7 @@ use Rattle.link.specs.contracts.deployed.Deployed as contract_row
 use Rattle.storage.specs.contracts.Cells as cells_row
 use Rattle.world.specs.contracts.value.World as world_row
 use Rattle.block.specs.contracts.value.Block as block_row
-use Rattle.ahead.specs.contracts.Ahead as ahead_row
+use Rattle.storage.specs.contracts.cells_ahead.Ahead as ahead_row
 use Rattle.lock_profile.specs.contracts.Profile as profile_row
 use Rattle.records.specs.contracts.position.Position as position_row
 use Rattle.serial.proofs.Crossing.{crosses, vec_send, vec_sync, contract_sync, contracts_send, cells_sync, finished_send}

@@ -2,7 +2,7 @@ use Rattle.std.proofs.Common.{arith, ◌≤◌, ap, length, sym}
 use Rattle.std.proofs.lemmas.List.{take_all, drop_all}
 use Rattle.spec_ledger.specs.Book.{back_all}
 use Rattle.storage.specs.Counts.{closed_all}
-use Rattle.ahead.proofs.changes.Changes.take_back_to.Goals as goal
+use Rattle.storage.proofs.cells_ahead.Changes.take_back_to.Goals as goal
 
 pub returns-then-mark-len-clause-inverses : goal.returns-then-mark-len-clause-inverses
 returns-then-mark-len-clause-inverses g c =

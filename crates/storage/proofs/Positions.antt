@@ -5,7 +5,7 @@ use Rattle.std.specs.FinMap as finite
 use Rattle.spec_ledger.specs.declared.Inverse.{Inverse}
 use Rattle.storage.specs.Counts.{Counts, opened, opened_all, closed_all, AreUnsettled, AreCounts}
 use Rattle.storage.proofs.Counted.{AreCounts-opened_all, AreCounts-empty, closed_all-opened_all, AreUnsettled-opened_all, opened_all_comm, opened_all-push}
-use Rattle.ahead.specs.Changing.{counts_of}
+use Rattle.storage.specs.Changing.{counts_of}
 
 counts_late : (is : List Inverse) (ps : List (List Inverse)) (m : Counts) → counts_of ps (opened_all is m) ≡ opened_all is (counts_of ps m)
 counts_late is [] m = refl

@@ -2,9 +2,9 @@ use Rattle.std.proofs.Common.{arith, ◌<◌, ◌∙◌, length, set, sym, ap}
 use Rattle.std.specs.FinMap.{empty}
 use Rattle.spec_ledger.specs.Cells.{inverse_to}
 use Rattle.storage.specs.Counts.{opened}
-use Rattle.ahead.specs.Changing.{counts_of}
-use Rattle.ahead.proofs.Counted.{counts_push}
-use Rattle.ahead.proofs.Ahead.act.Goals as goal
+use Rattle.storage.specs.Changing.{counts_of}
+use Rattle.storage.proofs.Positions.{counts_push}
+use Rattle.storage.proofs.cells_ahead.Ahead.act.Goals as goal
 
 pub invariant_of-self-2 : goal.invariant_of-self-2
 invariant_of-self-2 g c =

@@ -1,8 +1,8 @@
 use Rattle.std.proofs.Common.{arith, ◌<◌, ◌∙◌, length, set, sym, ap}
 use Rattle.std.specs.FinMap.{empty}
-use Rattle.ahead.specs.Changing.{counts_of}
-use Rattle.ahead.proofs.Counted.{may_end, taken_back}
-use Rattle.ahead.proofs.Ahead.take_back_to.Goals as goal
+use Rattle.storage.specs.Changing.{counts_of}
+use Rattle.storage.proofs.Positions.{may_end, taken_back}
+use Rattle.storage.proofs.cells_ahead.Ahead.take_back_to.Goals as goal
 
 pub take_back_to-requires : goal.take_back_to-requires
 take_back_to-requires g c =

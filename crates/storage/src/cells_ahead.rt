@@ -1,18 +1,92 @@
 //! Cells that several calls change at once, with the inverses of what each did.
-#![tactic(auto)]
 
-mod changes;
+ghost use Rattle.std.specs.Prelude.{◌≡◌, ◌≤◌, [], ◌∷◌, ◌++◌, IfNone, IfOk, IfSome, OnErr, OnOk, drop, length, replicate, take};
+ghost use Rattle.spec_ledger.specs.Book.{back_all};
+ghost use Rattle.spec_ledger.specs.Cells.{cells_after, inverse_to, reply_to};
+ghost use Rattle.storage.specs.Changing.{acted, back_to, done_at, ended};
+ghost use Rattle.storage.specs.Counts.{AreUnsettled, closed_all, opened};
 
-ghost use Rattle.std.specs.Prelude.{◌≡◌, ◌≤◌, [], IfNone, IfOk, IfSome, OnErr, length, replicate};
-ghost use Rattle.spec_ledger.specs.Cells.{reply_to};
-ghost use Rattle.ahead.specs.Changing.{acted, back_to, done_at, ended};
-
-use crate::changes::Changes;
-use spec_ledger::{NoMemory, Op, Reply};
+use crate::Cells;
+use crate::changes::{end_all, take_back_to};
+use spec_ledger::{Inverse, NoMemory, Op, Reply};
 use std::alloc::{Allocator, Global};
 use std::marker::Model;
 use std::mem;
-use storage::{Cells, end_all};
+
+/// The inverses of operations, first to last. Contracts see their list.
+#[derive(Drop)]
+struct Changes<A: Allocator> {
+    inverses: Vec<Inverse, A>,
+}
+
+impl<A: Allocator> Model for Changes<A> {
+    ghost use Rattle.std.specs.Prelude.{List};
+    ghost use Rattle.spec_ledger.specs.declared.Inverse.{Inverse};
+    ghost use Rattle.storage.specs.Changing.{inverses_code};
+
+    ghost Value = { List Inverse };
+
+    ghost coded = { inverses_code };
+
+    ghost view = { λ c. c.inverses.items };
+}
+
+impl<A: Allocator + Copy> Changes<A> {
+    /// Of no operation.
+    fn new(alloc: A) -> Self
+        ensures { result ≡ [] }
+    {
+        Changes {
+            inverses: Vec::new(alloc),
+        }
+    }
+
+    /// Does an operation, and keeps its inverse. Where memory is refused, all is as it was.
+    fn act(&mut self, cells: &mut Cells<A>, op: Op) -> Result<Reply, NoMemory>
+        ensures reply { IfOk result (λ reply. reply ≡ reply_to op cells.old.cells) }
+        ensures inverses { OnOk result (self.new ≡ self.old ++ inverse_to op cells.old.cells ∷ []) }
+        ensures cells { OnOk result (cells.new.cells ≡ cells_after op cells.old.cells) }
+        ensures unsettled { OnOk result (cells.new.unsettled ≡ opened (inverse_to op cells.old.cells) cells.old.unsettled) }
+        ensures err { OnErr result (self.new ≡ self.old) }
+        ensures err_cells { OnErr result (cells.new ≡ cells.old) }
+    {
+        self.inverses.reserve(1).map_err(|_| NoMemory)?;
+        let (reply, inverse) = cells.apply(op)?;
+        match self.inverses.push(inverse) {
+            Ok(()) => (),
+            Err(_) => unreachable!(),
+        }
+        Ok(reply)
+    }
+
+    /// How many operations these are of.
+    fn count(&self) -> usize
+        ensures { result ≡ length self.now }
+    {
+        self.inverses.len()
+    }
+
+    /// Takes changes back, last first, until only those of the first so many operations are left. It takes no memory.
+    fn take_back_to(&mut self, cells: &mut Cells<A>, mark: usize)
+        requires { AreUnsettled self.old cells.old.unsettled }
+        ensures inverses { self.new ≡ take mark self.old }
+        ensures cells { cells.new.cells ≡ back_all (drop mark self.old) cells.old.cells }
+        ensures unsettled { cells.new.unsettled ≡ closed_all (drop mark self.old) cells.old.unsettled }
+    {
+        if mark >= self.inverses.len() {
+            return;
+        }
+        take_back_to(cells, &mut self.inverses, mark);
+    }
+
+    /// The inverses.
+    fn into_inverses(self) -> Vec<Inverse, A>
+        ensures { result.items ≡ self }
+    {
+        let Changes { inverses } = self;
+        inverses
+    }
+}
 
 /// Cells that the calls of an order change at once, ahead of what they come to one after another. Contracts see the cells, and by position the
 /// inverses of what its call did and has not ended. The type keeps that the unsettled changes of the cells are those of these inverses.
@@ -26,7 +100,7 @@ pub struct Ahead<A: Allocator = Global> {
 impl<A: Allocator> Model for Ahead<A> {
     ghost use Rattle.std.specs.Prelude.{◌≡◌};
     ghost use Rattle.std.specs.FinMap.{empty};
-    ghost use Rattle.ahead.specs.Changing.{Changing, changing_code, counts_of};
+    ghost use Rattle.storage.specs.Changing.{Changing, changing_code, counts_of};
 
     ghost Value = { Changing };
 

@@ -1,9 +1,9 @@
 use Rattle.std.proofs.Common.{arith, ◌<◌, ◌∙◌, length, set, sym, ap, subst}
 use Rattle.std.specs.FinMap.{empty}
 use Rattle.storage.specs.Counts.{AreUnsettled, closed_all}
-use Rattle.ahead.specs.Changing.{counts_of}
-use Rattle.ahead.proofs.Counted.{may_end, ended}
-use Rattle.ahead.proofs.Ahead.end.Goals as goal
+use Rattle.storage.specs.Changing.{counts_of}
+use Rattle.storage.proofs.Positions.{may_end, ended}
+use Rattle.storage.proofs.cells_ahead.Ahead.end.Goals as goal
 
 pub end_all-requires : goal.end_all-requires
 end_all-requires g c =
