@@ -13,6 +13,7 @@ mod quiet;
 mod refusals;
 mod rejections;
 mod sites;
+mod transition;
 mod wiped;
 mod words;
 mod worlds;
@@ -27,6 +28,7 @@ pub use progress::Progress;
 pub use quiet::{QUIET_NAME, Words, without_quiet};
 pub use refusals::ModuleRefusal;
 pub use rejections::{reason_words, reject_line_of};
+pub use transition::{Change, NextWorld, Noted, Transition, with_world};
 pub use wiped::Wiped;
 pub use words::{
     BOOSTED_SWITCH, FORCE_SWITCH, JSON_SWITCH, Line, SIGNED_SWITCH, UNCHECKED_SWITCH, split_words,

@@ -23,6 +23,19 @@ impl World {
     pub const MOST_CONTRACTS: usize = 1_024;
 }
 
+impl<A: Allocator + Copy> World<A> {
+    ghost use Rattle.spec_block.specs.Bytes.{SpellsWorld, world_bytes};
+    ghost use Rattle.world.specs.Views.{world_view};
+
+    /// A law: the bytes of the world spell it, so who reads them has it again.
+    pub fn is_spelled(&self)
+        ensures { SpellsWorld (world_bytes (world_view self.now)) (world_view self.now) }
+    {
+        self.cells.use_invariant();
+        let _entries = self.cells.entries();
+    }
+}
+
 impl<A: Allocator> World<A> {
     ghost use Rattle.std.specs.Prelude.{◌≡◌, IfSome, length, map};
     ghost use Rattle.sha2.specs.Sha256.{sha256};

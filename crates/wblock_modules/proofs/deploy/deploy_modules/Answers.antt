@@ -4,32 +4,19 @@ use Rattle.std.proofs.lemmas.Result.{err_from_is_err_and}
 use Rattle.wblock_io.specs.Holding.{Holding}
 use Rattle.world.specs.Views.{world_view}
 use Rattle.wblock_line.specs.FaultLaws.{of_file_weaker}
-use Rattle.wblock_modules.specs.Deploys.{IsBase, IsOld, IsNextModule, IsNextDeployed, GivesBase, Extends, TellsCount}
-use Rattle.wblock_modules.proofs.Onto.{crowded}
+use Rattle.wblock_modules.specs.Deploys.{IsBase, IsOld, IsNextModule, IsNextDeployed, IsReadBehind, GivesBase}
+use Rattle.wblock_modules.specs.declared.deploy.Modules.TheVariants as modules
+use Rattle.wblock_modules.proofs.Onto.{refused}
 use Rattle.wblock_modules.proofs.deploy.deploy_modules.Goals as goal
 
-pub returns-then-total-MOST_CONTRACTS-clause-answers : goal.returns-then-total-MOST_CONTRACTS-clause-answers
-returns-then-total-MOST_CONTRACTS-clause-answers g c = λ t.
+pub returns-in-Refused-clause-answers : goal.returns-in-Refused-clause-answers
+returns-in-Refused-clause-answers g c = λ t.
     let holds = g.F.Files.holds c.args.files.now in
     let base = world_view c.in-Read.base in
     let names = map (λ w. w.now) c.args.modules.now in
-    let count = length-map (λ w. w.now) c.args.modules.now in
     let is : IsBase holds c.args.onto base = subst (λ found. GivesBase holds c.args.onto found) c.in-Read.is (c.in_ok-base.ensures.gives t) in
-    let same : c.count_of-contracts.result + length c.args.modules.now ≡ length base.contracts + length names = omega (arith, count, c.count_of-contracts.ensures.count) in
-    inl (crowded holds c.args.onto (length names) base c.in-Ok.refused is (omega (arith, same, c.if-total-MOST_CONTRACTS.true)) (subst (λ n. TellsCount n c.in-Ok.refused) same c.in-Ok.ensures))
-
-pub returns-in-Ok-clause-answers : goal.returns-in-Ok-clause-answers
-returns-in-Ok-clause-answers g c = λ t.
-    let holds = g.F.Files.holds c.args.files.now in
-    let base = world_view c.in-Read.base in
-    let names = map (λ w. w.now) c.args.modules.now in
-    let count = length-map (λ w. w.now) c.args.modules.now in
-    let is : IsBase holds c.args.onto base = subst (λ found. GivesBase holds c.args.onto found) c.in-Read.is (c.in_ok-base.ensures.gives t) in
-    inr (record {
-      base = base;
-      room = record { is_base = is; room = omega (arith, count, c.count_of-contracts.ensures.count, c.if-total-MOST_CONTRACTS.false) };
-      extends = subst (λ (h : Holding). Extends h c.args.world.now c.args.onto base names c.in-Ok.answer) (c.in_ok-base.ensures.kept t) (c.in-Ok.ensures.answers t);
-    })
+    refused holds c.args.world.now c.args.onto base names c.in-Refused.line c.in-Refused.why is
+    (subst (λ (h : Holding). IsReadBehind h base names (modules.Refused c.in-Refused.line c.in-Refused.why)) (c.in_ok-base.ensures.kept t) (subst (IsReadBehind (g.F.Files.holds c.read_base.new.files) base names) c.in-Refused.is (c.read_modules_behind.ensures.read t)))
 
 pub returns-in_err-base-clause-next : goal.returns-in_err-base-clause-next
 returns-in_err-base-clause-next g c =
