@@ -23,7 +23,7 @@ pub use entries::entry_words;
 pub use inputs::{Inputs, WorldFile, judge_calls, read_inputs, read_world_file};
 pub use line::WIPE;
 pub use modules::{Stop, read_contract, read_module, read_valid};
-pub use perform::{Status, carry_out, tell_fault};
+pub use perform::{Status, carry_out, tell_fault, write_files};
 pub use progress::Progress;
 pub use quiet::{QUIET_NAME, Words, without_quiet};
 pub use refusals::ModuleRefusal;
