@@ -1,6 +1,6 @@
 //! The command `mine WORLD CALLS BLOCK NEXT --fuel N [--workers 4] [--boosted] [--tries 3]`: a block of calls over a world, and the world after it.
 
-ghost use Rattle.std.specs.Prelude.{◌≡◌, ◌≤◌, false, IsTrue, IfOk, IfErr, OnOk, length, string_bytes};
+ghost use Rattle.std.specs.Prelude.{◌≡◌, ◌≤◌, false, IsTrue, IfOk, IfErr, OnOk, length, string_bytes, vec_len};
 ghost use Rattle.std.specs.List.{AllByRecursion};
 ghost use Rattle.spec_ledger.specs.declared.Version.TheVariants.{Two};
 ghost use Rattle.spec_ledger.specs.Order.{first_fit};
@@ -10,7 +10,7 @@ ghost use Rattle.spec_block.specs.Headline.{Headline, IsLeft};
 ghost use Rattle.world.specs.Views.{world_view};
 ghost use Rattle.wblock_line.specs.Answers.{CountsFault, IsOfFile, upshot_of};
 ghost use Rattle.wblock_line.specs.Inputs.{IsNextInput};
-ghost use Rattle.wblock_line.specs.Transitions.{leaving, note_in};
+ghost use Rattle.wblock_line.specs.Transitions.{leaving, note_in, WritesBeside};
 ghost use Rattle.wblock_line.specs.declared.transition.Transition.TheVariants as transition;
 ghost use Rattle.wblock_blocks.specs.Mines.{IsDone, Mines, MinesOver};
 ghost use Rattle.wblock_blocks.specs.Notes.{IsNoteOf, Notes};
@@ -107,6 +107,7 @@ fn change_of<'a>(
     requires { mined.block.version ≡ Two }
     ensures done { IfOk result (λ change. IsDone task.entry mined.block (world_view mined.world) mined.left.items (leaving (transition.Done change))) }
     ensures note { IfOk result (λ change. IsNoteOf mined.block.positions (string_bytes change.note)) }
+    ensures beside { IfOk result (λ change. vec_len change.writes ≡ 1) }
 {
     let Mined {
         block,
@@ -154,6 +155,7 @@ pub fn mine_over<'a, R: Threads + Wait + Sync, P: Pace>(
     requires tries { (1 ≤ task.tries) × (task.tries ≤ 16) }
     ensures mines { IfOk result (λ t. MinesOver (world_view world.now) calls.now task.entry (leaving t)) }
     ensures notes { IfOk result (λ t. Notes (leaving t) (note_in t)) }
+    ensures beside { IfOk result (WritesBeside 1) }
 {
     let mined = mine_calls(rt, alloc, world, calls, task, pace)?;
     let change = change_of(alloc, world, calls, task, mined)?;

@@ -6,7 +6,7 @@ ghost use Rattle.spec_block.specs.Verdicts.{IsVerdictOf};
 ghost use Rattle.validator.specs.Judged.{verdict_view};
 ghost use Rattle.world.specs.Views.{world_view};
 ghost use Rattle.wblock_line.specs.Answers.{CountsFault, IsOfFile, upshot_of};
-ghost use Rattle.wblock_line.specs.Transitions.{leaving, next_write};
+ghost use Rattle.wblock_line.specs.Transitions.{leaving, next_write, WritesBeside};
 ghost use Rattle.wblock_blocks.specs.Validates.{accept_text, next_writes, TellsVerdict, Validates, ValidatesOver, IsNextFile};
 
 use call::Call;
@@ -96,7 +96,8 @@ fn tell<'a>(
     bytes: &[u8],
     verdict: Verdict,
 ) -> Result<Transition<'a>, NoMemory>
-    ensures { IfOk result (λ t. TellsVerdict name.entry (verdict_view verdict) (leaving t)) }
+    ensures tells { IfOk result (λ t. TellsVerdict name.entry (verdict_view verdict) (leaving t)) }
+    ensures beside { IfOk result (WritesBeside 0) }
 {
     match verdict {
         Verdict::Accept(next) => {
@@ -134,7 +135,8 @@ pub fn validate_over<'a, R: Threads + Wait + Sync, P: Pace>(
 ) -> Result<Transition<'a>, NoMemory>
     requires calls { length calls.now ≤ 65535 }
     requires workers { (1 ≤ task.workers) × (task.workers ≤ 64) }
-    ensures { IfOk result (λ t. ValidatesOver (world_view world.now) calls.now bytes.now task.entry (leaving t)) }
+    ensures validates { IfOk result (λ t. ValidatesOver (world_view world.now) calls.now bytes.now task.entry (leaving t)) }
+    ensures beside { IfOk result (WritesBeside 0) }
 {
     let verdict = judge(rt, alloc, world, calls, task, bytes, pace)?;
     tell(alloc, task.next, bytes, verdict)

@@ -1,10 +1,11 @@
 -- What the words of a session's line ask for.
-use Rattle.std.specs.Prelude.{◌≡◌, ℕ, ◌≤◌, List, [], ◌∷◌, ◌++◌, Bool, true, false, ◌&&◌, ◌||◌, Some, IsUtf8, codes, length, if◌then◌else◌}
+use Rattle.std.specs.Prelude.{◌≡◌, ◌≢◌, ℕ, ◌≤◌, List, [], ◌∷◌, ◌++◌, Bool, true, false, ◌&&◌, ◌||◌, Some, IsUtf8, codes, length, if◌then◌else◌}
 use Rattle.std.specs.Str.{bytes_eq}
 use Rattle.wblock_calls.specs.Texts.{words_of}
+use Rattle.wblock_calls.specs.Words.{texts}
 use Rattle.wblock_line.specs.Words.{Line, Choice, split}
 use Rattle.wblock_modules.specs.Deploys.{IsOld}
-use Rattle.wblock_commands.specs.Words.{HasFew, IsLineOf}
+use Rattle.wblock_commands.specs.Words.{HasFew, IsApart, IsLineOf}
 use Rattle.wblock_commands.specs.declared.command.Command.{Command}
 use Rattle.wblock_commands.specs.declared.command.Command.TheVariants.{Deploy, Mine, Validate, Call}
 use Rattle.wblock_chain.specs.declared.asked.SessionCommand.{SessionCommand}
@@ -68,19 +69,25 @@ single name line = record { words = single_words name line.words; options = sing
 
 -- ---- what is asked for
 
--- a command that a session has
+-- a command that a session has; no word is `calls -`, so no block is of that name
 abbrev pub IsOverWorld : Command → Type 0
 IsOverWorld (Deploy task) = Unit {0}
-IsOverWorld (Mine task) = Unit {0}
-IsOverWorld (Validate task) = Unit {0}
+IsOverWorld (Mine task) = task.block.now ≢ calls_here
+IsOverWorld (Validate task) = task.block.now ≢ calls_here
 IsOverWorld (Call task) = Unit {0}
 IsOverWorld c = ⊥
 
--- it reads the file of this name as WORLD, and leaves its world to it
+-- the calls and the block are in files of other names than WORLD, and the block in none of calls that stand behind a line
+pub record AreBeside (name calls block : List ℕ) : Type 0 where
+  pub calls_are : calls ≢ name
+  pub block_is : block ≢ name
+  pub apart : block ≢ calls_here
+
+-- it reads the file of this name as WORLD and no other one of it, and leaves its world to it
 abbrev pub IsOver : (name : List ℕ) → Command → Type 0
-IsOver name (Deploy task) = (task.world.now ≡ name) × IsOld task.onto name
-IsOver name (Mine task) = (task.world.now ≡ name) × (task.next.now ≡ name)
-IsOver name (Validate task) = (task.world.now ≡ name) × IsOld task.next name
+IsOver name (Deploy task) = (task.world.now ≡ name) × IsOld task.onto name × IsApart name (texts task.modules.now)
+IsOver name (Mine task) = (task.world.now ≡ name) × (task.next.now ≡ name) × AreBeside name task.calls.now task.block.now
+IsOver name (Validate task) = (task.world.now ≡ name) × IsOld task.next name × AreBeside name task.calls.now task.block.now
 IsOver name (Call task) = task.world.now ≡ name
 IsOver name c = ⊥
 

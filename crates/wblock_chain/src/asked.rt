@@ -134,10 +134,12 @@ pub(crate) fn single_line<'a>(
 fn is_over_world(command: &Command) -> bool
     ensures { IsTrue result ↔ IsOverWorld command.now }
 {
-    matches!(
-        command,
-        Command::Deploy(_) | Command::Mine(_) | Command::Validate(_) | Command::Call(_)
-    )
+    match command {
+        Command::Deploy(_) | Command::Call(_) => true,
+        Command::Mine(task) => task.block != CALLS_HERE,
+        Command::Validate(task) => task.block != CALLS_HERE,
+        _ => false,
+    }
 }
 
 /// What the words of a line ask for that are no single command's.

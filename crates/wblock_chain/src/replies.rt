@@ -57,13 +57,13 @@ pub fn reply_of(
 }
 
 /// `block HEX`, where the bytes of a block are told, and nothing else.
-pub(crate) fn block_line_of(alloc: Global, block: Option<&[u8]>) -> Result<String, AllocError>
-    ensures { IfOk result (λ line. string_bytes line ≡ block_line (option_map (λ b. b.now) block.entry)) }
+pub(crate) fn block_line_of(alloc: Global, block: &Option<Vec<u8>>) -> Result<String, AllocError>
+    ensures { IfOk result (λ line. string_bytes line ≡ block_line (option_map (λ bytes. bytes.items) block.now)) }
 {
     match block {
         None => Ok(String::new(alloc)),
         Some(bytes) => {
-            let digits = hex::encode(alloc, bytes)?;
+            let digits = hex::encode(alloc, bytes.as_slice())?;
             format!(in alloc; "block {digits}\n")
         }
     }

@@ -1,10 +1,13 @@
 //! A session: its lines are answered one after another, over a world that it keeps.
 
-ghost use Rattle.std.specs.Prelude.{◌≡◌, ◌≢◌, ◌+◌, ◌≤◌, ◌⊎◌, IsTrue, IfOk, OnErr, option_map, length, vec_len};
-ghost use Rattle.world.specs.Views.{world_view};
-ghost use Rattle.wblock_line.specs.Answers.{IsSaid, memory_line};
+ghost use Rattle.std.specs.Prelude.{◌≡◌, ◌≢◌, ◌+◌, ◌≤◌, ◌⊎◌, ◌++◌, ℕ, List, [], IsTrue, IfOk, OnErr, option_map, length, map, string_bytes, vec_len};
+ghost use Rattle.sha2.specs.Sha256.{sha256};
+ghost use Rattle.spec_block.specs.Bytes.{world_bytes};
+ghost use Rattle.world.specs.Views.{contract_view, world_view};
+ghost use Rattle.wblock_line.specs.Answers.{IsSaid, file_line, memory_line, sentence_line, write_of};
 ghost use Rattle.wblock_commands.specs.Words.{HasFew};
-ghost use Rattle.wblock_chain.specs.Answered.{AnswersAsked, AnswersText, AnswersRequest, MovesOn, IsFileReply};
+ghost use Rattle.wblock_chain.specs.Answered.{AnswersAsked, AnswersText, AnswersRequest, AreApart, IsExtended, IsFileReply, IsNotSaved, IsSaved, MovesOn, Quits, Settles};
+ghost use Rattle.wblock_chain.specs.Replies.{block_line, digest_line};
 ghost use Rattle.wblock_chain.specs.Sessions.{HasNotBegun, IsSession, IsSessionOver, IsStopped, IsStoppedOver, RefusesWorld};
 ghost use Rattle.wblock_chain.specs.Words.{IsFewAsked, IsOver, IsOverAsked};
 
@@ -59,7 +62,9 @@ fn answered(
 }
 
 /// What is said of a file that failed: `file NAME`, and in a line behind it why, where that is known.
-fn said_of_file(alloc: Global, name: &str, cause: Cause) -> Result<String, AllocError> {
+fn said_of_file(alloc: Global, name: &str, cause: Cause) -> Result<String, AllocError>
+    ensures { IfOk result (λ said. (why : List ℕ) × (string_bytes said ≡ file_line name.now ++ sentence_line why)) }
+{
     let why = cause.words();
     if why.is_empty() {
         return format!(in alloc; "file {name}\n");
@@ -76,7 +81,9 @@ fn failed(alloc: Global, world: World, name: &str, cause: Cause) -> Result<Answe
 }
 
 /// The block's bytes, where they are told, and the files that are to be written.
-fn told_apart<'w>(writes: Vec<Write<'w>>) -> (Option<Vec<u8>>, Vec<Write<'w>>) {
+fn told_apart<'w>(writes: Vec<Write<'w>>) -> (Option<Vec<u8>>, Vec<Write<'w>>)
+    ensures { AreApart (map write_of writes.entry.items) (option_map (λ block. block.items) result.0) (map write_of result.1.items) }
+{
     let mut writes = writes;
     let is_told = match writes.last() {
         Some(write) => write.name == TOLD_BLOCK,
@@ -92,7 +99,9 @@ fn told_apart<'w>(writes: Vec<Write<'w>>) -> (Option<Vec<u8>>, Vec<Write<'w>>) {
 }
 
 /// The text of a change, with the line of a block that is told.
-fn text_with_block(alloc: Global, text: &str, block: Option<&[u8]>) -> Result<String, AllocError> {
+fn text_with_block(alloc: Global, text: &str, block: &Option<Vec<u8>>) -> Result<String, AllocError>
+    ensures { IfOk result (λ made. string_bytes made ≡ text.now ++ block_line (option_map (λ bytes. bytes.items) block.now)) }
+{
     let line = block_line_of(alloc, block)?;
     format!(in alloc; "{text}{line}")
 }
@@ -104,7 +113,11 @@ fn settle<'w, F: Files>(
     files: &mut F,
     world: World,
     change: Change<'w>,
-) -> Result<Answered, NoMemory> {
+) -> Result<Answered, NoMemory>
+    requires { vec_len change.writes ≤ 1 }
+    ensures settles { IfOk result (λ a. IsTrue F.tells → Settles change.entry (F.holds files.old) (F.holds files.new) (world_view world) a) }
+    ensures kept { OnErr result (IsTrue F.tells → F.holds files.new ≡ F.holds files.old) }
+{
     let Change {
         writes,
         next,
@@ -112,7 +125,7 @@ fn settle<'w, F: Files>(
         note,
     } = change;
     let (block, writes) = told_apart(writes);
-    let text = text_with_block(alloc, text.as_str(), block.as_deref())?;
+    let text = text_with_block(alloc, text.as_str(), &block)?;
     let reply = reply_of(alloc, text.as_str(), note.as_str(), Status::Done)?;
     if let Err((name, cause)) = write_files(files, writes.as_slice()) {
         return failed(alloc, world, name, cause);
@@ -136,6 +149,7 @@ fn settle_contracts(
     contracts: Vec<Deployed<Global>>,
 ) -> Result<Answered, NoMemory>
     requires { length (world_view world).contracts + vec_len contracts ≤ 1024 }
+    ensures { IfOk result (IsExtended (world_view world) (map contract_view contracts.items)) }
 {
     match extend(alloc, name, Some(name), world, contracts)? {
         Transition::Done(
@@ -184,7 +198,10 @@ fn answer_save<F: Files>(
     files: &mut F,
     world: World,
     file: &str,
-) -> Result<Answered, NoMemory> {
+) -> Result<Answered, NoMemory>
+    ensures saved { IfOk result (λ a. IsTrue F.tells → IsSaved file.now (F.holds files.old) (F.holds files.new) (world_view world) a ⊎ IsNotSaved file.now (F.holds files.old) (F.holds files.new) (world_view world) a) }
+    ensures kept { OnErr result (IsTrue F.tells → F.holds files.new ≡ F.holds files.old) }
+{
     let bytes = encode_world(alloc, &world)?;
     let count = bytes.len();
     let text = format!(in alloc; "saved {count} bytes\n")?;
@@ -200,7 +217,9 @@ fn answer_save<F: Files>(
 }
 
 /// The answer to `digest`. The world keeps its digest from here on.
-fn answer_digest(alloc: Global, world: World) -> Result<Answered, NoMemory> {
+fn answer_digest(alloc: Global, world: World) -> Result<Answered, NoMemory>
+    ensures { IfOk result (MovesOn (world_view world) (digest_line (sha256 (world_bytes (world_view world)))) [] Status.Done) }
+{
     let digest = digest_world(alloc, &world)?;
     let text = digest_line_of(alloc, digest)?;
     answered(
@@ -213,7 +232,9 @@ fn answer_digest(alloc: Global, world: World) -> Result<Answered, NoMemory> {
 }
 
 /// The answer to `quit`.
-fn answer_quit(alloc: Global, world: World) -> Result<Answered, NoMemory> {
+fn answer_quit(alloc: Global, world: World) -> Result<Answered, NoMemory>
+    ensures { IfOk result (Quits (world_view world)) }
+{
     let reply = reply_of(alloc, "", "", Status::Done)?;
     Ok(Answered {
         world,

@@ -4,7 +4,7 @@
 ghost use Rattle.std.specs.Prelude.{◌≡◌, ◌+◌, ◌≤◌, IsTrue, IfOk, IfErr, OnOk, length, vec_len, map, string_bytes};
 ghost use Rattle.spec_block.specs.Bytes.{world_bytes};
 ghost use Rattle.wblock_line.specs.Answers.{CountsFault, IsOfFile, upshot_of};
-ghost use Rattle.wblock_line.specs.Transitions.{leaving};
+ghost use Rattle.wblock_line.specs.Transitions.{leaving, WritesBeside};
 ghost use Rattle.world.specs.Views.{contract_view, world_view};
 ghost use Rattle.wblock_modules.specs.Deploys.{HasCount, IsRead, IsReadBehind, FitsBehind, IsRefusalLine, IsNextModule, IsDone, IsEmpty, IsOld, IsNextDeployed, GivesBase, TellsCount, Deploys, extended, onto_text};
 
@@ -159,7 +159,8 @@ pub fn extend<'a>(
     contracts: Vec<Deployed<Global>>,
 ) -> Result<Transition<'a>, NoMemory>
     requires { length (world_view base).contracts + vec_len contracts ≤ 1024 }
-    ensures { IfOk result (λ t. IsDone world.entry.now (world_bytes (extended (world_view base) (map contract_view contracts.items))) (vec_len contracts) (onto_text onto.entry (length (world_view base).contracts)) (leaving t)) }
+    ensures beside { IfOk result (WritesBeside 0) }
+    ensures done { IfOk result (λ t. IsDone world.entry.now (world_bytes (extended (world_view base) (map contract_view contracts.items))) (vec_len contracts) (onto_text onto.entry (length (world_view base).contracts)) (leaving t)) }
 {
     let count = contracts.len();
     let behind = onto_text_of(alloc, onto, count_of(&base))?;
