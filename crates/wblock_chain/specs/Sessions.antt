@@ -189,6 +189,10 @@ pub record IsSessionOver (name : List ℕ) (world : World) (lines : List (List �
   pub ended : HasQuit name exchanges ⊎ IsUnfinished rest
   pub told : after ≡ before ++ flat_map reply_in exchanges
 
+-- a beginning of the bytes was told
+abbrev pub IsToldInPart : (bytes before after : List ℕ) → Type 0
+IsToldInPart bytes before after = (count : ℕ) × (after ≡ before ++ take count bytes)
+
 -- it answered some lines and was stopped between two: memory was refused, or the input or the output failed, where a beginning of the answers was told
 pub record IsStoppedOver (name : List ℕ) (world : World) (lines : List (List ℕ)) (s : Status) (old new : Holding) (before after : List ℕ) : Type 0 where
   pub last : World
@@ -196,8 +200,7 @@ pub record IsStoppedOver (name : List ℕ) (world : World) (lines : List (List �
   pub rest : List (List ℕ)
   pub run : IsRun name exchanges lines rest (record { files = old; world = world }) (record { files = new; world = last })
   pub said : List ℕ
-  pub count : ℕ
-  pub told : after ≡ before ++ take count (flat_map reply_in exchanges ++ reply [] said s)
+  pub told : IsToldInPart (flat_map reply_in exchanges ++ reply [] said s) before after
 
 -- the world is that of the file of this name
 pub record IsSession (name : List ℕ) (lines : List (List ℕ)) (old new : Holding) (before after : List ℕ) : Type 0 where
@@ -211,11 +214,12 @@ pub record IsStopped (name : List ℕ) (lines : List (List ℕ)) (s : Status) (o
   pub stopped : IsStoppedOver name world lines s old new before after
 
 -- it did not begin: the world could not be read, and no file was changed
-pub record HasNotBegun (s : Status) (old new : Holding) (before after : List ℕ) : Type 0 where
+pub record HasNotBegun (old new : Holding) (before after : List ℕ) : Type 0 where
   pub files : new ≡ old
+  pub text : List ℕ
   pub said : List ℕ
-  pub count : ℕ
-  pub told : after ≡ before ++ take count (reply [] said s)
+  pub shown : Status
+  pub told : IsToldInPart (reply text said shown) before after
 
 -- the file of the world holds none, which is told with the line of the single commands
 pub record RefusesWorld (name : List ℕ) (old new : Holding) (before after : List ℕ) : Type 0 where

@@ -91,12 +91,19 @@ IsOver name (Validate task) = (task.world.now ≡ name) × IsOld task.next name 
 IsOver name (Call task) = task.world.now ≡ name
 IsOver name c = ⊥
 
--- a single command; or `save FILE`, `digest` or `quit`
+-- `save FILE`, `digest` or `quit`
+abbrev pub IsOwn : Line → SessionCommand → Type 0
+IsOwn line (Single c) = ⊥
+IsOwn line (Save file) = (line.words ≡ codes "save" ∷ file.now ∷ []) × (line.options ≡ [])
+IsOwn line Digest = (line.words ≡ codes "digest" ∷ []) × (line.options ≡ [])
+IsOwn line Quit = (line.words ≡ codes "quit" ∷ []) × (line.options ≡ [])
+
+-- a single command over the world that is kept, or one of the session's own
 abbrev pub IsAsked : (name : List ℕ) → Line → SessionCommand → Type 0
 IsAsked name line (Single c) = IsLineOf (single name line) c × IsOverWorld c
-IsAsked name line (Save file) = (line.words ≡ codes "save" ∷ file.now ∷ []) × (line.options ≡ [])
-IsAsked name line Digest = (line.words ≡ codes "digest" ∷ []) × (line.options ≡ [])
-IsAsked name line Quit = (line.words ≡ codes "quit" ∷ []) × (line.options ≡ [])
+IsAsked name line (Save file) = IsOwn line (Save file)
+IsAsked name line Digest = IsOwn line Digest
+IsAsked name line Quit = IsOwn line Quit
 
 -- what a session may ask of a single command
 abbrev pub IsFewAsked : SessionCommand → Type 0

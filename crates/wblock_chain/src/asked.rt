@@ -4,7 +4,7 @@ ghost use Rattle.std.specs.Prelude.{◌≡◌, ◌↔◌, [], IfOk, IfSome, Matc
 ghost use Rattle.std.specs.Str.{bytes_eq};
 ghost use Rattle.wblock_calls.specs.Words.{texts};
 ghost use Rattle.wblock_line.specs.Words.{line_of, choices};
-ghost use Rattle.wblock_chain.specs.Words.{IsAsked, IsFewAsked, IsOverAsked, IsOverWorld, named, named_as, single, takes_calls};
+ghost use Rattle.wblock_chain.specs.Words.{IsAsked, IsFewAsked, IsOwn, IsOverAsked, IsOverWorld, named, named_as, single, takes_calls};
 ghost use Rattle.wblock_chain.specs.declared.asked.SessionCommand.{SessionCommand as Asked};
 
 use std::alloc::{AllocError, Global};
@@ -143,16 +143,26 @@ fn is_over_world(command: &Command) -> bool
 }
 
 /// What the words of a line ask for that are no single command's.
-fn own_command_of<'l, 'w>(line: &Line<'w>) -> Option<SessionCommand<'l, 'w>> {
+fn own_command_of<'l, 'w>(line: &Line<'w>) -> Option<SessionCommand<'l, 'w>>
+    ensures { MatchOption result ((c : Asked) → ¬ IsOwn (line_of line.now) c) (IsOwn (line_of line.now)) }
+{
     if !line.options.is_empty() {
         return None;
     }
-    match line.words.as_slice() {
-        [word, file] if is_word(*word, "save") => Some(SessionCommand::Save(*file)),
-        [word] if is_word(*word, "digest") => Some(SessionCommand::Digest),
-        [word] if is_word(*word, "quit") => Some(SessionCommand::Quit),
-        _ => None,
+    let words = line.words.as_slice();
+    if words.len() == 2 && is_word(words[0], "save") {
+        return Some(SessionCommand::Save(words[1]));
     }
+    if words.len() != 1 {
+        return None;
+    }
+    if is_word(words[0], "digest") {
+        return Some(SessionCommand::Digest);
+    }
+    if is_word(words[0], "quit") {
+        return Some(SessionCommand::Quit);
+    }
+    None
 }
 
 /// What a line asks for in a session over the world of a name, of which `single` is the program's line; or None where it asks for nothing.
@@ -170,8 +180,11 @@ pub fn session_command_of<'l, 'w>(
     if let Some(own) = own_command_of(line) {
         return Ok(Some(own));
     }
-    match command_of(alloc, single)? {
-        Some(command) if is_over_world(&command) => Ok(Some(SessionCommand::Single(command))),
-        _ => Ok(None),
+    let Some(command) = command_of(alloc, single)? else {
+        return Ok(None);
+    };
+    if !is_over_world(&command) {
+        return Ok(None);
     }
+    Ok(Some(SessionCommand::Single(command)))
 }

@@ -62,10 +62,12 @@ fn text_of_calls<'w, F: Files>(
     ensures counted { IfErr result (λ f. CountsFault f (F.failures files.old) (F.failures files.new)) }
     ensures named { IfErr result (IsOfFile (λ file. file ≡ calls.entry.now)) }
 {
-    match behind {
-        Some(text) if calls == CALLS_HERE => Ok(text),
-        _ => read_file(alloc, files, calls),
+    if calls == CALLS_HERE {
+        if let Some(text) = behind {
+            return Ok(text);
+        }
     }
+    read_file(alloc, files, calls)
 }
 
 /// What `mine` comes to.

@@ -1,6 +1,6 @@
 //! What a session answers to a line, exactly.
 
-ghost use Rattle.std.specs.Prelude.{◌≡◌, ◌++◌, true, IfOk, option_map, string_bytes};
+ghost use Rattle.std.specs.Prelude.{◌≡◌, ◌++◌, true, IfOk, OnOk, option_map, string_bytes};
 ghost use Rattle.wblock_chain.specs.Replies.{block_line, digest_line, marked, number_of, reply};
 
 use std::alloc::{AllocError, Global};
@@ -21,7 +21,7 @@ fn number_of(status: Status) -> u8
 
 /// Puts each line of a text behind `# `.
 fn append_marked(out: &mut Vec<u8>, said: &str) -> Result<(), AllocError>
-    ensures { IfOk result (λ _. out.new.items ≡ out.old.items ++ marked true said.now) }
+    ensures { OnOk result (out.new.items ≡ out.old.items ++ marked true said.now) }
 {
     let mut starts = true;
     for byte in said.as_bytes() {

@@ -3,7 +3,9 @@
 ghost use Rattle.std.specs.Prelude.{◌≡◌, ◌∷◌, ◌++◌, [], Err, IfOk, OnOk, IsTrue};
 ghost use Rattle.byte_sinks.specs.Putting.{IsRaised};
 ghost use Rattle.wblock_io.specs.declared.lines.LineFault.{LineFault as Why};
+ghost use Rattle.wblock_calls.specs.Texts.{words_of};
 ghost use Rattle.wblock_chain.specs.Requests.{IsRequest, IsCallsRead};
+ghost use Rattle.wblock_chain.specs.Words.{takes_calls};
 
 use crate::asked::takes_calls;
 use std::alloc::{AllocError, Global};
@@ -32,7 +34,9 @@ pub(crate) enum CallsRead {
 }
 
 /// Whether the words of a text ask for calls behind it.
-fn asks_calls(alloc: Global, text: &str) -> Result<bool, AllocError> {
+fn asks_calls(alloc: Global, text: &str) -> Result<bool, AllocError>
+    ensures { IfOk result (λ asks. asks ≡ takes_calls (words_of text.now)) }
+{
     let words: Vec<&str> = text.split(' ').collect(alloc)?;
     Ok(takes_calls(words.as_slice()))
 }

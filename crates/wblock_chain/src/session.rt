@@ -1,14 +1,15 @@
 //! A session: its lines are answered one after another, over a world that it keeps.
 
-ghost use Rattle.std.specs.Prelude.{◌≡◌, ◌≢◌, ◌+◌, ◌≤◌, ◌⊎◌, ◌++◌, ℕ, List, [], IsTrue, IfOk, OnErr, option_map, length, map, string_bytes, vec_len};
+ghost use Rattle.std.specs.Prelude.{◌≡◌, ◌≢◌, ◌+◌, ◌≤◌, ◌⊎◌, ◌++◌, ℕ, List, [], IsTrue, IfOk, OnErr, codes, option_map, length, map, string_bytes, vec_len};
 ghost use Rattle.sha2.specs.Sha256.{sha256};
 ghost use Rattle.spec_block.specs.Bytes.{world_bytes};
 ghost use Rattle.world.specs.Views.{contract_view, world_view};
 ghost use Rattle.wblock_line.specs.Answers.{IsSaid, file_line, memory_line, sentence_line, write_of};
+ghost use Rattle.wblock_line.specs.declared.perform.Status.{Status as Shown};
 ghost use Rattle.wblock_commands.specs.Words.{HasFew};
 ghost use Rattle.wblock_chain.specs.Answered.{AnswersAsked, AnswersText, AnswersRequest, AreApart, IsExtended, IsFileReply, IsNotSaved, IsSaved, MovesOn, Quits, Settles};
-ghost use Rattle.wblock_chain.specs.Replies.{block_line, digest_line};
-ghost use Rattle.wblock_chain.specs.Sessions.{HasNotBegun, IsSession, IsSessionOver, IsStopped, IsStoppedOver, RefusesWorld};
+ghost use Rattle.wblock_chain.specs.Replies.{block_line, digest_line, reply};
+ghost use Rattle.wblock_chain.specs.Sessions.{HasNotBegun, IsSession, IsSessionOver, IsStopped, IsStoppedOver, IsToldInPart, RefusesWorld};
 ghost use Rattle.wblock_chain.specs.Words.{IsFewAsked, IsOver, IsOverAsked};
 
 use crate::asked::{SessionCommand, TOLD_BLOCK, named_words, session_command_of, single_line};
@@ -323,7 +324,9 @@ fn answer<R: Threads + Wait + Sync, F: Files, P: Pace>(
 
 /// Ends a session for lack of memory. This takes none.
 fn end_for_memory<O: Sink, E: Sink>(out: &mut O, err: &mut E) -> Status
-    ensures { result ≡ Status.Memory }
+    ensures status { result ≡ Status.Memory }
+    ensures told { IsTrue O.tells → IsToldInPart (reply [] memory_line Status.Memory) (O.told out.old) (O.told out.new) }
+    ensures said { IsTrue E.tells → IsSaid memory_line (E.told err.old) (E.told err.new) (E.failures err.old) (E.failures err.new) }
 {
     // a fault of a stream changes no status here
     let _ = put_all(out, b"# memory\nstatus 4\n");
@@ -332,7 +335,8 @@ fn end_for_memory<O: Sink, E: Sink>(out: &mut O, err: &mut E) -> Status
 
 /// Ends a session whose input failed. This takes no memory.
 fn end_for_input<O: Sink, E: Sink>(out: &mut O, err: &mut E) -> Status
-    ensures { result ≡ Status.File }
+    ensures status { result ≡ Status.File }
+    ensures told { IsTrue O.tells → IsToldInPart (reply [] (file_line (codes "stdin")) Status.File) (O.told out.old) (O.told out.new) }
 {
     let _ = put_all(out, b"# file stdin\nstatus 3\n");
     tell_fault(Fault::File("stdin", Cause::Other), err)
@@ -380,7 +384,11 @@ fn run_over<R: Threads + Wait + Sync, F: Files, L: Lines, O: Sink, E: Sink, P: P
 }
 
 /// Ends a session whose world could not be read.
-fn end_unbegun<O: Sink, E: Sink>(alloc: Global, fault: Fault, out: &mut O, err: &mut E) -> Status {
+fn end_unbegun<O: Sink, E: Sink>(alloc: Global, fault: Fault, out: &mut O, err: &mut E) -> Status
+    ensures status { (result ≡ Status.File) ⊎ (result ≡ Status.Memory) }
+    ensures told { IsTrue O.tells → (said : List ℕ) × IsToldInPart (reply [] said result) (O.told out.old) (O.told out.new) }
+    ensures memory_said { result ≡ Status.Memory → IsTrue E.tells → IsSaid memory_line (E.told err.old) (E.told err.new) (E.failures err.old) (E.failures err.new) }
+{
     let Fault::File(name, cause) = fault else {
         return end_for_memory(out, err);
     };
@@ -401,7 +409,13 @@ fn end_refused<O: Sink, E: Sink>(
     why: &str,
     out: &mut O,
     err: &mut E,
-) -> Status {
+) -> Status
+    ensures status { (result ≡ Status.Refused) ⊎ ((result ≡ Status.File) ⊎ (result ≡ Status.Memory)) }
+    ensures refused { result ≡ Status.Refused → IsTrue O.tells → (said : List ℕ) × (O.told out.new ≡ O.told out.old ++ reply line.now said Status.Refused) }
+    ensures told { result ≢ Status.Refused → IsTrue O.tells → (text : List ℕ) × (said : List ℕ) × (shown : Shown) × IsToldInPart (reply text said shown) (O.told out.old) (O.told out.new) }
+    ensures quiet { result ≡ Status.Refused → err.new ≡ err.old }
+    ensures memory_said { result ≡ Status.Memory → IsTrue E.tells → IsSaid memory_line (E.told err.old) (E.told err.new) (E.failures err.old) (E.failures err.new) }
+{
     let Ok(said) = format!(in alloc; "{why}\n") else {
         return end_for_memory(out, err);
     };
@@ -433,7 +447,7 @@ pub fn run_session<R: Threads + Wait + Sync, F: Files, L: Lines, O: Sink, E: Sin
 ) -> Status
     ensures done { result ≡ Status.Done → IsTrue F.tells → IsTrue L.tells → IsTrue O.tells → IsSession name.now (L.coming lines.old) (F.holds files.old) (F.holds files.new) (O.told out.old) (O.told out.new) }
     ensures refused { result ≡ Status.Refused → IsTrue F.tells → IsTrue O.tells → RefusesWorld name.now (F.holds files.old) (F.holds files.new) (O.told out.old) (O.told out.new) }
-    ensures stopped { (result ≡ Status.File) ⊎ (result ≡ Status.Memory) → IsTrue F.tells → IsTrue L.tells → IsTrue O.tells → IsStopped name.now (L.coming lines.old) result (F.holds files.old) (F.holds files.new) (O.told out.old) (O.told out.new) ⊎ HasNotBegun result (F.holds files.old) (F.holds files.new) (O.told out.old) (O.told out.new) }
+    ensures stopped { (result ≡ Status.File) ⊎ (result ≡ Status.Memory) → IsTrue F.tells → IsTrue L.tells → IsTrue O.tells → IsStopped name.now (L.coming lines.old) result (F.holds files.old) (F.holds files.new) (O.told out.old) (O.told out.new) ⊎ HasNotBegun (F.holds files.old) (F.holds files.new) (O.told out.old) (O.told out.new) }
     ensures answered { result ≢ Status.Usage }
     ensures quiet { (result ≡ Status.Done) ⊎ (result ≡ Status.Refused) → err.new ≡ err.old }
     ensures memory_said { result ≡ Status.Memory → IsTrue E.tells → IsSaid memory_line (E.told err.old) (E.told err.new) (E.failures err.old) (E.failures err.new) }
