@@ -169,11 +169,11 @@ fn call<'a>(alloc: Global) -> Result<Command<'a>, AllocError> {
 fn chain<'a>(alloc: Global) -> Result<Command<'a>, AllocError> {
     Command::new(alloc, "chain")
         .about("Keeps a world, and answers lines of standard input over it")
-        .arg(world(alloc))?
-        .arg(switch(alloc, QUIET))?
         .after_help(
-            "A line is `mine CALLS BLOCK ..`, `validate CALLS BLOCK ..`, `call CONTRACT FUEL ENTRY ARG...`, `deploy MODULE...`, each over the world that is kept, or `save FILE`, `digest`, `quit`. CALLS `-` stands for calls behind the line, up to an empty line; BLOCK `-` of `mine` tells the block's bytes. Each answer ends with a line `status N`.",
+            "A line is `mine CALLS BLOCK ..`, `validate CALLS BLOCK ..`, `call CONTRACT FUEL ENTRY ARG...` or `deploy MODULE...`, each over the world that is kept, or `save FILE`, `digest` or `quit`. CALLS `-` stands for calls behind the line, up to an empty line; BLOCK `-` of `mine` tells the block's bytes. Each answer ends with a line `status N`.",
         )
+        .arg(world(alloc))?
+        .arg(switch(alloc, QUIET))
 }
 
 fn debug<'a>(alloc: Global) -> Result<Command<'a>, AllocError> {
