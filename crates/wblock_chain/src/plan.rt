@@ -91,6 +91,7 @@ fn plan_mine<'w, R: Threads + Wait + Sync, F: Files, P: Pace>(
     ensures counted { IfErr result (λ f. CountsFault f (F.failures files.old) (F.failures files.new)) }
     ensures reads { IfErr result (IsOfFile (λ file. IsTrue F.tells → Reads (Command.Mine task.entry) (standing _name.now (world_view world.now) (option_map (λ text. text.items) behind) None (F.holds files.old)) file)) }
 {
+    world.is_spelled();
     let text = text_of_calls(alloc, files, _name, world, task.calls, behind)?;
     match judge_calls(alloc, text.as_slice()) {
         Ok(Ok(calls)) => made(mine_over(rt, alloc, world, calls.as_slice(), task, pace)),
@@ -119,6 +120,7 @@ fn plan_validate<'w, R: Threads + Wait + Sync, F: Files, P: Pace>(
     ensures counted { IfErr result (λ f. CountsFault f (F.failures files.old) (F.failures files.new)) }
     ensures reads { IfErr result (IsOfFile (λ file. IsTrue F.tells → Reads (Command.Validate task.entry) (standing _name.now (world_view world.now) (option_map (λ text. text.items) behind) None (F.holds files.old)) file)) }
 {
+    world.is_spelled();
     let text = text_of_calls(alloc, files, _name, world, task.calls, behind)?;
     let calls = match judge_calls(alloc, text.as_slice()) {
         Ok(Ok(calls)) => calls,
@@ -143,6 +145,7 @@ fn plan_call<'w>(alloc: Global, world: &World, task: &Calling<'w>) -> Result<Pla
     ensures beside { IfOk result FitsOne }
     ensures fault { IfErr result (λ f. f ≡ Fault.NoMemory) }
 {
+    world.is_spelled();
     match call_over(alloc, world, &task.call) {
         Ok(Answer::Done(writes, text)) => Ok(Plan::Made(Transition::Done(Change {
             writes,
@@ -174,6 +177,7 @@ fn plan_deploy<'l, 'w, F: Files>(
     ensures counted { IfErr result (λ f. CountsFault f (F.failures files.old) (F.failures files.new)) }
     ensures reads { IfErr result (IsOfFile (λ file. IsTrue F.tells → Reads (Command.Deploy task.entry) (standing _name.now (world_view world.now) (option_map (λ text. text.items) _behind.now) None (F.holds files.old)) file)) }
 {
+    world.is_spelled();
     match read_modules_behind(alloc, files, world, task.modules)? {
         Modules::Refused(line, why) => Ok(Plan::Made(Transition::Refused(line, why))),
         Modules::Linked(contracts) => Ok(Plan::Linked(contracts)),
