@@ -64,8 +64,8 @@ single_options name (word ∷ others) options =
     else options
 
 -- the line of the program that a line of a session over the world of this name stands for
-abbrev pub single : (name : List ℕ) → Line → Line
-single name line = record { words = single_words name line.words; options = single_options name line.words line.options }
+abbrev pub single_line : (name : List ℕ) → Line → Line
+single_line name line = record { words = single_words name line.words; options = single_options name line.words line.options }
 
 -- ---- what is asked for
 
@@ -100,7 +100,7 @@ IsOwn line Quit = (line.words ≡ codes "quit" ∷ []) × (line.options ≡ [])
 
 -- a single command over the world that is kept, or one of the session's own
 abbrev pub IsAsked : (name : List ℕ) → Line → SessionCommand → Type 0
-IsAsked name line (Single c) = IsLineOf (single name line) c × IsOverWorld c
+IsAsked name line (Single c) = IsLineOf (single_line name line) c × IsOverWorld c
 IsAsked name line (Save file) = IsOwn line (Save file)
 IsAsked name line Digest = IsOwn line Digest
 IsAsked name line Quit = IsOwn line Quit

@@ -4,7 +4,7 @@ ghost use Rattle.std.specs.Prelude.{◌≡◌, ◌↔◌, [], IfOk, IfSome, Matc
 ghost use Rattle.std.specs.Str.{bytes_eq};
 ghost use Rattle.wblock_calls.specs.Words.{texts};
 ghost use Rattle.wblock_line.specs.Words.{line_of, choices};
-ghost use Rattle.wblock_chain.specs.Words.{IsAsked, IsFewAsked, IsOwn, IsOverAsked, IsOverWorld, named, named_as, single, takes_calls};
+ghost use Rattle.wblock_chain.specs.Words.{IsAsked, IsFewAsked, IsOwn, IsOverAsked, IsOverWorld, named, named_as, single_line, takes_calls};
 ghost use Rattle.wblock_chain.specs.declared.asked.SessionCommand.{SessionCommand as Asked};
 
 use std::alloc::{AllocError, Global};
@@ -81,7 +81,7 @@ fn single_words_of<'a>(
     name: &'a str,
     words: &[&'a str],
 ) -> Result<Vec<&'a str>, AllocError>
-    ensures { IfOk result (λ made. texts made.items ≡ (single name.entry.now (record { words = texts words.now; options = [] })).words) }
+    ensures { IfOk result (λ made. texts made.items ≡ (single_line name.entry.now (record { words = texts words.now; options = [] })).words) }
 {
     let mut made = Vec::new(alloc);
     let Some((word, others)) = words.split_first() else {
@@ -102,7 +102,7 @@ fn single_options_of<'a>(
     name: &'a str,
     line: &Line<'a>,
 ) -> Result<Vec<(&'a str, &'a str)>, AllocError>
-    ensures { IfOk result (λ made. choices made.items ≡ (single name.entry.now (line_of line.now)).options) }
+    ensures { IfOk result (λ made. choices made.items ≡ (single_line name.entry.now (line_of line.now)).options) }
 {
     let mut made = Vec::new(alloc);
     made.extend_from_slice(line.options.as_slice())?;
@@ -123,7 +123,7 @@ pub(crate) fn single_line<'a>(
     name: &'a str,
     line: &Line<'a>,
 ) -> Result<Line<'a>, AllocError>
-    ensures { IfOk result (λ made. line_of made ≡ single name.entry.now (line_of line.now)) }
+    ensures { IfOk result (λ made. line_of made ≡ single_line name.entry.now (line_of line.now)) }
 {
     let words = single_words_of(alloc, name, line.words.as_slice())?;
     let options = single_options_of(alloc, name, line)?;
@@ -172,7 +172,7 @@ pub fn session_command_of<'l, 'w>(
     line: &Line<'w>,
     single: &'l Line<'w>,
 ) -> Result<Option<SessionCommand<'l, 'w>>, AllocError>
-    requires { line_of single.entry.now ≡ single _name.entry.now (line_of line.now) }
+    requires { line_of single.entry.now ≡ single_line _name.entry.now (line_of line.now) }
     ensures few { IfOk result (λ found. IfSome found IsFewAsked) }
     ensures over { IfOk result (λ found. IfSome found (IsOverAsked _name.entry.now)) }
     ensures asked { IfOk result (λ found. MatchOption found ((c : Asked) → ¬ IsAsked _name.entry.now (line_of line.now) c) (IsAsked _name.entry.now (line_of line.now))) }
