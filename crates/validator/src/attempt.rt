@@ -7,7 +7,6 @@ ghost use Rattle.validator.specs.Jobs.{IsJob};
 
 use crate::job::{Job, PositionResult, PositionRun};
 use crate::profile::allows;
-use ahead::Ahead;
 use in_order::Task;
 use interp::finished::Finished;
 use lock_profile::Profile;
@@ -16,7 +15,7 @@ use serial::{Storage, play_over};
 use spec_ledger::{NoMemory, Op, Reply};
 use std::alloc::Allocator;
 use std::sync::{Mutex, Wait};
-use storage::returned;
+use storage::{Ahead, returned};
 
 /// Why a run is not made.
 #[derive(Drop)]

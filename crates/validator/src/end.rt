@@ -92,7 +92,7 @@ fn verdict_by<A: Allocator>(
     Verdict::Accept(next)
 }
 
-/// The verdict on a block that none of the first seven reasons speaks against, whose calls came to this.
+/// The verdict on a block that none of the first seven reasons speaks against, whose calls came to this. The world after a block that is accepted keeps its digest.
 fn conclude<R: Threads + Sync, A: Allocator + Copy + Send + Sync>(
     rt: &R,
     alloc: A,
@@ -117,7 +117,7 @@ fn conclude<R: Threads + Sync, A: Allocator + Copy + Send + Sync>(
     let (compared, digest) = compare_and_digest(
         rt, &alloc, block, receipts, touched, &next, threads,
     )?;
-    Ok(verdict_by(block, compared, &digest, next))
+    Ok(verdict_by(block, compared, &digest, next.with_digest(digest)))
 }
 
 /// How many of the calls were not done by what they did ahead of their turn.

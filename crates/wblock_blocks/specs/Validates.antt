@@ -1,5 +1,5 @@
 -- What `validate` answers.
-use Rattle.std.specs.Prelude.{◌≡◌, ℕ, ◌⊎◌, Bool, true, false, List, [], ◌∷◌, ◌++◌, Option, Some, None, codes, map, string_bytes}
+use Rattle.std.specs.Prelude.{◌≡◌, ℕ, ◌⊎◌, Bool, true, false, List, [], ◌∷◌, ◌++◌, Option, Some, None, codes}
 use Rattle.std.specs.Borrow.{Bor}
 use Rattle.hex.specs.Hex.{encode_lower}
 use Rattle.sha2.specs.Sha256.{sha256}
@@ -8,12 +8,11 @@ use Rattle.spec_block.specs.Bytes.{world_bytes}
 use Rattle.spec_block.specs.Verdicts.{Verdict, Accept, Malformed, WrongWorld, WrongCalls, BadOrder, OverBudget, RoomLeft, BadTurns, Deviates, WrongEnd, IsVerdictOf}
 use Rattle.wblock_json.specs.Json.{IsJson, IsLineOf}
 use Rattle.wblock_io.specs.Holding.{Holding}
-use Rattle.wblock_line.specs.declared.answer.Answer.{Answer}
-use Rattle.wblock_line.specs.declared.answer.Answer.TheVariants.{Done, Refused}
-use Rattle.wblock_line.specs.Answers.{Written, write_of}
+use Rattle.wblock_line.specs.declared.perform.Status.TheVariants as status
+use Rattle.wblock_line.specs.Answers.{Written, Upshot}
 use Rattle.wblock_line.specs.Inputs.{HoldsWorld, HoldsCalls, IsNextInput, TellsRefusal}
-use Rattle.wblock_line.specs.Rejections.{Rejects}
-use Rattle.wblock_line.specs.Told.{IsRefusalIn}
+use Rattle.wblock_line.specs.Rejections.{IsRejection}
+use Rattle.wblock_line.specs.Upshots.{IsRefusalWith}
 use Rattle.wblock_blocks.specs.Objects.{accept_data}
 use Rattle.wblock_blocks.specs.declared.validate.Validation.{Validation}
 
@@ -31,40 +30,45 @@ abbrev pub next_writes : Option (Bor (List ℕ)) → World → List Written
 next_writes (Some name) next = (name.now, world_bytes next) ∷ []
 next_writes None next = []
 
--- the answer's text tells the verdict, and the world after the block is to be written where a file is named for it
-abbrev pub Accepts : (json : Bool) → Option (Bor (List ℕ)) → World → Answer → Type 0
-Accepts json name next (Done writes text) = (map write_of writes.items ≡ next_writes name next) × IsAcceptText json next (string_bytes text)
-Accepts json name next (Refused line why) = ⊥
+-- the text tells the verdict, and the world after the block is to be written where a file is named for it
+pub record Accepts (json : Bool) (name : Option (Bor (List ℕ))) (next : World) (u : Upshot) : Type 0 where
+  pub status_is : u.status ≡ status.Done
+  pub writes : u.writes ≡ next_writes name next
+  pub text : IsAcceptText json next u.text
 
-abbrev pub TellsVerdict : (json : Bool) → Option (Bor (List ℕ)) → Verdict → Answer → Type 0
-TellsVerdict json name (Accept next) a = Accepts json name next a
-TellsVerdict json name Malformed a = Rejects json Malformed a
-TellsVerdict json name WrongWorld a = Rejects json WrongWorld a
-TellsVerdict json name WrongCalls a = Rejects json WrongCalls a
-TellsVerdict json name (BadOrder p) a = Rejects json (BadOrder p) a
-TellsVerdict json name OverBudget a = Rejects json OverBudget a
-TellsVerdict json name (RoomLeft c) a = Rejects json (RoomLeft c) a
-TellsVerdict json name (BadTurns p) a = Rejects json (BadTurns p) a
-TellsVerdict json name (Deviates p) a = Rejects json (Deviates p) a
-TellsVerdict json name WrongEnd a = Rejects json WrongEnd a
+abbrev pub TellsVerdict : (json : Bool) → Option (Bor (List ℕ)) → Verdict → Upshot → Type 0
+TellsVerdict json name (Accept next) u = Accepts json name next u
+TellsVerdict json name Malformed u = IsRejection json Malformed u
+TellsVerdict json name WrongWorld u = IsRejection json WrongWorld u
+TellsVerdict json name WrongCalls u = IsRejection json WrongCalls u
+TellsVerdict json name (BadOrder p) u = IsRejection json (BadOrder p) u
+TellsVerdict json name OverBudget u = IsRejection json OverBudget u
+TellsVerdict json name (RoomLeft c) u = IsRejection json (RoomLeft c) u
+TellsVerdict json name (BadTurns p) u = IsRejection json (BadTurns p) u
+TellsVerdict json name (Deviates p) u = IsRejection json (Deviates p) u
+TellsVerdict json name WrongEnd u = IsRejection json WrongEnd u
 
--- the answer tells the verdict on the bytes that the file of the block holds, over the world and the calls that their files hold
-pub record IsJudged (holds : Holding) (task : Validation) (a : Answer) : Type 0 where
+-- the verdict on these bytes is told, of a block of these calls over this world
+pub record ValidatesOver (world : World) (calls : List Call) (bytes : List ℕ) (task : Validation) (u : Upshot) : Type 0 where
+  pub verdict : Verdict
+  pub is : IsVerdictOf world calls task.fuel bytes verdict
+  pub tells : TellsVerdict task.json task.next verdict u
+
+-- the verdict is told on the bytes that the file of the block holds, over the world and the calls that their files hold
+pub record IsJudged (holds : Holding) (task : Validation) (u : Upshot) : Type 0 where
   pub world : World
   pub held_world : HoldsWorld holds task.world.now world
   pub calls : List Call
   pub held_calls : HoldsCalls holds task.calls.now calls
   pub bytes : List ℕ
   pub held_block : holds task.block.now ≡ Some bytes
-  pub verdict : Verdict
-  pub is : IsVerdictOf world calls task.fuel bytes verdict
-  pub tells : TellsVerdict task.json task.next verdict a
+  pub validates : ValidatesOver world calls bytes task u
 
--- the answer tells why the world or the calls are refused
-pub record IsRefused (holds : Holding) (task : Validation) (a : Answer) : Type 0 where
+-- it is told why the world or the calls are refused
+pub record IsRefused (holds : Holding) (task : Validation) (u : Upshot) : Type 0 where
   pub line : List ℕ
   pub why : TellsRefusal holds task.world.now task.calls.now line
-  pub told : IsRefusalIn task.json line a
+  pub told : IsRefusalWith task.json line u
 
 -- the files of the world and of the calls give both
 pub record GivesBoth (holds : Holding) (task : Validation) : Type 0 where
@@ -77,5 +81,5 @@ pub record GivesBoth (holds : Holding) (task : Validation) : Type 0 where
 abbrev pub IsNextFile : Holding → Validation → List ℕ → Type 0
 IsNextFile holds task name = IsNextInput holds task.world.now task.calls.now name ⊎ (GivesBoth holds task × (name ≡ task.block.now))
 
-abbrev pub Validates : Holding → Validation → Answer → Type 0
-Validates holds task a = IsRefused holds task a ⊎ IsJudged holds task a
+abbrev pub Validates : Holding → Validation → Upshot → Type 0
+Validates holds task u = IsRefused holds task u ⊎ IsJudged holds task u

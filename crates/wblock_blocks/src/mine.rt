@@ -1,21 +1,23 @@
 //! The command `mine WORLD CALLS BLOCK NEXT --fuel N [--workers 4] [--boosted] [--tries 3] [--json]`: a block of calls over a world, and the world after it.
 
-ghost use Rattle.std.specs.Prelude.{◌≡◌, ◌≤◌, false, IsTrue, IfOk, IfErr, OnOk, length, string_bytes};
+ghost use Rattle.std.specs.Prelude.{◌≡◌, ◌≤◌, false, IsTrue, IfOk, IfErr, OnOk, length, string_bytes, vec_len};
 ghost use Rattle.spec_ledger.specs.declared.Version.TheVariants.{Two};
 ghost use Rattle.spec_ledger.specs.Order.{first_fit};
 ghost use Rattle.spec_block.specs.Worlds.{limits, order_of};
 ghost use Rattle.spec_block.specs.Headline.{Headline, IsLeft};
 ghost use Rattle.world.specs.Views.{world_view};
-ghost use Rattle.wblock_line.specs.Answers.{CountsFault, IsOfFile};
+ghost use Rattle.wblock_line.specs.Answers.{CountsFault, IsOfFile, upshot_of};
 ghost use Rattle.wblock_line.specs.Inputs.{IsNextInput};
 ghost use Rattle.wblock_line.specs.Told.{IsRefusalIn};
-ghost use Rattle.wblock_blocks.specs.Mines.{IsDone, IsMinedText, Mines};
+ghost use Rattle.wblock_line.specs.Transitions.{leaving, note_in, WritesBeside};
+ghost use Rattle.wblock_line.specs.declared.transition.Transition.TheVariants as transition;
+ghost use Rattle.wblock_blocks.specs.Mines.{IsDone, IsMinedText, Mines, MinesOver};
 ghost use Rattle.wblock_blocks.specs.Notes.{IsNoteOf, Notes};
 
-use crate::note::{Noted, note_of};
+use crate::note::note_of;
 use crate::objects::mined_line_of;
 use crate::text::block_text_of;
-use block::encode_block;
+use block::{Block, encode_block};
 use call::Call;
 use miner::{Mined, mine};
 use pace::{Pace, Watched};
@@ -23,8 +25,10 @@ use std::alloc::{AllocError, Global};
 use std::sync::Wait;
 use std::thread::Threads;
 use wblock_io::Files;
-use wblock_line::{Answer, Fault, Inputs, Write, read_inputs, refuse};
-use world::{World, encode_world};
+use wblock_line::{
+    Change, Fault, Inputs, NextWorld, Noted, Transition, Write, read_inputs, refuse, with_world,
+};
+use world::World;
 use wtypes::NoMemory;
 
 /// What is to be mined.
@@ -80,73 +84,106 @@ fn mine_calls<R: Threads + Wait + Sync, P: Pace>(
     )
 }
 
-/// What is printed of a block of these calls.
+/// What is printed of a block of these calls, which leaves these out.
 fn mined_text_of(
     alloc: Global,
     json: bool,
     calls: &[Call],
-    mined: &Mined,
+    block: &Block,
+    left: &[u32],
 ) -> Result<String, AllocError>
-    ensures { IfOk result (λ text. IsMinedText json mined.now.block calls.now mined.now.left.items (string_bytes text)) }
+    ensures { IfOk result (λ text. IsMinedText json block.now calls.now left.now (string_bytes text)) }
 {
     if json {
-        mined_line_of(alloc, &mined.block, calls, &mined.left)
+        mined_line_of(alloc, block, calls, left)
     } else {
-        block_text_of(alloc, &mined.block, &mined.left)
+        block_text_of(alloc, block, left)
     }
 }
 
-/// The answer that writes a block of these calls and the world after it, and tells the block.
-fn done<'a>(
+/// What a mined block does: the block is to be written, and then the world after it, and the block is to be told.
+fn change_of<'a>(
     alloc: Global,
+    world: &World,
     calls: &[Call],
     task: Mining<'a>,
-    mined: &Mined,
-) -> Result<Answer<'a>, NoMemory>
-    ensures { IfOk result (IsDone task.entry mined.now.block (world_view mined.now.world) calls.now mined.now.left.items) }
+    mined: Mined,
+) -> Result<Change<'a>, NoMemory>
+    ensures done { IfOk result (λ change. IsDone task.entry mined.block (world_view mined.world) calls.now mined.left.items (leaving (transition.Done change))) }
+    ensures note { IfOk result (λ change. IsNoteOf mined.block.positions (string_bytes change.note)) }
+    ensures beside { IfOk result (λ change. vec_len change.writes ≡ 1) }
 {
-    let block = encode_block(alloc, &mined.block)?;
-    let next = encode_world(alloc, &mined.world)?;
-    let text = mined_text_of(alloc, task.json, calls, mined)?;
+    let Mined {
+        block,
+        world: next,
+        left,
+        by_workers: _,
+    } = mined;
+    let bytes = encode_block(alloc, &block)?;
+    let text = mined_text_of(alloc, task.json, calls, &block, &left)?;
+    let note = note_of(alloc, world.contracts(), calls, block.positions())?;
     let mut writes = Vec::new(alloc);
     writes.push(Write {
         name: task.block,
-        bytes: block,
+        bytes,
     })?;
-    writes.push(Write {
+    let next = NextWorld {
         name: task.next,
-        bytes: next,
-    })?;
-    Ok(Answer::Done(writes, text))
+        world: next,
+    };
+    Ok(Change {
+        writes,
+        next: Some(next),
+        text,
+        note,
+    })
 }
 
-/// What is said of the calls of a mined block.
-fn note_of_mined(
-    alloc: Global,
-    world: &World,
-    calls: &[Call],
-    mined: &Mined,
-) -> Result<String, NoMemory>
-    ensures { IfOk result (λ note. IsNoteOf mined.now.block.positions (string_bytes note)) }
-{
-    let note = note_of(alloc, world.contracts(), calls, mined.block.positions())?;
-    Ok(note)
-}
-
-/// The answer of a mined block, with what is said of its calls.
-fn noted<'a>(
+/// What `mine` comes to over a world and calls: a block of the calls is to be written, and then the world after it, which has no bytes yet, and the
+/// block is to be told, in lines or as JSON. Behind it something is to be said of the calls that did not return. The pace is told the steps of the workers;
+/// what it says of watching is not asked, since the task says it. No name of a file is looked at.
+///
+/// # Errors
+///
+/// Memory was refused.
+pub fn mine_over<'a, R: Threads + Wait + Sync, P: Pace>(
+    rt: &R,
     alloc: Global,
     world: &World,
     calls: &[Call],
     task: Mining<'a>,
-    mined: &Mined,
-) -> Result<Noted<'a>, NoMemory>
-    ensures answer { IfOk result (λ n. IsDone task.entry mined.now.block (world_view mined.now.world) calls.now mined.now.left.items n.answer) }
-    ensures note { IfOk result (λ n. IsNoteOf mined.now.block.positions (string_bytes n.note)) }
+    pace: &P,
+) -> Result<Transition<'a>, NoMemory>
+    requires calls { length calls.now ≤ 65535 }
+    requires workers { (1 ≤ task.workers) × (task.workers ≤ 64) }
+    requires tries { (1 ≤ task.tries) × (task.tries ≤ 16) }
+    ensures mines { IfOk result (λ t. MinesOver (world_view world.now) calls.now task.entry (leaving t)) }
+    ensures notes { IfOk result (λ t. Notes (leaving t) (note_in t)) }
+    ensures beside { IfOk result (WritesBeside 1) }
 {
-    let answer = done(alloc, calls, task, mined)?;
-    let note = note_of_mined(alloc, world, calls, mined)?;
-    Ok(Noted { answer, note })
+    let mined = mine_calls(rt, alloc, world, calls, task, pace)?;
+    let change = change_of(alloc, world, calls, task, mined)?;
+    Ok(Transition::Done(change))
+}
+
+/// The same, with the bytes of the world after the block.
+fn mine_encoded<'a, R: Threads + Wait + Sync, P: Pace>(
+    rt: &R,
+    alloc: Global,
+    world: &World,
+    calls: &[Call],
+    task: Mining<'a>,
+    pace: &P,
+) -> Result<Noted<'a>, NoMemory>
+    requires calls { length calls.now ≤ 65535 }
+    requires workers { (1 ≤ task.workers) × (task.workers ≤ 64) }
+    requires tries { (1 ≤ task.tries) × (task.tries ≤ 16) }
+    ensures mines { IfOk result (λ n. MinesOver (world_view world.now) calls.now task.entry (upshot_of n.answer)) }
+    ensures notes { IfOk result (λ n. Notes (upshot_of n.answer) (string_bytes n.note)) }
+{
+    let transition = mine_over(rt, alloc, world, calls, task, pace)?;
+    let noted = with_world(alloc, transition)?;
+    Ok(noted)
 }
 
 /// The answer that the world or the calls are refused, with this line and this sentence. Nothing is said behind it.
@@ -158,7 +195,7 @@ fn refuse_inputs<'a>(
     why: String,
 ) -> Result<Noted<'a>, Fault<'a>>
     ensures told { IfOk result (λ n. IsRefusalIn json (string_bytes line) n.answer) }
-    ensures notes { IfOk result (λ n. Notes n.answer (string_bytes n.note)) }
+    ensures notes { IfOk result (λ n. Notes (upshot_of n.answer) (string_bytes n.note)) }
     ensures fault { IfErr result (λ f. f ≡ Fault.NoMemory) }
 {
     match refuse(alloc, json, line, why) {
@@ -182,8 +219,8 @@ pub fn mine_block<'a, R: Threads + Wait + Sync, F: Files, P: Pace>(
 ) -> Result<Noted<'a>, Fault<'a>>
     requires workers { (1 ≤ task.workers) × (task.workers ≤ 64) }
     requires tries { (1 ≤ task.tries) × (task.tries ≤ 16) }
-    ensures answers { IfOk result (λ n. IsTrue F.tells → Mines (F.holds files.old) task.entry n.answer) }
-    ensures notes { IfOk result (λ n. Notes n.answer (string_bytes n.note)) }
+    ensures answers { IfOk result (λ n. IsTrue F.tells → Mines (F.holds files.old) task.entry (upshot_of n.answer)) }
+    ensures notes { IfOk result (λ n. Notes (upshot_of n.answer) (string_bytes n.note)) }
     ensures kept { IsTrue F.tells → F.holds files.new ≡ F.holds files.old }
     ensures calm { OnOk result (F.failures files.new ≡ F.failures files.old) }
     ensures counted { IfErr result (λ f. CountsFault f (F.failures files.old) (F.failures files.new)) }
@@ -193,10 +230,7 @@ pub fn mine_block<'a, R: Threads + Wait + Sync, F: Files, P: Pace>(
         Inputs::Read(world, calls) => (world, calls),
         Inputs::Refused(line, why) => return refuse_inputs(alloc, task.json, line, why),
     };
-    let Ok(mined) = mine_calls(rt, alloc, &world, &calls, task, pace) else {
-        return Err(Fault::NoMemory);
-    };
-    match noted(alloc, &world, &calls, task, &mined) {
+    match mine_encoded(rt, alloc, &world, &calls, task, pace) {
         Ok(noted) => Ok(noted),
         Err(NoMemory) => Err(Fault::NoMemory),
     }

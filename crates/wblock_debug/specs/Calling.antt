@@ -10,11 +10,10 @@ use Rattle.spec_block.specs.Serial.{Executed}
 use Rattle.wblock_calls.specs.Texts.{AreCall}
 use Rattle.wblock_json.specs.Json.{IsJson, IsLineOf}
 use Rattle.wblock_io.specs.Holding.{Holding}
-use Rattle.wblock_line.specs.declared.answer.Answer.{Answer}
 use Rattle.wblock_line.specs.declared.perform.Status.TheVariants as status
-use Rattle.wblock_line.specs.Answers.{writes_of, text_of, status_of}
+use Rattle.wblock_line.specs.Answers.{Upshot}
 use Rattle.wblock_line.specs.Inputs.{Holds, HoldsWorld}
-use Rattle.wblock_line.specs.Told.{IsRefusalIn}
+use Rattle.wblock_line.specs.Upshots.{IsRefusalWith}
 use Rattle.wblock_line.specs.Words.{AsksAlone, Line}
 use Rattle.wblock_line.specs.Worlds.{TellsNoWorld}
 use Rattle.wblock_debug.specs.Effects.{effects_text}
@@ -43,31 +42,31 @@ TellsEffects false ran before later text = text ≡ effects_text ran before late
 TellsEffects true ran before later text = IsLineOf (IsJson (effects_data ran before later)) text
 
 -- a text of which this is true is printed, and no file is written
-pub record Prints (Is : List ℕ → Type 0) (a : Answer) : Type 0 where
-  pub status_is : status_of a ≡ status.Done
-  pub writes : writes_of a ≡ []
-  pub text_is : Is (text_of a)
+pub record Prints (Is : List ℕ → Type 0) (u : Upshot) : Type 0 where
+  pub status_is : u.status ≡ status.Done
+  pub writes : u.writes ≡ []
+  pub text_is : Is u.text
 
 -- The call is executed over the world's cells by the rules of version 2, and the text tells its receipt, its locks and the cells at them that it changes.
-pub record TellsExecution (json : Bool) (world : World) (call : Call) (a : Answer) : Type 0 where
+pub record TellsExecution (json : Bool) (world : World) (call : Call) (u : Upshot) : Type 0 where
   pub ran : CallResult
   pub later : Cells
   pub executed : Executed Two world call world.cells ran later
-  pub told : Prints (TellsEffects json ran world.cells later) a
+  pub told : Prints (TellsEffects json ran world.cells later) u
   -- a cell at another lock is not changed
   pub others : (lock : Lock) → get ran.touched lock ≡ None → get later lock ≡ get world.cells lock
 
--- the file holds a world, and the answer tells what the call comes to over it
-pub record IsOfWorld (holds : Holding) (task : Calling) (a : Answer) : Type 0 where
+-- the file holds a world, and what the call comes to over it is told
+pub record IsOfWorld (holds : Holding) (task : Calling) (u : Upshot) : Type 0 where
   pub world : World
   pub held : HoldsWorld holds task.world.now world
-  pub tells : TellsExecution task.json world task.call a
+  pub tells : TellsExecution task.json world task.call u
 
--- the answer tells why the file holds no world
-pub record IsRefused (holds : Holding) (task : Calling) (a : Answer) : Type 0 where
+-- it is told why the file holds no world
+pub record IsRefused (holds : Holding) (task : Calling) (u : Upshot) : Type 0 where
   pub line : List ℕ
   pub why : Holds holds task.world.now (λ bytes. TellsNoWorld bytes line)
-  pub told : IsRefusalIn task.json line a
+  pub told : IsRefusalWith task.json line u
 
-abbrev pub Calls : Holding → Calling → Answer → Type 0
-Calls holds task a = IsRefused holds task a ⊎ IsOfWorld holds task a
+abbrev pub Calls : Holding → Calling → Upshot → Type 0
+Calls holds task u = IsRefused holds task u ⊎ IsOfWorld holds task u

@@ -4,6 +4,7 @@ use Rattle.spec_block.specs.Verdicts.{Verdict, place}
 use Rattle.block_judge.specs.Judging.{place_in}
 use Rattle.serde_json.specs.Data.{Data, null, string}
 use Rattle.wblock_json.specs.Json.{IsJson, IsLineOf, maybe, object_of, small}
+use Rattle.wblock_line.specs.Answers.{Upshot, IsRefusal}
 use Rattle.wblock_line.specs.declared.answer.Answer.{Answer}
 use Rattle.wblock_line.specs.declared.answer.Answer.TheVariants.{Done, Refused}
 
@@ -27,8 +28,16 @@ reject_data v sentence =
     ∷ (codes "after", null)
     ∷ [])
 
+-- this tells why the block is rejected: the line, or the object of it and of the sentence
+abbrev pub IsRejectText : (json : Bool) → Verdict → (sentence text : List ℕ) → Type 0
+IsRejectText false v sentence text = text ≡ reject_line v
+IsRejectText true v sentence text = IsLineOf (IsJson (reject_data v sentence)) text
+
+-- it is refused, and told by its line or as JSON why the block is rejected
+abbrev pub IsRejection : (json : Bool) → Verdict → Upshot → Type 0
+IsRejection json v u = IsRefusal u (IsRejectText json v u.why)
+
 -- the answer tells, by its line or as JSON, why the block is rejected, and no file is to be written
 abbrev pub Rejects : (json : Bool) → Verdict → Answer → Type 0
 Rejects json v (Done writes text) = ⊥
-Rejects false v (Refused line why) = string_bytes line ≡ reject_line v
-Rejects true v (Refused line why) = IsLineOf (IsJson (reject_data v (string_bytes why))) (string_bytes line)
+Rejects json v (Refused line why) = IsRejectText json v (string_bytes why) (string_bytes line)

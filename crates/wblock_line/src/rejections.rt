@@ -4,7 +4,7 @@ ghost use Rattle.std.specs.Prelude.{◌≡◌, IfOk, string_bytes};
 ghost use Rattle.block_judge.specs.Judging.{told};
 ghost use Rattle.serde_json.specs.View.{view};
 ghost use Rattle.wblock_json.specs.Json.{IsJson, IsLineOf};
-ghost use Rattle.wblock_line.specs.Rejections.{reject_data, reject_line, Rejects};
+ghost use Rattle.wblock_line.specs.Rejections.{reject_data, reject_line, IsRejectText, Rejects};
 
 use crate::answer::Answer;
 use block::read_block;
@@ -61,6 +61,29 @@ fn reject_json_of(alloc: Global, reason: Reason, sentence: &str) -> Result<Strin
     value_line(alloc, &value)
 }
 
+/// What is printed of a block of these bytes that is rejected: `reject N`, and behind it the position or the call that the reason speaks of, where it
+/// speaks of one; or a line with the JSON object of these. The sentence behind it says why.
+///
+/// # Errors
+///
+/// Memory was refused.
+pub fn rejection_of(
+    alloc: Global,
+    json: bool,
+    bytes: &[u8],
+    reason: Reason,
+) -> Result<(String, String), AllocError>
+    ensures { IfOk result (λ x. IsRejectText json (told reason) (string_bytes x.1) (string_bytes x.0)) }
+{
+    let why = reason_words(alloc, bytes, reason)?;
+    if json {
+        let object = reject_json_of(alloc, reason, why.as_str())?;
+        return Ok((object, why));
+    }
+    let line = reject_line_of(alloc, reason)?;
+    Ok((line, why))
+}
+
 /// The answer that a block of these bytes is rejected: `reject N`, and behind it the position or the call that the reason speaks of, where it speaks of
 /// one; or a line with the JSON object of these. The sentence says why.
 ///
@@ -75,11 +98,6 @@ pub fn reject<'a>(
 ) -> Result<Answer<'a>, AllocError>
     ensures { IfOk result (Rejects json (told reason)) }
 {
-    let why = reason_words(alloc, bytes, reason)?;
-    if json {
-        let object = reject_json_of(alloc, reason, why.as_str())?;
-        return Ok(Answer::Refused(object, why));
-    }
-    let line = reject_line_of(alloc, reason)?;
+    let (line, why) = rejection_of(alloc, json, bytes, reason)?;
     Ok(Answer::Refused(line, why))
 }

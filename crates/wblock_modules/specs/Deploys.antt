@@ -7,17 +7,15 @@ use Rattle.spec_block.specs.Bytes.{world_bytes}
 use Rattle.wblock_json.specs.Json.{IsJson, IsLineOf}
 use Rattle.wblock_json.specs.Refusals.{refusal_data}
 use Rattle.wblock_io.specs.Holding.{Holding}
-use Rattle.wblock_line.specs.declared.answer.Answer.{Answer}
-use Rattle.wblock_line.specs.declared.answer.Answer.TheVariants.{Done, Refused}
 use Rattle.wblock_line.specs.declared.inputs.WorldFile.{WorldFile}
 use Rattle.wblock_line.specs.declared.inputs.WorldFile.TheVariants as file
 use Rattle.wblock_line.specs.declared.perform.Status.TheVariants as status
 use Rattle.wblock_line.specs.declared.refusals.ModuleRefusal.{ModuleRefusal}
-use Rattle.wblock_line.specs.Answers.{writes_of, text_of, status_of}
+use Rattle.wblock_line.specs.Answers.{Upshot, IsRefusal}
 use Rattle.wblock_line.specs.Inputs.{Holds as HoldsBytes, HoldsWorld}
 use Rattle.wblock_line.specs.Modules.{IsContractOf, IsWhy}
 use Rattle.wblock_line.specs.Refusals.{refusal_text}
-use Rattle.wblock_line.specs.Told.{IsRefusalIn}
+use Rattle.wblock_line.specs.Upshots.{IsRefusalWith, IsToldIn}
 use Rattle.wblock_line.specs.Worlds.{TellsNoWorld}
 use Rattle.world.specs.Views.{contract_view, world_view}
 use Rattle.wblock_modules.specs.declared.deploy.Modules.{Modules}
@@ -68,18 +66,22 @@ TellsNoBase holds (Some old) line = HoldsBytes holds old.now (λ bytes. TellsNoW
 abbrev pub crowd_line : ℕ → List ℕ
 crowd_line count = codes "refused deploy 6 " ++ decimal count ++ 10 ∷ []
 
--- the contracts of OLD and so many more are above 1,024, and the line tells how many they are
-pub record TellsCrowd (holds : Holding) (onto : Option (Bor (List ℕ))) (count : ℕ) (line : List ℕ) : Type 0 where
-  pub base : World
-  pub is_base : IsBase holds onto base
+-- the contracts of the world and so many more are above 1,024, and the line tells how many they are
+pub record IsCrowd (base : World) (count : ℕ) (line : List ℕ) : Type 0 where
   pub many : 1024 < length base.contracts + count
   pub line_is : line ≡ crowd_line (length base.contracts + count)
 
+-- the world that is gone on from has no room for so many more
+pub record TellsCrowd (holds : Holding) (onto : Option (Bor (List ℕ))) (count : ℕ) (line : List ℕ) : Type 0 where
+  pub base : World
+  pub is_base : IsBase holds onto base
+  pub crowd : IsCrowd base count line
+
 -- OLD holds no world, or one without room for so many contracts more
-pub record RefusesOld (json : Bool) (holds : Holding) (onto : Option (Bor (List ℕ))) (count : ℕ) (a : Answer) : Type 0 where
+pub record RefusesOld (json : Bool) (holds : Holding) (onto : Option (Bor (List ℕ))) (count : ℕ) (u : Upshot) : Type 0 where
   pub line : List ℕ
   pub why : TellsNoBase holds onto line ⊎ TellsCrowd holds onto count line
-  pub told : IsRefusalIn json line a
+  pub told : IsRefusalWith json line u
 
 -- ---- modules
 
@@ -122,32 +124,31 @@ IsDeployedText false count onto before text = text ≡ codes "deployed " ++ deci
 IsDeployedText true count onto before text = IsLineOf (IsJson (deployed_data count onto before)) text
 
 -- a file is to hold these bytes, and it is to be told that so many contracts were deployed behind so many of OLD
-pub record IsDone (json : Bool) (world bytes : List ℕ) (count : ℕ) (onto : Option (Bor (List ℕ))) (before : ℕ) (a : Answer) : Type 0 where
-  pub status : status_of a ≡ status.Done
-  pub writes : writes_of a ≡ (world, bytes) ∷ []
-  pub text : IsDeployedText json count onto before (text_of a)
+pub record IsDone (json : Bool) (world bytes : List ℕ) (count : ℕ) (onto : Option (Bor (List ℕ))) (before : ℕ) (u : Upshot) : Type 0 where
+  pub status_is : u.status ≡ status.Done
+  pub writes : u.writes ≡ (world, bytes) ∷ []
+  pub text : IsDeployedText json count onto before u.text
 
 -- the bytes are those of the world with the contracts that the files hold behind its own
-pub record TellsWorld (json : Bool) (holds : Holding) (world : List ℕ) (onto : Option (Bor (List ℕ))) (base : World) (names : List (List ℕ)) (a : Answer) : Type 0 where
+pub record TellsWorld (json : Bool) (holds : Holding) (world : List ℕ) (onto : Option (Bor (List ℕ))) (base : World) (names : List (List ℕ)) (u : Upshot) : Type 0 where
   pub contracts : List Contract
   pub held : AreHeld holds names contracts
-  pub is : IsDone json world (world_bytes (extended base contracts)) (length names) onto (length base.contracts) a
+  pub is : IsDone json world (world_bytes (extended base contracts)) (length names) onto (length base.contracts) u
 
 -- what comes of the modules, behind the contracts of this world
-abbrev pub Extends : (json : Bool) → Holding → List ℕ → Option (Bor (List ℕ)) → World → List (List ℕ) → Answer → Type 0
-Extends json holds world onto base names (Done writes text) = TellsWorld json holds world onto base names (Done writes text)
-Extends json holds world onto base names (Refused line why) = TellsRefusal json holds names (string_bytes line) (string_bytes why)
+abbrev pub Extends : (json : Bool) → Holding → List ℕ → Option (Bor (List ℕ)) → World → List (List ℕ) → Upshot → Type 0
+Extends json holds world onto base names u = TellsWorld json holds world onto base names u ⊎ IsRefusal u (λ told. TellsRefusal json holds names told u.why)
 
 -- ---- answers
 
 -- the world that is gone on from has room for the modules
-pub record DeploysOnto (json : Bool) (holds : Holding) (world : List ℕ) (onto : Option (Bor (List ℕ))) (names : List (List ℕ)) (a : Answer) : Type 0 where
+pub record DeploysOnto (json : Bool) (holds : Holding) (world : List ℕ) (onto : Option (Bor (List ℕ))) (names : List (List ℕ)) (u : Upshot) : Type 0 where
   pub base : World
   pub room : HasRoom holds onto (length names) base
-  pub extends : Extends json holds world onto base names a
+  pub extends : Extends json holds world onto base names u
 
-abbrev pub Deploys : (json : Bool) → Holding → List ℕ → Option (Bor (List ℕ)) → List (List ℕ) → Answer → Type 0
-Deploys json holds world onto names a = RefusesOld json holds onto (length names) a ⊎ DeploysOnto json holds world onto names a
+abbrev pub Deploys : (json : Bool) → Holding → List ℕ → Option (Bor (List ℕ)) → List (List ℕ) → Upshot → Type 0
+Deploys json holds world onto names u = RefusesOld json holds onto (length names) u ⊎ DeploysOnto json holds world onto names u
 
 -- ---- files that are read
 
@@ -171,9 +172,26 @@ abbrev pub GivesBase : Holding → Option (Bor (List ℕ)) → WorldFile → Typ
 GivesBase holds onto (file.Read w) = IsBase holds onto (world_view w)
 GivesBase holds onto (file.Refused line why) = TellsNoBase holds onto (string_bytes line)
 
--- the answer tells that the contracts are so many
-abbrev pub TellsCount : (json : Bool) → ℕ → Answer → Type 0
-TellsCount json count a = IsRefusalIn json (crowd_line count) a
+-- it is told that the contracts are so many
+abbrev pub TellsCount : (json : Bool) → ℕ → Modules → Type 0
+TellsCount json count (modules.Linked contracts) = ⊥
+TellsCount json count (modules.Refused told why) = IsToldIn json (crowd_line count) (string_bytes why) (string_bytes told)
+
+-- the contracts of the world and so many more are above 1,024, and it is told how many they are
+pub record TellsTooMany (json : Bool) (base : World) (count : ℕ) (told sentence : List ℕ) : Type 0 where
+  pub line : List ℕ
+  pub crowd : IsCrowd base count line
+  pub told_is : IsToldIn json line sentence told
+
+-- what is read of modules behind the contracts of a world: there are too many; or one gives no contract; or these are their contracts
+abbrev pub IsReadBehind : (json : Bool) → Holding → World → List (List ℕ) → Modules → Type 0
+IsReadBehind json holds base names (modules.Linked contracts) = (length base.contracts + length names ≤ 1024) × AreHeld holds names (map contract_view contracts.items)
+IsReadBehind json holds base names (modules.Refused told why) = TellsTooMany json base (length names) (string_bytes told) (string_bytes why) ⊎ ((length base.contracts + length names ≤ 1024) × TellsRefusal json holds names (string_bytes told) (string_bytes why))
+
+-- the contracts that were read fit behind those of the world
+abbrev pub FitsBehind : World → Modules → Type 0
+FitsBehind base (modules.Linked contracts) = length base.contracts + vec_len contracts ≤ 1024
+FitsBehind base (modules.Refused line why) = Unit {0}
 
 abbrev pub HasCount : ℕ → Modules → Type 0
 HasCount count (modules.Linked contracts) = vec_len contracts ≡ count

@@ -5,9 +5,10 @@ ghost use Rattle.std.specs.Prelude.{◌≡◌, ◌+◌, ◌≤◌, false, IsTrue
 ghost use Rattle.spec_block.specs.Bytes.{world_bytes};
 ghost use Rattle.serde_json.specs.View.{view};
 ghost use Rattle.wblock_json.specs.Json.{IsJson, IsLineOf};
-ghost use Rattle.wblock_line.specs.Answers.{CountsFault, IsOfFile};
+ghost use Rattle.wblock_line.specs.Answers.{CountsFault, IsOfFile, upshot_of};
+ghost use Rattle.wblock_line.specs.Transitions.{leaving, WritesBeside};
 ghost use Rattle.world.specs.Views.{contract_view, world_view};
-ghost use Rattle.wblock_modules.specs.Deploys.{HasCount, IsDeployedText, IsRead, IsRefusalLine, IsNextModule, IsDone, IsEmpty, IsOld, IsNextDeployed, GivesBase, TellsCount, Deploys, Extends, extended, onto_text};
+ghost use Rattle.wblock_modules.specs.Deploys.{HasCount, IsDeployedText, IsRead, IsReadBehind, FitsBehind, IsRefusalLine, IsNextModule, IsDone, IsEmpty, IsOld, IsNextDeployed, GivesBase, TellsCount, Deploys, extended, onto_text};
 ghost use Rattle.wblock_modules.specs.Objects.{deployed_data, onto_data};
 
 use link::deployed::Deployed;
@@ -17,18 +18,18 @@ use storage::Cells;
 use wblock_io::Files;
 use wblock_json::{json_refusal, value_line};
 use wblock_line::{
-    Answer, Fault, ModuleRefusal, Stop, WorldFile, Write, read_contract, read_file,
-    read_world_file, refuse,
+    Answer, Change, Fault, ModuleRefusal, NextWorld, Noted, Stop, Transition, WorldFile,
+    read_contract, read_file, read_world_file, refuse, with_world,
 };
 use world::{World, encode_world};
 use wtypes::NoMemory;
 
 /// What the modules of the files come to.
 #[derive(Drop)]
-enum Modules {
+pub enum Modules {
     /// The contracts, in their order.
     Linked(Vec<Deployed<Global>>),
-    /// One is refused, with what is to be printed and this sentence.
+    /// One is refused, or they are too many, with what is to be printed and this sentence.
     Refused(String, String),
 }
 
@@ -135,6 +136,22 @@ fn count_of(world: &World) -> usize
     world.contracts().len()
 }
 
+/// A world with these contracts behind its own.
+fn extended_world(
+    alloc: Global,
+    base: World,
+    contracts: Vec<Deployed<Global>>,
+) -> Result<World, AllocError>
+    requires { length (world_view base).contracts + vec_len contracts ≤ 1024 }
+    ensures { IfOk result (λ world. world_view world ≡ extended (world_view base) (map contract_view contracts.items)) }
+{
+    let mut behind = contracts;
+    let (mut all, cells) = base.into_parts();
+    all.append(&mut behind)?;
+    let world = World::new(all, cells);
+    Ok(world)
+}
+
 /// The bytes of a world with these contracts behind its own.
 ///
 /// # Errors
@@ -148,10 +165,7 @@ pub fn encode_extended(
     requires { length (world_view base).contracts + vec_len contracts ≤ 1024 }
     ensures { IfOk result (λ bytes. bytes.items ≡ world_bytes (extended (world_view base) (map contract_view contracts.items))) }
 {
-    let mut behind = contracts;
-    let (mut all, cells) = base.into_parts();
-    all.append(&mut behind)?;
-    let world = World::new(all, cells);
+    let world = extended_world(alloc, base, contracts)?;
     encode_world(alloc, &world)
 }
 
@@ -233,26 +247,40 @@ fn deployed_told(
     }
 }
 
-/// The answer of so many contracts behind so many of OLD, whose world these bytes are.
-fn done<'a>(
+/// What is done with these contracts behind those of a world, which is that of OLD where OLD is named: the world of all of them is left, to be written.
+///
+/// # Errors
+///
+/// Memory was refused.
+pub fn extend<'a>(
     alloc: Global,
     json: bool,
     world: &'a str,
-    bytes: Vec<u8>,
-    count: usize,
     onto: Option<&str>,
-    before: usize,
-) -> Result<Answer<'a>, AllocError>
-    ensures { IfOk result (IsDone json world.entry.now bytes.items count onto.entry before) }
+    base: World,
+    contracts: Vec<Deployed<Global>>,
+) -> Result<Transition<'a>, NoMemory>
+    requires { length (world_view base).contracts + vec_len contracts ≤ 1024 }
+    ensures beside { IfOk result (WritesBeside 0) }
+    ensures done { IfOk result (λ t. IsDone json world.entry.now (world_bytes (extended (world_view base) (map contract_view contracts.items))) (vec_len contracts) onto.entry (length (world_view base).contracts) (leaving t)) }
 {
+    let count = contracts.len();
+    let before = count_of(&base);
     let text = deployed_told(alloc, json, count, onto, before)?;
-    let mut writes = Vec::new(alloc);
-    writes.push(Write { name: world, bytes })?;
-    Ok(Answer::Done(writes, text))
+    let next = NextWorld {
+        name: world,
+        world: extended_world(alloc, base, contracts)?,
+    };
+    Ok(Transition::Done(Change {
+        writes: Vec::new(alloc),
+        next: Some(next),
+        text,
+        note: String::new(alloc),
+    }))
 }
 
-/// The answer of these contracts behind those of a world, which is that of OLD where OLD is named.
-fn extend<'a>(
+/// The same, with the bytes of the world.
+fn extend_encoded<'a>(
     alloc: Global,
     json: bool,
     world: &'a str,
@@ -261,62 +289,67 @@ fn extend<'a>(
     contracts: Vec<Deployed<Global>>,
 ) -> Result<Answer<'a>, NoMemory>
     requires { length (world_view base).contracts + vec_len contracts ≤ 1024 }
-    ensures { IfOk result (λ a. IsDone json world.entry.now (world_bytes (extended (world_view base) (map contract_view contracts.items))) (vec_len contracts) onto.entry (length (world_view base).contracts) a) }
+    ensures { IfOk result (λ a. IsDone json world.entry.now (world_bytes (extended (world_view base) (map contract_view contracts.items))) (vec_len contracts) onto.entry (length (world_view base).contracts) (upshot_of a)) }
 {
-    let count = contracts.len();
-    let before = count_of(&base);
-    let bytes = encode_extended(alloc, base, contracts)?;
-    Ok(done(alloc, json, world, bytes, count, onto, before)?)
+    let transition = extend(alloc, json, world, onto, base, contracts)?;
+    let Noted {
+        answer,
+        note: _note,
+    } = with_world(alloc, transition)?;
+    Ok(answer)
 }
 
-/// What the modules come to behind the contracts of a world.
-fn deploy_behind<'a, F: Files>(
-    alloc: Global,
-    files: &mut F,
-    json: bool,
-    world: &'a str,
-    onto: Option<&'a str>,
-    base: World,
-    modules: &[&'a str],
-) -> Result<Answer<'a>, Fault<'a>>
-    requires { length (world_view base).contracts + length modules.now ≤ 1024 }
-    ensures answers { IfOk result (λ a. IsTrue F.tells → Extends json (F.holds files.old) world.entry.now onto.entry (world_view base) (map (λ w. w.now) modules.now) a) }
-    ensures kept { IsTrue F.tells → F.holds files.new ≡ F.holds files.old }
-    ensures calm { OnOk result (F.failures files.new ≡ F.failures files.old) }
-    ensures counted { IfErr result (λ f. CountsFault f (F.failures files.old) (F.failures files.new)) }
-    ensures next { IfErr result (IsOfFile (λ name. IsTrue F.tells → IsNextModule (F.holds files.old) (map (λ w. w.now) modules.now) name)) }
-{
-    match read_modules(alloc, files, json, modules)? {
-        Modules::Refused(line, why) => Ok(Answer::Refused(line, why)),
-        Modules::Linked(contracts) => match extend(alloc, json, world, onto, base, contracts) {
-            Ok(answer) => Ok(answer),
-            Err(NoMemory) => Err(Fault::NoMemory),
-        },
-    }
-}
-
-/// The answer that so many contracts of OLD and so many modules are too many for a world.
-fn refuse_crowd<'a>(
+/// What is said of so many contracts of OLD and so many modules, which are too many for a world.
+fn refuse_crowd(
     alloc: Global,
     json: bool,
     contracts: usize,
     modules: usize,
-) -> Result<Answer<'a>, Fault<'a>>
+) -> Result<Modules, AllocError>
     requires contracts { contracts ≤ 1024 }
     requires modules { modules ≤ 1024 }
-    ensures told { IfOk result (TellsCount json (contracts + modules)) }
-    ensures fault { IfErr result (λ f. f ≡ Fault.NoMemory) }
+    ensures { IfOk result (TellsCount json (contracts + modules)) }
 {
     let count = contracts + modules;
-    let Ok(line) = format!(in alloc; "refused deploy 6 {count}\n") else {
-        return Err(Fault::NoMemory);
-    };
-    let Ok(why) = format!(in alloc;
+    let line = format!(in alloc; "refused deploy 6 {count}\n")?;
+    let why = format!(in alloc;
         "world: {contracts} contracts of OLD and {modules} modules are more than 1,024 contracts; deploy fewer"
-    ) else {
-        return Err(Fault::NoMemory);
-    };
-    refuse(alloc, json, line, why)
+    )?;
+    if json {
+        let told = json_refusal(alloc, None, line.as_str(), why.as_str())?;
+        return Ok(Modules::Refused(told, why));
+    }
+    Ok(Modules::Refused(line, why))
+}
+
+/// Reads modules that are to stand behind the contracts of a world: they are refused where they are too many, and none is read then; else each is judged
+/// before the next is read.
+pub fn read_modules_behind<'a, F: Files>(
+    alloc: Global,
+    files: &mut F,
+    json: bool,
+    base: &World,
+    names: &[&'a str],
+) -> Result<Modules, Fault<'a>>
+    requires { length names.now ≤ 1024 }
+    ensures fits { IfOk result (FitsBehind (world_view base.now)) }
+    ensures count { IfOk result (HasCount (length names.now)) }
+    ensures read { IfOk result (λ m. IsTrue F.tells → IsReadBehind json (F.holds files.old) (world_view base.now) (map (λ w. w.now) names.now) m) }
+    ensures kept { IsTrue F.tells → F.holds files.new ≡ F.holds files.old }
+    ensures calm { OnOk result (F.failures files.new ≡ F.failures files.old) }
+    ensures counted { IfErr result (λ f. CountsFault f (F.failures files.old) (F.failures files.new)) }
+    ensures room { IfErr result (IsOfFile (λ name. length (world_view base.now).contracts + length names.now ≤ 1024)) }
+    ensures next { IfErr result (IsOfFile (λ name. IsTrue F.tells → IsNextModule (F.holds files.old) (map (λ w. w.now) names.now) name)) }
+{
+    let contracts = count_of(base);
+    let is_crowded = contracts + names.len() > World::MOST_CONTRACTS;
+    if is_crowded {
+        return match refuse_crowd(alloc, json, contracts, names.len()) {
+            Ok(refused) => Ok(refused),
+            Err(AllocError) => Err(Fault::NoMemory),
+        };
+    }
+    read_modules(alloc, files, json, names)
 }
 
 /// What `deploy` comes to: the world of the contracts that the modules of the files are, in their order, is to be written. They stand behind the
@@ -332,7 +365,7 @@ pub fn deploy_modules<'a, F: Files>(
     modules: &[&'a str],
 ) -> Result<Answer<'a>, Fault<'a>>
     requires { length modules.now ≤ 1024 }
-    ensures answers { IfOk result (λ a. IsTrue F.tells → Deploys json (F.holds files.old) world.entry.now onto.entry (map (λ w. w.now) modules.now) a) }
+    ensures answers { IfOk result (λ a. IsTrue F.tells → Deploys json (F.holds files.old) world.entry.now onto.entry (map (λ w. w.now) modules.now) (upshot_of a)) }
     ensures kept { IsTrue F.tells → F.holds files.new ≡ F.holds files.old }
     ensures calm { OnOk result (F.failures files.new ≡ F.failures files.old) }
     ensures counted { IfErr result (λ f. CountsFault f (F.failures files.old) (F.failures files.new)) }
@@ -342,13 +375,13 @@ pub fn deploy_modules<'a, F: Files>(
         WorldFile::Read(base) => base,
         WorldFile::Refused(line, why) => return refuse(alloc, json, line, why),
     };
-    let contracts = count_of(&base);
-    let is_crowded = contracts + modules.len() > World::MOST_CONTRACTS;
-    if is_crowded {
-        return refuse_crowd(alloc, json, contracts, modules.len());
-    }
-    match deploy_behind(alloc, files, json, world, onto, base, modules) {
-        Ok(answer) => Ok(answer),
-        Err(fault) => Err(fault),
+    match read_modules_behind(alloc, files, json, &base, modules)? {
+        Modules::Refused(told, why) => Ok(Answer::Refused(told, why)),
+        Modules::Linked(contracts) => {
+            match extend_encoded(alloc, json, world, onto, base, contracts) {
+                Ok(answer) => Ok(answer),
+                Err(NoMemory) => Err(Fault::NoMemory),
+            }
+        }
     }
 }

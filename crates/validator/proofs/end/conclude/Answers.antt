@@ -1,4 +1,7 @@
-use Rattle.std.proofs.Common.{sym, ◌∙◌}
+use Rattle.std.proofs.Common.{ap, sym, ◌∙◌}
+use Rattle.sha2.specs.Sha256.{sha256}
+use Rattle.spec_block.specs.Worlds.{World}
+use Rattle.spec_block.specs.Bytes.{world_bytes}
 use Rattle.world.specs.Views.{world_view}
 use Rattle.validator.proofs.end.conclude.Goals as goal
 
@@ -10,6 +13,6 @@ returns g c = λ calls fuel run.
       run = run;
       many = c.requires.receipts ∙ sym c.requires.touched;
       compared = c.in_ok-compared.ensures.compared;
-      digest_is = c.in_ok-compared.ensures.digest;
-      next_is = c.in_ok-next.ensures;
+      digest_is = c.in_ok-compared.ensures.digest ∙ ap (λ (w : World). sha256 (world_bytes w)) (sym c.with_digest.ensures);
+      next_is = c.with_digest.ensures ∙ c.in_ok-next.ensures;
     })

@@ -4,8 +4,9 @@ use Rattle.std.proofs.lemmas.Result.{IfOk-weaker, err_from_is_err_and}
 use Rattle.wblock_io.specs.Holding.{Holding}
 use Rattle.world.specs.Views.{world_view}
 use Rattle.wblock_line.specs.FaultLaws.{of_file_weaker}
-use Rattle.wblock_modules.specs.Deploys.{IsBase, IsOld, IsNextModule, IsNextDeployed, GivesBase, Extends, TellsCount}
-use Rattle.wblock_modules.proofs.Onto.{crowded, no_base}
+use Rattle.wblock_modules.specs.Deploys.{IsBase, IsOld, IsNextModule, IsNextDeployed, IsReadBehind, GivesBase}
+use Rattle.wblock_modules.specs.declared.deploy.Modules.TheVariants as modules
+use Rattle.wblock_modules.proofs.Onto.{no_base, refused}
 use Rattle.wblock_modules.proofs.deploy.deploy_modules.Goals as goal
 
 pub returns-in-Refused-clause-answers : goal.returns-in-Refused-clause-answers
@@ -13,28 +14,14 @@ returns-in-Refused-clause-answers g c = IfOk-weaker c.refuse.result _ _ (λ a to
     let holds = g.F.Files.holds c.args.files.now in
     inl (no_base c.args.json holds c.args.onto (length (map (λ w. w.now) c.args.modules.now)) (string_bytes c.in-Refused.line) a (subst (λ found. GivesBase holds c.args.onto found) c.in-Refused.is (c.in_ok-base.ensures.gives t)) told)) c.refuse.ensures.told
 
-pub returns-then-is_crowded-clause-answers : goal.returns-then-is_crowded-clause-answers
-returns-then-is_crowded-clause-answers g c = IfOk-weaker c.refuse_crowd.result _ _ (λ a told t.
+pub returns-in-Refused-2-clause-answers : goal.returns-in-Refused-2-clause-answers
+returns-in-Refused-2-clause-answers g c = λ t.
     let holds = g.F.Files.holds c.args.files.now in
     let base = world_view c.in-Read.base in
     let names = map (λ w. w.now) c.args.modules.now in
-    let count = length-map c.args.modules.now (λ (w : Bor (List ℕ)). w.now) in
     let is : IsBase holds c.args.onto base = subst (λ found. GivesBase holds c.args.onto found) c.in-Read.is (c.in_ok-base.ensures.gives t) in
-    let same : c.count_of-contracts.result + length c.args.modules.now ≡ length base.contracts + length names = omega (arith, count, c.count_of-contracts.ensures.count) in
-    inl (crowded c.args.json holds c.args.onto (length names) base a is (omega (arith, same, c.if-is_crowded.true)) (subst (λ (n : ℕ). TellsCount c.args.json n a) same told))) c.refuse_crowd.ensures.told
-
-pub returns-in-Ok-clause-answers : goal.returns-in-Ok-clause-answers
-returns-in-Ok-clause-answers g c = λ t.
-    let holds = g.F.Files.holds c.args.files.now in
-    let base = world_view c.in-Read.base in
-    let names = map (λ w. w.now) c.args.modules.now in
-    let count = length-map c.args.modules.now (λ (w : Bor (List ℕ)). w.now) in
-    let is : IsBase holds c.args.onto base = subst (λ found. GivesBase holds c.args.onto found) c.in-Read.is (c.in_ok-base.ensures.gives t) in
-    inr (record {
-      base = base;
-      room = record { is_base = is; room = omega (arith, count, c.count_of-contracts.ensures.count, c.if-is_crowded.false) };
-      extends = subst (λ (h : Holding). Extends c.args.json h c.args.world.now c.args.onto base names c.in-Ok.answer) (c.in_ok-base.ensures.kept t) (c.in-Ok.ensures.answers t);
-    })
+    refused c.args.json holds c.args.world.now c.args.onto base names c.in-Refused-2.told c.in-Refused-2.why is
+    (subst (λ (h : Holding). IsReadBehind c.args.json h base names (modules.Refused c.in-Refused-2.told c.in-Refused-2.why)) (c.in_ok-base.ensures.kept t) (subst (IsReadBehind c.args.json (g.F.Files.holds c.read_base.new.files) base names) c.in-Refused-2.is (c.read_modules_behind.ensures.read t)))
 
 pub returns-in_err-base-clause-next : goal.returns-in_err-base-clause-next
 returns-in_err-base-clause-next g c =
