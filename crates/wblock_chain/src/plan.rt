@@ -64,12 +64,7 @@ fn transition_of<'w>(alloc: Global, answer: Answer<'w>) -> Transition<'w>
 }
 
 /// The plan of what is refused with this line and this sentence, told as JSON or as the line.
-fn refused<'w>(
-    alloc: Global,
-    json: bool,
-    line: String,
-    why: String,
-) -> Result<Plan<'w>, Fault<'w>>
+fn refused<'w>(alloc: Global, json: bool, line: String, why: String) -> Result<Plan<'w>, Fault<'w>>
     ensures told { IfOk result (IsPlanned (λ t. IsRefusalWith json (string_bytes line) (leaving t))) }
     ensures beside { IfOk result FitsOne }
     ensures fault { IfErr result (λ f. f ≡ Fault.NoMemory) }

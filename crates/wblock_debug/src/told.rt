@@ -6,7 +6,9 @@ ghost use Rattle.wblock_debug.specs.Tells.{TellsBytes, TellsCells, TellsOk, Tell
 
 use crate::effects::cells_text_of;
 use crate::lines::{bytes_line_of, state_line_of, values_line_of, where_text_of};
-use crate::states_json::{bytes_json_of, cells_json_of, ok_json_of, state_json_of, values_json_of, where_json_of};
+use crate::states_json::{
+    bytes_json_of, cells_json_of, ok_json_of, state_json_of, values_json_of, where_json_of,
+};
 use debugger::session::{Refusal, Session};
 use std::alloc::{AllocError, Global};
 use wblock_json::json_refusal;
