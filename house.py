@@ -15,6 +15,9 @@ stands in backticks is one word. Headings, tables, code and what a script writes
 
 **The layers** are those of crates.txt, the lowest first. A crate depends on crates of its own layer and of lower ones.
 
+**The lemmas.** What a crate cites of another one's proofs stands in a module that proofs/Lib.antt of that crate opens (`pub mod`). What the toolchain makes for a type
+(`TheSendSync` and its like) is no lemma.
+
 **The links**: each path of this repository that a document, a README or a script names is there.
 
 It reads files alone, and takes a second.
@@ -197,6 +200,26 @@ def faults_of_crates():
     return faults + [f"house.py lets {name} depend on {below}, which it does not: take that out" for name, below in sorted(set(UPWARD) - upward)]
 
 
+# ---- The lemmas ----
+
+
+def lemmas_of(name):
+    """The modules of proofs that a crate opens to those above it."""
+    path = TOP / "crates" / name / "proofs/Lib.antt"
+    return set(re.findall(r"^pub mod (\w+)", path.read_text(), re.M)) if path.is_file() else set()
+
+
+def faults_of_lemmas():
+    opened = {name: lemmas_of(name) for _, crates in layers() for name in crates}
+    faults = set()
+    for name in opened:
+        for path in (TOP / "crates" / name).rglob("*.antt"):
+            for other, module, rest in re.findall(r"Rattle\.(\w+)\.proofs\.(\w+)([\w.]*)", path.read_text()):
+                if other != name and module not in opened.get(other, {module}) and not re.search(r"\.The[A-Z]", rest):
+                    faults.add(f"{name} cites the proofs {module} of {other}, which its proofs/Lib.antt does not open")
+    return sorted(faults)
+
+
 # ---- The links ----
 
 
@@ -228,7 +251,7 @@ def main():
         print("{:24} {:7} bytes".format("together", sum(figures(name)[0] for name in documents())))
         return 0
     faults = [] if MAP.read_text() == with_map(MAP.read_text()) else ["the list of crates in docs/ARCHITECTURE.md is not as ./house.py --map writes it"]
-    faults += faults_of_documents() + faults_of_crates() + faults_of_links()
+    faults += faults_of_documents() + faults_of_crates() + faults_of_lemmas() + faults_of_links()
     for fault in faults:
         print(f"house.py: {fault}", file=sys.stderr)
     return 1 if faults else 0

@@ -362,7 +362,9 @@ is "it is the new one" whole own world
 rm own
 is "a world that is not there" prints "deployed 1 contracts" deploy --force own module
 is "it is there" whole own world
-rm own
+is "a world that is gone on from is written over" prints "deployed 1 contracts onto 1" deploy own module --onto own
+is "it has another contract" prints "deployed 1 contracts onto 2" deploy more module --onto own
+rm own more
 is "a value of --force" misuses "error: unexpected value 'yes' for '--force' found; no more were expected" deploy own module --force=yes
 is "--force twice" misuses "error: the argument '--force' cannot be used multiple times" deploy own module --force --force
 is "no world is there" absent own

@@ -103,6 +103,28 @@ sys.stdout.buffer.write(b"\0asm\1\0\0\0" + b"".join(section(*part) for part in p
 END
 }
 
+# Writes a module that has long lists: $1 `table`, of 65,536 elements and no segment; `elements`, 983,040 of them in 15 segments; `globals`, 200,000 that may be
+# set; or `exports`, 140,000, of which the last is called.
+lists() {
+    python3 - "$1" <<'END'
+import sys
+def leb(n):
+    return bytes([n]) if n < 128 else bytes([n % 128 + 128]) + leb(n // 128)
+section = lambda number, body: bytes([number]) + leb(len(body)) + body
+digits = "0123456789abcdefghijklmnopqrstuvwxyz"
+name = lambda k: "".join(digits[k // n % 36] for n in (46656, 1296, 36, 1)).encode()
+names = [b"f"]
+table = [(4, b"\1\x70\0" + leb(65_536))]
+lists = {"table": table, "elements": table + [(9, leb(15) + (b"\0\x41\0\x0b" + leb(65_536) + bytes(65_536)) * 15)],
+         "globals": [(6, leb(200_000) + b"\x7f\1\x41\0\x0b" * 200_000)], "exports": []}[sys.argv[1]]
+if sys.argv[1] == "exports":
+    names = [name(k) for k in range(139_999)] + names
+exports = leb(len(names)) + b"".join(leb(len(n)) + n + b"\0\0" for n in names)
+parts = sorted([(1, b"\1\x60\0\0"), (3, b"\1\0"), (7, exports), (10, b"\1\3\0\1\x0b")] + lists)
+sys.stdout.buffer.write(b"\0asm\1\0\0\0" + b"".join(section(*part) for part in parts))
+END
+}
+
 cat >text <<'END'
 (module
  (import "boost" "add" (func $add (param i64) (param i64)))
@@ -190,5 +212,12 @@ for order in falling same mixed; do
 done
 for ((number = 0; number < 65535; number++)); do echo "0 1 f"; done >calls
 is "65,535 calls over 100,000 data segments" ends 10 mine segments.mixed calls b n --fuel 65535 --workers 1
+
+# other lists of a module: no call pays for them either
+for list in table elements globals exports; do
+    lists $list >module
+    is "a module with a long list is deployed: $list" ends 10 deploy lists.$list module
+    is "65,535 calls to a module with a long list: $list" ends 10 mine lists.$list calls b n --fuel 65535 --workers 1
+done
 
 told

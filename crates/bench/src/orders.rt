@@ -1,10 +1,7 @@
 //! Orders of calls.
 
-ghost use Rattle.std.specs.Prelude.{◌≡◌, ◌<◌, ◌+◌, IfOk, IfSome, All, length};
-ghost use Rattle.spec_ledger.specs.Order.{limits_of};
-ghost use Rattle.spec_block.specs.Worlds.{limits};
+ghost use Rattle.std.specs.Prelude.{◌<◌, IfOk, All};
 
-use call::Call;
 use std::alloc::Global;
 use wtypes::NoMemory;
 
@@ -21,16 +18,4 @@ pub fn all_numbers(alloc: Global, count: u32) -> Result<Vec<u32>, NoMemory>
         numbers.push(number)?;
     }
     Ok(numbers)
-}
-
-/// What the limits of the calls of an order leave of this fuel. `None` where they exceed it.
-pub fn remaining(calls: &[Call], order: &[u32], fuel: u64) -> Option<u64>
-    requires { All (λ number. number < length calls.now) order.now }
-    ensures { IfSome result (λ rest. rest + limits_of (limits calls.now) order.now ≡ fuel) }
-{
-    let mut rest = fuel;
-    for number in order {
-        rest = rest.checked_sub(calls[*number as usize].fuel())?;
-    }
-    Some(rest)
 }

@@ -2,8 +2,9 @@
 
 ghost use Rattle.std.specs.Prelude.{◌≤◌, length};
 
-use crate::orders::{all_numbers, remaining};
+use crate::orders::all_numbers;
 use block::Block;
+use block_judge::remaining;
 use call::Call;
 use serial::run;
 use std::alloc::Global;

@@ -48,7 +48,7 @@ fn mark<A: Allocator>(calls: &[Call], order: &[u32], marks: &mut Vec<bool, A>) -
 }
 
 /// What remains of the fuel when the limits of the calls of an order are taken from it. None where they exceed it.
-fn remaining(calls: &[Call], order: &[u32], fuel: u64) -> Option<u64>
+pub fn remaining(calls: &[Call], order: &[u32], fuel: u64) -> Option<u64>
     requires { All (λ number. number < length calls.now) order.now }
     ensures within { IfSome result (λ rest. rest + limits_of (limits calls.now) order.now ≡ fuel) }
     ensures over { IfNone result (fuel < limits_of (limits calls.now) order.now) }

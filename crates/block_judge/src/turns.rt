@@ -4,7 +4,6 @@ ghost use Rattle.std.specs.Prelude.{◌≡◌, ◌≤◌, ◌<◌, ◌^◌, ◌�
 ghost use Rattle.std.specs.BTreeMap.{get};
 ghost use Rattle.std.specs.Ordering.{eq_by_cmp};
 ghost use Rattle.spec_ledger.specs.Cells.{lock_cmp};
-ghost use Rattle.spec_ledger.specs.Modes.{goes_with};
 ghost use Rattle.lock_profile.specs.Groups.{turn_next};
 ghost use Rattle.lock_profile.specs.Turns.{IsProfile};
 ghost use Rattle.spec_block.specs.Worlds.{Call as TheCall, World as TheWorld, profiles_of};
@@ -15,18 +14,13 @@ ghost use Rattle.block_judge.specs.Judging.{IfRejected, IsFirstFrom, NoneFrom};
 ghost use Rattle.block_judge.specs.Turned.{lists_of};
 
 use crate::reason::{JudgeRefusal, Reason};
+use abstract_locks::goes_with;
 use block::{Block, Position};
 use lock_profile::Group;
-use spec_ledger::{Entry, Lock, Mode};
+use spec_ledger::{Entry, Lock};
 use std::alloc::Allocator;
 use std::collections::BTreeMap;
 use wtypes::NoMemory;
-
-fn go_together(a: Mode, b: Mode) -> bool
-    ensures { result ≡ goes_with a b }
-{
-    matches!((a, b), (Mode::Read, Mode::Read) | (Mode::Add, Mode::Add))
-}
 
 /// Whether an entry has the turn of a holder that comes after the last group of its lock.
 fn follows(last: Option<Group>, entry: Entry) -> bool
@@ -34,7 +28,7 @@ fn follows(last: Option<Group>, entry: Entry) -> bool
 {
     match last {
         None => entry.turn == 0,
-        Some(group) if go_together(group.mode, entry.mode) => entry.turn == group.turn,
+        Some(group) if goes_with(group.mode, entry.mode) => entry.turn == group.turn,
         Some(group) => entry.turn > group.turn && entry.turn - group.turn == 1,
     }
 }

@@ -1,10 +1,8 @@
 // One attempt at a call.
 ghost use Rattle.std.specs.Prelude.{◌≡◌, ◌↔◌, ◌<◌, ◌≤◌, ◌^◌, Ok, true, false, IfOk, OnOk, IfSome, length};
 ghost use Rattle.spec_execution.specs.Run.{IsReply};
-ghost use Rattle.spec_execution.specs.Run.{opening};
 ghost use Rattle.spec_ledger.specs.declared.Version.TheVariants.{Two};
 ghost use Rattle.interp.specs.Callee.{setting_view};
-ghost use Rattle.interp.specs.Starting.{IsOpened, IsRejection};
 ghost use Rattle.interp.specs.Progress.{IsFree, IsSameCall};
 ghost use Rattle.serial.specs.Going.{MayGoOn, IsEnded};
 ghost use Rattle.book_workers.specs.Handed.{IsRunOf, IsCommitted};
@@ -15,10 +13,9 @@ use call::Call;
 use intake::Intake;
 use interp::finished::Finished;
 use interp::machine::Machine;
-use interp::start::StartRefusal;
 use link::deployed::Deployed as Contract;
 use lock_profile::Touched;
-use pace::{Pace, Step};
+use pace::{Pace, Step, must_stop_at};
 use serial::{HostRequest, next_request, touched_by};
 use shards::{NoGate, Shards, Ticket};
 use spec_ledger::{NoMemory, Op, Reply, Version};
@@ -76,12 +73,6 @@ enum Stop {
     NoMemory,
     /// The pace stopped the worker.
     Stopped,
-}
-
-/// Tells the pace a step, and answers whether the worker stops there.
-pub fn must_stop_at<P: Pace>(pace: &P, step: Step) -> bool {
-    pace.at(step);
-    pace.stops(step)
 }
 
 /// Why an attempt stops at an operation that was refused, where the pace stops the worker or does not. Out of memory is told
@@ -206,21 +197,6 @@ fn run<'a, A: Allocator + Copy, R: Wait, P: Pace>(
     }
 }
 
-/// The empty run of a call that does not start.
-fn rejected<'a, A: Allocator + Copy>(
-    alloc: A,
-    contracts: &'a [Contract<A>],
-    call: &'a Call,
-) -> Finished<'a, A>
-    requires { ¬ IsOpened (opening (setting_view Two contracts.now) call.now) }
-    ensures { IsRejection (setting_view Two contracts.now) call.now result }
-{
-    match Finished::rejected(alloc, contracts, call, Version::Two) {
-        Some(finished) => finished,
-        None => unreachable!(),
-    }
-}
-
 /// Runs a live attempt to its end. A call without fuel for its first instruction is answered before an instance is made.
 fn play<'a, A: Allocator + Copy, R: Wait, P: Pace>(
     rt: &R,
@@ -238,8 +214,11 @@ fn play<'a, A: Allocator + Copy, R: Wait, P: Pace>(
     }
     match Machine::start(job.alloc, job.contracts, call) {
         Ok(machine) => run(rt, job, ticket, number, machine),
-        Err(StartRefusal::NoMemory) => Err(Stop::NoMemory),
-        Err(_) => Ok(rejected(job.alloc, job.contracts, call)),
+        // Memory was refused where the call opens.
+        Err(_) => match Finished::rejected(job.alloc, job.contracts, call, Version::Two) {
+            Some(finished) => Ok(finished),
+            None => Err(Stop::NoMemory),
+        },
     }
 }
 

@@ -8,5 +8,5 @@ mod attempt;
 mod worker;
 
 pub use crate::admission::AdmissionLimit;
-pub use crate::attempt::{CommittedRun, Job, must_stop_at};
+pub use crate::attempt::{CommittedRun, Job};
 pub use crate::worker::{WorkerResult, work};

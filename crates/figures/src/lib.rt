@@ -6,7 +6,7 @@
 mod figures;
 mod hottest;
 mod lock_turn;
-mod module_figures_figures;
+mod module_figures;
 mod names;
 mod outcomes;
 mod sums;
@@ -14,7 +14,7 @@ mod words;
 
 pub use figures::{Chains, Figures, figures_of};
 pub use hottest::{MOST_HOTTEST, SharedLock};
-pub use module_figures_figures::{first_func, shortest_size};
+pub use module_figures::{first_func, shortest_size};
 pub use names::type_name;
 pub use outcomes::{OutcomeCount, OutcomeKind};
-pub use words::{hundredth_of, number_of_version, word_of_kind, word_of_mode};
+pub use words::{hundredth_of, lock_text_of, number_of_version, word_of_kind, word_of_mode};

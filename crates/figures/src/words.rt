@@ -2,9 +2,9 @@
 
 ghost use Rattle.std.specs.Prelude.{◌≡◌, IfOk, string_bytes};
 ghost use Rattle.spec_block.specs.Bytes.{version_code};
-ghost use Rattle.figures.specs.Words.{hundredth, kind_word, mode_word};
+ghost use Rattle.figures.specs.Words.{hundredth, kind_word, lock_text, mode_word};
 
-use spec_ledger::{Kind, Mode, Version};
+use spec_ledger::{Kind, Lock, Mode, Version};
 use std::alloc::{AllocError, Global};
 
 /// The word of a kind of locks.
@@ -15,6 +15,21 @@ pub fn word_of_kind(kind: Kind) -> &'static str
         Kind::Map => "map",
         Kind::Counter => "counter",
     }
+}
+
+/// A lock, as `map C:K` or `counter C:K`.
+///
+/// # Errors
+///
+/// The allocator refused memory.
+pub fn lock_text_of(alloc: Global, lock: Lock) -> Result<String, AllocError>
+    ensures { IfOk result (λ text. string_bytes text ≡ lock_text lock) }
+{
+    let kind = word_of_kind(lock.kind);
+    let contract = lock.contract;
+    let key = lock.key;
+    let text = format!(in alloc; "{kind} {contract}:{key}")?;
+    Ok(text)
 }
 
 /// The word of a mode.

@@ -6,7 +6,7 @@ ghost use Rattle.in_order.specs.Shares.{AreSpeculativeRunsOf};
 
 use crate::footprints::{SpeculativeRuns, open_speculative_runs, run_speculatively};
 use crate::line::Batch;
-use crate::straight::must_stop_at;
+use crate::straight::must_stop_before;
 use crate::{InOrder, NO_MORE};
 use pace::Pace;
 use spec_ledger::NoMemory;
@@ -57,7 +57,7 @@ fn run_calls<A: Allocator + Copy, P: Pace>(
             return Ok(false);
         }
         let call = job.order[position];
-        if must_stop_at(job.pace, call) {
+        if must_stop_before(job.pace, call) {
             return Ok(true);
         }
         run_speculatively(job.alloc, &job.task, job.cells, call, share)?;

@@ -5,7 +5,7 @@ ghost use Rattle.in_order.specs.Progress.{IsKnown, IsProgressOf};
 
 use crate::turns::do_next;
 use crate::{InOrder, OrderProgress};
-use pace::{Pace, Step, threads};
+use pace::{Pace, Step, must_stop_at, threads};
 use spec_ledger::{NoMemory, Receipt};
 use std::alloc::Allocator;
 use std::sync::atomic::Ordering;
@@ -17,10 +17,8 @@ const FIRST: usize = 16;
 const FEW: usize = 32;
 
 /// Tells the pace the beginning of a call, and asks whether it stops the thread.
-pub(crate) fn must_stop_at<P: Pace>(pace: &P, call: u32) -> bool {
-    let step = Step::Attempt { call, nth: 0 };
-    pace.at(step);
-    pace.stops(step)
+pub(crate) fn must_stop_before<P: Pace>(pace: &P, call: u32) -> bool {
+    must_stop_at(pace, Step::Attempt { call, nth: 0 })
 }
 
 /// What the calls of the first positions came to.
@@ -43,7 +41,9 @@ pub(crate) fn run_to<A: Allocator + Copy, P: Pace>(
 {
     let end = end.min(job.order.len());
     for position in ran.receipts.len()..end {
-        if job.is_stopped.load(Ordering::SeqCst) || must_stop_at(job.pace, job.order[position]) {
+        if job.is_stopped.load(Ordering::SeqCst)
+            || must_stop_before(job.pace, job.order[position])
+        {
             return Ok(StraightRun { ran, stops: true });
         }
         ran = do_next(job, ran, None, &[], None)?;

@@ -1,24 +1,18 @@
--- The memories of a linked module, and lists with items in place.
-use Rattle.std.proofs.Common.{◌≡◌, ℕ, zero, suc, ◌+◌, ◌≤◌, ◌<◌, min, Bool, true, false, nat_le, List, [], ◌∷◌, ◌++◌, length, map, take, drop, refl, ap, ◌∙◌, subst, arith, length-append, Some, None, Option, slice_get}
-use Rattle.std.specs.Prelude.{IfSome, unwrap_or, slice_index_or, All, filter_map}
+-- The memories of a linked module.
+use Rattle.std.proofs.Common.{◌≡◌, ℕ, ◌+◌, ◌≤◌, min, Bool, true, false, nat_le, List, [], ◌∷◌, ◌++◌, refl, ap, ◌∙◌, subst, arith, Some, None, Option}
+use Rattle.std.specs.Prelude.{IfSome, unwrap_or, All, filter_map}
 use Rattle.std.specs.List.{cons_option}
 use Rattle.std.proofs.Math.Logic.{∥∥₁_elim}
-use Rattle.std.specs.Int.{cast_unsigned, w32}
-use Rattle.std.proofs.lemmas.List.{length-take, length-drop}
-use Rattle.std.proofs.lemmas.List.Elements.{All-head, All-tail}
+use Rattle.std.proofs.lemmas.List.Elements.{All-head}
 use Rattle.std.proofs.lemmas.Bool.{leb-true, le-leb}
-use Rattle.wtypes.specs.declared.Value.TheVariants as value
 use Rattle.wtypes.specs.declared.HostCall.{HostCall}
 use Rattle.spec_ledger.specs.declared.Version.{Version}
 use Rattle.spec_ledger.specs.declared.Version.TheVariants.{One, Two}
-use Rattle.wtypes.specs.declared.PlainInstr.TheVariants.{Const}
-use Rattle.spec_syntax.specs.Syntax.{Plain, Instrs, nothing, seq, FuncType, Limits, Import, ImportDesc, ImportFunc, Module}
+use Rattle.spec_syntax.specs.Syntax.{FuncType, Limits, Import, ImportDesc, ImportFunc, Module}
 use Rattle.spec_syntax.specs.Profile.{page_limit}
-use Rattle.spec_numeric.specs.Operators.{bits_of}
 use Rattle.spec_typing.specs.Modules.{memories, memory_of, MemoryTyped}
-use Rattle.spec_typing.specs.Linking.{IsLinked, Resolves, offset_number}
-use Rattle.spec_numeric.specs.Memory.{written}
-use Rattle.spec_execution.specs.Configuration.{constant, size_of}
+use Rattle.spec_typing.specs.Linking.{IsLinked, Resolves}
+use Rattle.spec_execution.specs.Configuration.{size_of}
 use Rattle.spec_execution.specs.Reduction.{pages_of, most_pages}
 
 -- imports are functions alone
@@ -29,11 +23,6 @@ none_else f k types (i ∷ is) [] r = absurd r
 none_else f k types (i ∷ is) (c ∷ cs) r =
     let e : f i.desc ≡ None = ap f r.0.1.1 ∙ k r.0.1.0 in
     ap (λ o. cons_option o (filter_map (λ (i : Import). f i.desc) is)) e ∙ none_else f k types is cs r.1
-
-pub at_map : {X Y : Type 0} (P : Y → Type 0) (f : X → Y) (xs : List X) → All P (map f xs) → (k : ℕ) (d : X) → k < length xs → P (f (slice_index_or xs k d))
-at_map P f [] h k d lt = absurd (omega arith)
-at_map P f (x ∷ xs) h zero d lt = All-head P (f x) (map f xs) h
-at_map P f (x ∷ xs) h (suc k) d lt = at_map P f xs (All-tail P (f x) (map f xs) h) k d (omega arith)
 
 below_bound : (v : Version) (n : ℕ) → n ≤ page_limit → n ≤ pages_of v n
 below_bound One n le = omega arith
@@ -50,16 +39,6 @@ few_list (l ∷ ls) h = All-head (λ (l : Limits). l.min ≤ page_limit) l ls h
 fits_list : (v : Version) (ms : List Limits) → All (λ limits. limits.min ≤ page_limit) ms → All MemoryTyped ms → size_of ms ≤ most_pages v ms
 fits_list v [] h k = omega arith
 fits_list v (l ∷ ls) h k = below_most l.min (pages_of v l.min) l.max (below_bound v l.min (All-head (λ (l : Limits). l.min ≤ page_limit) l ls h)) (All-head MemoryTyped l ls k).0
-
-pub only_one : (ms : List Limits) (k : ℕ) (l : Limits) → length ms ≤ 1 → slice_get ms k ≡ Some l → size_of ms ≡ l.min
-only_one [] k l le e = absurd (cc)
-only_one (x ∷ []) zero l le e = ap (λ (y : Limits). y.min) (let same : x ≡ l = cc in same)
-only_one (x ∷ []) (suc k) l le e = absurd (cc)
-only_one (x ∷ y ∷ ms) k l le e = absurd (omega arith)
-
-pub const_number : (e : Instrs) (at : ℕ) → offset_number e ≡ Some at → bits_of (constant e) ≡ at
-const_number (seq (Plain (Const (value.I32 k))) nothing) at e = (let there : cast_unsigned w32 k ≡ at = cc in there)
-const_number _ at e = absurd (cc)
 
 module _ (m : Module) (calls : List HostCall) (l : IsLinked m calls) where
   memories_own : memories m ≡ m.memories
@@ -90,16 +69,3 @@ few_known m calls linked = known_le _ _ linked (memory_few m calls)
 
 pub fits_known : (v : Version) (m : Module) (calls : List HostCall) → ∥ IsLinked m calls ∥₁ → size_of m.memories ≤ most_pages v m.memories
 fits_known v m calls linked = known_le _ _ linked (λ l. memory_fits m calls l v)
-
-pub map_index : {X Y : Type 0} (f : X → Y) (xs : List X) (k : ℕ) (d : X) → slice_index_or (map f xs) k (f d) ≡ f (slice_index_or xs k d)
-map_index f [] k d = refl
-map_index f (x ∷ xs) zero d = refl
-map_index f (x ∷ xs) (suc k) d = map_index f xs k d
-
-pub length_map : {X Y : Type 0} (f : X → Y) (xs : List X) → length (map f xs) ≡ length xs
-length_map f [] = refl
-length_map f (x ∷ xs) = ap (λ (n : ℕ). suc n) (length_map f xs)
-
-pub length_in_place : {X : Type 0} (at : ℕ) (items old : List X) → at + length items ≤ length old → length (written at items old) ≡ length old
-length_in_place at items old le =
-    length-append (take at old) (items ++ drop (at + length items) old) ∙ (omega (arith, length-append items (drop (at + length items) old), length-take at old, length-drop (at + length items) old))

@@ -1,3 +1,4 @@
+pub mod Globals
 pub mod States
 pub mod Asked
 pub mod Views

@@ -1,43 +1,37 @@
 //! Instances of deployed modules, and the function that a call or a level enters.
 #![tactic(auto)]
 
+mod globals;
 mod opening;
-mod tables;
 
 ghost use Rattle.std.specs.Prelude.{◌≡◌, ℕ, ◌*◌, ◌≤◌, None, map, IfOk};
-ghost use Rattle.spec_numeric.specs.Operators.{bits_of};
-ghost use Rattle.module_tree.specs.View.{instrs_view};
-ghost use Rattle.module_tree.specs.ModuleView.{global_view, limits_view};
+ghost use Rattle.module_tree.specs.ModuleView.{limits_view};
 ghost use Rattle.module_tree.specs.Modules.{module_view};
-ghost use Rattle.spec_syntax.specs.Syntax as syntax;
 ghost use Rattle.spec_syntax.specs.Profile.{page_size, page_limit};
-ghost use Rattle.spec_execution.specs.Configuration.{constant, size_of, fresh};
+ghost use Rattle.spec_execution.specs.Configuration.{size_of, fresh};
 ghost use Rattle.spec_execution.specs.Reduction.{pages_of, most_pages};
 ghost use Rattle.memory.specs.Start.{stands, first_bytes};
 ghost use Rattle.link.specs.Parts.{tree_of};
 ghost use Rattle.instance.specs.States.{IsFresh};
 
+pub use crate::globals::Globals;
 pub use crate::opening::{Refusal, asked_entry, entry_of};
-use crate::tables::open_table;
 use link::deployed::Deployed;
+use link::table::Table;
 use memory::{Linear, PAGE_LIMIT, Start};
-use module_tree::instr::Instr;
-use module_tree::lone::lone_plain;
-use module_tree::module::Global as Declared;
 use spec_ledger::Version;
-use std::alloc::{AllocError, Allocator, Global};
-use wtypes::{Limits, NoMemory, PlainInstr, Value};
+use std::alloc::{Allocator, Global};
+use wtypes::{Limits, NoMemory};
 
 /// What a call may change beside its frames (Core Specification, 4.2.5 Module Instances).
 #[derive(Drop)]
 pub struct Instance<'a, A: Allocator + Copy = Global> {
-    /// The globals.
-    pub globals: Vec<Value, A>,
+    /// The globals, which the module lends before the first write.
+    pub globals: Globals<'a, A>,
     /// The memory, which is lent what it begins with. Where the module has none, it has no page.
     pub memory: Linear<'a, A>,
-    /// The number of the function that each element of the table is, or None where it is empty. Where the module has no table, it
-    /// has no element.
-    pub table: Vec<Option<u32>, A>,
+    /// The table, which the module lends, since no instruction writes it. Where the module has none, it has no element.
+    pub table: &'a Table<A>,
 }
 
 /// A fresh instance (Core Specification, 4.5.4 Instantiation): its globals have their first values, and its data
@@ -54,16 +48,12 @@ pub fn open_instance<'a, A: Allocator + Copy>(
 ) -> Result<Instance<'a, A>, NoMemory>
     ensures { IfOk result (λ i. IsFresh version i (module_view (tree_of deployed.now))) }
 {
-    let globals = match open_globals(alloc, &deployed.module().globals) {
-        Ok(globals) => globals,
-        Err(_) => return Err(NoMemory),
-    };
+    let globals = Globals::begin(alloc, deployed.globals())?;
     let memory = open_memory(alloc, version, deployed)?;
-    let table = open_table(alloc, deployed)?;
     Ok(Instance {
         globals,
         memory,
-        table,
+        table: deployed.table(),
     })
 }
 
@@ -79,16 +69,6 @@ fn open_memory<'a, A: Allocator + Copy>(
     deployed.is_linked();
     let tree = deployed.module();
     first_memory(alloc, version, &tree.memories, deployed.start())
-}
-
-// The number that a value's bits spell.
-fn bits(value: Value) -> u64
-    ensures { result ≡ bits_of value }
-{
-    match value {
-        Value::I32(x) => u64::from(x.cast_unsigned()),
-        Value::I64(x) => x.cast_unsigned(),
-    }
 }
 
 // No memory grows to more in version 1, but where its minimum is more.
@@ -130,37 +110,4 @@ fn first_memory<'a, A: Allocator + Copy>(
         limits.min,
         bound.min(limits.max.unwrap_or(bound)),
     )
-}
-
-// The first values of the globals.
-fn open_globals<A: Allocator + Copy>(
-    alloc: A,
-    declared: &[Declared<A>],
-) -> Result<Vec<Value, A>, AllocError>
-    ensures { IfOk result (λ values. values.items ≡ map (λ g. constant g.init) (map global_view declared.now)) }
-{
-    let mut values = Vec::new(alloc);
-    for global in declared {
-        values.push(constant_of(&global.init))?;
-    }
-    Ok(values)
-}
-
-// The value of a constant expression.
-fn constant_of<A: Allocator>(expression: &Vec<Instr<A>, A>) -> Value
-    ensures { result ≡ constant (instrs_view expression.now.items) }
-{
-    match lone_plain(expression) {
-        Some(op) => value_of_const(op),
-        None => Value::I32(0),
-    }
-}
-
-fn value_of_const(op: PlainInstr) -> Value
-    ensures { result ≡ constant (syntax.seq (syntax.Plain op) syntax.nothing) }
-{
-    match op {
-        PlainInstr::Const(value) => value,
-        _ => Value::I32(0),
-    }
 }

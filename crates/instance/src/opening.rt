@@ -3,10 +3,9 @@
 ghost use Rattle.std.specs.Prelude.{◌≡◌, ◌+◌, ◌<◌, ◌≤◌, map, length, slice_get, [], ◌∷◌, Some, None, IfOk, IfErr, IfSome, IfNone, option_map, string_bytes, MatchOption};
 ghost use Rattle.spec_execution.specs.Levels.{asked};
 ghost use Rattle.spec_execution.specs.Reduction.{same_types};
-ghost use Rattle.spec_execution.specs.Run.{by_contract, Opens, Refused, exported, wrong_argument};
+ghost use Rattle.spec_execution.specs.Run.{by_contract, Opens, Refused, wrong_argument};
 ghost use Rattle.wtypes.specs.declared.ValType.TheVariants.{I64};
 ghost use Rattle.spec_ledger.specs.declared.Version.{Version};
-ghost use Rattle.module_tree.specs.ModuleView.{export_view, export_desc_view};
 ghost use Rattle.spec_numeric.specs.Operators.{same_type, type_of};
 ghost use Rattle.instance.specs.Asked as spec;
 ghost use Rattle.instance.specs.Views.{deployed_view, contract_of, setting_of, code_of, Enters, HasPlace, wrong_for, wrong_of};
@@ -14,7 +13,7 @@ ghost use Rattle.spec_execution.specs.Configuration.{function_at};
 
 use call::Call;
 use link::deployed::Deployed;
-use module_tree::module::{Export, ExportDesc};
+use module_tree::module::ExportDesc;
 use std::alloc::Allocator;
 use thiserror::Error;
 use wtypes::{ValType, Value};
@@ -65,7 +64,7 @@ pub fn entry_of<A: Allocator>(contract: &Deployed<A>, call: &Call) -> Result<u32
     ensures refused { IfErr result (λ r. (version : Version) → by_contract version call.now (Some (deployed_view contract.now)) ≡ Refused (code_of r)) }
     ensures place { IfErr result (λ r. HasPlace (wrong_of call.now (deployed_view contract.now)) r) }
 {
-    match exported_as(&contract.module().exports, call.entry()) {
+    match contract.exported(call.entry()) {
         None => Err(Refusal::NoExport),
         Some(ExportDesc::Func(func)) => match check_args(contract, func, call.args()) {
             Ok(()) => Ok(func),
@@ -75,18 +74,6 @@ pub fn entry_of<A: Allocator>(contract: &Deployed<A>, call: &Call) -> Result<u32
             Err(Refusal::NotFunction)
         }
     }
-}
-
-// What is exported under a name.
-fn exported_as<A: Allocator>(exports: &[Export<A>], name: &str) -> Option<ExportDesc>
-    ensures { option_map export_desc_view result ≡ exported name.now (map export_view exports.now) }
-{
-    for export in exports {
-        if name == export.name.as_str() {
-            return Some(export.desc);
-        }
-    }
-    None
 }
 
 // The first argument that is not of its parameter's type.

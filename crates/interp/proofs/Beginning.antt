@@ -200,7 +200,7 @@ contract_same version n n0 m hosts d d0 e f h k = record {
 -- the state of a fresh instance
 pub based_fresh : {A : Type 0} (version : Version) (m : Module) (i : Instance A) → IsFresh version i m → based (fresh m) i ≡ fresh m
 based_fresh version m i made =
-    ap₂ (λ (gs : List Value) (bs : List ℕ). record (fresh m) { globals = gs; memory = bs; table = i.table.items }) made.globals made.memory
+    ap₂ (λ (gs : List Value) (bs : List ℕ). record (fresh m) { globals = gs; memory = bs; table = i.table.now }) made.globals made.memory
     ∙ ap (λ (es : List (Option ℕ)). record (fresh m) { table = es }) made.table
 
 -- parts with nothing open, in an instance

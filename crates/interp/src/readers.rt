@@ -173,7 +173,7 @@ fn is_left_next<'a, A: Allocator + Copy>(run: &Run<'a, A>) -> bool
 
 // The instance of the outer level.
 fn outer_instance<'b, 'a, A: Allocator + Copy>(run: &'b Run<'a, A>) -> &'b Instance<'a, A>
-    ensures globals { result.now.globals.items ≡ (state_of (outermost (progress (seen run.now)).config).config).globals }
+    ensures globals { result.now.globals ≡ (state_of (outermost (progress (seen run.now)).config).config).globals }
     ensures memory { result.now.memory.bytes ≡ (state_of (outermost (progress (seen run.now)).config).config).memory }
 {
     if let Some(level) = run.outer.first() {
@@ -206,7 +206,7 @@ fn bytes_of_instance<A: Allocator + Copy>(
 fn globals_of_run<'b, 'a, A: Allocator + Copy>(run: &'b Run<'a, A>) -> &'b [Value]
     ensures { result.now ≡ (state_of (progress (seen run.now)).config.inner.config).globals }
 {
-    &run.parts.instance.globals
+    run.parts.instance.globals.as_slice()
 }
 
 // So many bytes of memory from an address on.
@@ -419,7 +419,7 @@ impl<'a, A: Allocator + Copy> Machine<'a, A> {
     pub fn outer_globals(&self) -> &[Value]
         ensures { result.now ≡ (state_of (outermost self.now.config).config).globals }
     {
-        &outer_instance(&self.run).globals
+        outer_instance(&self.run).globals.as_slice()
     }
 
     /// So many bytes of the innermost level's memory from an address on. After the end they are as they stood.

@@ -12,9 +12,9 @@ abbrev pub codes_of : {A : Type 0} → List (Entry A) → List (List (Instr A))
 codes_of es = map (λ e. e.from.now) es
 
 pub record IsInstanceCopy {A : Type 0} (i j : Instance A) : Type 0 where
-  pub globals : j.globals.items ≡ i.globals.items
+  pub globals : j.globals ≡ i.globals
   pub memory : j.memory ≡ i.memory
-  pub table : j.table.items ≡ i.table.items
+  pub table : j.table.now ≡ i.table.now
 
 pub record AreEntryCopies {A : Type 0} (es fs : List (Entry A)) : Type 0 where
   pub opens : map open_of fs ≡ map open_of es

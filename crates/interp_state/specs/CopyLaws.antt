@@ -39,8 +39,8 @@ module _ {A : Type 0} (p q : Parts A) (k : IsPartsCopy p q) where
 
   pub same_view : (b : State) → view b q ≡ view b p
   same_view b =
-      ap₂ (λ (gs : List Value) (bs : List ℕ). record { base = record b { globals = gs; memory = bs; table = q.instance.table.items }; entries = opens_of q.entries.items; stack = q.stack.items; locals = q.locals.items; code = items_of q.code.now }) k.instance.globals (ap (λ m. m.bytes) k.instance.memory)
-      ∙ ap (λ (ts : List (Option ℕ)). record { base = record b { globals = p.instance.globals.items; memory = p.instance.memory.bytes; table = ts }; entries = opens_of q.entries.items; stack = q.stack.items; locals = q.locals.items; code = items_of q.code.now }) k.instance.table
+      ap₂ (λ (gs : List Value) (bs : List ℕ). record { base = record b { globals = gs; memory = bs; table = q.instance.table.now }; entries = opens_of q.entries.items; stack = q.stack.items; locals = q.locals.items; code = items_of q.code.now }) k.instance.globals (ap (λ m. m.bytes) k.instance.memory)
+      ∙ ap (λ (ts : List (Option ℕ)). record { base = record b { globals = p.instance.globals; memory = p.instance.memory.bytes; table = ts }; entries = opens_of q.entries.items; stack = q.stack.items; locals = q.locals.items; code = items_of q.code.now }) k.instance.table
       ∙ ap₂ (λ (es : List Open) (vs : List Value). record { base = based b p.instance; entries = es; stack = vs; locals = q.locals.items; code = items_of q.code.now }) same_opens k.stack
       ∙ ap₂ (λ (ls : List Value) (is : List Item). record { base = based b p.instance; entries = opens_of p.entries.items; stack = p.stack.items; locals = ls; code = is }) k.locals (ap items_of k.code)
 

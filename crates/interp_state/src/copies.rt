@@ -55,12 +55,11 @@ fn copy_instance<'a, A: Allocator + Copy>(
     ensures { IfOk result (λ copy. IsInstanceCopy instance.now copy) }
 {
     let memory = instance.memory.copy()?;
-    let globals = instance.globals.to_vec(alloc)?;
-    let table = instance.table.to_vec(alloc)?;
+    let globals = instance.globals.copy(alloc)?;
     Ok(Instance {
         globals,
         memory,
-        table,
+        table: instance.table,
     })
 }
 

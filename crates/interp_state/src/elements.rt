@@ -9,6 +9,7 @@ ghost use Rattle.interp_state.specs.Callee.{contract_of};
 ghost use Rattle.interp_state.specs.Elements.{element_called};
 
 use crate::callee::Callee;
+use link::table::Table;
 use std::alloc::Allocator;
 use wtypes::{FuncType, HostCall, TrapCode, ValType};
 
@@ -20,19 +21,19 @@ use wtypes::{FuncType, HostCall, TrapCode, ValType};
 #[inline(always)]
 pub fn function_of_element<'a, A: Allocator + Copy>(
     lent: &Callee<'a, A>,
-    table: &[Option<u32>],
+    table: &Table<A>,
     element: u64,
     type_index: u32,
 ) -> Result<u32, TrapCode>
     requires { IsSome (element_called (contract_of lent.now).deployed table.now element type_index) }
     ensures { element_called (contract_of lent.now).deployed table.now element type_index ≡ Some result }
 {
-    match table.get(element as usize) {
+    match table.get(element) {
         None => Err(TrapCode::ElementOutOfTable),
         Some(None) => Err(TrapCode::EmptyElement),
         Some(Some(func)) => {
-            if has_type(lent, *func, &lent.module.types[type_index as usize]) {
-                Ok(*func)
+            if has_type(lent, func, &lent.module.types[type_index as usize]) {
+                Ok(func)
             } else {
                 Err(TrapCode::TypeMismatch)
             }

@@ -157,14 +157,15 @@ fn execute_on_instance<'a, A: Allocator + Copy>(
 {
     match op {
         PlainInstr::GlobalGet(x) => {
-            let value = parts.instance.globals[*x as usize];
+            let globals = parts.instance.globals.as_slice();
+            let value = globals[*x as usize];
             push(&mut parts.stack, value)?;
             parts.code = rest;
             Ok(After::Ran)
         }
         PlainInstr::GlobalSet(x) => {
             let value = pop_top(&mut parts.stack);
-            parts.instance.globals[*x as usize] = value;
+            parts.instance.globals.set(*x, value);
             parts.code = rest;
             Ok(After::Ran)
         }
@@ -214,7 +215,7 @@ fn call_element<'a, A: Allocator + Copy>(
 {
     parts.code = rest;
     let element = bits(pop_top(&mut parts.stack));
-    match function_of_element(lent, &parts.instance.table, element, type_index) {
+    match function_of_element(lent, parts.instance.table, element, type_index) {
         Ok(func) => After::Calls(func),
         Err(code) => After::Fell(code),
     }

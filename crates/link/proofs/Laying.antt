@@ -66,7 +66,7 @@ at_written at news bs k le = elim (cases_lt k at) [
 
 -- ---- Segments
 
-const_number : (e : Instrs) (at : ℕ) → offset_number e ≡ Some at → bits_of (constant e) ≡ at
+pub const_number : (e : Instrs) (at : ℕ) → offset_number e ≡ Some at → bits_of (constant e) ≡ at
 const_number (seq (Plain (Const (value.I32 k))) nothing) at e = (let there : cast_unsigned w32 k ≡ at = cc in there)
 const_number _ at e = absurd (cc)
 
@@ -108,7 +108,7 @@ with_both : (xs ys : List DataSegment) (bytes : List ℕ) → with_datas (xs ++ 
 with_both [] ys bytes = refl
 with_both (d ∷ xs) ys bytes = with_both xs ys (written (bits_of (constant d.offset)) d.bytes bytes)
 
-all_left : {X : Type 0} (P : X → Type 0) (xs ys : List X) → All P (xs ++ ys) → All P xs
+pub all_left : {X : Type 0} (P : X → Type 0) (xs ys : List X) → All P (xs ++ ys) → All P xs
 all_left P [] ys h = All-nil P
 all_left P (x ∷ xs) ys h = All-cons P x xs (All-head P x (xs ++ ys) h) (all_left P xs ys (All-tail P x (xs ++ ys) h))
 
@@ -137,7 +137,7 @@ laid_both s t u xs ys a b e = record {
 
 -- ---- The segments of a linked module
 
-none_else : {X : Type 0} (f : ImportDesc → Option X) → ((index : ℕ) → f (ImportFunc index) ≡ None) → (types : List FuncType) (is : List Import) (cs : List HostCall) → Resolves types is cs → filter_map (λ (i : Import). f i.desc) is ≡ []
+pub none_else : {X : Type 0} (f : ImportDesc → Option X) → ((index : ℕ) → f (ImportFunc index) ≡ None) → (types : List FuncType) (is : List Import) (cs : List HostCall) → Resolves types is cs → filter_map (λ (i : Import). f i.desc) is ≡ []
 none_else f k types [] [] r = refl
 none_else f k types [] (c ∷ cs) r = absurd r
 none_else f k types (i ∷ is) [] r = absurd r
@@ -145,7 +145,7 @@ none_else f k types (i ∷ is) (c ∷ cs) r =
     let e : f i.desc ≡ None = ap f r.0.1.1 ∙ k r.0.1.0 in
     ap (λ o. cons_option o (filter_map (λ (i : Import). f i.desc) is)) e ∙ none_else f k types is cs r.1
 
-only_one : (ms : List Limits) (k : ℕ) (l : Limits) → length ms ≤ 1 → slice_get ms k ≡ Some l → size_of ms ≡ l.min
+pub only_one : (ms : List Limits) (k : ℕ) (l : Limits) → length ms ≤ 1 → slice_get ms k ≡ Some l → size_of ms ≡ l.min
 only_one [] k l le e = absurd (cc)
 only_one (x ∷ []) zero l le e = ap (λ (y : Limits). y.min) (let same : x ≡ l = cc in same)
 only_one (x ∷ []) (suc k) l le e = absurd (cc)

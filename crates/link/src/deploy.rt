@@ -7,17 +7,20 @@ ghost use Rattle.memory.specs.Start.{stands, first_bytes};
 ghost use Rattle.spec_typing.specs.Modules.{ModuleTyped};
 ghost use Rattle.spec_typing.specs.Linking.{IsLinked};
 ghost use Rattle.module_tree.specs.Modules.{module_view};
-ghost use Rattle.typing.specs.Parts;
+ghost use Rattle.typing.specs.Parts as judged;
+ghost use Rattle.link.specs.Exports.{AreExports};
 ghost use Rattle.link.specs.Parts.{tree_of};
 ghost use Rattle.link.specs.Refusals.{Says, PassedBefore, SegmentsPass, OutAt, IsRefusedOnce};
 ghost use Rattle.link.specs.Tests.{AllCalls, Sized};
 
-use crate::deployed::Deployed;
+use crate::deployed::{Deployed, Parts};
+use crate::exports::exports_by_name;
+use crate::globals::first_globals;
 use crate::imports::{call_named, host_calls, import_fault};
 use crate::refusal::LinkRefusal;
 use crate::segments::{all_within, data_fault, element_fault};
 use crate::starts::first_start;
-use memory::Start;
+use crate::tables::first_table;
 use module_tree::module::Module;
 use std::alloc::{AllocError, Allocator};
 use typing::valid::Valid;
@@ -119,23 +122,39 @@ fn link_module<A: Allocator + Clone>(
     }
 }
 
-// The host calls of a module that can be instantiated, and what its memory begins with.
-fn link_parts<A: Allocator + Clone>(
-    alloc: &A,
-    tree: &Module<A>,
-) -> Result<(Vec<HostCall, A>, Start<A>), LinkRefusal>
+// The host calls of a module that can be instantiated, what its memory begins with, its table, the first values of its globals,
+// and its exports by name.
+fn link_parts<A: Allocator + Clone>(alloc: &A, tree: &Module<A>) -> Result<Parts<A>, LinkRefusal>
     requires { ModuleTyped (module_view tree.now) }
-    ensures linked { IfOk result (λ parts. IsLinked (module_view tree.now) parts.0.items) }
-    ensures begun { IfOk result (λ parts. first_bytes parts.1 (page_size * size_of (module_view tree.now).memories) ≡ (fresh (module_view tree.now)).memory) }
-    ensures ends { IfOk result (λ parts. (k : ℕ) → page_size * size_of (module_view tree.now).memories ≤ k → stands parts.1 k ≡ None) }
+    ensures linked { IfOk result (λ parts. IsLinked (module_view tree.now) parts.hosts.items) }
+    ensures begun { IfOk result (λ parts. first_bytes parts.start (page_size * size_of (module_view tree.now).memories) ≡ (fresh (module_view tree.now)).memory) }
+    ensures ends { IfOk result (λ parts. (k : ℕ) → page_size * size_of (module_view tree.now).memories ≤ k → stands parts.start k ≡ None) }
+    ensures filled { IfOk result (λ parts. parts.table ≡ (fresh (module_view tree.now)).table) }
+    ensures first { IfOk result (λ parts. parts.globals.items ≡ (fresh (module_view tree.now)).globals) }
+    ensures named { IfOk result (λ parts. AreExports parts.exports (module_view tree.now).exports) }
     ensures says { IfErr result (λ e. Says e (module_view tree.now)) }
     ensures passed { IfErr result (λ e. PassedBefore e (module_view tree.now)) }
 {
     let hosts = link_module(alloc, tree)?;
-    match first_start(alloc, tree, &hosts) {
-        Ok(start) => Ok((hosts, start)),
-        Err(AllocError) => Err(LinkRefusal::NoMemory),
-    }
+    let Ok(start) = first_start(alloc, tree, &hosts) else {
+        return Err(LinkRefusal::NoMemory);
+    };
+    let Ok(table) = first_table(alloc, tree, &hosts) else {
+        return Err(LinkRefusal::NoMemory);
+    };
+    let Ok(globals) = first_globals(alloc, tree) else {
+        return Err(LinkRefusal::NoMemory);
+    };
+    let Ok(exports) = exports_by_name(alloc, &tree.exports) else {
+        return Err(LinkRefusal::NoMemory);
+    };
+    Ok(Parts {
+        hosts,
+        start,
+        table,
+        globals,
+        exports,
+    })
 }
 
 /// Links a module that is typed (Core Specification, 4.5.4 Instantiation). What passes is the tree that was handed in,
@@ -146,13 +165,13 @@ pub fn deploy<A: Allocator + Clone>(
     alloc: &A,
     valid: Valid<A>,
 ) -> Result<Deployed<A>, (Valid<A>, LinkRefusal)>
-    ensures same { IfOk result (λ d. tree_of d ≡ Parts.tree_of valid) }
+    ensures same { IfOk result (λ d. tree_of d ≡ judged.tree_of valid) }
     ensures back { IfErr result (λ e. e.0 ≡ valid) }
-    ensures says { IfErr result (λ e. Says e.1 (module_view (Parts.tree_of valid))) }
-    ensures passed { IfErr result (λ e. PassedBefore e.1 (module_view (Parts.tree_of valid))) }
+    ensures says { IfErr result (λ e. Says e.1 (module_view (judged.tree_of valid))) }
+    ensures passed { IfErr result (λ e. PassedBefore e.1 (module_view (judged.tree_of valid))) }
 {
     match link_parts(alloc, valid.module()) {
-        Ok((hosts, start)) => Ok(Deployed::of_linked(valid.into_module(), hosts, start)),
+        Ok(parts) => Ok(Deployed::of_linked(valid.into_module(), parts)),
         Err(refusal) => Err((valid, refusal)),
     }
 }

@@ -3,7 +3,12 @@
 
 pub mod deploy;
 pub mod deployed;
+mod exports;
+mod expressions;
+mod globals;
 mod imports;
 pub mod refusal;
 mod segments;
 mod starts;
+pub mod table;
+mod tables;

@@ -1,59 +1,26 @@
 -- The order of a list, and the calls that it leaves out, one call of the list more.
-use Rattle.std.proofs.Common.{◌≡◌, inl, inr, ℕ, ◌+◌, ◌-◌, ◌<◌, ◌≤◌, Bool, List, [], ◌∷◌, ◌++◌, length, take, get_or, Some, slice_get, slice_index, refl, sym, ◌∙◌, ap, subst, arith, length-take-le, take_all}
-use Rattle.std.specs.Prelude.{Contains, nat_le, if◌then◌else◌}
-use Rattle.std.specs.List.Sorted.{IsStrictlyIncreasing}
-use Rattle.std.proofs.lemmas.Bool.Decides.{eqb_tells, leb_tells}
-use Rattle.std.proofs.lemmas.List.{length_push, get_or_push, get_or_append_left}
+use Rattle.std.proofs.Common.{◌≡◌, inl, inr, ℕ, ◌+◌, ◌-◌, ◌<◌, ◌≤◌, List, [], ◌∷◌, ◌++◌, length, take, get_or, Some, slice_index, refl, sym, ◌∙◌, ap, subst, arith, length-take-le, take_all}
+use Rattle.std.specs.Prelude.{Contains}
+use Rattle.std.proofs.lemmas.Bool.Decides.{eqb_tells}
 use Rattle.std.proofs.lemmas.List.Elements.{Contains-append_left, Contains-push, Contains-push_cases}
 use Rattle.std.proofs.lemmas.List.Sums.{sum-map, sum_by_push}
-use Rattle.std.proofs.lemmas.Option.{slice_get-get_or, get_or_from_slice_get}
+use Rattle.std.proofs.lemmas.Option.{slice_get-get_or}
 use Rattle.spec_ledger.specs.Order.{IsAdmissible, first_fit, limits_of}
 use Rattle.spec_execution.specs.Run.{ContractCall}
 use Rattle.serial.proofs.Limits.{limit_at}
 use Rattle.publish.specs.Publication.{AreLeft, limits as limits_by}
+use Rattle.publish.proofs.Marks.{rising_more}
+use Rattle.publish.proofs.OneSweep.{Grows, then_is, else_is}
 
 -- what `first_fit_is_admissible` says
 abbrev pub IsSound : Type 0
 IsSound = (limits : List ℕ) (fuel : ℕ) → IsAdmissible limits (first_fit limits fuel) fuel
-
-abbrev pub Grows : Type 0
-Grows = (limits : List ℕ) (fuel call : ℕ) → call < length limits → first_fit (take (call + 1) limits) fuel
-    ≡ (if nat_le (slice_index limits call) (fuel - limits_of limits (first_fit (take call limits) fuel)) then first_fit (take call limits) fuel ++ call ∷ [] else first_fit (take call limits) fuel)
 
 -- the calls below a number have had their turn, and so much fuel remains
 pub record HasFitted (limits : List ℕ) (fuel number remaining : ℕ) (order left : List ℕ) : Type 0 where
   pub order_is : order ≡ first_fit (take number limits) fuel
   pub rest : remaining + limits_of limits order ≡ fuel
   pub others : AreLeft order number left
-
-then_is : (l f : ℕ) (x y : List ℕ) → l ≤ f → (if nat_le l f then x else y) ≡ x
-then_is l f x y fits = elim (leb_tells l f) [
-  | inl a ↦ ap (λ (b : Bool). if b then x else y) a.0
-  | inr b ↦ absurd (let over = b.1 in omega (arith, over, fits))
-]
-
-else_is : (l f : ℕ) (x y : List ℕ) → f < l → (if nat_le l f then x else y) ≡ y
-else_is l f x y over = elim (leb_tells l f) [
-  | inl a ↦ absurd (let fits = a.1 in omega (arith, over, fits))
-  | inr b ↦ ap (λ (b : Bool). if b then x else y) b.0
-]
-
-get_or_any : (xs : List ℕ) (i : ℕ) → i < length xs → get_or xs i (get_or xs i 0) ≡ get_or xs i 0
-get_or_any xs i h = get_or_from_slice_get xs i (get_or xs i 0) (get_or xs i 0) (slice_get-get_or xs i 0 h)
-
-rising_more : (left : List ℕ) (n : ℕ) → IsStrictlyIncreasing left → ((k : ℕ) → Contains left k → k < n) → IsStrictlyIncreasing (left ++ n ∷ [])
-rising_more left n rising below k h =
-    let l = length_push left n in
-    elim (leb_tells (length left) (k + 1)) [
-      | inl y ↦ let last : k + 1 ≡ length left = (let le = y.1 in omega arith) in
-          let here : slice_index (left ++ n ∷ []) (k + 1) ≡ n = get_or_push left n 0 (k + 1) (sym last) in
-          let before : slice_index (left ++ n ∷ []) k ≡ slice_index left k = get_or_append_left left (n ∷ []) 0 k (omega arith) in
-          let lt : slice_index left k < n = below (slice_index left k) (k, omega arith, get_or_any left k (omega arith)) in omega arith
-      | inr z ↦ let within : k + 1 < length left = z.1 in
-          let a : slice_index (left ++ n ∷ []) k ≡ slice_index left k = get_or_append_left left (n ∷ []) 0 k (omega arith) in
-          let b : slice_index (left ++ n ∷ []) (k + 1) ≡ slice_index left (k + 1) = get_or_append_left left (n ∷ []) 0 (k + 1) within in
-          let lt : slice_index left k < slice_index left (k + 1) = rising k within in omega arith
-    ]
 
 none_left : AreLeft [] 0 []
 none_left = record { rising = λ k h. absurd (omega (arith, h)); others = λ k. (λ h. absurd (let below = h.1 in omega arith), λ h. absurd (let l = h.0 in omega arith)) }

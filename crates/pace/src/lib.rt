@@ -77,6 +77,12 @@ pub trait Pace: Sync {
     fn runs_alone(&self, _fuel: u64) {}
 }
 
+/// Tells the pace a step, and answers whether the calling thread stops there.
+pub fn must_stop_at<P: Pace>(pace: &P, step: Step) -> bool {
+    pace.at(step);
+    pace.stops(step)
+}
+
 /// Holds no thread.
 #[derive(Clone, Copy, Debug)]
 pub struct NoPace;

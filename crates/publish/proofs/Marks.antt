@@ -77,7 +77,7 @@ unmarked_skip marks n left u is = record {
 get_or_any : (xs : List ℕ) (i : ℕ) → i < length xs → get_or xs i (get_or xs i 0) ≡ get_or xs i 0
 get_or_any xs i h = get_or_from_slice_get xs i (get_or xs i 0) (get_or xs i 0) (slice_get-get_or xs i 0 h)
 
-rising_more : (left : List ℕ) (n : ℕ) → IsStrictlyIncreasing left → ((k : ℕ) → Contains left k → k < n) → IsStrictlyIncreasing (left ++ n ∷ [])
+pub rising_more : (left : List ℕ) (n : ℕ) → IsStrictlyIncreasing left → ((k : ℕ) → Contains left k → k < n) → IsStrictlyIncreasing (left ++ n ∷ [])
 rising_more left n rising below k h =
     let l = length_push left n in
     elim (leb_tells (length left) (k + 1)) [

@@ -10,13 +10,13 @@ abbrev pub Grows : Type 0
 Grows = (limits : List ℕ) (fuel call : ℕ) → call < length limits → first_fit (take (call + 1) limits) fuel
     ≡ (if nat_le (slice_index limits call) (fuel - limits_of limits (first_fit (take call limits) fuel)) then first_fit (take call limits) fuel ++ call ∷ [] else first_fit (take call limits) fuel)
 
-then_is : (l f : ℕ) (x y : List ℕ) → l ≤ f → (if nat_le l f then x else y) ≡ x
+pub then_is : (l f : ℕ) (x y : List ℕ) → l ≤ f → (if nat_le l f then x else y) ≡ x
 then_is l f x y fits = elim (leb_tells l f) [
   | inl a ↦ ap (λ (b : Bool). if b then x else y) a.0
   | inr b ↦ absurd (let over = b.1 in omega (arith, over, fits))
 ]
 
-else_is : (l f : ℕ) (x y : List ℕ) → f < l → (if nat_le l f then x else y) ≡ y
+pub else_is : (l f : ℕ) (x y : List ℕ) → f < l → (if nat_le l f then x else y) ≡ y
 else_is l f x y over = elim (leb_tells l f) [
   | inl a ↦ absurd (let fits = a.1 in omega (arith, over, fits))
   | inr b ↦ ap (λ (b : Bool). if b then x else y) b.0

@@ -16,8 +16,6 @@ ghost use Rattle.spec_ledger.specs.declared.Version.TheVariants.{Two};
 ghost use Rattle.interp.specs.Callee.{setting_view};
 ghost use Rattle.serial.specs.Positions.{results_of};
 ghost use Rattle.publish.specs.Publication.{IsSerialOrder, MayFollow, HasTaken, IsSameJob, HasGoneOn, Sweep, AreLeft, limits, fuel_of_results};
-ghost use Rattle.speculation.specs.Calls.{IsFootprintOf};
-ghost use Rattle.spec_execution.specs.ReadWriteSets.{Agrees};
 ghost use Rattle.publish.specs.Adoption.{AreMade, MayFollowBy, ran_by};
 
 pub use crate::adopting::CallRun;
@@ -30,9 +28,7 @@ use interp::finished::Finished;
 use link::deployed::Deployed as Contract;
 use lock_profile::Touched;
 use serial::{Executed, execute, replay};
-use spec_execution::Access;
 use spec_ledger::{NoMemory, Receipt, Version};
-use speculation::write_back;
 use std::alloc::{Allocator, Global};
 use std::marker::Model;
 use storage::Cells;
@@ -203,63 +199,6 @@ impl<'a, A: Allocator + Copy> Publishing<'a, A> {
         Ok(true)
     }
 
-    /// Publishes a call by a read-write set of it that was taken elsewhere, where the call may be published next and the cells now hold what it found. Answers
-    /// whether the call was taken, with all that is published.
-    ///
-    /// # Errors
-    ///
-    /// Memory was refused. Nothing is published any more.
-    pub fn commit_if_valid(
-        self,
-        call: u32,
-        executed: Executed<A>,
-        accesses: &[Access],
-    ) -> Result<(Publishing<'a, A>, bool), NoMemory>
-        requires { IsFootprintOf self.setting self.calls call accesses.now executed }
-        ensures answer { IfOk result (λ r. IsTrue r.1 ↔ (MayFollow self.entry call × All (Agrees self.entry.cells) accesses.now)) }
-        ensures taken { IfOk result (λ r. r.1 ≡ true → HasTaken self.entry call r.0) }
-        ensures left { IfOk result (λ r. r.1 ≡ false → r.0 ≡ self.entry) }
-        ensures same { IfOk result (λ r. IsSameJob self.entry r.0) }
-    {
-        if !self.may_follow(call) {
-            return Ok((self, false));
-        }
-        let Publishing {
-            alloc,
-            contracts,
-            calls,
-            opening,
-            fuel,
-            mut so_far,
-            mut cells,
-        } = self;
-        so_far.reserve()?;
-        cells.use_invariant();
-        if !write_back(&mut cells, accesses)? {
-            let published = Publishing {
-                alloc,
-                contracts,
-                calls,
-                opening,
-                fuel,
-                so_far,
-                cells,
-            };
-            return Ok((published, false));
-        }
-        so_far.push(call, calls[call as usize].fuel(), executed);
-        let published = Publishing {
-            alloc,
-            contracts,
-            calls,
-            opening,
-            fuel,
-            so_far,
-            cells,
-        };
-        Ok((published, true))
-    }
-
     /// Runs a call alone over the cells now and publishes it, where it may be published next. Answers whether it was taken.
     ///
     /// # Errors
@@ -312,26 +251,6 @@ impl<'a, A: Allocator + Copy> Publishing<'a, A> {
         ensures { result ≡ length self.now.calls }
     {
         self.calls.len() as u32
-    }
-
-    /// Fills the order, and hands out what was published.
-    ///
-    /// # Errors
-    ///
-    /// Memory was refused.
-    pub fn finish(mut self) -> Result<Published<A>, NoMemory>
-        ensures serial { IfOk result (λ published. Serial self.entry.setting self.entry.calls published.order.items self.entry.opening (results_of published.receipts.items published.touched.items) published.cells.cells) }
-        ensures admissible { IfOk result (λ published. IsAdmissible (limits self.entry.calls) published.order.items self.entry.fuel) }
-        ensures swept { IfOk result (λ published. Sweep (limits self.entry.calls) self.entry.fuel self.entry.order (length self.entry.calls) published.order.items) }
-        ensures receipts { IfOk result (λ published. length published.receipts.items ≡ length published.order.items) }
-        ensures touched { IfOk result (λ published. length published.touched.items ≡ length published.order.items) }
-        ensures settled { IfOk result (λ published. published.cells.unsettled ≡ finite.empty) }
-        ensures fuel { IfOk result (λ published. published.fuel ≡ fuel_of_results (results_of published.receipts.items published.touched.items)) }
-        ensures left { IfOk result (λ published. AreLeft published.order.items (length self.entry.calls) published.left.items) }
-    {
-        self.fill()?;
-        let published = self.close()?;
-        Ok(published)
     }
 
     /// Hands out what was published, and the calls outside the order.

@@ -114,7 +114,8 @@ fn publish(
 {
     let mut publishing = Publishing::open(alloc, contracts, calls, &scene.cells, scene.fuel)?;
     if scene.acts.is_empty() && scene.runs.is_empty() {
-        return Ok(publishing.finish()?);
+        publishing.fill()?;
+        return Ok(publishing.close()?);
     }
     put_runs(alloc, out, &mut publishing, contracts, calls, scene)?;
     for act in &scene.acts {

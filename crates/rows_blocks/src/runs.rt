@@ -1,11 +1,10 @@
 //! What calls come to that run one after another.
 
-ghost use Rattle.std.specs.Prelude.{◌≡◌, ◌<◌, ◌+◌, IfSome, All, length};
-ghost use Rattle.spec_ledger.specs.Order.{limits_of};
-ghost use Rattle.spec_block.specs.Worlds.{limits};
+ghost use Rattle.std.specs.Prelude.{◌≡◌};
 ghost use Rattle.std.specs.FinMap as finite;
 
 use block::Block;
+use block_judge::remaining;
 use call::Call;
 use interp::finished::Finished;
 use lock_profile::Touched;
@@ -142,18 +141,6 @@ pub(crate) fn trace_locks(alloc: Global, lines: &[u8]) -> Result<String, Refused
     let mut out = String::new(alloc);
     put_locks(&mut out, &touched)?;
     Ok(out)
-}
-
-/// What the limits of the calls of an order leave of this fuel. `None` where they exceed it.
-fn remaining(calls: &[Call], order: &[u32], fuel: u64) -> Option<u64>
-    requires { All (λ number. number < length calls.now) order.now }
-    ensures { IfSome result (λ rest. rest + limits_of (limits calls.now) order.now ≡ fuel) }
-{
-    let mut rest = fuel;
-    for number in order {
-        rest = rest.checked_sub(calls[*number as usize].fuel())?;
-    }
-    Some(rest)
 }
 
 /// The block of calls in this order in a world, and the world after it.

@@ -2,8 +2,7 @@
 
 use crate::put::put_cells;
 use crate::refused::Refused;
-use crate::scene::put_cell;
-use crate::words::{cut, lock_of, op_of, text_of};
+use crate::words::{cut, lock_of, op_of, put_cell, text_of};
 use std::alloc::Global;
 use storage::{Cells, Op};
 

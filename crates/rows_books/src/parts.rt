@@ -3,8 +3,7 @@
 use crate::acts::{Did, did_of};
 use crate::put::put_closed;
 use crate::refused::Refused;
-use crate::scene::put_cell;
-use crate::words::{cut, lock_of, short, steps_of, text_of};
+use crate::words::{cut, lock_of, put_cell, short, steps_of, text_of};
 use boost::book::{Book, Closed};
 use sharding::{Part, close};
 use spec_ledger::TraceStep;

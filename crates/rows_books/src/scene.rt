@@ -2,8 +2,8 @@
 
 use crate::acts::{Act, act_of};
 use crate::refused::Refused;
-use crate::words::{cut, lock_of, long, short};
-use spec_ledger::{Kind, Lock};
+use crate::words::{cut, lock_of, put_cell, short};
+use spec_ledger::Lock;
 use std::alloc::Global;
 use storage::Cells;
 
@@ -27,16 +27,6 @@ pub(crate) struct Scene<'t> {
     pub(crate) asks: Vec<Asked<'t>>,
     /// `mode KIND CONTRACT:KEY`: the locks of which each entry tells how it held them.
     pub(crate) locks: Vec<Lock>,
-}
-
-/// Puts a number into a cell. No counter is put at 0.
-pub(crate) fn put_cell(cells: &mut Cells, line: &str) -> Result<(), Refused> {
-    let (lock, value) = lock_of(line)?;
-    let value = long(value)?;
-    match lock.kind {
-        Kind::Counter if value == 0 => Err(Refused::Line),
-        _ => Ok(cells.insert(lock, value)?),
-    }
 }
 
 /// Takes a line.

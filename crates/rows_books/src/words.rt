@@ -4,6 +4,7 @@ use crate::refused::Refused;
 use spec_ledger::{CellKey, Kind, Lock, Mode, Op, Outcome, Reply, TraceStep};
 use std::alloc::Global;
 use std::str::from_utf8;
+use storage::Cells;
 use wtypes::TrapCode;
 
 /// The text of bytes.
@@ -151,4 +152,14 @@ pub(crate) fn steps_of(alloc: Global, text: &str) -> Result<Vec<TraceStep>, Refu
         }
     }
     Ok(steps)
+}
+
+/// Puts a number into a cell. No counter is put at 0.
+pub fn put_cell(cells: &mut Cells, line: &str) -> Result<(), Refused> {
+    let (lock, value) = lock_of(line)?;
+    let value = long(value)?;
+    match lock.kind {
+        Kind::Counter if value == 0 => Err(Refused::Line),
+        _ => Ok(cells.insert(lock, value)?),
+    }
 }

@@ -5,8 +5,8 @@ use crate::words::version_of;
 use call::Call;
 use hex::decode;
 use link::deployed::Deployed;
-use rows_books::words::{cut, lock_of, long, short, text_of};
-use spec_ledger::{Kind, Version};
+use rows_books::words::{cut, long, put_cell, short, text_of};
+use spec_ledger::Version;
 use std::alloc::Global;
 use storage::Cells;
 use test_support::{ASKING, EXAMPLE, FIRST_MODULE, PROBING, deployed};
@@ -94,16 +94,6 @@ fn named(alloc: Global, word: &str) -> Result<Deployed<Global>, Refused> {
             Ok(bytes) => contract_of(alloc, &bytes),
             Err(_) => Err(Refused::Contract),
         },
-    }
-}
-
-/// Puts a number into a cell. No counter is put at 0.
-fn put_cell(cells: &mut Cells, line: &str) -> Result<(), Refused> {
-    let (lock, value) = lock_of(line)?;
-    let value = long(value)?;
-    match lock.kind {
-        Kind::Counter if value == 0 => Err(Refused::Line),
-        _ => Ok(cells.insert(lock, value)?),
     }
 }
 

@@ -1,6 +1,6 @@
 //! Large modules. A check whose time grows with the square of the length takes longer than the rows may.
 
-use crate::modules_of_refused::Refused;
+use crate::refused::Refused;
 use crate::verdict::verdict_text;
 use leb::write_u32;
 use std::alloc::{AllocError, Global};

@@ -10,7 +10,6 @@ mod instrs;
 mod large;
 mod modules;
 mod modules_of;
-mod modules_of_refused;
 mod names;
 mod numbers;
 mod parts;
@@ -20,7 +19,7 @@ mod verdict;
 mod words;
 
 pub use crate::modules_of::module_answer;
-use crate::refused::Refused;
+use crate::refused::{Refused, text_of};
 pub use instrs::put_instrs;
 use std::alloc::Global;
 use std::str::from_utf8;
@@ -90,9 +89,6 @@ fn answer_to(alloc: Global, kind: &str, input: &[u8]) -> Option<Result<String, R
 
 /// The answer to a question of this kind: none where there is no such kind, or no memory.
 pub fn answer(alloc: Global, kind: &str, input: &[u8]) -> Option<String> {
-    match answer_to(alloc, kind, input)? {
-        Ok(found) => Some(found),
-        Err(Refused::NoMemory) => None,
-        Err(refusal) => format!(in alloc; "{refusal:?}\n").ok(),
-    }
+    let answered = answer_to(alloc, kind, input)?;
+    text_of(alloc, answered)
 }

@@ -1,7 +1,7 @@
 //! What rows of data ask of the crates of modules in binary, each by a word: an answer is what is found, by the derived `Debug` of its parts, or why
 //! nothing is found.
 
-use crate::modules_of_refused::Refused;
+use crate::refused::{Refused, text_of};
 use std::alloc::Global;
 
 /// What is answered to bytes: none where there is no such kind.
@@ -24,9 +24,6 @@ fn answer_to(alloc: Global, kind: &str, input: &[u8]) -> Option<Result<String, R
 
 /// The answer to a question of this kind: none where there is no such kind, or no memory.
 pub fn module_answer(alloc: Global, kind: &str, input: &[u8]) -> Option<String> {
-    match answer_to(alloc, kind, input)? {
-        Ok(found) => Some(found),
-        Err(Refused::NoMemory) => None,
-        Err(refusal) => format!(in alloc; "{refusal:?}\n").ok(),
-    }
+    let answered = answer_to(alloc, kind, input)?;
+    text_of(alloc, answered)
 }

@@ -1,6 +1,6 @@
 //! Numbers in LEB128.
 
-use crate::modules_of_refused::Refused;
+use crate::refused::Refused;
 use leb::{read_s32, read_s64, read_u32, write_s32, write_s64, write_u32};
 use std::alloc::Global;
 use std::str::from_utf8;

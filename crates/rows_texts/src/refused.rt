@@ -3,7 +3,7 @@
 use assembler::AsmRefusal;
 use lexer::{LexRefusal, TextRefusal};
 use loader::LoadRefusal;
-use std::alloc::{AllocError, AllocFailed};
+use std::alloc::{AllocError, AllocFailed, Global};
 use text_body::ParseFault;
 use text_resolve::ResolveFault;
 use wtypes::NoMemory;
@@ -25,6 +25,10 @@ pub(crate) enum Refused {
     Load(LoadRefusal),
     /// The module has no text.
     Written(module_text::TextRefusal),
+    /// The contract of the row is none.
+    Contract,
+    /// The row's line is not as this kind has it.
+    Line,
     /// Memory was refused.
     NoMemory,
 }
@@ -86,5 +90,14 @@ impl From<LoadRefusal> for Refused {
 impl From<module_text::TextRefusal> for Refused {
     fn from(refusal: module_text::TextRefusal) -> Refused {
         Refused::Written(refusal)
+    }
+}
+
+/// The text of what was found, or of why nothing was: none where memory was refused.
+pub(crate) fn text_of(alloc: Global, answered: Result<String, Refused>) -> Option<String> {
+    match answered {
+        Ok(found) => Some(found),
+        Err(Refused::NoMemory) => None,
+        Err(refusal) => format!(in alloc; "{refusal:?}\n").ok(),
     }
 }

@@ -1,6 +1,6 @@
 //! Whether a module is typed and deployed.
 
-use crate::modules_of_refused::Refused;
+use crate::refused::Refused;
 use body_typing::scope::TypeRefusal;
 use link::deploy::deploy;
 use link::refusal::LinkRefusal;

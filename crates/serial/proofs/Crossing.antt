@@ -21,6 +21,7 @@ use Rattle.module_tree.specs.contracts.module.Import as import_row
 use Rattle.module_tree.specs.contracts.module.Module as tree_row
 use Rattle.memory.specs.contracts.start.Start as start_row
 use Rattle.link.specs.contracts.deployed.Deployed as contract_row
+use Rattle.link.specs.contracts.table.Table as table_row
 use Rattle.interp.specs.contracts.finished.Finished as finished_row
 use Rattle.storage.specs.contracts.Cells as cells_row
 use Rattle.std.proofs.Crossing as std
@@ -35,6 +36,7 @@ use Rattle.wtypes.proofs.Limits.TheSendSync as limits
 use Rattle.wtypes.proofs.NoMemory.TheSendSync as no_memory
 use Rattle.wtypes.proofs.PlainInstr.TheSendSync as plain
 use Rattle.wtypes.proofs.ValType.TheSendSync as val_type
+use Rattle.wtypes.proofs.Value.TheSendSync as value
 use Rattle.spec_ledger.proofs.Outcome.TheSendSync as outcome
 use Rattle.spec_ledger.proofs.TraceStep.TheSendSync as step
 use Rattle.spec_ledger.proofs.Lock.TheSendSync as lock
@@ -46,6 +48,7 @@ use Rattle.module_tree.proofs.module.GlobalType.TheSendSync as global_type
 use Rattle.module_tree.proofs.module.Import.TheSendSync as imported
 use Rattle.module_tree.proofs.module.ImportDesc.TheSendSync as import_desc
 use Rattle.memory.proofs.start.Run.TheSendSync as run
+use Rattle.link.proofs.table.Filled.TheSendSync as filled
 use Rattle.call.proofs.Call.TheSendSync as call
 use Rattle.storage.proofs.Slot.TheSendSync as slot
 
@@ -65,6 +68,7 @@ pub ruleset crosses = (
   limits.the_field_sync,
   plain.the_field_sync,
   val_type.the_field_sync,
+  value.the_field_sync,
   host.the_field_sync,
   option.the_field_sync,
   result.the_field_send,
@@ -126,8 +130,12 @@ module _ (B : RattleType) (g : Ghosts B.Denot) (send : IsSend B) (sync : IsSync 
   start_sync : IsSync (start_row.the_row B g)
   start_sync = declared_sync (start_row.the_type B g) (search (crosses, vec_sync, run.the_field_sync) depth 60 fits 100000, (search (crosses, vec_sync) depth 60 fits 100000, tt))
 
+  table_sync : IsSync (table_row.the_row B g)
+  table_sync = search (crosses, vec_sync, filled.the_field_sync, filled.the_sync) depth 60 fits 100000
+
   pub contract_sync : IsSync (contract_row.the_row B g)
-  contract_sync = declared_sync (contract_row.the_type B g) (search (crosses, tree_sync) depth 60, (search (crosses, hosts_sync) depth 60, (search (crosses, start_sync) depth 60, tt)))
+  contract_sync = declared_sync (contract_row.the_type B g)
+      (search (crosses, tree_sync) depth 60, (search (crosses, hosts_sync) depth 60, (search (crosses, start_sync) depth 60, (search (crosses, table_sync) depth 60, (search (crosses, vec_sync, value.the_sync) depth 60 fits 100000, (search (crosses, maps_over.crosses, text_sync, export_desc.the_sync) depth 60 fits 100000, tt))))))
 
   pub contracts_send : (ℓ : Lifetime) (κ : Lft) → IsSend (ShrSlice ℓ κ (contract_row.the_row B g))
   contracts_send ℓ κ = shr_slice_send ℓ κ _ contract_sync

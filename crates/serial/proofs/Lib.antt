@@ -5,6 +5,7 @@ pub mod Meeting
 pub mod Ending
 pub mod Limits
 pub mod Modes
+mod Joining
 pub mod Orders
 pub mod Redoing
 pub mod Going

@@ -5,7 +5,7 @@ use Rattle.std.specs.declared.cmp.Ordering.TheVariants.{Less}
 use Rattle.std.specs.Ordering.{eq_by_cmp, is_lt}
 use Rattle.std.specs.List.{AllByRecursion}
 use Rattle.std.specs.List.Sorted.{IsStrictlySortedBy}
-use Rattle.std.specs.FinMap.{get, entries, get-insert, get-entries, get-from_entries, same_map, is_sorted, find}
+use Rattle.std.specs.FinMap.{empty, get, entries, get-insert, get-entries, get-from_entries, same_map, is_sorted, find}
 use Rattle.std.specs.FinMap.Entries.{below_all}
 use Rattle.spec_ledger.specs.declared.Lock.{Lock}
 use Rattle.spec_ledger.specs.declared.Mode.{Mode}
@@ -16,10 +16,8 @@ use Rattle.spec_ledger.specs.declared.Op.{Op}
 use Rattle.spec_ledger.specs.declared.Reply.{Reply}
 use Rattle.spec_ledger.specs.Modes.{Modes, mode_of, join_held, mode_at, ops_of, touched_by, touched}
 use Rattle.spec_ledger.proofs.Maps.{is_key, lock_cmp_total, lock_cmp-IsAntisymmetric}
-use Rattle.spec_ledger.proofs.Traces.{get-touched_by, mode_at-push, ops_of-append, touched-mark}
-use Rattle.lock_profile.specs.declared.Held.{Held}
-use Rattle.lock_profile.specs.Groups.{pairs, pair_of}
-use Rattle.serial.specs.Asking.{modes_in, asked, asked_by}
+use Rattle.spec_ledger.proofs.Traces.{get-touched_by, mode_at-push, ops_of-append}
+use Rattle.serial.specs.Asking.{ask_of, asks, asks_with, modes_in, asked, asked_all}
 
 -- ---- one step more
 
@@ -36,15 +34,24 @@ touched_by-push t s = same_map lock_cmp_total lock_cmp-IsAntisymmetric _ _ (λ q
 pub touched-push : (t : List TraceStep) (op : Op) (r : Reply) → touched (t ++ Did op r ∷ []) ≡ asked (touched t) op
 touched-push t op r = ap touched_by (ops_of-append t (Did op r ∷ [])) ∙ touched_by-push (ops_of t) op
 
-touched_step : (t : List TraceStep) (s : TraceStep) → touched (t ++ s ∷ []) ≡ asked_by (touched t) s
-touched_step t (Did op r) = touched-push t op r
-touched_step t Opened = touched-mark t Opened tt
-touched_step t Kept = touched-mark t Kept tt
-touched_step t Dropped = touched-mark t Dropped tt
+-- all operations of a trace ask as its locks tell
+asked_on : (t u : List Op) → asked_all (touched_by t) (map ask_of u) ≡ touched_by (t ++ u)
+asked_on t [] = ap touched_by (sym (append-nil t))
+asked_on t (s ∷ u) =
+    ap (λ m. asked_all m (map ask_of u)) (sym (touched_by-push t s)) ∙ asked_on (t ++ s ∷ []) u ∙ ap touched_by (append_assoc t (s ∷ []) u)
 
-pub touched_more : (t : List TraceStep) (i : ℕ) (d : TraceStep) (held next : Modes) → i < length t → held ≡ touched (take i t) → next ≡ asked_by held (get_or t i d) → next ≡ touched (take (i + 1) t)
-touched_more t i d held next below e f =
-    f ∙ ap (λ m. asked_by m (get_or t i d)) e ∙ sym (ap touched (take_more t i d below) ∙ touched_step (take i t) (get_or t i d))
+pub asks_are : (t : List TraceStep) → asked_all empty (asks t) ≡ touched t
+asks_are t = asked_on [] (ops_of t)
+
+asks_step : (t : List TraceStep) (s : TraceStep) → asks (t ++ s ∷ []) ≡ asks_with (asks t) s
+asks_step t (Did op r) = ap (map ask_of) (ops_of-append t (Did op r ∷ [])) ∙ map-append ask_of (ops_of t) (op ∷ [])
+asks_step t Opened = ap (map ask_of) (ops_of-append t (Opened ∷ []) ∙ append-nil (ops_of t))
+asks_step t Kept = ap (map ask_of) (ops_of-append t (Kept ∷ []) ∙ append-nil (ops_of t))
+asks_step t Dropped = ap (map ask_of) (ops_of-append t (Dropped ∷ []) ∙ append-nil (ops_of t))
+
+pub asks_more : (t : List TraceStep) (i : ℕ) (d : TraceStep) (known next : List (Lock × Mode)) → i < length t → known ≡ asks (take i t) → next ≡ asks_with known (get_or t i d) → next ≡ asks (take (i + 1) t)
+asks_more t i d known next below e f =
+    f ∙ ap (λ es. asks_with es (get_or t i d)) e ∙ sym (ap asks (take_more t i d below) ∙ asks_step (take i t) (get_or t i d))
 
 -- ---- the list of a map
 
@@ -61,7 +68,7 @@ unfolding IsStrictlySortedBy
 sorted_keys [] h = tt
 sorted_keys (e ∷ es) h = both (below_all lock_cmp e.0 es) (is_sorted lock_cmp es) (below_keys e.0 es h.0) (sorted_keys es h.1)
 
-is_true : (b : Bool) → T b → b ≡ true
+pub is_true : (b : Bool) → T b → b ≡ true
 is_true true h = refl
 is_true false h = absurd h
 
@@ -70,12 +77,3 @@ in_order es h = is_true _ (sorted_keys es h)
 
 pub listed_is : (es : List (Lock × Mode)) (m : Modes) → entries m ≡ es → m ≡ modes_in es
 listed_is es m is = same_map lock_cmp_total lock_cmp-IsAntisymmetric _ _ (λ q. get-entries m q ∙ ap (find lock_cmp q) is ∙ sym (get-from_entries lock_cmp_total es q))
-
-pub listed_all : (held : List Held) (rest all : List (Lock × Mode)) → pairs held ++ rest ≡ all → rest ≡ [] → pairs held ≡ all
-listed_all held rest all e f = sym (append-nil (pairs held)) ∙ ap (λ es. pairs held ++ es) (sym f) ∙ e
-
-pub listed_more : (held next : List Held) (lock : Lock) (mode : Mode) (rest more all : List (Lock × Mode)) → pairs held ++ rest ≡ all → rest ≡ (lock, mode) ∷ more → next ≡ held ++ record { lock = lock; mode = mode } ∷ []
-    → pairs next ++ more ≡ all
-listed_more held next lock mode rest more all e f g =
-    ap (λ hs. pairs hs ++ more) g ∙ ap (λ es. es ++ more) (map-append pair_of held (record { lock = lock; mode = mode } ∷ []))
-    ∙ append_assoc (pairs held) ((lock, mode) ∷ []) more ∙ ap (λ es. pairs held ++ es) (sym f) ∙ e

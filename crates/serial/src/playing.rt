@@ -1,10 +1,8 @@
 // A call that runs over cells, which answer its operations.
 ghost use Rattle.std.specs.Prelude.{◌≡◌, [], Ok, true, false, IfOk, OnOk, OnErr};
 ghost use Rattle.std.specs.FinMap as finite;
-ghost use Rattle.spec_execution.specs.Run.{opening};
 ghost use Rattle.storage.specs.Counts.{Store};
 ghost use Rattle.interp.specs.Callee.{setting_view};
-ghost use Rattle.interp.specs.Starting.{IsOpened, IsRejection};
 ghost use Rattle.interp.specs.Progress.{IsFree, IsSameCall};
 ghost use Rattle.serial.specs.Going.{MayGoOn, IsEnded};
 ghost use Rattle.serial.specs.Playing.{IsOnItsWay, IsPlayedOver, AreDone, AreSomeDone, MayBeLeft};
@@ -14,7 +12,6 @@ use crate::{HostRequest, next_request};
 use call::Call;
 use interp::finished::Finished;
 use interp::machine::Machine;
-use interp::start::StartRefusal;
 use link::deployed::Deployed as Contract;
 use spec_ledger::{Inverse, NoMemory, Version};
 use std::alloc::Allocator;
@@ -103,22 +100,6 @@ fn run<'a, A: Allocator + Copy>(
     }
 }
 
-/// The empty run of a call that does not start.
-fn rejected<'a, A: Allocator + Copy>(
-    alloc: A,
-    contracts: &'a [Contract<A>],
-    call: &'a Call,
-    version: Version,
-) -> Finished<'a, A>
-    requires { ¬ IsOpened (opening (setting_view version contracts.now) call.now) }
-    ensures { IsRejection (setting_view version contracts.now) call.now result }
-{
-    match Finished::rejected(alloc, contracts, call, version) {
-        Some(finished) => finished,
-        None => unreachable!(),
-    }
-}
-
 /// Runs a call over the cells by the rules of this version, and answers its run with the inverses of its operations, first to last. After a refusal of
 /// memory the cells are as they were. A call without fuel for its first instruction is answered before an instance is made.
 pub(crate) fn play<'a, A: Allocator + Copy>(
@@ -137,7 +118,10 @@ pub(crate) fn play<'a, A: Allocator + Copy>(
     }
     match Machine::start_as(alloc, contracts, call, version) {
         Ok(machine) => run(alloc, machine, cells),
-        Err(StartRefusal::NoMemory) => Err(NoMemory),
-        Err(_) => Ok((rejected(alloc, contracts, call, version), Vec::new(alloc))),
+        // Memory was refused where the call opens.
+        Err(_) => match Finished::rejected(alloc, contracts, call, version) {
+            Some(finished) => Ok((finished, Vec::new(alloc))),
+            None => Err(NoMemory),
+        },
     }
 }

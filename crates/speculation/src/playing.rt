@@ -1,8 +1,6 @@
 // A call that runs, and touches cells.
 ghost use Rattle.std.specs.Prelude.{◌≡◌, [], Ok, true, false, IfOk, OnOk};
-ghost use Rattle.spec_execution.specs.Run.{opening};
 ghost use Rattle.interp.specs.Callee.{setting_view};
-ghost use Rattle.interp.specs.Starting.{IsOpened, IsRejection};
 ghost use Rattle.interp.specs.Progress.{IsFree, IsSameCall};
 ghost use Rattle.serial.specs.Going.{MayGoOn, IsEnded};
 ghost use Rattle.speculation.specs.Touches.{AreFoundBy, AreTouches, AreTouchesOf, IsPlayedBeside, WereTouchedBy};
@@ -12,7 +10,6 @@ use crate::touches::{Touch, act, leave};
 use call::Call;
 use interp::finished::Finished;
 use interp::machine::Machine;
-use interp::start::StartRefusal;
 use link::deployed::Deployed as Contract;
 use serial::{HostRequest, next_request};
 use spec_ledger::{Inverse, Lock, NoMemory, Version};
@@ -94,22 +91,6 @@ fn run<'a, A: Allocator + Copy, V: Reads>(
     }
 }
 
-/// The empty run of a call that does not start.
-fn rejected<'a, A: Allocator + Copy>(
-    alloc: A,
-    contracts: &'a [Contract<A>],
-    call: &'a Call,
-    version: Version,
-) -> Finished<'a, A>
-    requires { ¬ IsOpened (opening (setting_view version contracts.now) call.now) }
-    ensures { IsRejection (setting_view version contracts.now) call.now result }
-{
-    match Finished::rejected(alloc, contracts, call, version) {
-        Some(finished) => finished,
-        None => unreachable!(),
-    }
-}
-
 /// Runs a call over a view by the rules of this version, and answers its run with what it touched. A call without fuel for its first instruction is answered
 /// before an instance is made.
 pub(crate) fn play<'a, A: Allocator + Copy, V: Reads>(
@@ -127,10 +108,10 @@ pub(crate) fn play<'a, A: Allocator + Copy, V: Reads>(
     }
     match Machine::start_as(alloc, contracts, call, version) {
         Ok(machine) => run(alloc, machine, view),
-        Err(StartRefusal::NoMemory) => Err(NoMemory),
-        Err(_) => Ok((
-            rejected(alloc, contracts, call, version),
-            BTreeMap::new(alloc),
-        )),
+        // Memory was refused where the call opens.
+        Err(_) => match Finished::rejected(alloc, contracts, call, version) {
+            Some(finished) => Ok((finished, BTreeMap::new(alloc))),
+            None => Err(NoMemory),
+        },
     }
 }

@@ -1,10 +1,6 @@
 // Worlds and calls from rows, the blocks that they come to one after another, and what workers make of them.
-ghost use Rattle.std.specs.Prelude.{◌≡◌, ◌<◌, ◌+◌, IfSome, All, length};
-ghost use Rattle.spec_ledger.specs.Order.{limits_of};
-ghost use Rattle.spec_block.specs.Worlds.{limits};
-
 use block::{Block, write_block};
-use block_judge::Reason;
+use block_judge::{Reason, remaining};
 use byte_sinks::{Failures, MemorySink};
 use call::Call;
 use miner::{Mined, mine};
@@ -192,18 +188,6 @@ pub(crate) fn written<A: Allocator>(
     let mut sink = MemorySink::new(heap, 10_000_000, Failures::none());
     write_block(alloc, block, &mut sink).or(Err("not written"))?;
     Ok(sink.bytes().to_vec(heap)?)
-}
-
-/// What the limits of the calls of an order leave of this fuel. `None` where they exceed it.
-fn remaining(calls: &[Call], order: &[u32], fuel: u64) -> Option<u64>
-    requires { All (λ number. number < length calls.now) order.now }
-    ensures { IfSome result (λ rest. rest + limits_of (limits calls.now) order.now ≡ fuel) }
-{
-    let mut rest = fuel;
-    for number in order {
-        rest = rest.checked_sub(calls[*number as usize].fuel())?;
-    }
-    Some(rest)
 }
 
 /// The bytes of the block of an order, whose calls run one after another.

@@ -55,7 +55,7 @@ fn results_text<A: Allocator>(
         Some(func_type) => {
             let results = types_text(alloc, &func_type.results)?;
             format!(in alloc;
-                "; found: type {item} with the results {results}; expected: one result or none"
+                "; found: type {item} with the results {results}; expected: one result or none, as clang writes with -mno-multivalue"
             )
         }
         None => Ok(String::new(alloc)),

@@ -1,9 +1,8 @@
 //! A worker's run of a position's call, over the cells that the workers share.
 
 ghost use Rattle.std.specs.Prelude.{◌≡◌, ◌<◌, ◌≤◌, ◌^◌, Ok, true, false, IfOk, IfSome, OnOk, length};
-ghost use Rattle.spec_execution.specs.Run.{IsReply, opening};
+ghost use Rattle.spec_execution.specs.Run.{IsReply};
 ghost use Rattle.interp.specs.Callee.{setting_view};
-ghost use Rattle.interp.specs.Starting.{IsOpened, IsRejection};
 ghost use Rattle.interp.specs.Progress.{IsFree, IsSameCall};
 ghost use Rattle.serial.specs.Going.{MayGoOn, IsEnded};
 ghost use Rattle.validator.specs.Handed.{IsMade, IsRunIn};
@@ -16,10 +15,9 @@ use call::Call;
 use in_order::Task;
 use interp::finished::Finished;
 use interp::machine::Machine;
-use interp::start::StartRefusal;
 use link::deployed::Deployed as Contract;
 use lock_profile::Profile;
-use pace::{Pace, Step, acquire};
+use pace::{Pace, Step, acquire, must_stop_at};
 use serial::{HostRequest, next_request};
 use spec_ledger::{NoMemory, Op, Reply, Version};
 use std::alloc::Allocator;
@@ -35,12 +33,6 @@ enum Stop {
     NoMemory,
     /// The pace stopped the worker.
     Stopped,
-}
-
-/// Tells the pace a step, and answers whether the worker stops there.
-fn must_stop_at<P: Pace>(pace: &P, step: Step) -> bool {
-    pace.at(step);
-    pace.stops(step)
 }
 
 /// A position, the number of its call, what the call may ask for, the cells that it is run over, and who is told.
@@ -179,22 +171,6 @@ fn run<'a, A: Allocator + Copy, R: Wait, P: Pace>(
     }
 }
 
-/// The empty run of a call that does not start.
-fn rejected<'a, A: Allocator + Copy>(
-    alloc: A,
-    contracts: &'a [Contract<A>],
-    call: &'a Call,
-    version: Version,
-) -> Finished<'a, A>
-    requires { ¬ IsOpened (opening (setting_view version contracts.now) call.now) }
-    ensures { IsRejection (setting_view version contracts.now) call.now result }
-{
-    match Finished::rejected(alloc, contracts, call, version) {
-        Some(finished) => finished,
-        None => unreachable!(),
-    }
-}
-
 /// Runs the call of a number to its end. A call without fuel for its first instruction is answered before an instance is made.
 fn play<'a, A: Allocator + Copy, R: Wait, P: Pace>(
     rt: &R,
@@ -218,8 +194,11 @@ fn play<'a, A: Allocator + Copy, R: Wait, P: Pace>(
     }
     match Machine::start_as(alloc, contracts, call, version) {
         Ok(machine) => run(rt, alloc, place, machine),
-        Err(StartRefusal::NoMemory) => Err(Stop::NoMemory),
-        Err(_) => Ok(rejected(alloc, contracts, call, version)),
+        // Memory was refused where the call opens.
+        Err(_) => match Finished::rejected(alloc, contracts, call, version) {
+            Some(finished) => Ok(finished),
+            None => Err(Stop::NoMemory),
+        },
     }
 }
 

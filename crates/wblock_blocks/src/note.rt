@@ -11,7 +11,7 @@ use link::deployed::Deployed;
 use spec_ledger::Outcome;
 use std::alloc::{AllocError, Global};
 use std::fmt;
-use wblock_line::Answer;
+use wblock_line::{Answer, entry_words};
 
 /// What a command comes to, and what is said on standard error once it is done.
 #[derive(Debug, Drop)]
@@ -70,7 +70,10 @@ fn outcome_words(
         Outcome::Trapped(code) => format!(in alloc; "{code}"),
         Outcome::OutOfFuel => format!(in alloc; "its limit of fuel was used up"),
         Outcome::Returned(_) | Outcome::Rejected(_) => match refusal_of(contracts, call) {
-            Some(refusal) => format!(in alloc; "{refusal}"),
+            Some(refusal) => {
+                let entry = entry_words(alloc, contracts, call)?;
+                format!(in alloc; "{refusal}{entry}")
+            }
             None => Ok(String::new(alloc)),
         },
     }

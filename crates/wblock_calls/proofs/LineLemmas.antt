@@ -6,7 +6,7 @@ use Rattle.std.proofs.lemmas.Grind.{common_steps}
 use Rattle.std.specs.List.{AllZip}
 use Rattle.spec_execution.specs.Run.{ContractCall}
 use Rattle.wblock_calls.specs.Texts.{IsLineOf, lines_of, SpellsCalls, IsFirstBad}
-use Rattle.wblock_calls.proofs.WordLemmas.{texts}
+use Rattle.wblock_calls.specs.Words.{texts}
 
 pub each_push : (ls : List (List ℕ)) (cs : List ContractCall) (l : List ℕ) (c : ContractCall) → AllZip IsLineOf ls cs → IsLineOf l c → AllZip IsLineOf (ls ++ l ∷ []) (cs ++ c ∷ [])
 each_push [] [] l c h is = (is, tt)

@@ -4,9 +4,7 @@ use Rattle.std.proofs.lemmas.Fmt.{decimal_injective}
 use Rattle.wtypes.specs.declared.Value.{Value}
 use Rattle.spec_execution.specs.Run.{ContractCall}
 use Rattle.wblock_calls.specs.Texts.{value_text, IsInRange, AreValues, AreCall, IsLineOf, words_of}
-
-abbrev pub texts : List (Bor (List ℕ)) → List (List ℕ)
-texts ws = map (λ w. w.now) ws
+use Rattle.wblock_calls.specs.Words.{texts}
 
 pub at_some : {X : Type 0} (N : Type 0) (S : X → Type 0) (found : Option X) (x : X) → found ≡ Some x → MatchOption found N S → S x
 at_some {X} N S found x is h = let P : Option X → Type 0 = λ f. MatchOption f N S in subst P is h

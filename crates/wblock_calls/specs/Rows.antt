@@ -1,9 +1,10 @@
 -- Rows of texts, computed.
-use Rattle.std.specs.Prelude.{◌≡◌, [], ◌∷◌, ◌++◌, pos, negsuc, codes, refl, None, Some}
+use Rattle.std.specs.Prelude.{◌≡◌, [], ◌∷◌, ◌++◌, pos, negsuc, codes, refl, None, Some, true, false}
 use Rattle.std.specs.Fmt.{digits}
 use Rattle.wtypes.specs.declared.Value.TheVariants.{I32, I64}
 use Rattle.wtypes.specs.declared.TrapCode.TheVariants.{CallDepth}
 use Rattle.spec_ledger.specs.declared.Outcome.TheVariants.{Returned, Trapped}
+use Rattle.wblock_calls.specs.Numbers.{number_text}
 use Rattle.wblock_calls.specs.Texts.{value_text}
 use Rattle.wblock_calls.specs.Receipts.{receipt_text, position_text}
 use Rattle.wblock_calls.specs.Refusals.{IsCallsLine}
@@ -16,6 +17,14 @@ row_i64 = refl
 pub row_i32 : value_text (I32 (negsuc 4)) ≡ codes "i32:-5"
 unfolding digits
 row_i32 = refl
+
+pub row_unsigned : number_text false 12 ≡ codes "12"
+unfolding digits
+row_unsigned = refl
+
+pub row_signed : number_text true 12 ≡ codes "12"
+unfolding digits
+row_signed = refl
 
 pub row_returned : position_text 0 1 (record { outcome = Returned (Some (I64 (pos 10))); used = 7; asks = 0 }) ≡ codes "0 call 1 returned i64:10 fuel 7"
 unfolding digits

@@ -146,6 +146,20 @@ fn bad_word<'a>(alloc: Global, line: &'a str) -> Result<Option<BadWord<'a>>, All
     Ok(None)
 }
 
+/// What is wrong with the first of these words of a call that may not stand there, and what to write; None where each of them may.
+pub fn call_words(alloc: Global, words: &[&str]) -> Result<Option<String>, AllocError> {
+    for (number, word) in words.iter().enumerate() {
+        if let Some(fault) = fault_of(alloc, number, *word)? {
+            let bad = named(0, *word, fault);
+            let cause = bad.fault.text();
+            let word = shown(bad.word);
+            let said = format!(in alloc; "`{word}`: {cause}")?;
+            return Ok(Some(said));
+        }
+    }
+    Ok(None)
+}
+
 /// What is said of a line that spells no call, or is the last and not ended.
 fn line_fault(alloc: Global, line: &[u8]) -> Result<String, AllocError> {
     let line = match from_utf8(line) {

@@ -3,12 +3,15 @@
 
 mod fault;
 mod line;
+mod number;
 mod reader;
 mod receipt;
 mod refusal;
 mod words;
 
-pub use fault::calls_words;
+pub use fault::{call_words, calls_words};
+pub use line::call_of_words;
+pub use number::NumberText;
 pub use reader::{CallsRefusal, MOST_CALLS, read_calls};
 pub use receipt::{PositionLine, ReceiptText, ValueText};
 pub use refusal::refusal_line;

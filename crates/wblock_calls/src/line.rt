@@ -9,8 +9,8 @@ use call::Call;
 use std::alloc::{AllocError, Global};
 use std::str::from_utf8;
 
-/// The call that these words spell.
-fn call_of_words(alloc: Global, words: &[&str]) -> Result<Option<Call>, AllocError>
+/// The call that the words `CONTRACT FUEL ENTRY ARG...` spell, each as in a line of calls. None where they spell none.
+pub fn call_of_words(alloc: Global, words: &[&str]) -> Result<Option<Call>, AllocError>
     ensures { IfOk result (λ found. MatchOption found ((c : ContractCall) → ¬ AreCall (map (λ w. w.now) words.now) c) (AreCall (map (λ w. w.now) words.now))) }
 {
     if words.len() < 3 || words[2].is_empty() || !is_plain(words[2]) {

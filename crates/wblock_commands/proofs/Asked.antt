@@ -1,24 +1,25 @@
 -- A line that asks for none of the commands asks for nothing.
-use Rattle.std.proofs.Common.{◌≡◌, ℕ, List, [], ◌∷◌, Bor, Option, codes}
+use Rattle.std.proofs.Common.{◌≡◌, ℕ, Bool, List, [], ◌∷◌, Bor, Option, codes}
 use Rattle.wblock_line.specs.Words.{Line}
 use Rattle.wblock_commands.specs.declared.command.Command.{Command}
-use Rattle.wblock_commands.specs.declared.command.Command.TheVariants.{Stored, Help, Version, Asm, Text, Check, Deploy, Mine, Validate, Debug, Show}
+use Rattle.wblock_commands.specs.declared.command.Command.TheVariants.{Stored, Help, Version, Asm, Text, Check, Deploy, Mine, Validate, Call, Debug, Show}
 use Rattle.wblock_commands.specs.declared.command.Deploying.{Deploying}
 use Rattle.wblock_show.specs.declared.file.Showing.{Showing}
 use Rattle.wblock_commands.specs.Words.{AsksStored, AsksAsm, AsksText, AsksCheck, AsksDeploy, AsksShow, AsksNoTask, AsksHelp, IsTold, IsLineOf}
 
-pub nothing_asked : (l : Line) → ¬ AsksStored l → ((text target : List ℕ) → ¬ AsksAsm l text target) → ((source target : List ℕ) → ¬ AsksText l source target)
+pub nothing_asked : (l : Line) → ¬ AsksStored l → ((text target : List ℕ) → ¬ AsksAsm l text target) → ((source target : List ℕ) (unchecked : Bool) → ¬ AsksText l source target unchecked)
     → ((target : List ℕ) (heap : Option ℕ) → ¬ AsksCheck l target heap) → ((d : Deploying) → ¬ AsksDeploy l d)
     → ((s : Showing) → ¬ AsksShow l s) → AsksNoTask l → (c : Command) → IsLineOf l c → ⊥
 nothing_asked l s a w k d h t Stored x = s x
 nothing_asked l s a w k d h t (Help words) x = x
 nothing_asked l s a w k d h t Version x = x
 nothing_asked l s a w k d h t (Asm text target) x = a text.now target.now x
-nothing_asked l s a w k d h t (Text source target) x = w source.now target.now x
+nothing_asked l s a w k d h t (Text source target unchecked) x = w source.now target.now unchecked x
 nothing_asked l s a w k d h t (Check target heap) x = k target.now heap x
 nothing_asked l s a w k d h t (Deploy task) x = d task x
 nothing_asked l s a w k d h t (Mine task) x = t.mining task x
 nothing_asked l s a w k d h t (Validate task) x = t.validation task x
+nothing_asked l s a w k d h t (Call task) x = t.calling task x
 nothing_asked l s a w k d h t (Debug task) x = t.debugging task x
 nothing_asked l s a w k d h t (Show task) x = h task x
 
@@ -27,11 +28,12 @@ nothing_told words h v Stored x = x
 nothing_told words h v (Help asked) x = h x
 nothing_told words h v Version x = v x
 nothing_told words h v (Asm text target) x = x
-nothing_told words h v (Text source target) x = x
+nothing_told words h v (Text source target unchecked) x = x
 nothing_told words h v (Check target heap) x = x
 nothing_told words h v (Deploy task) x = x
 nothing_told words h v (Mine task) x = x
 nothing_told words h v (Validate task) x = x
+nothing_told words h v (Call task) x = x
 nothing_told words h v (Debug task) x = x
 nothing_told words h v (Show task) x = x
 

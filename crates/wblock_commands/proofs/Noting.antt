@@ -9,7 +9,7 @@ use Rattle.wblock_line.specs.declared.answer.Answer.TheVariants.{Done, Refused}
 use Rattle.wblock_blocks.specs.Notes.{IsReturn, HasReturned, EndsLine}
 use Rattle.wblock_commands.specs.Does.{IsMine, IsNote, SaysNote}
 use Rattle.wblock_commands.specs.declared.command.Command.{Command}
-use Rattle.wblock_commands.specs.declared.command.Command.TheVariants.{Stored, Help, Version, Asm, Text, Check, Deploy, Mine, Validate, Debug, Show}
+use Rattle.wblock_commands.specs.declared.command.Command.TheVariants.{Stored, Help, Version, Asm, Text, Check, Deploy, Mine, Validate, Call, Debug, Show}
 
 returned_or_not : (o : Outcome) → IsReturn o ⊎ (IsReturn o → ⊥)
 returned_or_not (Returned value) = inl tt
@@ -36,12 +36,13 @@ is_text Stored a note h = inl h
 is_text (Help words) a note h = inl h
 is_text Version a note h = inl h
 is_text (Asm text target) a note h = inl h
-is_text (Text source target) a note h = inl h
+is_text (Text source target unchecked) a note h = inl h
 is_text (Check target heap) a note h = inl h
 is_text (Deploy task) a note h = inl h
 is_text (Mine task) (Done writes text) note h = of_either (all_or_not HasReturned (λ p. returned_or_not p.receipt.outcome) h.0.positions) h.4.silent h.4.told
 is_text (Mine task) (Refused line why) note h = inl h
 is_text (Validate task) a note h = inl h
+is_text (Call task) a note h = inl h
 is_text (Debug task) a note h = inl h
 is_text (Show task) a note h = inl h
 

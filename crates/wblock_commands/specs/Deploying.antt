@@ -1,26 +1,30 @@
 -- When a world is deployed.
-use Rattle.std.specs.Prelude.{◌≡◌, ℕ, ◌⊎◌, true, false, List, None, IsSome}
+use Rattle.std.specs.Prelude.{◌≡◌, ℕ, ◌⊎◌, true, List, None, IsSome}
 use Rattle.wblock_io.specs.Holding.{Holding}
 use Rattle.wblock_line.specs.declared.answer.Answer.{Answer}
-use Rattle.wblock_modules.specs.Deploys.{Deploys, IsNextModule}
+use Rattle.wblock_modules.specs.Deploys.{Deploys, IsOld, IsNextDeployed}
 use Rattle.wblock_commands.specs.declared.command.Deploying.{Deploying}
-use Rattle.wblock_commands.specs.Words.{texts}
+use Rattle.wblock_calls.specs.Words.{texts}
+
+-- the line asks that the file of the world be written over: by `--force`, or since it is OLD, too
+abbrev pub MayReplace : Deploying → Type 0
+MayReplace d = (d.forced ≡ true) ⊎ IsOld d.onto d.world.now
 
 -- the file of the world is there, and is not to be written over
 pub record IsTaken (d : Deploying) (holds : Holding) : Type 0 where
-  pub unforced : d.forced ≡ false
+  pub unasked : ¬ MayReplace d
   pub there : IsSome (holds d.world.now)
 
 -- the file of the world is not there, or may be written over
 abbrev pub IsFree : Deploying → Holding → Type 0
-IsFree d holds = (holds d.world.now ≡ None) ⊎ (d.forced ≡ true)
+IsFree d holds = (holds d.world.now ≡ None) ⊎ MayReplace d
 
 -- the world of the modules, which takes no file's place unasked
 pub record DeploysFree (d : Deploying) (holds : Holding) (a : Answer) : Type 0 where
   pub free : IsFree d holds
-  pub deploys : Deploys holds d.world.now (texts d.modules.now) a
+  pub deploys : Deploys holds d.world.now d.onto (texts d.modules.now) a
 
--- no module is read where the file of the world is there unasked
+-- neither OLD nor a module is read where the file of the world is there unasked
 pub record IsNextToDeploy (d : Deploying) (holds : Holding) (name : List ℕ) : Type 0 where
   pub free : IsFree d holds
-  pub next : IsNextModule holds (texts d.modules.now) name
+  pub next : IsNextDeployed holds d.onto (texts d.modules.now) name

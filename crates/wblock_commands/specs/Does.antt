@@ -1,5 +1,5 @@
 -- What a command does.
-use Rattle.std.specs.Prelude.{◌≡◌, ℕ, ◌⊎◌, List, [], ◌++◌, string_bytes, Bool, false, IsTrue}
+use Rattle.std.specs.Prelude.{◌≡◌, ℕ, ◌⊎◌, List, [], ◌++◌, string_bytes, Bool, IsTrue}
 use Rattle.wblock_io.specs.Holding.{Holding, Failing, IsFailed}
 use Rattle.wblock_line.specs.declared.answer.Answer.{Answer}
 use Rattle.wblock_line.specs.declared.perform.Status.{Status}
@@ -13,11 +13,12 @@ use Rattle.wblock_line.specs.Inputs.{IsNextInput}
 use Rattle.wblock_blocks.specs.Mines.{Mines}
 use Rattle.wblock_blocks.specs.Notes.{EndsLine, Notes}
 use Rattle.wblock_blocks.specs.Validates.{Validates, IsNextFile}
+use Rattle.wblock_debug.specs.Calling.{Calls}
 use Rattle.wblock_debug.specs.Debugs.{Debugs, IsNotListed, IsNextRead}
 use Rattle.wblock_show.specs.Named.{ShowsNamed, IsNextNamed}
 use Rattle.wblock_commands.specs.declared.command.Command.{Command}
-use Rattle.wblock_commands.specs.declared.command.Command.TheVariants.{Stored, Help, Version, Asm, Text, Check, Deploy, Mine, Validate, Debug, Show}
-use Rattle.wblock_commands.specs.Deploying.{IsTaken, DeploysFree, IsNextToDeploy}
+use Rattle.wblock_commands.specs.declared.command.Command.TheVariants.{Stored, Help, Version, Asm, Text, Check, Deploy, Mine, Validate, Call, Debug, Show}
+use Rattle.wblock_commands.specs.Deploying.{MayReplace, IsTaken, DeploysFree, IsNextToDeploy}
 
 -- what a command comes to over files
 abbrev pub Answers : Command → Holding → Answer → Type 0
@@ -25,17 +26,18 @@ Answers Stored holds answer = ShowsStored answer
 Answers (Help words) holds answer = TellsText answer
 Answers Version holds answer = TellsText answer
 Answers (Asm text target) holds answer = Assembles holds text.now target.now answer
-Answers (Text source target) holds answer = WritesText holds source.now target.now answer
+Answers (Text source target unchecked) holds answer = WritesText unchecked holds source.now target.now answer
 Answers (Check target heap) holds answer = Checks holds target.now answer
 Answers (Deploy task) holds answer = DeploysFree task holds answer
 Answers (Mine task) holds answer = Mines holds task answer
 Answers (Validate task) holds answer = Validates holds task answer
+Answers (Call task) holds answer = Calls holds task answer
 Answers (Debug task) holds answer = Debugs holds task answer
 Answers (Show task) holds answer = ShowsNamed holds task answer
 
 -- files decide whether there is what the command needs: a call of a number, or no file where a world is to be written
 abbrev pub MayMiss : Command → Type 0
-MayMiss (Deploy task) = task.forced ≡ false
+MayMiss (Deploy task) = ¬ MayReplace task
 MayMiss (Debug task) = Unit {0}
 MayMiss c = ⊥
 
@@ -75,11 +77,12 @@ Reads Stored holds name = ⊥
 Reads (Help words) holds name = ⊥
 Reads Version holds name = ⊥
 Reads (Asm text target) holds name = name ≡ text.now
-Reads (Text source target) holds name = name ≡ source.now
+Reads (Text source target unchecked) holds name = name ≡ source.now
 Reads (Check target heap) holds name = name ≡ target.now
 Reads (Deploy task) holds name = IsNextToDeploy task holds name
 Reads (Mine task) holds name = IsNextInput holds task.world.now task.calls.now name
 Reads (Validate task) holds name = IsNextFile holds task name
+Reads (Call task) holds name = name ≡ task.world.now
 Reads (Debug task) holds name = IsNextRead holds task name
 Reads (Show task) holds name = IsNextNamed holds task name
 

@@ -60,13 +60,26 @@ AsksForm options form = IsForm (values_in (codes "--json") options) (values_in (
 abbrev pub AsksNext : List Choice → Option (Bor (List ℕ)) → Type 0
 AsksNext options next = IsNameOrNone (values_in (codes "--next") options) next
 
--- `--boosted`, once and without a value, or not
+-- the values of a switch: it is given, once and without a value, or it is not
 abbrev pub IsSwitch : (switches : List (List ℕ)) → Bool → Type 0
 IsSwitch switches true = switches ≡ [] ∷ []
 IsSwitch switches false = switches ≡ []
 
+-- `--force`, once and without a value, or not
+abbrev pub AsksForce : List Choice → Bool → Type 0
+AsksForce options forced = IsSwitch (values_in (codes "--force") options) forced
+
+-- `--onto OLD`, or no file
+abbrev pub AsksOnto : List Choice → Option (Bor (List ℕ)) → Type 0
+AsksOnto options old = IsNameOrNone (values_in (codes "--onto") options) old
+
+-- `--boosted`, once and without a value, or not
 abbrev pub AsksBoosted : List Choice → Bool → Type 0
 AsksBoosted options boosted = IsSwitch (values_in (codes "--boosted") options) boosted
+
+-- `--signed`, once and without a value, or not
+abbrev pub AsksSigned : List Choice → Bool → Type 0
+AsksSigned options signed = IsSwitch (values_in (codes "--signed") options) signed
 
 -- no option has another name: together these are as many as there are options
 abbrev pub HasOnlyMining : List Choice → Type 0
@@ -75,5 +88,8 @@ HasOnlyMining options = length options ≡ count_of (codes "--fuel") options + c
 abbrev pub HasOnlyValidation : List Choice → Type 0
 HasOnlyValidation options = length options ≡ count_of (codes "--fuel") options + count_of (codes "--workers") options + count_of (codes "--boosted") options + count_of (codes "--next") options
 
+abbrev pub HasOnlyDeploying : List Choice → Type 0
+HasOnlyDeploying options = length options ≡ count_of (codes "--onto") options + count_of (codes "--force") options
+
 abbrev pub HasOnlyShowing : List Choice → Type 0
-HasOnlyShowing options = length options ≡ count_of (codes "--calls") options + count_of (codes "--json") options + count_of (codes "--svg") options
+HasOnlyShowing options = length options ≡ count_of (codes "--calls") options + count_of (codes "--json") options + count_of (codes "--svg") options + count_of (codes "--signed") options

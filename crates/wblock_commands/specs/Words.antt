@@ -1,24 +1,21 @@
 -- What the words of a line ask for.
-use Rattle.std.specs.Prelude.{◌≡◌, ◌≢◌, ℕ, ◌<◌, ◌≤◌, ◌⊎◌, Bool, true, false, List, [], ◌∷◌, Option, Some, None, IfSome, codes, decimal, length, map}
+use Rattle.std.specs.Prelude.{◌≡◌, ◌≢◌, ℕ, ◌<◌, ◌≤◌, ◌⊎◌, Bool, true, false, List, [], ◌∷◌, Option, Some, None, IfSome, codes, decimal, length}
 use Rattle.std.specs.Borrow.{Bor}
+use Rattle.wblock_calls.specs.Words.{texts}
 use Rattle.wblock_line.specs.Words.{Line, Choice, split}
 use Rattle.wblock_commands.specs.declared.command.Command.{Command}
-use Rattle.wblock_commands.specs.declared.command.Command.TheVariants.{Stored, Help, Version, Asm, Text, Check, Deploy, Mine, Validate, Debug, Show}
+use Rattle.wblock_commands.specs.declared.command.Command.TheVariants.{Stored, Help, Version, Asm, Text, Check, Deploy, Mine, Validate, Call, Debug, Show}
 use Rattle.wblock_commands.specs.declared.command.Deploying.{Deploying}
-use Rattle.wblock_commands.specs.Options.{AsksFuel, AsksWorkers, AsksTries, AsksBoosted, AsksNext, AsksCalls, AsksForm, HasOnlyMining, HasOnlyValidation, HasOnlyShowing}
+use Rattle.wblock_commands.specs.Options.{AsksFuel, AsksWorkers, AsksTries, AsksBoosted, AsksNext, AsksCalls, AsksForm, AsksSigned, AsksForce, AsksOnto, HasOnlyDeploying, HasOnlyMining, HasOnlyValidation, HasOnlyShowing}
 use Rattle.wblock_debug.specs.Asks.{AsksDebug}
+use Rattle.wblock_debug.specs.Calling.{AsksCall}
 use Rattle.wblock_debug.specs.declared.asked.Debugging.{Debugging}
+use Rattle.wblock_debug.specs.declared.called.Calling.{Calling}
 use Rattle.wblock_blocks.specs.declared.mine.Mining.{Mining}
 use Rattle.wblock_blocks.specs.declared.validate.Validation.{Validation}
 use Rattle.wblock_show.specs.declared.file.Form.{Form}
 use Rattle.wblock_show.specs.declared.file.Form.TheVariants as form
 use Rattle.wblock_show.specs.declared.file.Showing.{Showing}
-
-abbrev pub texts : List (Bor (List ℕ)) → List (List ℕ)
-texts words = map (λ w. w.now) words
-
-abbrev pub choices : List (Bor (List ℕ) × Bor (List ℕ)) → List Choice
-choices options = map (λ o. (o.0.now, o.1.now)) options
 
 -- the word is none of these
 abbrev pub IsApart : List ℕ → List (List ℕ) → Type 0
@@ -47,21 +44,21 @@ pub record AsksAsm (line : Line) (text target : List ℕ) : Type 0 where
   pub options : line.options ≡ []
   pub apart : text ≢ target
 
--- `text MODULE TEXT`, of different names
-pub record AsksText (line : Line) (source target : List ℕ) : Type 0 where
+-- the switch of this name alone and without a value, or nothing
+abbrev pub AsksAlone : (name : List ℕ) → List Choice → Bool → Type 0
+AsksAlone name options true = options ≡ (name, []) ∷ []
+AsksAlone name options false = options ≡ []
+
+-- `text MODULE TEXT [--unchecked]`, of different names
+pub record AsksText (line : Line) (source target : List ℕ) (unchecked : Bool) : Type 0 where
   pub words : line.words ≡ codes "text" ∷ source ∷ target ∷ []
-  pub options : line.options ≡ []
+  pub options : AsksAlone (codes "--unchecked") line.options unchecked
   pub apart : source ≢ target
 
 -- `check MODULE [--heap N]`
 pub record AsksCheck (line : Line) (target : List ℕ) (heap : Option ℕ) : Type 0 where
   pub words : line.words ≡ codes "check" ∷ target ∷ []
   pub options : AsksHeap line.options heap
-
--- `--force`, or nothing
-abbrev pub AsksForce : List Choice → Bool → Type 0
-AsksForce options true = options ≡ (codes "--force", []) ∷ []
-AsksForce options false = options ≡ []
 
 -- `deploy WORLD MODULE...`, WORLD of a name that no MODULE has, whatever the options
 pub record NamesModules (words : List (List ℕ)) (world : List ℕ) (modules : List (List ℕ)) : Type 0 where
@@ -70,10 +67,12 @@ pub record NamesModules (words : List (List ℕ)) (world : List ℕ) (modules : 
   pub few : length modules ≤ 1024
   pub apart : IsApart world modules
 
--- `deploy WORLD MODULE... [--force]`
+-- `deploy WORLD MODULE... [--onto OLD] [--force]`
 pub record AsksDeploy (line : Line) (d : Deploying) : Type 0 where
   pub names : NamesModules line.words d.world.now (texts d.modules.now)
+  pub onto : AsksOnto line.options d.onto
   pub force : AsksForce line.options d.forced
+  pub only : HasOnlyDeploying line.options
 
 -- what is written takes the place of no input and of no other output: BLOCK has a name of its own, and NEXT another than CALLS; NEXT may be WORLD
 pub record KeepsInputs (m : Mining) : Type 0 where
@@ -114,11 +113,12 @@ pub record AsksValidate (line : Line) (v : Validation) : Type 0 where
   pub spells : SpellsValidate line v
   pub apart : NextIsApart v
 
--- `show FILE [--calls CALLS]`, with `--json` or `--svg PICTURE` or neither, whatever PICTURE is
+-- `show FILE [--calls CALLS] [--signed]`, with `--json` or `--svg PICTURE` or neither, whatever PICTURE is
 pub record SpellsShow (line : Line) (s : Showing) : Type 0 where
   pub words : line.words ≡ codes "show" ∷ s.file.now ∷ []
   pub calls : AsksCalls line.options s.calls
   pub form : AsksForm line.options s.form
+  pub signed : AsksSigned line.options s.signed
   pub only : HasOnlyShowing line.options
 
 -- the picture of a block is drawn without calls, and takes the place of no file that is read
@@ -130,7 +130,7 @@ IsDrawnApart (form.Picture picture) calls file = (calls ≡ None) × (file ≢ p
 abbrev pub PictureIsApart : Showing → Type 0
 PictureIsApart s = IsDrawnApart s.form s.calls s.file.now
 
--- `show FILE [--calls CALLS] [--json]`, or `show FILE --svg PICTURE`, PICTURE of another name than FILE
+-- `show FILE [--calls CALLS] [--json] [--signed]`, or `show FILE --svg PICTURE [--signed]`, PICTURE of another name than FILE
 pub record AsksShow (line : Line) (s : Showing) : Type 0 where
   pub spells : SpellsShow line s
   pub apart : PictureIsApart s
@@ -139,6 +139,7 @@ pub record AsksShow (line : Line) (s : Showing) : Type 0 where
 pub record AsksNoTask (line : Line) : Type 0 where
   pub mining : (m : Mining) → ¬ AsksMine line m
   pub validation : (v : Validation) → ¬ AsksValidate line v
+  pub calling : (c : Calling) → ¬ AsksCall line c
   pub debugging : (d : Debugging) → ¬ AsksDebug line d
 
 abbrev pub IsLineOf : Line → Command → Type 0
@@ -146,11 +147,12 @@ IsLineOf line Stored = AsksStored line
 IsLineOf line (Help words) = ⊥
 IsLineOf line Version = ⊥
 IsLineOf line (Asm text target) = AsksAsm line text.now target.now
-IsLineOf line (Text source target) = AsksText line source.now target.now
+IsLineOf line (Text source target unchecked) = AsksText line source.now target.now unchecked
 IsLineOf line (Check target heap) = AsksCheck line target.now heap
 IsLineOf line (Deploy task) = AsksDeploy line task
 IsLineOf line (Mine task) = AsksMine line task
 IsLineOf line (Validate task) = AsksValidate line task
+IsLineOf line (Call task) = AsksCall line task
 IsLineOf line (Debug task) = AsksDebug line task
 IsLineOf line (Show task) = AsksShow line task
 
@@ -178,10 +180,11 @@ HasFew Stored = Unit {0}
 HasFew (Help words) = Unit {0}
 HasFew Version = Unit {0}
 HasFew (Asm text target) = Unit {0}
-HasFew (Text source target) = Unit {0}
+HasFew (Text source target unchecked) = Unit {0}
 HasFew (Check target heap) = Unit {0}
 HasFew (Deploy task) = length task.modules.now ≤ 1024
 HasFew (Mine task) = ((1 ≤ task.workers) × (task.workers ≤ 64)) × ((1 ≤ task.tries) × (task.tries ≤ 16))
 HasFew (Validate task) = (1 ≤ task.workers) × (task.workers ≤ 64)
+HasFew (Call task) = Unit {0}
 HasFew (Debug task) = Unit {0}
 HasFew (Show task) = Unit {0}

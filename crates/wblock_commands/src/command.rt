@@ -2,7 +2,9 @@
 
 ghost use Rattle.std.specs.Prelude.{◌≡◌, ◌≢◌, ◌≤◌, ◌↔◌, ℕ, Bool, List, [], ◌∷◌, Option, IfOk, IfSome, IsTrue, MatchOption, codes, decimal};
 ghost use Rattle.wblock_line.specs.Words.{line_of};
-ghost use Rattle.wblock_commands.specs.Words.{AsksStored, AsksAsm, AsksText, AsksShow, AsksHeap, IsSize, AsksCheck, AsksForce, NamesModules, AsksDeploy, AsksMine, AsksValidate, CountsValidate, SpellsValidate, AsksNoTask, IsLineOf, IsApart, KeepsInputs, NextIsApart, SpellsShow, PictureIsApart, AsksHelp, IsTold, HasFew, texts, choices};
+ghost use Rattle.wblock_calls.specs.Words.{texts};
+ghost use Rattle.wblock_line.specs.Words.{choices};
+ghost use Rattle.wblock_commands.specs.Words.{AsksStored, AsksAsm, AsksText, AsksShow, AsksHeap, IsSize, AsksCheck, AsksAlone, NamesModules, AsksDeploy, AsksMine, AsksValidate, CountsValidate, SpellsValidate, AsksNoTask, IsLineOf, IsApart, KeepsInputs, NextIsApart, SpellsShow, PictureIsApart, AsksHelp, IsTold, HasFew};
 ghost use Rattle.wblock_commands.specs.declared.command.Command.{Command as Asked};
 ghost use Rattle.wblock_commands.specs.declared.command.Deploying.{Deploying as TheDeploying};
 ghost use Rattle.wblock_blocks.specs.declared.mine.Mining.{Mining as TheMining};
@@ -11,13 +13,14 @@ ghost use Rattle.wblock_show.specs.declared.file.Showing.{Showing as TheShowing}
 
 use crate::declared::HEAP;
 use crate::options::{
-    boosted_in, calls_in, form_in, fuel_in, has_only_mining, has_only_showing, has_only_validation,
-    next_in, number_within, tries_in, workers_in,
+    boosted_in, calls_in, force_in, form_in, fuel_in, has_only_deploying, has_only_mining,
+    has_only_showing, has_only_validation, next_in, number_within, onto_in, signed_in, tries_in,
+    workers_in,
 };
 use std::alloc::{AllocError, Global};
 use wblock_blocks::{Mining, Validation};
-use wblock_debug::{Debugging, debugging_of};
-use wblock_line::{FORCE_SWITCH, Line};
+use wblock_debug::{Calling, Debugging, calling_of, debugging_of};
+use wblock_line::{Line, UNCHECKED_SWITCH};
 use wblock_show::{Form, Showing};
 
 /// What is to be deployed.
@@ -27,6 +30,8 @@ pub struct Deploying<'l, 'w> {
     pub world: &'w str,
     /// The names of the files of the modules, 1 to 1,024, in their order.
     pub modules: &'l [&'w str],
+    /// The name of the file of the world that is gone on from; None where that is the world of nothing.
+    pub onto: Option<&'w str>,
     /// Whether the world may be written in the place of a file that is there.
     pub forced: bool,
 }
@@ -42,19 +47,21 @@ pub enum Command<'l, 'w> {
     Version,
     /// `asm TEXT MODULE`: the module that a text names, in its shortest spelling.
     Asm(&'w str, &'w str),
-    /// `text MODULE TEXT`: a text that names a module.
-    Text(&'w str, &'w str),
+    /// `text MODULE TEXT [--unchecked]`: a text that names a module, which is valid; or, with the switch, valid or not.
+    Text(&'w str, &'w str, bool),
     /// `check MODULE [--heap N]`: whether a module is valid, its tree in an arena or in a heap of N bytes, 1,024 to 16,777,216.
     Check(&'w str, Option<u32>),
-    /// `deploy WORLD MODULE... [--force]`: the world of these modules, 1 to 1,024.
+    /// `deploy WORLD MODULE... [--onto OLD] [--force]`: the world of these modules, 1 to 1,024, behind the contracts of OLD.
     Deploy(Deploying<'l, 'w>),
     /// `mine WORLD CALLS BLOCK NEXT --fuel N [--workers 4] [--boosted] [--tries 3]`: a block of the calls over the world, and the world after it.
     Mine(Mining<'w>),
     /// `validate WORLD CALLS BLOCK --fuel N [--workers 4] [--next NEXT]`: the verdict on the block, and the world after it.
     Validate(Validation<'w>),
+    /// `call WORLD CONTRACT FUEL ENTRY ARG...`: what one call comes to that runs alone.
+    Call(Calling<'w>),
     /// `debug WORLD CALLS CALL CMD... [--block BLOCK [--fuel N]]`: a call that runs alone, or in a block, turn by turn.
     Debug(Debugging<'w>),
-    /// `show FILE [--calls CALLS]`: what is in a module, a world or a block; or `show FILE --svg PICTURE`: a picture of a block.
+    /// `show FILE [--calls CALLS] [--json] [--signed]`: what is in a module, a world or a block; or `show FILE --svg PICTURE`: a picture of a block.
     Show(Showing<'w>),
 }
 
@@ -86,7 +93,7 @@ pub(crate) fn is_apart(word: &str, others: &[&str]) -> bool
 }
 
 /// Whether a word is this one.
-fn is_word(word: &str, name: &str) -> bool
+pub(crate) fn is_word(word: &str, name: &str) -> bool
     ensures { IsTrue result ↔ (word.now ≡ name.now) }
 {
     word == name
@@ -138,17 +145,33 @@ fn asm_of<'w>(words: &[&'w str], options: &[(&str, &str)]) -> Option<(&'w str, &
     Some((words[1], words[2]))
 }
 
-/// The module and the text of `text`.
-fn text_of<'w>(words: &[&'w str], options: &[(&str, &str)]) -> Option<(&'w str, &'w str)>
-    ensures { MatchOption result ((source target : List ℕ) → ¬ AsksText (record { words = texts words.now; options = choices options.now }) source target) (λ x. AsksText (record { words = texts words.now; options = choices options.now }) x.0.now x.1.now) }
+/// Whether options are the switch of this name, alone and without a value, or nothing; or None where they are something else.
+fn switch_alone(options: &[(&str, &str)], name: &str) -> Option<bool>
+    ensures { MatchOption result ((given : Bool) → ¬ AsksAlone name.now (choices options.now) given) (AsksAlone name.now (choices options.now)) }
 {
-    if !options.is_empty() || words.len() != 3 || !is_word(words[0], "text") {
+    if options.is_empty() {
+        return Some(false);
+    }
+    if options.len() > 1 || !is_word(options[0].0, name) || !options[0].1.is_empty() {
+        return None;
+    }
+    Some(true)
+}
+
+/// The module and the text of `text`, and whether the module is left unchecked.
+fn text_of<'w>(words: &[&'w str], options: &[(&str, &str)]) -> Option<(&'w str, &'w str, bool)>
+    ensures { MatchOption result ((source target : List ℕ) (unchecked : Bool) → ¬ AsksText (record { words = texts words.now; options = choices options.now }) source target unchecked) (λ x. AsksText (record { words = texts words.now; options = choices options.now }) x.0.now x.1.now x.2) }
+{
+    if words.len() != 3 || !is_word(words[0], "text") {
         return None;
     }
     if is_word(words[1], words[2]) {
         return None;
     }
-    Some((words[1], words[2]))
+    let Some(unchecked) = switch_alone(options, UNCHECKED_SWITCH) else {
+        return None;
+    };
+    Some((words[1], words[2], unchecked))
 }
 
 /// What `show` is asked for, whatever PICTURE is.
@@ -168,10 +191,14 @@ fn spelled_showing<'w>(
     let Some(form) = form_in(alloc, options)? else {
         return Ok(None);
     };
+    let Some(signed) = signed_in(alloc, options)? else {
+        return Ok(None);
+    };
     Ok(Some(Showing {
         file: words[1],
         calls,
         form,
+        signed,
     }))
 }
 
@@ -203,19 +230,6 @@ fn showing_of<'w>(
     Ok(Some(showing))
 }
 
-/// Whether options ask that a world be written in the place of a file that is there; or None where they are no options of `deploy`.
-fn force_of(options: &[(&str, &str)]) -> Option<bool>
-    ensures { MatchOption result ((forced : Bool) → ¬ AsksForce (choices options.now) forced) (AsksForce (choices options.now)) }
-{
-    if options.is_empty() {
-        return Some(false);
-    }
-    if options.len() > 1 || !is_word(options[0].0, FORCE_SWITCH) || !options[0].1.is_empty() {
-        return None;
-    }
-    Some(true)
-}
-
 /// The world and the modules of `deploy`, whatever the options.
 fn modules_of<'l, 'w>(words: &'l [&'w str]) -> Option<(&'w str, &'l [&'w str])>
     ensures { MatchOption result ((world : List ℕ) (modules : List (List ℕ)) → ¬ NamesModules (texts words.entry.now) world modules) (λ x. NamesModules (texts words.entry.now) x.0.now (texts x.1.now)) }
@@ -231,16 +245,31 @@ fn modules_of<'l, 'w>(words: &'l [&'w str]) -> Option<(&'w str, &'l [&'w str])>
 }
 
 /// What `deploy` is asked for.
-fn deploying_of<'l, 'w>(words: &'l [&'w str], options: &[(&str, &str)]) -> Option<Deploying<'l, 'w>>
-    ensures { MatchOption result ((d : TheDeploying) → ¬ AsksDeploy (record { words = texts words.entry.now; options = choices options.now }) d) (AsksDeploy (record { words = texts words.entry.now; options = choices options.now })) }
+fn deploying_of<'l, 'w>(
+    alloc: Global,
+    words: &'l [&'w str],
+    options: &[(&'w str, &'w str)],
+) -> Result<Option<Deploying<'l, 'w>>, AllocError>
+    ensures { IfOk result (λ found. MatchOption found ((d : TheDeploying) → ¬ AsksDeploy (record { words = texts words.entry.now; options = choices options.now }) d) (AsksDeploy (record { words = texts words.entry.now; options = choices options.now }))) }
 {
-    let (world, modules) = modules_of(words)?;
-    let forced = force_of(options)?;
-    Some(Deploying {
+    let Some((world, modules)) = modules_of(words) else {
+        return Ok(None);
+    };
+    if !has_only_deploying(options) {
+        return Ok(None);
+    }
+    let Some(onto) = onto_in(alloc, options)? else {
+        return Ok(None);
+    };
+    let Some(forced) = force_in(alloc, options)? else {
+        return Ok(None);
+    };
+    Ok(Some(Deploying {
         world,
         modules,
+        onto,
         forced,
-    })
+    }))
 }
 
 /// Whether BLOCK and NEXT take the place of no file that is read, nor of one another; NEXT may be WORLD.
@@ -383,6 +412,9 @@ fn task_of<'l, 'w>(alloc: Global, line: &'l Line<'w>) -> Result<Option<Command<'
     if let Some(task) = validation_of(alloc, words, options)? {
         return Ok(Some(Command::Validate(task)));
     }
+    if let Some(task) = calling_of(alloc, words, options)? {
+        return Ok(Some(Command::Call(task)));
+    }
     match debugging_of(alloc, line)? {
         Some(task) => Ok(Some(Command::Debug(task))),
         None => Ok(None),
@@ -404,13 +436,13 @@ pub fn command_of<'l, 'w>(
     if let Some((text, target)) = asm_of(words, options) {
         return Ok(Some(Command::Asm(text, target)));
     }
-    if let Some((source, target)) = text_of(words, options) {
-        return Ok(Some(Command::Text(source, target)));
+    if let Some((source, target, unchecked)) = text_of(words, options) {
+        return Ok(Some(Command::Text(source, target, unchecked)));
     }
     if let Some((target, heap)) = check_of(alloc, words, options)? {
         return Ok(Some(Command::Check(target, heap)));
     }
-    if let Some(task) = deploying_of(words, options) {
+    if let Some(task) = deploying_of(alloc, words, options)? {
         return Ok(Some(Command::Deploy(task)));
     }
     if let Some(task) = showing_of(alloc, words, options)? {

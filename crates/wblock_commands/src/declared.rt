@@ -62,6 +62,18 @@ pub(crate) const JSON: Switch = Switch {
     help: "Shows the same as one JSON object on a line",
 };
 
+/// The numbers of cells, signed.
+pub(crate) const SIGNED: Switch = Switch {
+    name: "signed",
+    help: "Shows keys and numbers of a world's cells signed, as CALLS takes them",
+};
+
+/// The text of a module that need not be valid.
+pub(crate) const UNCHECKED: Switch = Switch {
+    name: "unchecked",
+    help: "Writes the text of a module that is not valid, too, with the numbers that `check` names",
+};
+
 /// A world in the place of one that is there.
 pub(crate) const FORCE: Switch = Switch {
     name: "force",
@@ -132,6 +144,14 @@ pub(crate) const BLOCK: FileOption = FileOption {
     name: "block",
     value: "BLOCK",
     help: "The file of a block: the call runs over the cells that it meets in it; if not given, it runs alone over WORLD",
+};
+
+/// The file of the world that `deploy` goes on from.
+pub(crate) const ONTO: FileOption = FileOption {
+    word: "--onto",
+    name: "onto",
+    value: "OLD",
+    help: "The file of a world: the modules become contracts behind its own, over its cells; it may be WORLD",
 };
 
 /// The file of the calls of a block that is shown.

@@ -16,7 +16,7 @@ use std::alloc::{AllocError, Global};
 use std::sync::Wait;
 use std::thread::Threads;
 use wblock_blocks::{Noted, mine_block, validate_block};
-use wblock_debug::debug_world;
+use wblock_debug::{call_world, debug_world};
 use wblock_io::Files;
 use wblock_line::{Answer, Fault, Status, carry_out, split_words, tell_fault};
 use wblock_modules::{assemble_file, check_module, write_text};
@@ -56,11 +56,14 @@ fn answer_of<'l, 'w, R: Threads + Wait + Sync, F: Files, P: Pace>(
         Command::Help(words) => tell_help(alloc, words)?,
         Command::Version => tell_version(alloc)?,
         Command::Asm(text, target) => assemble_file(alloc, files, text, target)?,
-        Command::Text(source, target) => write_text(alloc, files, source, target)?,
+        Command::Text(source, target, unchecked) => {
+            write_text(alloc, files, source, target, unchecked)?
+        }
         Command::Check(target, heap) => check_module(alloc, files, target, heap)?,
         Command::Mine(task) => return Ok(Some(mine_block(rt, alloc, files, task, pace)?)),
         Command::Validate(task) => validate_block(rt, alloc, files, task, pace)?,
         Command::Show(task) => show_named(alloc, files, task)?,
+        Command::Call(task) => call_world(alloc, files, &task)?,
         Command::Deploy(task) => match deploy_apart(alloc, files, task)? {
             Some(answer) => answer,
             None => return Ok(None),

@@ -1,10 +1,12 @@
 //! What is wrong with words that the command line's reader takes and that ask for nothing, for people.
 
-use crate::declared::{BLOCK, CALLS, FUEL, NEXT, SVG};
+use crate::declared::{BLOCK, CALLS, FUEL, NEXT, ONTO, SVG};
 use std::alloc::{AllocError, Global};
-use wblock_calls::number_of;
+use wblock_calls::{call_words, number_of};
 use wblock_debug::command_of;
-use wblock_line::{BOOSTED_SWITCH, FORCE_SWITCH, JSON_SWITCH, split_words};
+use wblock_line::{
+    BOOSTED_SWITCH, FORCE_SWITCH, JSON_SWITCH, SIGNED_SWITCH, UNCHECKED_SWITCH, split_words,
+};
 
 /// Two words of a line that name one file, the second of which would be written.
 fn clash(alloc: Global, first: &str, second: &str, name: &str) -> Result<String, AllocError> {
@@ -36,7 +38,8 @@ fn deploying_misuse(
     if modules.iter().any(|m| *m == world) {
         return Ok(Some(clash(alloc, "MODULE", "WORLD", world)?));
     }
-    if options.is_empty() {
+    let is_forced = options.iter().any(|option| option.0 == FORCE_SWITCH);
+    if !is_forced && options.len() <= 1 {
         return Ok(Some(format!(in alloc;
             "usage: WORLD `{world}` is there already: {FORCE_SWITCH} writes the new world in its place"
         )?));
@@ -158,6 +161,14 @@ fn debugging_misuse(
     format!(in alloc; "usage: there is no call {call} in CALLS: its lines count from 0")
 }
 
+/// What is wrong with the words of a call, or None where each of them may stand.
+fn calling_misuse(alloc: Global, call: &[&str]) -> Result<Option<String>, AllocError> {
+    match call_words(alloc, call)? {
+        Some(fault) => Ok(Some(format!(in alloc; "usage: of the call, {fault}")?)),
+        None => Ok(None),
+    }
+}
+
 /// What is wrong with the words that are no options and with the files that options name, or None.
 fn names_misuse(
     alloc: Global,
@@ -177,6 +188,7 @@ fn names_misuse(
         }
         ["validate", _, calls, block] => validation_misuse(alloc, *calls, *block, options),
         ["show", file] => showing_misuse(alloc, *file, options),
+        ["call", _, call @ ..] => calling_misuse(alloc, call),
         ["debug", _, _, call, commands @ ..] => {
             Ok(Some(debugging_misuse(alloc, *call, commands, options)?))
         }
@@ -186,7 +198,20 @@ fn names_misuse(
 
 /// Whether the value of the option of this name is a file's name.
 fn names_file(name: &str) -> bool {
-    name == BLOCK.word || name == CALLS.word || name == NEXT.word || name == SVG.word
+    name == BLOCK.word
+        || name == CALLS.word
+        || name == NEXT.word
+        || name == ONTO.word
+        || name == SVG.word
+}
+
+/// Whether the option of this name has no value.
+fn is_switch(name: &str) -> bool {
+    name == JSON_SWITCH
+        || name == FORCE_SWITCH
+        || name == BOOSTED_SWITCH
+        || name == SIGNED_SWITCH
+        || name == UNCHECKED_SWITCH
 }
 
 /// `usage`, and what is wrong with words that the command line's reader takes.
@@ -198,7 +223,7 @@ pub(crate) fn misuse_text(alloc: Global, words: &[&str]) -> Result<String, Alloc
         return Ok(text);
     }
     for (name, value) in &line.options {
-        if *name == JSON_SWITCH || *name == FORCE_SWITCH || *name == BOOSTED_SWITCH {
+        if is_switch(*name) {
             if !value.is_empty() {
                 return format!(in alloc; "usage: `{name}` takes no value");
             }

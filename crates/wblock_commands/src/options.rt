@@ -2,14 +2,15 @@
 
 ghost use Rattle.std.specs.Borrow.{Bor};
 ghost use Rattle.std.specs.Prelude.{◌≡◌, ◌≢◌, ◌≤◌, ◌<◌, ◌+◌, ◌^◌, ◌↔◌, ℕ, Bool, List, [], Option, IfOk, IsTrue, MatchOption, decimal, length};
-ghost use Rattle.wblock_commands.specs.Options.{values_in, IsNumber, IsNumberOr, IsNameOrNone, IsForm, count_of, AsksFuel, AsksWorkers, AsksTries, AsksBoosted, IsSwitch, AsksNext, AsksCalls, AsksForm, HasOnlyMining, HasOnlyValidation, HasOnlyShowing};
-ghost use Rattle.wblock_commands.specs.Words.{texts, choices};
+ghost use Rattle.wblock_commands.specs.Options.{values_in, IsNumber, IsNumberOr, IsNameOrNone, IsForm, count_of, AsksFuel, AsksWorkers, AsksTries, AsksBoosted, AsksForce, IsSwitch, AsksNext, AsksOnto, AsksCalls, AsksForm, AsksSigned, HasOnlyDeploying, HasOnlyMining, HasOnlyValidation, HasOnlyShowing};
+ghost use Rattle.wblock_calls.specs.Words.{texts};
+ghost use Rattle.wblock_line.specs.Words.{choices};
 ghost use Rattle.wblock_show.specs.declared.file.Form.{Form as TheForm};
 
-use crate::declared::{CALLS, FUEL, NEXT, SVG, TRIES, USUAL_TRIES, USUAL_WORKERS, WORKERS};
+use crate::declared::{CALLS, FUEL, NEXT, ONTO, SVG, TRIES, USUAL_TRIES, USUAL_WORKERS, WORKERS};
 use std::alloc::{AllocError, Global};
 use wblock_calls::number_of;
-use wblock_line::{BOOSTED_SWITCH, JSON_SWITCH};
+use wblock_line::{BOOSTED_SWITCH, FORCE_SWITCH, JSON_SWITCH, SIGNED_SWITCH};
 use wblock_show::Form;
 
 /// The values of the options of a name, in their order.
@@ -143,6 +144,15 @@ pub(crate) fn boosted_in(
     Ok(switch_of(switches.as_slice()))
 }
 
+/// Whether options ask that a world be written in the place of a file that is there; or None where they ask for it otherwise than once and without a
+/// value.
+pub(crate) fn force_in(alloc: Global, options: &[(&str, &str)]) -> Result<Option<bool>, AllocError>
+    ensures { IfOk result (λ found. MatchOption found ((forced : Bool) → ¬ AsksForce (choices options.now) forced) (AsksForce (choices options.now))) }
+{
+    let switches = values_of(alloc, options, FORCE_SWITCH)?;
+    Ok(switch_of(switches.as_slice()))
+}
+
 /// The name that the only value is, or that there is none; or None where there are several.
 fn only_name<'w>(values: &[&'w str]) -> Option<Option<&'w str>>
     ensures { MatchOption result ((name : Option (Bor (List ℕ))) → ¬ IsNameOrNone (texts values.now) name) (IsNameOrNone (texts values.now)) }
@@ -197,6 +207,17 @@ pub(crate) fn next_in<'w>(
     Ok(only_name(values.as_slice()))
 }
 
+/// The file that options name for the world that is gone on from, if any; or None where they name several.
+pub(crate) fn onto_in<'w>(
+    alloc: Global,
+    options: &[(&'w str, &'w str)],
+) -> Result<Option<Option<&'w str>>, AllocError>
+    ensures { IfOk result (λ found. MatchOption found ((old : Option (Bor (List ℕ))) → ¬ AsksOnto (choices options.now) old) (AsksOnto (choices options.now))) }
+{
+    let values = values_of(alloc, options, ONTO.word)?;
+    Ok(only_name(values.as_slice()))
+}
+
 /// The file that options name for the calls of a block, if any; or None where they name several.
 pub(crate) fn calls_in<'w>(
     alloc: Global,
@@ -220,6 +241,14 @@ pub(crate) fn form_in<'w>(
     Ok(form_of(switches.as_slice(), pictures.as_slice()))
 }
 
+/// Whether options ask for signed numbers of cells; or None where they ask for them otherwise than once and without a value.
+pub(crate) fn signed_in(alloc: Global, options: &[(&str, &str)]) -> Result<Option<bool>, AllocError>
+    ensures { IfOk result (λ found. MatchOption found ((signed : Bool) → ¬ AsksSigned (choices options.now) signed) (AsksSigned (choices options.now))) }
+{
+    let switches = values_of(alloc, options, SIGNED_SWITCH)?;
+    Ok(switch_of(switches.as_slice()))
+}
+
 /// How many options have this name.
 fn count_of(options: &[(&str, &str)], name: &str) -> usize
     ensures count { result ≡ count_of name.now (choices options.now) }
@@ -232,6 +261,15 @@ fn count_of(options: &[(&str, &str)], name: &str) -> usize
         }
     }
     count
+}
+
+/// Whether all options are options of `deploy`.
+pub(crate) fn has_only_deploying(options: &[(&str, &str)]) -> bool
+    ensures { IsTrue result ↔ HasOnlyDeploying (choices options.now) }
+{
+    let onto = count_of(options, ONTO.word);
+    let force = count_of(options, FORCE_SWITCH);
+    options.len() == onto + force
 }
 
 /// Whether all options are options of `mine`.
@@ -263,5 +301,6 @@ pub(crate) fn has_only_showing(options: &[(&str, &str)]) -> bool
     let calls = count_of(options, CALLS.word);
     let switches = count_of(options, JSON_SWITCH);
     let pictures = count_of(options, SVG.word);
-    options.len() == calls + switches + pictures
+    let signed = count_of(options, SIGNED_SWITCH);
+    options.len() == calls + switches + pictures + signed
 }

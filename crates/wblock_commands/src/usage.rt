@@ -5,8 +5,8 @@ ghost use Rattle.wblock_blocks.specs.Notes.{EndsLine};
 ghost use Rattle.wblock_commands.specs.Texts.{TellsText};
 
 use crate::declared::{
-    BLOCK, BOOSTED, CALLS, FORCE, FUEL, FileOption, HEAP, JSON, NEXT, NumberOption, QUIET, SVG,
-    Switch, TRIES, WORKERS,
+    BLOCK, BOOSTED, CALLS, FORCE, FUEL, FileOption, HEAP, JSON, NEXT, NumberOption, ONTO, QUIET,
+    SIGNED, SVG, Switch, TRIES, UNCHECKED, WORKERS,
 };
 use crate::misuse::misuse_text;
 use clap::builder::ValueParser;
@@ -82,7 +82,8 @@ fn text<'a>(alloc: Global) -> Result<Command<'a>, AllocError> {
             "Writes a module in text, one instruction a line: `asm` of it gives the module again",
         )
         .arg(required(alloc, "MODULE", "The file of the module in binary"))?
-        .arg(required(alloc, "TEXT", "The file to be written; another than MODULE"))
+        .arg(required(alloc, "TEXT", "The file to be written; another than MODULE"))?
+        .arg(switch(alloc, UNCHECKED))
 }
 
 fn check<'a>(alloc: Global) -> Result<Command<'a>, AllocError> {
@@ -94,18 +95,19 @@ fn check<'a>(alloc: Global) -> Result<Command<'a>, AllocError> {
 
 fn deploy<'a>(alloc: Global) -> Result<Command<'a>, AllocError> {
     Command::new(alloc, "deploy")
-        .about("Makes a world of modules, and writes it")
+        .about("Makes a world of modules, or goes on from one, and writes it")
         .arg(required(
             alloc,
             "WORLD",
-            "The file to be written; no MODULE's, and without --force none that is there",
+            "The file to be written; no MODULE's, and without --force none that is there but OLD",
         ))?
         .arg(required(
             alloc,
             "MODULE",
-            "The files of the modules, 1 to 1024; they are the contracts 0, 1, 2 ..",
+            "The files of the modules, 1 to 1024; they are the contracts 0, 1, 2 .., behind those of OLD",
         )
         .num_args(1..))?
+        .arg(file(alloc, ONTO))?
         .arg(switch(alloc, FORCE))
 }
 
@@ -146,6 +148,24 @@ fn validate<'a>(alloc: Global) -> Result<Command<'a>, AllocError> {
         .arg(switch(alloc, QUIET))
 }
 
+fn call<'a>(alloc: Global) -> Result<Command<'a>, AllocError> {
+    Command::new(alloc, "call")
+        .about("Runs one call alone over a world, shows what it comes to, and writes nothing")
+        .arg(world(alloc))?
+        .arg(required(alloc, "CONTRACT", "The number of the contract, from 0"))?
+        .arg(required(
+            alloc,
+            "FUEL",
+            "The most fuel that the call may use, 0 to 18446744073709551615",
+        ))?
+        .arg(required(alloc, "ENTRY", "The name of the function that is exported"))?
+        .arg(
+            Arg::new(alloc, "ARG").num_args(0..).help(
+                "The arguments, each `i32:N` or `i64:N` with N in signed decimal",
+            ),
+        )
+}
+
 fn debug<'a>(alloc: Global) -> Result<Command<'a>, AllocError> {
     Command::new(alloc, "debug")
         .about(
@@ -177,6 +197,7 @@ fn show<'a>(alloc: Global) -> Result<Command<'a>, AllocError> {
         ))?
         .arg(file(alloc, CALLS))?
         .arg(switch(alloc, JSON))?
+        .arg(switch(alloc, SIGNED))?
         .arg(file(alloc, SVG))
 }
 
@@ -199,6 +220,7 @@ fn program<'a>(alloc: Global) -> Result<Command<'a>, AllocError> {
         .subcommand(deploy(alloc)?)?
         .subcommand(mine(alloc)?)?
         .subcommand(validate(alloc)?)?
+        .subcommand(call(alloc)?)?
         .subcommand(debug(alloc)?)?
         .subcommand(show(alloc)?)
 }
@@ -237,6 +259,8 @@ const MINE: [&str; 2] = ["mine", "--help"];
 
 const VALIDATE: [&str; 2] = ["validate", "--help"];
 
+const CALL: [&str; 2] = ["call", "--help"];
+
 const DEBUG: [&str; 2] = ["debug", "--help"];
 
 const SHOW: [&str; 2] = ["show", "--help"];
@@ -255,6 +279,7 @@ fn topic_of(words: &[&str]) -> &'static [&'static str] {
         "deploy" => DEPLOY.as_slice(),
         "mine" => MINE.as_slice(),
         "validate" => VALIDATE.as_slice(),
+        "call" => CALL.as_slice(),
         "debug" => DEBUG.as_slice(),
         "show" => SHOW.as_slice(),
         _ => HELP.as_slice(),

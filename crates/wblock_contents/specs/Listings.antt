@@ -1,5 +1,5 @@
 -- What is told of bytes.
-use Rattle.std.specs.Prelude.{◌≡◌, ℕ, List, length}
+use Rattle.std.specs.Prelude.{◌≡◌, ℕ, Bool, List, length}
 use Rattle.spec_syntax.specs.Syntax.{Module}
 use Rattle.spec_block.specs.Worlds.{World}
 use Rattle.spec_block.specs.Bytes.{SpellsWorld}
@@ -14,7 +14,7 @@ pub record TellsModule (bytes text : List ℕ) : Type 0 where
   pub text_is : text ≡ module_text (length bytes) tree
 
 -- the bytes spell a world, and the text has its lines
-pub record TellsWorld (bytes text : List ℕ) : Type 0 where
+pub record TellsWorld (signed : Bool) (bytes text : List ℕ) : Type 0 where
   pub world : World
   pub spelled : SpellsWorld bytes world
-  pub text_is : text ≡ world_text world
+  pub text_is : text ≡ world_text signed world

@@ -1,5 +1,5 @@
 -- What is shown of a file.
-use Rattle.std.specs.Prelude.{◌≡◌, ℕ, List, [], Option, Some, None, codes, string_bytes}
+use Rattle.std.specs.Prelude.{◌≡◌, ℕ, Bool, List, [], Option, Some, None, codes, string_bytes}
 use Rattle.wblock_io.specs.Holding.{Holding}
 use Rattle.wblock_words.specs.Sentences.{Begins}
 use Rattle.wblock_line.specs.declared.answer.Answer.{Answer}
@@ -28,12 +28,12 @@ IsUnknown (Done writes text) = ⊥
 IsUnknown (Refused line why) = string_bytes line ≡ unknown_line
 
 -- what is shown of bytes of a kind, or of none: a block is handed on as it is
-abbrev pub IsShownAs : List ℕ → Option Kind → Contents → Type 0
-IsShownAs bytes (Some kind.Module) (Told answer) = Answers (TellsModule bytes) (TellsNoModule bytes) answer
-IsShownAs bytes (Some kind.World) (Told answer) = Answers (TellsWorld bytes) (TellsNoWorld bytes) answer
-IsShownAs bytes (Some kind.Block) (Block same) = same.items ≡ bytes
-IsShownAs bytes None (Told answer) = IsUnknown answer
-IsShownAs bytes _ _ = ⊥
+abbrev pub IsShownAs : (signed : Bool) → List ℕ → Option Kind → Contents → Type 0
+IsShownAs signed bytes (Some kind.Module) (Told answer) = Answers (TellsModule bytes) (TellsNoModule bytes) answer
+IsShownAs signed bytes (Some kind.World) (Told answer) = Answers (TellsWorld signed bytes) (TellsNoWorld bytes) answer
+IsShownAs signed bytes (Some kind.Block) (Block same) = same.items ≡ bytes
+IsShownAs signed bytes None (Told answer) = IsUnknown answer
+IsShownAs signed bytes _ _ = ⊥
 
 -- the bytes begin with the magic of the kind, or with none
 abbrev pub IsOfKind : List ℕ → Option Kind → Type 0
@@ -41,13 +41,13 @@ IsOfKind bytes (Some k) = Begins (magic k) bytes
 IsOfKind bytes None = (k : Kind) → ¬ Begins (magic k) bytes
 
 -- what is shown of bytes
-pub record IsShown (bytes : List ℕ) (contents : Contents) : Type 0 where
+pub record IsShown (signed : Bool) (bytes : List ℕ) (contents : Contents) : Type 0 where
   pub of : Option Kind
   pub is : IsOfKind bytes of
-  pub shown : IsShownAs bytes of contents
+  pub shown : IsShownAs signed bytes of contents
 
 -- what is shown of the file of a name
-pub record Shows (holds : Holding) (name : List ℕ) (contents : Contents) : Type 0 where
+pub record Shows (signed : Bool) (holds : Holding) (name : List ℕ) (contents : Contents) : Type 0 where
   pub bytes : List ℕ
   pub held : holds name ≡ Some bytes
-  pub shown : IsShown bytes contents
+  pub shown : IsShown signed bytes contents

@@ -3,10 +3,12 @@
 ghost use Rattle.std.specs.Prelude.{◌≡◌, IfOk, string_bytes};
 ghost use Rattle.std.specs.FinMap as finite;
 ghost use Rattle.world.specs.Views.{is_of};
-ghost use Rattle.wblock_contents.specs.WorldText.{kind_name, cell_line, cells_text};
+ghost use Rattle.wblock_contents.specs.WorldText.{cell_line, cells_text};
 
+use figures::word_of_kind;
 use std::alloc::{AllocError, Global};
 use storage::{Cells, Kind, Lock};
+use wblock_calls::NumberText;
 
 fn is_kind(a: Kind, b: Kind) -> bool
     ensures { result ≡ is_of a b }
@@ -28,35 +30,37 @@ pub(crate) fn list_cells(alloc: Global, cells: &Cells) -> Result<Vec<(Lock, u64)
     Ok(all)
 }
 
-/// The word of a kind of cells.
-fn kind_word(kind: Kind) -> &'static str
-    ensures { result.now ≡ kind_name kind }
+/// The line of a cell, with its numbers signed or not.
+fn cell_line_of(alloc: Global, signed: bool, lock: Lock, value: u64) -> Result<String, AllocError>
+    ensures { IfOk result (λ line. string_bytes line ≡ cell_line signed (lock, value)) }
 {
-    match kind {
-        Kind::Map => "map ",
-        Kind::Counter => "counter ",
-    }
-}
-
-/// The line of a cell.
-fn cell_line_of(alloc: Global, lock: Lock, value: u64) -> Result<String, AllocError>
-    ensures { IfOk result (λ line. string_bytes line ≡ cell_line (lock, value)) }
-{
-    let word = kind_word(lock.kind);
+    let word = word_of_kind(lock.kind);
     let contract = lock.contract;
-    let key = lock.key;
-    let line = format!(in alloc; "{word}{contract}:{key} {value}\n")?;
+    let key = NumberText {
+        number: lock.key,
+        signed,
+    };
+    let value = NumberText {
+        number: value,
+        signed,
+    };
+    let line = format!(in alloc; "{word} {contract}:{key} {value}\n")?;
     Ok(line)
 }
 
-/// A line for each cell of a kind.
-pub(crate) fn cells_text_of(alloc: Global, kind: Kind, cells: &Cells) -> Result<String, AllocError>
-    ensures { IfOk result (λ text. string_bytes text ≡ cells_text kind cells.now.cells) }
+/// A line for each cell of a kind, with its numbers signed or not.
+pub(crate) fn cells_text_of(
+    alloc: Global,
+    signed: bool,
+    kind: Kind,
+    cells: &Cells,
+) -> Result<String, AllocError>
+    ensures { IfOk result (λ text. string_bytes text ≡ cells_text signed kind cells.now.cells) }
 {
     let mut text = String::new(alloc);
     for (lock, value) in cells.entries() {
         if is_kind(kind, lock.kind) {
-            let line = cell_line_of(alloc, lock, value)?;
+            let line = cell_line_of(alloc, signed, lock, value)?;
             text.push_str(line.as_str())?;
         }
     }

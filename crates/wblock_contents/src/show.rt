@@ -33,11 +33,11 @@ fn module_answer<'a>(alloc: Global, bytes: &[u8]) -> Result<Answer<'a>, AllocErr
     }
 }
 
-/// The answer to bytes that begin as a world does.
-fn world_answer<'a>(alloc: Global, bytes: &[u8]) -> Result<Answer<'a>, AllocError>
-    ensures { IfOk result (Answers (TellsWorld bytes.now) (TellsNoWorld bytes.now)) }
+/// The answer to bytes that begin as a world does, with the numbers of its cells signed or not.
+fn world_answer<'a>(alloc: Global, signed: bool, bytes: &[u8]) -> Result<Answer<'a>, AllocError>
+    ensures { IfOk result (Answers (TellsWorld signed bytes.now) (TellsNoWorld bytes.now)) }
 {
-    match list_world(alloc, bytes)? {
+    match list_world(alloc, signed, bytes)? {
         Ok(text) => Ok(Answer::Done(Vec::new(alloc), text)),
         Err((line, why)) => Ok(Answer::Refused(line, why)),
     }
@@ -63,33 +63,38 @@ pub fn unknown_answer<'a>(alloc: Global, bytes: &[u8]) -> Result<Answer<'a>, All
     Ok(Answer::Refused(line, why))
 }
 
-/// What bytes come to: those of a block are handed back.
-pub fn show_bytes<'a>(alloc: Global, bytes: Vec<u8>) -> Result<Contents<'a>, AllocError>
-    ensures { IfOk result (IsShown bytes.items) }
+/// What bytes come to, with the numbers of a world's cells signed or not: those of a block are handed back.
+pub fn show_bytes<'a>(
+    alloc: Global,
+    signed: bool,
+    bytes: Vec<u8>,
+) -> Result<Contents<'a>, AllocError>
+    ensures { IfOk result (IsShown signed bytes.items) }
 {
     match Kind::of(bytes.as_slice()) {
         Some(Kind::Module) => Ok(Contents::Told(module_answer(alloc, bytes.as_slice())?)),
-        Some(Kind::World) => Ok(Contents::Told(world_answer(alloc, bytes.as_slice())?)),
+        Some(Kind::World) => { Ok(Contents::Told(world_answer(alloc, signed, bytes.as_slice())?)) },
         Some(Kind::Block) => Ok(Contents::Block(bytes)),
         None => Ok(Contents::Told(unknown_answer(alloc, bytes.as_slice())?)),
     }
 }
 
-/// What `show` comes to: the lines of the module or of the world that a file holds, or why it is refused; or the bytes of a file that begins as a
-/// block does. No file is written.
+/// What `show` comes to: the lines of the module or of the world that a file holds, with the numbers of its cells signed or not, or why it is
+/// refused; or the bytes of a file that begins as a block does. No file is written.
 pub fn show_file<'a, F: Files>(
     alloc: Global,
     files: &mut F,
+    signed: bool,
     name: &'a str,
 ) -> Result<Contents<'a>, Fault<'a>>
-    ensures shows { IfOk result (λ c. IsTrue F.tells → Shows (F.holds files.old) name.entry.now c) }
+    ensures shows { IfOk result (λ c. IsTrue F.tells → Shows signed (F.holds files.old) name.entry.now c) }
     ensures kept { IsTrue F.tells → F.holds files.new ≡ F.holds files.old }
     ensures calm { OnOk result (F.failures files.new ≡ F.failures files.old) }
     ensures counted { IfErr result (λ f. CountsFault f (F.failures files.old) (F.failures files.new)) }
     ensures named { IfErr result (IsOfFile (λ other. other ≡ name.entry.now)) }
 {
     let bytes = read_file(alloc, files, name)?;
-    match show_bytes(alloc, bytes) {
+    match show_bytes(alloc, signed, bytes) {
         Ok(contents) => Ok(contents),
         Err(AllocError) => Err(Fault::NoMemory),
     }

@@ -63,33 +63,39 @@ fn digest_line_of(alloc: Global, bytes: &[u8]) -> Result<String, AllocError>
     Ok(line)
 }
 
-/// The lines of the world that these bytes spell.
-fn world_text_of(alloc: Global, bytes: &[u8], world: &World) -> Result<String, AllocError>
+/// The lines of the world that these bytes spell, with the numbers of its cells signed or not.
+fn world_text_of(
+    alloc: Global,
+    signed: bool,
+    bytes: &[u8],
+    world: &World,
+) -> Result<String, AllocError>
     requires { bytes.now ≡ world_bytes (world_view world.now) }
-    ensures { IfOk result (λ text. string_bytes text ≡ world_text (world_view world.now)) }
+    ensures { IfOk result (λ text. string_bytes text ≡ world_text signed (world_view world.now)) }
 {
     let cells = list_cells(alloc, world.cells())?;
     let counts = counts_line_of(alloc, world.contracts().len(), cells.len())?;
     let digest = digest_line_of(alloc, bytes)?;
     let contracts = contracts_text_of(alloc, world.contracts())?;
-    let maps = cells_text_of(alloc, Kind::Map, world.cells())?;
-    let counters = cells_text_of(alloc, Kind::Counter, world.cells())?;
+    let maps = cells_text_of(alloc, signed, Kind::Map, world.cells())?;
+    let counters = cells_text_of(alloc, signed, Kind::Counter, world.cells())?;
     let text = format!(in alloc; "{counts}{digest}{contracts}{maps}{counters}")?;
     Ok(text)
 }
 
 /// What is in the world of these bytes: `world CONTRACTS contracts CELLS cells`, `digest HEX`, `contract K N bytes` and a line for each import and
-/// export of each contract, and then `map K:KEY VALUE` and `counter K:KEY VALUE` for the cells. Or the line and the sentence that say why they are
-/// no world.
+/// export of each contract, and then `map K:KEY VALUE` and `counter K:KEY VALUE` for the cells, with their numbers signed, as lines of calls take them, or
+/// not. Or the line and the sentence that say why they are no world.
 pub fn list_world(
     alloc: Global,
+    signed: bool,
     bytes: &[u8],
 ) -> Result<Result<String, (String, String)>, AllocError>
-    ensures { IfOk result (λ read. MatchResult read (λ text. TellsWorld bytes.now (string_bytes text)) (λ told. TellsNoWorld bytes.now (string_bytes told.0))) }
+    ensures { IfOk result (λ read. MatchResult read (λ text. TellsWorld signed bytes.now (string_bytes text)) (λ told. TellsNoWorld bytes.now (string_bytes told.0))) }
 {
     match judge_world(alloc, bytes)? {
         Ok(world) => {
-            let text = world_text_of(alloc, bytes, &world)?;
+            let text = world_text_of(alloc, signed, bytes, &world)?;
             Ok(Ok(text))
         }
         Err(told) => Ok(Err(told)),

@@ -2,7 +2,8 @@
 use Rattle.std.proofs.Common.{◌≡◌, ℕ, zero, suc, ◌+◌, ◌<◌, List, [], ◌∷◌, ◌++◌, length, take, get_or, Bor, refl, sym, ap, ◌∙◌, subst, arith}
 use Rattle.std.proofs.lemmas.List.{take_more}
 use Rattle.wblock_debug.specs.declared.command.Command.{Command}
-use Rattle.wblock_debug.specs.Words.{Spells, Spell, texts}
+use Rattle.wblock_calls.specs.Words.{texts}
+use Rattle.wblock_debug.specs.Words.{Spells, Spell}
 
 push : (ws : List (List ℕ)) (cs : List Command) (w : List ℕ) (c : Command) → Spell ws cs → Spells w c → Spell (ws ++ w ∷ []) (cs ++ c ∷ [])
 push [] [] w c h is = (is, tt)

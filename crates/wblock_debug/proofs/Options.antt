@@ -1,7 +1,8 @@
 -- A line asks for what its words ask for, in the block and with the fuel that its options name.
 use Rattle.std.proofs.Common.{◌≡◌, ℕ, List, [], ◌∷◌, length, slice_index_or, Bor, Option, Some, None, Result, Ok, Err, IfOk, IfSome, MatchOption, subst, sym, inr, ⊎_elim, arith}
 use Rattle.wblock_line.specs.Words.{Line, Choice}
-use Rattle.wblock_debug.specs.Words.{choice, choices}
+use Rattle.wblock_line.specs.Words.{choices}
+use Rattle.wblock_debug.specs.Words.{choice}
 use Rattle.wblock_debug.specs.Asks.{AreBlockWithFuel, AreBlockWithFuelInAnyOrder, AsksBlock, AsksDebug, AsksWords}
 use Rattle.wblock_debug.specs.declared.asked.Debugging.{Debugging}
 

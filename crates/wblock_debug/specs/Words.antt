@@ -1,5 +1,5 @@
 -- The words of a debugger's commands.
-use Rattle.std.specs.Prelude.{◌≡◌, ◌≢◌, ℕ, ◌<◌, ◌^◌, List, ◌∷◌, ◌++◌, codes, decimal, map}
+use Rattle.std.specs.Prelude.{◌≡◌, ◌≢◌, ℕ, ◌<◌, ◌^◌, List, ◌∷◌, ◌++◌, codes, decimal}
 use Rattle.std.specs.List.{AllByRecursion, AllZip}
 use Rattle.std.specs.Borrow.{Bor}
 use Rattle.wblock_line.specs.Words.{Choice}
@@ -48,14 +48,8 @@ pub record Spells (word : List ℕ) (c : Command) : Type 0 where
 abbrev pub Spell : List (List ℕ) → List Command → Type 0
 Spell words commands = AllZip Spells words commands
 
-abbrev pub texts : List (Bor (List ℕ)) → List (List ℕ)
-texts words = map (λ w. w.now) words
-
 abbrev pub choice : Bor (List ℕ) × Bor (List ℕ) → Choice
 choice o = (o.0.now, o.1.now)
-
-abbrev pub choices : List (Bor (List ℕ) × Bor (List ℕ)) → List Choice
-choices options = map choice options
 
 -- ---- words that spell no command of a kind
 

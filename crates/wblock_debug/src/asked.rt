@@ -3,7 +3,9 @@
 ghost use Rattle.std.specs.Prelude.{◌≡◌, ◌↔◌, ℕ, List, Option, IfOk, IfSome, IsTrue, MatchOption};
 ghost use Rattle.std.specs.Borrow.{Bor};
 ghost use Rattle.wblock_line.specs.Words.{line_of};
-ghost use Rattle.wblock_debug.specs.Words.{texts, choice, choices};
+ghost use Rattle.wblock_calls.specs.Words.{texts};
+ghost use Rattle.wblock_line.specs.Words.{choices};
+ghost use Rattle.wblock_debug.specs.Words.{choice};
 ghost use Rattle.wblock_debug.specs.Asks.{AreBlockWithFuel, AreBlockWithFuelInAnyOrder, AsksBlock, AsksDebug, AsksWords, IsSplit};
 ghost use Rattle.wblock_debug.specs.declared.asked.Debugging.{Debugging as TheDebugging};
 
@@ -30,7 +32,7 @@ pub struct Debugging<'w> {
 }
 
 /// Whether a word is this one.
-fn is_word(word: &str, name: &str) -> bool
+pub(crate) fn is_word(word: &str, name: &str) -> bool
     ensures { IsTrue result ↔ (word.now ≡ name.now) }
 {
     word == name

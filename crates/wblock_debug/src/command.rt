@@ -1,7 +1,8 @@
 //! A command and its word.
 
 ghost use Rattle.std.specs.Prelude.{◌≡◌, ◌↔◌, List, IfOk, IsTrue, MatchOption};
-ghost use Rattle.wblock_debug.specs.Words.{IsNotPlain, IsNoMove, IsNoPair, Spells, Spell, texts};
+ghost use Rattle.wblock_calls.specs.Words.{texts};
+ghost use Rattle.wblock_debug.specs.Words.{IsNotPlain, IsNoMove, IsNoPair, Spells, Spell};
 ghost use Rattle.wblock_debug.specs.declared.command.Command.{Command as Asked};
 
 use crate::numbers::{number_after, numbers_after, small_numbers_after};

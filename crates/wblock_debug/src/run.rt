@@ -18,6 +18,7 @@ use interp::start::StartRefusal;
 use spec_ledger::Version;
 use std::alloc::{AllocError, Allocator};
 use storage::Cells;
+use wblock_line::entry_words;
 use wtypes::NoMemory;
 
 /// `refused N`.
@@ -120,15 +121,20 @@ fn start_code(refusal: StartRefusal) -> Option<u8>
 /// What is printed of a call that does not start: `refused start N`.
 fn refuse_start<A: Allocator + Copy>(
     alloc: A,
+    contracts: &[Contract<A>],
+    call: &Call,
     refusal: StartRefusal,
 ) -> Result<Printed<A>, NoMemory>
-    ensures { (setting : Setting) (call : ContractCall) → IsRefusedFor refusal (opening setting call) → IfOk result (λ p. IsNotStarted setting call p.refused (string_bytes p.text)) }
+    ensures { (setting : Setting) (c : ContractCall) → IsRefusedFor refusal (opening setting c) → IfOk result (λ p. IsNotStarted setting c p.refused (string_bytes p.text)) }
 {
     let Some(code) = start_code(refusal) else {
         return Err(NoMemory);
     };
     let text = format!(in alloc; "refused start {code}\n")?;
-    let why = format!(in alloc; "the call does not start: {refusal}; mend its line of CALLS")?;
+    let entry = entry_words(alloc, contracts, call)?;
+    let why = format!(in alloc;
+        "the call does not start: {refusal}{entry}; mend its line of CALLS"
+    )?;
     Ok(Printed {
         text,
         refused: true,
@@ -158,6 +164,6 @@ pub fn debug_call<A: Allocator + Copy>(
             session.is_sight();
             perform_all(alloc, &mut session, commands)
         }
-        Err(refusal) => refuse_start(alloc, refusal),
+        Err(refusal) => refuse_start(alloc, contracts, call, refusal),
     }
 }

@@ -1,5 +1,5 @@
 -- What is shown of a module or a world has no float, and few arrays and objects within one another.
-use Rattle.std.proofs.Common.{ℕ, List, [], ◌∷◌, codes, filter, length, map, slice_get, arith}
+use Rattle.std.proofs.Common.{ℕ, Bool, List, [], ◌∷◌, codes, filter, length, map, slice_get, arith}
 use Rattle.std.specs.FinMap.{entries}
 use Rattle.std.specs.List.{AllByRecursion}
 use Rattle.sha2.specs.Sha256.{sha256}
@@ -17,7 +17,8 @@ use Rattle.spec_block.specs.Bytes.{world_bytes}
 use Rattle.module_tree.specs.Readers.{imported_funcs}
 use Rattle.world.specs.Views.{is_cell_of}
 use Rattle.serde_json.specs.Data.{Data, boolean, string}
-use Rattle.wblock_json.specs.Json.{IsFlat, array_of, hex_data, large, maybe, numbered, small}
+use Rattle.wblock_calls.specs.Numbers.{number_text}
+use Rattle.wblock_json.specs.Json.{IsFlat, array_of, hex_data, maybe, numbered, small}
 use Rattle.wblock_json.specs.Modules.{export_data, export_index, export_type, export_word, func_data, func_type_data, global_data, global_type_data, import_data, import_type, import_word, limits_data, module_data, module_members, type_data}
 use Rattle.wblock_json.specs.Worlds.{cell_data, cells_data, cells_of, contract_data, world_data}
 use Rattle.wblock_json.proofs.Flat.{array_flat, boolean_flat, deeper, map_flat, maybe_flat, numbered_flat, object_flat, small_flat, string_flat}
@@ -129,24 +130,24 @@ contract_flat n c =
     let members : List (List ℕ × Data) = (codes "number", small n) ∷ module_members (length (shortest c.tree)) c.tree in
     object_flat 4 5 members (omega arith) (small_flat 4 _, members_flat (length (shortest c.tree)) c.tree)
 
-cell_flat : (c : Lock × ℕ) → IsFlat 1 (cell_data c)
+cell_flat : (signed : Bool) (c : Lock × ℕ) → IsFlat 1 (cell_data signed c)
 unfolding cell_data
-cell_flat c =
-    let members : List (List ℕ × Data) = (codes "contract", small c.0.contract) ∷ (codes "key", large c.0.key) ∷ (codes "value", large c.1) ∷ [] in
+cell_flat signed c =
+    let members : List (List ℕ × Data) = (codes "contract", small c.0.contract) ∷ (codes "key", string (number_text signed c.0.key)) ∷ (codes "value", string (number_text signed c.1)) ∷ [] in
     object_flat 0 1 members (omega arith) (small_flat 0 _, (string_flat 0 _, (string_flat 0 _, tt)))
 
-kind_flat : (kind : Kind) (cells : List (Lock × ℕ)) → IsFlat 2 (cells_of kind cells)
-kind_flat kind cells = array_flat 1 2 _ (omega arith) (map_flat 1 cell_data (filter (is_cell_of kind) cells) cell_flat)
+kind_flat : (signed : Bool) (kind : Kind) (cells : List (Lock × ℕ)) → IsFlat 2 (cells_of signed kind cells)
+kind_flat signed kind cells = array_flat 1 2 _ (omega arith) (map_flat 1 (cell_data signed) (filter (is_cell_of kind) cells) (cell_flat signed))
 
-cells_flat : (cells : Cells) → IsFlat 3 (cells_data cells)
+cells_flat : (signed : Bool) (cells : Cells) → IsFlat 3 (cells_data signed cells)
 unfolding cells_data
-cells_flat cells =
-    let members : List (List ℕ × Data) = (codes "maps", cells_of Map (entries cells)) ∷ (codes "counters", cells_of Counter (entries cells)) ∷ [] in
-    object_flat 2 3 members (omega arith) (kind_flat Map (entries cells), (kind_flat Counter (entries cells), tt))
+cells_flat signed cells =
+    let members : List (List ℕ × Data) = (codes "maps", cells_of signed Map (entries cells)) ∷ (codes "counters", cells_of signed Counter (entries cells)) ∷ [] in
+    object_flat 2 3 members (omega arith) (kind_flat signed Map (entries cells), (kind_flat signed Counter (entries cells), tt))
 
-pub world_flat : (w : World) → IsFlat 127 (world_data w)
+pub world_flat : (signed : Bool) (w : World) → IsFlat 127 (world_data signed w)
 unfolding world_data
-world_flat w =
-    let members : List (List ℕ × Data) = (codes "kind", string (codes "world")) ∷ (codes "digest", hex_data (sha256 (world_bytes w))) ∷ (codes "contracts", array_of (numbered contract_data 0 w.contracts)) ∷ (codes "cells", cells_data w.cells) ∷ [] in
+world_flat signed w =
+    let members : List (List ℕ × Data) = (codes "kind", string (codes "world")) ∷ (codes "digest", hex_data (sha256 (world_bytes w))) ∷ (codes "contracts", array_of (numbered contract_data 0 w.contracts)) ∷ (codes "cells", cells_data signed w.cells) ∷ [] in
     object_flat 6 127 members (omega arith)
-    (string_flat 6 _, (string_flat 6 _, (array_flat 5 6 _ (omega arith) (numbered_flat 5 contract_data 0 w.contracts contract_flat), (deeper 3 6 _ (omega arith) (cells_flat w.cells), tt))))
+    (string_flat 6 _, (string_flat 6 _, (array_flat 5 6 _ (omega arith) (numbered_flat 5 contract_data 0 w.contracts contract_flat), (deeper 3 6 _ (omega arith) (cells_flat signed w.cells), tt))))

@@ -1,5 +1,5 @@
 -- A world as JSON.
-use Rattle.std.specs.Prelude.{ℕ, List, [], ◌∷◌, codes, filter, length, map}
+use Rattle.std.specs.Prelude.{ℕ, Bool, List, [], ◌∷◌, codes, filter, length, map}
 use Rattle.std.specs.FinMap.{entries}
 use Rattle.sha2.specs.Sha256.{sha256}
 use Rattle.serde_json.specs.Data.{Data, string}
@@ -11,41 +11,43 @@ use Rattle.spec_binary.specs.Shortest.{shortest}
 use Rattle.spec_block.specs.Worlds.{Contract, World}
 use Rattle.spec_block.specs.Bytes.{world_bytes}
 use Rattle.world.specs.Views.{is_cell_of}
-use Rattle.wblock_json.specs.Json.{IsJson, array_of, hex_data, large, numbered, object_of, small}
+use Rattle.wblock_calls.specs.Numbers.{number_text}
+use Rattle.wblock_json.specs.Json.{IsJson, array_of, hex_data, numbered, object_of, small}
 use Rattle.wblock_json.specs.Modules.{module_members}
 
 -- a contract by its number, with what is told of its module; the bytes are those of the module's shortest spelling
 unfoldable pub contract_data : ℕ → Contract → Data
 contract_data n c = object_of ((codes "number", small n) ∷ module_members (length (shortest c.tree)) c.tree)
 
-unfoldable pub cell_data : Lock × ℕ → Data
-cell_data cell =
+-- key and number of a cell are strings of decimal digits, signed or not
+unfoldable pub cell_data : (signed : Bool) → Lock × ℕ → Data
+cell_data signed cell =
     object_of
     ((codes "contract", small cell.0.contract)
-    ∷ (codes "key", large cell.0.key)
-    ∷ (codes "value", large cell.1)
+    ∷ (codes "key", string (number_text signed cell.0.key))
+    ∷ (codes "value", string (number_text signed cell.1))
     ∷ [])
 
 -- the cells of a kind, rising by contract and key
-abbrev pub cells_of : Kind → List (Lock × ℕ) → Data
-cells_of kind cells = array_of (map cell_data (filter (is_cell_of kind) cells))
+abbrev pub cells_of : (signed : Bool) → Kind → List (Lock × ℕ) → Data
+cells_of signed kind cells = array_of (map (cell_data signed) (filter (is_cell_of kind) cells))
 
-unfoldable pub cells_data : Cells → Data
-cells_data cells =
+unfoldable pub cells_data : (signed : Bool) → Cells → Data
+cells_data signed cells =
     object_of
-    ((codes "maps", cells_of Map (entries cells))
-    ∷ (codes "counters", cells_of Counter (entries cells))
+    ((codes "maps", cells_of signed Map (entries cells))
+    ∷ (codes "counters", cells_of signed Counter (entries cells))
     ∷ [])
 
-unfoldable pub world_data : World → Data
-world_data w =
+unfoldable pub world_data : (signed : Bool) → World → Data
+world_data signed w =
     object_of
     ((codes "kind", string (codes "world"))
     ∷ (codes "digest", hex_data (sha256 (world_bytes w)))
     ∷ (codes "contracts", array_of (numbered contract_data 0 w.contracts))
-    ∷ (codes "cells", cells_data w.cells)
+    ∷ (codes "cells", cells_data signed w.cells)
     ∷ [])
 
 -- the text of a world
-abbrev pub IsWorldJson : World → List ℕ → Type 0
-IsWorldJson w text = IsJson (world_data w) text
+abbrev pub IsWorldJson : (signed : Bool) → World → List ℕ → Type 0
+IsWorldJson signed w text = IsJson (world_data signed w) text

@@ -3,19 +3,22 @@
 ghost use Rattle.std.specs.Prelude.{◌≡◌, ◌≤◌, IfOk, length, map, string_bytes};
 ghost use Rattle.std.specs.FinMap.{entries};
 ghost use Rattle.sha2.specs.Sha256.{sha256};
+ghost use Rattle.serde_json.specs.Data.{string};
 ghost use Rattle.serde_json.specs.View.{view};
+ghost use Rattle.wblock_calls.specs.Numbers.{number_text};
 ghost use Rattle.spec_block.specs.Bytes.{world_bytes};
 ghost use Rattle.world.specs.Views.{contract_view, is_of, world_view};
 ghost use Rattle.wblock_json.specs.Json.{array_of, numbered};
 ghost use Rattle.wblock_json.specs.Worlds.{cell_data, cells_data, cells_of as cells_in, contract_data, world_data, IsWorldJson};
 
 use crate::modules::put_module;
-use crate::values::{digest_of, large_of, text_of, with_member, word_of};
+use crate::values::{digest_of, text_of, with_member, word_of};
 use figures::shortest_size;
 use link::deployed::Deployed;
 use serde_json::{Map, Value as Json, json, put};
 use std::alloc::{AllocError, Global};
 use storage::{Cells, Kind, Lock};
+use wblock_calls::NumberText;
 use world::{World, digest_world};
 use wtypes::NoMemory;
 
@@ -44,12 +47,21 @@ fn contracts_of(alloc: Global, contracts: &[Deployed<Global>]) -> Result<Json, A
     Ok(Json::from(values))
 }
 
-#[tactic(auto, unfolding(crate::specs::Worlds::cell_data))]
-fn cell_of(alloc: Global, lock: Lock, value: u64) -> Result<Json, AllocError>
-    ensures { IfOk result (λ v. view v ≡ cell_data (lock, value)) }
+/// A number of a cell, as the string of its decimal digits, signed or not.
+fn number_of(alloc: Global, signed: bool, number: u64) -> Result<Json, AllocError>
+    ensures { IfOk result (λ v. view v ≡ string (number_text signed number)) }
 {
-    let key = large_of(alloc, lock.key as u128)?;
-    let value = large_of(alloc, value as u128)?;
+    let number = NumberText { number, signed };
+    let digits = format!(in alloc; "{number}")?;
+    Ok(Json::from(digits))
+}
+
+#[tactic(auto, unfolding(crate::specs::Worlds::cell_data))]
+fn cell_of(alloc: Global, signed: bool, lock: Lock, value: u64) -> Result<Json, AllocError>
+    ensures { IfOk result (λ v. view v ≡ cell_data signed (lock, value)) }
+{
+    let key = number_of(alloc, signed, lock.key)?;
+    let value = number_of(alloc, signed, value)?;
     json!(in alloc; {"contract": lock.contract, "key": key, "value": value})
 }
 
@@ -63,13 +75,13 @@ fn is_kind(a: Kind, b: Kind) -> bool
 }
 
 /// The cells of a kind.
-fn cells_of(alloc: Global, kind: Kind, cells: &Cells) -> Result<Json, AllocError>
-    ensures { IfOk result (λ v. view v ≡ cells_in kind (entries cells.now.cells)) }
+fn cells_of(alloc: Global, signed: bool, kind: Kind, cells: &Cells) -> Result<Json, AllocError>
+    ensures { IfOk result (λ v. view v ≡ cells_in signed kind (entries cells.now.cells)) }
 {
     let mut values = Vec::new(alloc);
     for (lock, value) in cells.entries() {
         if is_kind(kind, lock.kind) {
-            let cell = cell_of(alloc, lock, value)?;
+            let cell = cell_of(alloc, signed, lock, value)?;
             values.push(cell)?;
         }
     }
@@ -78,11 +90,11 @@ fn cells_of(alloc: Global, kind: Kind, cells: &Cells) -> Result<Json, AllocError
 
 /// The cells, the maps apart from the counters.
 #[tactic(auto, unfolding(crate::specs::Worlds::cells_data))]
-fn all_cells_of(alloc: Global, cells: &Cells) -> Result<Json, AllocError>
-    ensures { IfOk result (λ v. view v ≡ cells_data cells.now.cells) }
+fn all_cells_of(alloc: Global, signed: bool, cells: &Cells) -> Result<Json, AllocError>
+    ensures { IfOk result (λ v. view v ≡ cells_data signed cells.now.cells) }
 {
-    let maps = cells_of(alloc, Kind::Map, cells)?;
-    let counters = cells_of(alloc, Kind::Counter, cells)?;
+    let maps = cells_of(alloc, signed, Kind::Map, cells)?;
+    let counters = cells_of(alloc, signed, Kind::Counter, cells)?;
     json!(in alloc; {"maps": maps, "counters": counters})
 }
 
@@ -97,8 +109,8 @@ fn world_digest_of(alloc: Global, world: &World) -> Result<[u8; 32], AllocError>
 }
 
 #[tactic(auto, unfolding(crate::specs::Worlds::world_data))]
-fn world_of(alloc: Global, world: &World) -> Result<Json, AllocError>
-    ensures { IfOk result (λ v. view v ≡ world_data (world_view world.now)) }
+fn world_of(alloc: Global, signed: bool, world: &World) -> Result<Json, AllocError>
+    ensures { IfOk result (λ v. view v ≡ world_data signed (world_view world.now)) }
 {
     let digest = world_digest_of(alloc, world)?;
     let members = Map::new(alloc);
@@ -106,19 +118,24 @@ fn world_of(alloc: Global, world: &World) -> Result<Json, AllocError>
     let members = with_member(alloc, members, "digest", digest_of(alloc, &digest)?)?;
     let contracts = contracts_of(alloc, world.contracts())?;
     let members = with_member(alloc, members, "contracts", contracts)?;
-    let members = with_member(alloc, members, "cells", all_cells_of(alloc, world.cells())?)?;
+    let members = with_member(
+        alloc,
+        members,
+        "cells",
+        all_cells_of(alloc, signed, world.cells())?,
+    )?;
     Ok(Json::from(members))
 }
 
-/// A world as JSON: an object with its digest, its contracts with what is told of their modules, and its cells. The text has no spaces and no
-/// newline.
+/// A world as JSON: an object with its digest, its contracts with what is told of their modules, and its cells, with their numbers signed, as lines of
+/// calls take them, or not. The text has no spaces and no newline.
 ///
 /// # Errors
 ///
 /// Memory was refused.
-pub fn world_json(alloc: Global, world: &World) -> Result<String, AllocError>
-    ensures { IfOk result (λ text. IsWorldJson (world_view world.now) (string_bytes text)) }
+pub fn world_json(alloc: Global, signed: bool, world: &World) -> Result<String, AllocError>
+    ensures { IfOk result (λ text. IsWorldJson signed (world_view world.now) (string_bytes text)) }
 {
-    let value = world_of(alloc, world)?;
+    let value = world_of(alloc, signed, world)?;
     text_of(alloc, &value)
 }

@@ -1,7 +1,8 @@
 -- Words are split one after another.
 use Rattle.std.proofs.Common.{◌≡◌, ℕ, ◌<◌, ◌+◌, ◌-◌, true, false, List, [], ◌∷◌, ◌++◌, map, take, drop, length, slice_index_or, arith, Option, Bool, cond, Bor, Some, None, refl, sym, ap, ap₂, ◌∙◌, append_assoc, append-nil}
 use Rattle.std.proofs.lemmas.List.{map-append, drop-map, drop-drop, take_all, length-drop}
-use Rattle.wblock_line.specs.Words.{Line, Choice, is_option, has_value, halves, with_front, split}
+use Rattle.wblock_calls.specs.Words.{texts}
+use Rattle.wblock_line.specs.Words.{Line, Choice, choices, is_option, has_value, halves, with_front, split}
 
 -- ---- one step
 
@@ -36,12 +37,6 @@ twice words more options others (Some l) = ap₂ (λ (a : List (List ℕ)) (b : 
 -- one more item at the end of mapped ones
 pushed : {X Y : Type 0} (f : X → Y) (xs new : List X) (x : X) → new ≡ xs ++ x ∷ [] → map f new ≡ map f xs ++ f x ∷ []
 pushed {Y = Y} f xs new x e = ap (map f) e ∙ map-append f xs (x ∷ [])
-
-abbrev texts : List (Bor (List ℕ)) → List (List ℕ)
-texts ws = map (λ w. w.now) ws
-
-abbrev choices : List (Bor (List ℕ) × Bor (List ℕ)) → List Choice
-choices os = map (λ o. (o.0.now, o.1.now)) os
 
 abbrev none : Bor (List ℕ)
 none = record { ref_ptr = (0, 0); now = [] }

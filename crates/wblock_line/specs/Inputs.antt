@@ -10,6 +10,8 @@ use Rattle.wblock_calls.specs.declared.reader.CallsRefusal.{CallsRefusal}
 use Rattle.wblock_io.specs.Holding.{Holding}
 use Rattle.wblock_line.specs.declared.inputs.Inputs.{Inputs}
 use Rattle.wblock_line.specs.declared.inputs.Inputs.TheVariants.{Read, Refused}
+use Rattle.wblock_line.specs.declared.inputs.WorldFile.{WorldFile}
+use Rattle.wblock_line.specs.declared.inputs.WorldFile.TheVariants as file
 
 -- the file of a name holds bytes of which this is true
 pub record Holds (holds : Holding) (name : List ℕ) (Is : List ℕ → Type 0) : Type 0 where
@@ -20,6 +22,11 @@ pub record Holds (holds : Holding) (name : List ℕ) (Is : List ℕ → Type 0) 
 -- the file of a name holds the bytes of the world
 abbrev pub HoldsWorld : Holding → List ℕ → World → Type 0
 HoldsWorld holds name world = Holds holds name (λ bytes. SpellsWorld bytes world)
+
+-- what the file of a name gives of a world: the world that it holds, or the line that tells why it holds none
+abbrev pub GivesWorld : Holding → List ℕ → WorldFile → Type 0
+GivesWorld holds name (file.Read w) = HoldsWorld holds name (world_view w)
+GivesWorld holds name (file.Refused line why) = Holds holds name (λ bytes. TellsNoWorld bytes (string_bytes line))
 
 -- the file of a name holds the text of the calls, which are at most 65,535
 abbrev pub HoldsCalls : Holding → List ℕ → List Call → Type 0

@@ -52,6 +52,11 @@ IsWhy bytes (SegmentRange n) = IsUnlinked bytes (IsFirst (fault.SegmentRange n))
 IsWhy bytes TooManyPages = IsUnlinked bytes (IsFirst fault.TooManyPages)
 IsWhy bytes TableTooLarge = IsUnlinked bytes (IsFirst fault.TableTooLarge)
 
+-- they spell no module, or memory was refused
+abbrev pub IsUnspelled : List ℕ → Stop → Type 0
+IsUnspelled bytes (stop.Refused refusal) = NoModule bytes
+IsUnspelled bytes stop.NoMemory = Unit {0}
+
 abbrev pub StopsAt : List ℕ → Stop → Type 0
 StopsAt bytes (stop.Refused refusal) = IsWhy bytes refusal
 StopsAt bytes stop.NoMemory = Unit {0}

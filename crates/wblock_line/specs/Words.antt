@@ -1,5 +1,6 @@
 -- The words of a line, with its options taken out.
 use Rattle.std.specs.Prelude.{◌≡◌, ℕ, List, [], ◌∷◌, ◌++◌, Option, Some, None, Bool, ◌==◌, ◌||◌, nat_lt, codes, length, map, drop, option_map, slice_index, if◌then◌else◌}
+use Rattle.std.specs.Borrow.{Bor}
 use Rattle.std.specs.Str.{bytes_eq}
 use Rattle.std.specs.List.{position_or_len, before_first, after_first}
 use Rattle.wblock_line.specs.declared.words.Line.{Line as TheLine}
@@ -7,6 +8,9 @@ use Rattle.wblock_line.specs.declared.words.Line.{Line as TheLine}
 -- an option is its name and its value
 abbrev pub Choice : Type 0
 Choice = List ℕ × List ℕ
+
+abbrev pub choices : List (Bor (List ℕ) × Bor (List ℕ)) → List Choice
+choices options = map (λ o. (o.0.now, o.1.now)) options
 
 pub record Line : Type 0 where
   pub words : List (List ℕ)
@@ -21,7 +25,12 @@ is_option word = slice_index word 0 == 0x2D
 
 -- a switch is an option that has no value; it is taken as one with an empty value
 abbrev pub is_switch : List ℕ → Bool
-is_switch word = bytes_eq word (codes "--json") || bytes_eq word (codes "--force") || bytes_eq word (codes "--boosted")
+is_switch word =
+    bytes_eq word (codes "--json")
+    || bytes_eq word (codes "--force")
+    || bytes_eq word (codes "--boosted")
+    || bytes_eq word (codes "--signed")
+    || bytes_eq word (codes "--unchecked")
 
 -- nothing more is wanted of the next word: `NAME=VALUE`, or a switch
 abbrev pub has_value : List ℕ → Bool

@@ -1,9 +1,9 @@
 //! What a command comes to before anything is written or printed.
 
 ghost use Rattle.std.specs.Prelude.{◌≡◌, IsTrue, IfOk, IfErr, OnOk, Some};
-ghost use Rattle.wblock_line.specs.Answers.{CountsFault, IsOfFile};
+ghost use Rattle.wblock_line.specs.Answers.{CountsFault, IsCounted, IsOfFile};
 
-use std::alloc::Global;
+use std::alloc::{AllocError, Global};
 use wblock_io::{Cause, Files, ReadFault};
 
 /// What a file is to hold.
@@ -23,6 +23,26 @@ pub enum Answer<'a> {
     /// It is refused: this line is to be printed, and then this sentence, which says why, is to be said on standard error. The sentence has no
     /// newline, and no clause speaks of its words.
     Refused(String, String),
+}
+
+/// The answer that writes one file, and prints how many bytes it has: `WORD N bytes`.
+///
+/// # Errors
+///
+/// The allocator refused memory.
+pub fn write_counted<'a>(
+    alloc: Global,
+    word: &str,
+    name: &'a str,
+    bytes: Vec<u8>,
+) -> Result<Answer<'a>, AllocError>
+    ensures { IfOk result (IsCounted word.now name.entry.now bytes.items) }
+{
+    let count = bytes.len();
+    let line = format!(in alloc; "{word} {count} bytes\n")?;
+    let mut writes = Vec::new(alloc);
+    writes.push(Write { name, bytes })?;
+    Ok(Answer::Done(writes, line))
 }
 
 /// Why a command comes to nothing.

@@ -3,6 +3,7 @@
 #![tactic(auto)]
 
 mod answer;
+mod entries;
 mod inputs;
 mod line;
 mod modules;
@@ -16,15 +17,18 @@ mod wiped;
 mod words;
 mod worlds;
 
-pub use answer::{Answer, Fault, Write, read_file};
-pub use inputs::{Inputs, judge_calls, read_inputs};
+pub use answer::{Answer, Fault, Write, read_file, write_counted};
+pub use entries::entry_words;
+pub use inputs::{Inputs, WorldFile, judge_calls, read_inputs, read_world_file};
 pub use line::WIPE;
-pub use modules::{Stop, read_contract, read_valid};
+pub use modules::{Stop, read_contract, read_module, read_valid};
 pub use perform::{Status, carry_out, tell_fault};
 pub use progress::Progress;
 pub use quiet::{QUIET_NAME, Words, without_quiet};
 pub use refusals::ModuleRefusal;
 pub use rejections::{reason_words, reject_line_of};
 pub use wiped::Wiped;
-pub use words::{BOOSTED_SWITCH, FORCE_SWITCH, JSON_SWITCH, Line, split_words};
+pub use words::{
+    BOOSTED_SWITCH, FORCE_SWITCH, JSON_SWITCH, Line, SIGNED_SWITCH, UNCHECKED_SWITCH, split_words,
+};
 pub use worlds::judge_world;

@@ -10,7 +10,7 @@ ghost use Rattle.module_tree.specs.Modules.{module_view};
 ghost use Rattle.typing.specs.Parts as typed;
 ghost use Rattle.typing.specs.Judged.{Denies};
 ghost use Rattle.link.specs.Parts.{tree_of, hosts_of};
-ghost use Rattle.wblock_line.specs.Modules.{IsValidOf, IsContractOf, IsFirst, StopsAt};
+ghost use Rattle.wblock_line.specs.Modules.{IsValidOf, IsContractOf, IsFirst, IsUnspelled, StopsAt};
 
 use crate::refusals::ModuleRefusal;
 use body_typing::scope::TypeRefusal;
@@ -18,6 +18,7 @@ use link::deploy::deploy;
 use link::deployed::Deployed;
 use link::refusal::LinkRefusal;
 use loader::{LoadRefusal, load};
+use module_tree::module::Module;
 use std::alloc::{Allocator, Global};
 use typing::check::check;
 use typing::valid::Valid;
@@ -32,7 +33,8 @@ pub enum Stop {
 }
 
 fn unloaded(refusal: LoadRefusal) -> Stop
-    ensures { (bytes : List ℕ) → Unless (NoModule bytes) refusal → StopsAt bytes result }
+    ensures stops { (bytes : List ℕ) → Unless (NoModule bytes) refusal → StopsAt bytes result }
+    ensures none { (bytes : List ℕ) → Unless (NoModule bytes) refusal → IsUnspelled bytes result }
 {
     match refusal {
         LoadRefusal::Malformed(at) => Stop::Refused(ModuleRefusal::Malformed(at)),
@@ -72,6 +74,18 @@ fn unlinked(refusal: LinkRefusal) -> Stop
     }
 }
 
+/// The module of these bytes, valid or not, its tree under `room`: they are loaded.
+pub fn read_module<A: Allocator + Clone>(room: A, bytes: &[u8]) -> Result<Module<A>, Stop>
+    ensures spelled { IfOk result (λ m. Spells bytes.now (module_view m)) }
+    ensures refused { IfErr result (StopsAt bytes.now) }
+    ensures none { IfErr result (IsUnspelled bytes.now) }
+{
+    match load(room, bytes) {
+        Ok(module) => Ok(module),
+        Err(refusal) => Err(unloaded(refusal)),
+    }
+}
+
 /// The valid module of these bytes, its tree under `room`: they are loaded and checked. The working memory is from `alloc`.
 pub fn read_valid<A: Allocator + Clone>(
     alloc: Global,
@@ -81,10 +95,7 @@ pub fn read_valid<A: Allocator + Clone>(
     ensures valid { IfOk result (λ v. IsValidOf bytes.now (module_view (typed.tree_of v))) }
     ensures refused { IfErr result (StopsAt bytes.now) }
 {
-    let module = match load(room, bytes) {
-        Ok(module) => module,
-        Err(refusal) => return Err(unloaded(refusal)),
-    };
+    let module = read_module(room, bytes)?;
     match check(&alloc, module) {
         Ok(valid) => Ok(valid),
         Err((_, refusal)) => Err(untyped(refusal)),

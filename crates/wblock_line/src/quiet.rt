@@ -1,7 +1,8 @@
 //! The word that asks for no progress.
 
 ghost use Rattle.std.specs.Prelude.{◌≡◌, IfOk};
-ghost use Rattle.wblock_line.specs.ProgressOfWords.{texts, is_quiet, others, has_quiet};
+ghost use Rattle.wblock_calls.specs.Words.{texts};
+ghost use Rattle.wblock_line.specs.ProgressOfWords.{is_quiet, others, has_quiet};
 
 use std::alloc::{AllocError, Global};
 

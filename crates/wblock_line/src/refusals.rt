@@ -217,8 +217,8 @@ impl ModuleRefusal {
         ensures { IfOk result (λ s. TellsRefusal self bytes.now (string_bytes s)) }
     {
         match self {
-            ModuleRefusal::Malformed(at) => form_words(alloc, at, false),
-            ModuleRefusal::Unsupported(at) => form_words(alloc, at, true),
+            ModuleRefusal::Malformed(at) => form_words(alloc, bytes, at, false),
+            ModuleRefusal::Unsupported(at) => form_words(alloc, bytes, at, true),
             ModuleRefusal::TooLarge(limit) => limit_words(alloc, limit),
             ModuleRefusal::Untyped {
                 rule,

@@ -29,10 +29,20 @@ pub const FORCE_SWITCH: &str = "--force";
 /// The switch that lets workers over one book run calls, as the papers describe it.
 pub const BOOSTED_SWITCH: &str = "--boosted";
 
+/// The switch that asks for signed numbers of cells.
+pub const SIGNED_SWITCH: &str = "--signed";
+
+/// The switch that asks for the text of a module that need not be valid.
+pub const UNCHECKED_SWITCH: &str = "--unchecked";
+
 fn is_switch(word: &str) -> bool
     ensures { result ≡ is_switch word.now }
 {
-    word == JSON_SWITCH || word == FORCE_SWITCH || word == BOOSTED_SWITCH
+    word == JSON_SWITCH
+        || word == FORCE_SWITCH
+        || word == BOOSTED_SWITCH
+        || word == SIGNED_SWITCH
+        || word == UNCHECKED_SWITCH
 }
 
 /// The two parts of `NAME=VALUE`, or a switch and no value.
@@ -69,7 +79,7 @@ fn take_word<'a>(line: &mut Line<'a>, words: &[&'a str]) -> Result<Option<usize>
 }
 
 /// The words of a line with its options taken out: a word that begins with a hyphen is an option, `NAME=VALUE` or `NAME VALUE`, and stands
-/// anywhere; `--json`, `--force` and `--boosted` have no value, and are taken as options with an empty one. None where the last word is an option without its value.
+/// anywhere; `--json`, `--force`, `--boosted`, `--signed` and `--unchecked` have no value, and are taken as options with an empty one. None where the last word is an option without its value.
 pub fn split_words<'a>(alloc: Global, words: &'a [&'a str]) -> Result<Option<Line<'a>>, AllocError>
     ensures { IfOk result (λ found. option_map line_of found ≡ split (map (λ w. w.now) words.entry.now)) }
 {

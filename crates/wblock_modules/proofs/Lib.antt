@@ -1,2 +1,4 @@
+mod Onto
 mod Reading
 mod Told
+mod Unread

@@ -1,5 +1,5 @@
 -- What `asm` answers.
-use Rattle.std.specs.Prelude.{◌≡◌, ℕ, List, [], ◌∷◌, ◌++◌, Option, Some, None, codes, decimal, length, string_bytes}
+use Rattle.std.specs.Prelude.{◌≡◌, ℕ, List, [], ◌∷◌, ◌++◌, Option, Some, None, codes, decimal, string_bytes}
 use Rattle.spec_syntax.specs.Syntax.{Module}
 use Rattle.spec_binary.specs.Shortest.{shortest}
 use Rattle.spec_binary.specs.Spells.{Spells}
@@ -12,8 +12,7 @@ use Rattle.assembler.specs.Named.{NamesNothing, IsWhy}
 use Rattle.wblock_io.specs.Holding.{Holding}
 use Rattle.wblock_line.specs.declared.answer.Answer.{Answer}
 use Rattle.wblock_line.specs.declared.answer.Answer.TheVariants.{Done, Refused}
-use Rattle.wblock_line.specs.declared.perform.Status.TheVariants as status
-use Rattle.wblock_line.specs.Answers.{writes_of, text_of, status_of}
+use Rattle.wblock_line.specs.Answers.{IsCounted}
 
 -- ---- refusals
 
@@ -61,17 +60,11 @@ pub record IsSpelled (text bytes : List ℕ) : Type 0 where
   pub spells : Spells bytes tree
   pub is_shortest : bytes ≡ shortest tree
 
--- a file is to hold these bytes, and `assembled N bytes` is to be printed
-pub record IsDone (target bytes : List ℕ) (a : Answer) : Type 0 where
-  pub status : status_of a ≡ status.Done
-  pub writes : writes_of a ≡ (target, bytes) ∷ []
-  pub text : text_of a ≡ codes "assembled " ++ decimal (length bytes) ++ codes " bytes" ++ 10 ∷ []
-
 -- the file is to hold the module that the text names
 pub record TellsModule (text target : List ℕ) (a : Answer) : Type 0 where
   pub bytes : List ℕ
   pub spelled : IsSpelled text bytes
-  pub is_done : IsDone target bytes a
+  pub is_done : IsCounted (codes "assembled") target bytes a
 
 -- ---- answers
 

@@ -1,17 +1,22 @@
 -- What `deploy` answers.
-use Rattle.std.specs.Prelude.{◌≡◌, ℕ, List, [], ◌∷◌, ◌++◌, Some, codes, decimal, length, map, take, slice_get, vec_len, string_bytes}
+use Rattle.std.specs.Prelude.{◌≡◌, ℕ, ◌+◌, ◌≤◌, ◌<◌, ◌⊎◌, List, [], ◌∷◌, ◌++◌, Option, Some, None, codes, decimal, length, map, take, slice_get, vec_len, string_bytes}
+use Rattle.std.specs.Borrow.{Bor}
 use Rattle.std.specs.FinMap.{empty}
 use Rattle.spec_block.specs.Worlds.{Contract, World}
 use Rattle.spec_block.specs.Bytes.{world_bytes}
 use Rattle.wblock_io.specs.Holding.{Holding}
 use Rattle.wblock_line.specs.declared.answer.Answer.{Answer}
 use Rattle.wblock_line.specs.declared.answer.Answer.TheVariants.{Done, Refused}
+use Rattle.wblock_line.specs.declared.inputs.WorldFile.{WorldFile}
+use Rattle.wblock_line.specs.declared.inputs.WorldFile.TheVariants as file
 use Rattle.wblock_line.specs.declared.perform.Status.TheVariants as status
 use Rattle.wblock_line.specs.declared.refusals.ModuleRefusal.{ModuleRefusal}
 use Rattle.wblock_line.specs.Answers.{writes_of, text_of, status_of}
+use Rattle.wblock_line.specs.Inputs.{Holds as HoldsBytes, HoldsWorld}
 use Rattle.wblock_line.specs.Modules.{IsContractOf, IsWhy}
 use Rattle.wblock_line.specs.Refusals.{refusal_text}
-use Rattle.world.specs.Views.{contract_view}
+use Rattle.wblock_line.specs.Worlds.{TellsNoWorld}
+use Rattle.world.specs.Views.{contract_view, world_view}
 use Rattle.wblock_modules.specs.declared.deploy.Modules.{Modules}
 use Rattle.wblock_modules.specs.declared.deploy.Modules.TheVariants as modules
 
@@ -27,9 +32,51 @@ AreHeld holds [] [] = Unit {0}
 AreHeld holds (name ∷ names) (c ∷ cs) = Holds holds name c × AreHeld holds names cs
 AreHeld holds _ _ = ⊥
 
--- the world of these contracts, with no cells
-abbrev pub fresh_world : List Contract → World
-fresh_world contracts = record { contracts = contracts; cells = empty }
+-- ---- the world that is gone on from
+
+-- no contracts and no cells
+pub record IsEmpty (w : World) : Type 0 where
+  pub no_contracts : w.contracts ≡ []
+  pub no_cells : w.cells ≡ empty
+
+-- the file of OLD holds the world; or no OLD is named, and it is the world of nothing
+abbrev pub IsBase : Holding → Option (Bor (List ℕ)) → World → Type 0
+IsBase holds None w = IsEmpty w
+IsBase holds (Some old) w = HoldsWorld holds old.now w
+
+-- with so many contracts more it has at most 1,024
+pub record HasRoom (holds : Holding) (onto : Option (Bor (List ℕ))) (count : ℕ) (w : World) : Type 0 where
+  pub is_base : IsBase holds onto w
+  pub room : length w.contracts + count ≤ 1024
+
+-- the contracts of a world, and these behind them, over its cells
+abbrev pub extended : World → List Contract → World
+extended w contracts = record { contracts = w.contracts ++ contracts; cells = w.cells }
+
+-- ---- OLD is refused
+
+-- the line tells why OLD holds no world
+abbrev pub TellsNoBase : Holding → Option (Bor (List ℕ)) → List ℕ → Type 0
+TellsNoBase holds None line = ⊥
+TellsNoBase holds (Some old) line = HoldsBytes holds old.now (λ bytes. TellsNoWorld bytes line)
+
+-- `refused deploy 6 N`
+abbrev pub crowd_line : ℕ → List ℕ
+crowd_line count = codes "refused deploy 6 " ++ decimal count ++ 10 ∷ []
+
+-- the contracts of OLD and so many more are above 1,024, and the line tells how many they are
+pub record TellsCrowd (holds : Holding) (onto : Option (Bor (List ℕ))) (count : ℕ) (line : List ℕ) : Type 0 where
+  pub base : World
+  pub is_base : IsBase holds onto base
+  pub many : 1024 < length base.contracts + count
+  pub line_is : line ≡ crowd_line (length base.contracts + count)
+
+-- OLD holds no world, or one without room for so many contracts more
+abbrev pub RefusesOld : Holding → Option (Bor (List ℕ)) → ℕ → Answer → Type 0
+RefusesOld holds onto count (Done writes text) = ⊥
+RefusesOld holds onto count (Refused line why) = TellsNoBase holds onto (string_bytes line) ⊎ TellsCrowd holds onto count (string_bytes line)
+
+-- ---- modules
 
 abbrev pub refusal_line : ModuleRefusal → ℕ → List ℕ
 refusal_line refusal number = refusal_text refusal ++ codes " module " ++ decimal number ++ 10 ∷ []
@@ -54,23 +101,65 @@ pub record TellsRefusal (holds : Holding) (names : List (List ℕ)) (line : List
   pub why : IsWhy bytes refusal
   pub line_is : line ≡ refusal_line refusal number
 
--- a file is to hold these bytes, and `deployed N contracts` is to be printed
-pub record IsDone (world bytes : List ℕ) (count : ℕ) (a : Answer) : Type 0 where
+-- ` onto M`, M the number of OLD's contracts, where OLD is named
+abbrev pub onto_text : Option (Bor (List ℕ)) → ℕ → List ℕ
+onto_text None count = []
+onto_text (Some old) count = codes " onto " ++ decimal count
+
+-- a file is to hold these bytes, and `deployed N contracts` is to be printed, and this behind it
+pub record IsDone (world bytes : List ℕ) (count : ℕ) (behind : List ℕ) (a : Answer) : Type 0 where
   pub status : status_of a ≡ status.Done
   pub writes : writes_of a ≡ (world, bytes) ∷ []
-  pub text : text_of a ≡ codes "deployed " ++ decimal count ++ codes " contracts" ++ 10 ∷ []
+  pub text : text_of a ≡ codes "deployed " ++ decimal count ++ codes " contracts" ++ behind ++ 10 ∷ []
 
--- the bytes are those of the world of the contracts that the files hold
-pub record TellsWorld (holds : Holding) (world : List ℕ) (names : List (List ℕ)) (a : Answer) : Type 0 where
+-- the bytes are those of the world with the contracts that the files hold behind its own
+pub record TellsWorld (holds : Holding) (world : List ℕ) (onto : Option (Bor (List ℕ))) (base : World) (names : List (List ℕ)) (a : Answer) : Type 0 where
   pub contracts : List Contract
   pub held : AreHeld holds names contracts
-  pub is : IsDone world (world_bytes (fresh_world contracts)) (length names) a
+  pub is : IsDone world (world_bytes (extended base contracts)) (length names) (onto_text onto (length base.contracts)) a
 
-abbrev pub Deploys : Holding → List ℕ → List (List ℕ) → Answer → Type 0
-Deploys holds world names (Done writes text) = TellsWorld holds world names (Done writes text)
-Deploys holds world names (Refused line why) = TellsRefusal holds names (string_bytes line)
+-- what comes of the modules, behind the contracts of this world
+abbrev pub Extends : Holding → List ℕ → Option (Bor (List ℕ)) → World → List (List ℕ) → Answer → Type 0
+Extends holds world onto base names (Done writes text) = TellsWorld holds world onto base names (Done writes text)
+Extends holds world onto base names (Refused line why) = TellsRefusal holds names (string_bytes line)
 
--- ---- modules read from files
+-- ---- answers
+
+-- the world that is gone on from has room for the modules
+pub record DeploysOnto (holds : Holding) (world : List ℕ) (onto : Option (Bor (List ℕ))) (names : List (List ℕ)) (a : Answer) : Type 0 where
+  pub base : World
+  pub room : HasRoom holds onto (length names) base
+  pub extends : Extends holds world onto base names a
+
+abbrev pub Deploys : Holding → List ℕ → Option (Bor (List ℕ)) → List (List ℕ) → Answer → Type 0
+Deploys holds world onto names a = RefusesOld holds onto (length names) a ⊎ DeploysOnto holds world onto names a
+
+-- ---- files that are read
+
+-- the name is that of OLD
+abbrev pub IsOld : Option (Bor (List ℕ)) → List ℕ → Type 0
+IsOld None name = ⊥
+IsOld (Some old) name = name ≡ old.now
+
+-- the world that is gone on from has room, and the file of this name is the next of the modules
+pub record IsNextBehind (holds : Holding) (onto : Option (Bor (List ℕ))) (names : List (List ℕ)) (name : List ℕ) : Type 0 where
+  pub base : World
+  pub room : HasRoom holds onto (length names) base
+  pub next : IsNextModule holds names name
+
+-- OLD is read, and then the modules
+abbrev pub IsNextDeployed : Holding → Option (Bor (List ℕ)) → List (List ℕ) → List ℕ → Type 0
+IsNextDeployed holds onto names name = IsOld onto name ⊎ IsNextBehind holds onto names name
+
+-- what OLD gives, or the world of nothing where none is named
+abbrev pub GivesBase : Holding → Option (Bor (List ℕ)) → WorldFile → Type 0
+GivesBase holds onto (file.Read w) = IsBase holds onto (world_view w)
+GivesBase holds onto (file.Refused line why) = TellsNoBase holds onto (string_bytes line)
+
+-- the answer's line tells that the contracts are so many
+abbrev pub TellsCount : ℕ → Answer → Type 0
+TellsCount count (Done writes text) = ⊥
+TellsCount count (Refused line why) = string_bytes line ≡ crowd_line count
 
 abbrev pub HasCount : ℕ → Modules → Type 0
 HasCount count (modules.Linked contracts) = vec_len contracts ≡ count

@@ -4,7 +4,7 @@ ghost use Rattle.std.specs.Prelude.{◌≡◌, IsTrue, IfOk, IfErr, OnOk, string
 ghost use Rattle.text_resolve.specs.Refused.{Unless};
 ghost use Rattle.assembler.specs.Named.{NamesNothing, IsWhy};
 ghost use Rattle.wblock_line.specs.Answers.{CountsFault, IsOfFile};
-ghost use Rattle.wblock_modules.specs.Assembles.{told, refusal_line, IsSpelled, IsRefusalOf, IsDone, IsAnswer, Assembles};
+ghost use Rattle.wblock_modules.specs.Assembles.{told, refusal_line, IsSpelled, IsRefusalOf, IsAnswer, Assembles};
 
 use crate::places::{front_of, place_of_fault};
 use assembler::{AsmRefusal, assemble};
@@ -14,7 +14,7 @@ use lexer::LexRefusal;
 use std::alloc::{AllocError, Global};
 use std::str::from_utf8;
 use wblock_io::Files;
-use wblock_line::{Answer, Fault, Write, read_file};
+use wblock_line::{Answer, Fault, read_file, write_counted};
 use wblock_words::text_words;
 
 /// The shortest spelling of the module that a text names. Its tree stands in an arena.
@@ -78,20 +78,6 @@ fn refuse<'a>(alloc: Global, text: &str, refusal: AsmRefusal) -> Result<Answer<'
     }
 }
 
-/// The answer of a module's bytes, which are to be written to a file.
-fn done<'a>(alloc: Global, target: &'a str, bytes: Vec<u8>) -> Result<Answer<'a>, AllocError>
-    ensures { IfOk result (λ a. IsDone target.entry.now bytes.items a) }
-{
-    let count = bytes.len();
-    let text = format!(in alloc; "assembled {count} bytes\n")?;
-    let mut writes = Vec::new(alloc);
-    writes.push(Write {
-        name: target,
-        bytes,
-    })?;
-    Ok(Answer::Done(writes, text))
-}
-
 /// What the bytes of a text come to.
 fn answer_bytes<'a>(alloc: Global, target: &'a str, bytes: &[u8]) -> Result<Answer<'a>, Fault<'a>>
     ensures answer { IfOk result (IsAnswer bytes.now target.entry.now) }
@@ -99,7 +85,7 @@ fn answer_bytes<'a>(alloc: Global, target: &'a str, bytes: &[u8]) -> Result<Answ
 {
     match from_utf8(bytes) {
         Ok(text) => match spell(alloc, text) {
-            Ok(spelled) => match done(alloc, target, spelled) {
+            Ok(spelled) => match write_counted(alloc, "assembled", target, spelled) {
                 Ok(answer) => Ok(answer),
                 Err(AllocError) => Err(Fault::NoMemory),
             },

@@ -1,16 +1,19 @@
-//! The command `deploy WORLD MODULE...`: the world of the contracts that modules are, with no cells.
+//! The command `deploy WORLD MODULE... [--onto OLD]`: the world of the contracts that modules are, with no cells; or the world OLD with these contracts
+//! behind its own.
 
-ghost use Rattle.std.specs.Prelude.{◌≡◌, ◌≤◌, IsTrue, IfOk, IfErr, OnOk, length, vec_len, map};
+ghost use Rattle.std.specs.Prelude.{◌≡◌, ◌+◌, ◌≤◌, IsTrue, IfOk, IfErr, OnOk, length, vec_len, map, string_bytes};
 ghost use Rattle.spec_block.specs.Bytes.{world_bytes};
 ghost use Rattle.wblock_line.specs.Answers.{CountsFault, IsOfFile};
-ghost use Rattle.world.specs.Views.{contract_view};
-ghost use Rattle.wblock_modules.specs.Deploys.{HasCount, IsRead, IsRefusalLine, IsNextModule, IsDone, fresh_world, Deploys};
+ghost use Rattle.world.specs.Views.{contract_view, world_view};
+ghost use Rattle.wblock_modules.specs.Deploys.{HasCount, IsRead, IsRefusalLine, IsNextModule, IsDone, IsEmpty, IsOld, IsNextDeployed, GivesBase, TellsCount, Deploys, Extends, extended, onto_text};
 
 use link::deployed::Deployed;
 use std::alloc::{AllocError, Global};
 use storage::Cells;
 use wblock_io::Files;
-use wblock_line::{Answer, Fault, ModuleRefusal, Stop, Write, read_contract, read_file};
+use wblock_line::{
+    Answer, Fault, ModuleRefusal, Stop, WorldFile, Write, read_contract, read_file, read_world_file,
+};
 use world::{World, encode_world};
 use wtypes::NoMemory;
 
@@ -83,40 +86,109 @@ fn read_modules<'a, F: Files>(
     Ok(Modules::Linked(contracts))
 }
 
-/// The bytes of the world of these contracts, with no cells.
-fn encode_contracts(alloc: Global, contracts: Vec<Deployed<Global>>) -> Result<Vec<u8>, NoMemory>
-    requires { vec_len contracts ≤ 1024 }
-    ensures { IfOk result (λ bytes. bytes.items ≡ world_bytes (fresh_world (map contract_view contracts.items))) }
+/// The world of nothing.
+fn empty_world(alloc: Global) -> World
+    ensures { IsEmpty (world_view result) }
 {
-    let world = World::new(contracts, Cells::new(alloc));
+    World::new(Vec::new(alloc), Cells::new(alloc))
+}
+
+/// The world that is gone on from: that of OLD, or the world of nothing where none is named; or why OLD holds none.
+fn read_base<'a, F: Files>(
+    alloc: Global,
+    files: &mut F,
+    onto: Option<&'a str>,
+) -> Result<WorldFile, Fault<'a>>
+    ensures gives { IfOk result (λ found. IsTrue F.tells → GivesBase (F.holds files.old) onto.entry found) }
+    ensures kept { IsTrue F.tells → F.holds files.new ≡ F.holds files.old }
+    ensures calm { OnOk result (F.failures files.new ≡ F.failures files.old) }
+    ensures counted { IfErr result (λ f. CountsFault f (F.failures files.old) (F.failures files.new)) }
+    ensures named { IfErr result (IsOfFile (IsOld onto.entry)) }
+{
+    match onto {
+        None => Ok(WorldFile::Read(empty_world(alloc))),
+        Some(old) => read_world_file(alloc, files, old),
+    }
+}
+
+/// How many contracts a world has.
+fn count_of(world: &World) -> usize
+    ensures count { result ≡ length (world_view world.now).contracts }
+    ensures few { result ≤ 1024 }
+{
+    world.contracts().len()
+}
+
+/// The bytes of a world with these contracts behind its own.
+fn encode_extended(
+    alloc: Global,
+    base: World,
+    contracts: Vec<Deployed<Global>>,
+) -> Result<Vec<u8>, NoMemory>
+    requires { length (world_view base).contracts + vec_len contracts ≤ 1024 }
+    ensures { IfOk result (λ bytes. bytes.items ≡ world_bytes (extended (world_view base) (map contract_view contracts.items))) }
+{
+    let mut behind = contracts;
+    let (mut all, cells) = base.into_parts();
+    all.append(&mut behind)?;
+    let world = World::new(all, cells);
     encode_world(alloc, &world)
 }
 
-/// The answer of so many contracts, whose world these bytes are.
+/// ` onto M`, M the number of OLD's contracts, or nothing where no OLD is named.
+fn onto_text_of(alloc: Global, onto: Option<&str>, count: usize) -> Result<String, AllocError>
+    ensures { IfOk result (λ text. string_bytes text ≡ onto_text onto.entry count) }
+{
+    match onto {
+        None => Ok(String::new(alloc)),
+        Some(_) => format!(in alloc; " onto {count}"),
+    }
+}
+
+/// The answer of so many contracts, whose world these bytes are, with this behind its line.
 fn done<'a>(
     alloc: Global,
     world: &'a str,
     bytes: Vec<u8>,
     count: usize,
+    behind: &String,
 ) -> Result<Answer<'a>, AllocError>
-    ensures { IfOk result (λ a. IsDone world.entry.now bytes.items count a) }
+    ensures { IfOk result (λ a. IsDone world.entry.now bytes.items count (string_bytes behind.now) a) }
 {
-    let text = format!(in alloc; "deployed {count} contracts\n")?;
+    let text = format!(in alloc; "deployed {count} contracts{behind}\n")?;
     let mut writes = Vec::new(alloc);
     writes.push(Write { name: world, bytes })?;
     Ok(Answer::Done(writes, text))
 }
 
-/// What `deploy` comes to: the world of the contracts that the modules of the files are, in their order and with no cells, is to be written; or
-/// the first module that gives no contract is refused. No file is written yet.
-pub fn deploy_modules<'a, F: Files>(
+/// The answer of these contracts behind those of a world, which is that of OLD where OLD is named.
+fn extend<'a>(
+    alloc: Global,
+    world: &'a str,
+    onto: Option<&str>,
+    base: World,
+    contracts: Vec<Deployed<Global>>,
+) -> Result<Answer<'a>, NoMemory>
+    requires { length (world_view base).contracts + vec_len contracts ≤ 1024 }
+    ensures { IfOk result (λ a. IsDone world.entry.now (world_bytes (extended (world_view base) (map contract_view contracts.items))) (vec_len contracts) (onto_text onto.entry (length (world_view base).contracts)) a) }
+{
+    let count = contracts.len();
+    let behind = onto_text_of(alloc, onto, count_of(&base))?;
+    let bytes = encode_extended(alloc, base, contracts)?;
+    Ok(done(alloc, world, bytes, count, &behind)?)
+}
+
+/// What the modules come to behind the contracts of a world.
+fn deploy_behind<'a, F: Files>(
     alloc: Global,
     files: &mut F,
     world: &'a str,
+    onto: Option<&'a str>,
+    base: World,
     modules: &[&'a str],
 ) -> Result<Answer<'a>, Fault<'a>>
-    requires { length modules.now ≤ 1024 }
-    ensures answers { IfOk result (λ a. IsTrue F.tells → Deploys (F.holds files.old) world.entry.now (map (λ w. w.now) modules.now) a) }
+    requires { length (world_view base).contracts + length modules.now ≤ 1024 }
+    ensures answers { IfOk result (λ a. IsTrue F.tells → Extends (F.holds files.old) world.entry.now onto.entry (world_view base) (map (λ w. w.now) modules.now) a) }
     ensures kept { IsTrue F.tells → F.holds files.new ≡ F.holds files.old }
     ensures calm { OnOk result (F.failures files.new ≡ F.failures files.old) }
     ensures counted { IfErr result (λ f. CountsFault f (F.failures files.old) (F.failures files.new)) }
@@ -124,14 +196,77 @@ pub fn deploy_modules<'a, F: Files>(
 {
     match read_modules(alloc, files, modules)? {
         Modules::Refused(line, why) => Ok(Answer::Refused(line, why)),
-        Modules::Linked(contracts) => {
-            let Ok(bytes) = encode_contracts(alloc, contracts) else {
-                return Err(Fault::NoMemory);
-            };
-            match done(alloc, world, bytes, modules.len()) {
-                Ok(answer) => Ok(answer),
-                Err(AllocError) => Err(Fault::NoMemory),
-            }
-        }
+        Modules::Linked(contracts) => match extend(alloc, world, onto, base, contracts) {
+            Ok(answer) => Ok(answer),
+            Err(NoMemory) => Err(Fault::NoMemory),
+        },
+    }
+}
+
+/// The answer that so many contracts of OLD and so many modules are too many for a world.
+fn crowd_answer<'a>(
+    alloc: Global,
+    contracts: usize,
+    modules: usize,
+) -> Result<Answer<'a>, AllocError>
+    requires contracts { contracts ≤ 1024 }
+    requires modules { modules ≤ 1024 }
+    ensures { IfOk result (TellsCount (contracts + modules)) }
+{
+    let count = contracts + modules;
+    let line = format!(in alloc; "refused deploy 6 {count}\n")?;
+    let why = format!(in alloc;
+        "world: {contracts} contracts of OLD and {modules} modules are more than 1,024 contracts; deploy fewer"
+    )?;
+    Ok(Answer::Refused(line, why))
+}
+
+/// The same, with the fault of a command.
+fn refuse_crowd<'a>(
+    alloc: Global,
+    contracts: usize,
+    modules: usize,
+) -> Result<Answer<'a>, Fault<'a>>
+    requires contracts { contracts ≤ 1024 }
+    requires modules { modules ≤ 1024 }
+    ensures line { IfOk result (TellsCount (contracts + modules)) }
+    ensures fault { IfErr result (λ f. f ≡ Fault.NoMemory) }
+{
+    match crowd_answer(alloc, contracts, modules) {
+        Ok(refused) => Ok(refused),
+        Err(AllocError) => Err(Fault::NoMemory),
+    }
+}
+
+/// What `deploy` comes to: the world of the contracts that the modules of the files are, in their order, is to be written. They stand behind the
+/// contracts of OLD, whose numbers stay, and over its cells; where no OLD is named, there are no others and no cells. Or OLD is refused, since it
+/// holds no world, or since the contracts are more than 1,024 in all; no module is read then. Or the first module that gives no contract is. No file
+/// is written yet.
+pub fn deploy_modules<'a, F: Files>(
+    alloc: Global,
+    files: &mut F,
+    world: &'a str,
+    onto: Option<&'a str>,
+    modules: &[&'a str],
+) -> Result<Answer<'a>, Fault<'a>>
+    requires { length modules.now ≤ 1024 }
+    ensures answers { IfOk result (λ a. IsTrue F.tells → Deploys (F.holds files.old) world.entry.now onto.entry (map (λ w. w.now) modules.now) a) }
+    ensures kept { IsTrue F.tells → F.holds files.new ≡ F.holds files.old }
+    ensures calm { OnOk result (F.failures files.new ≡ F.failures files.old) }
+    ensures counted { IfErr result (λ f. CountsFault f (F.failures files.old) (F.failures files.new)) }
+    ensures next { IfErr result (IsOfFile (λ name. IsTrue F.tells → IsNextDeployed (F.holds files.old) onto.entry (map (λ w. w.now) modules.now) name)) }
+{
+    let base = match read_base(alloc, files, onto)? {
+        WorldFile::Read(base) => base,
+        WorldFile::Refused(line, why) => return Ok(Answer::Refused(line, why)),
+    };
+    let contracts = count_of(&base);
+    let is_crowded = contracts + modules.len() > World::MOST_CONTRACTS;
+    if is_crowded {
+        return refuse_crowd(alloc, contracts, modules.len());
+    }
+    match deploy_behind(alloc, files, world, onto, base, modules) {
+        Ok(answer) => Ok(answer),
+        Err(fault) => Err(fault),
     }
 }

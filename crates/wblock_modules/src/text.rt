@@ -1,16 +1,18 @@
-//! The command `text MODULE TEXT`: a text that names a module.
+//! The command `text MODULE TEXT [--unchecked]`: a text that names a module.
 
-ghost use Rattle.std.specs.Prelude.{◌≡◌, IsTrue, IfOk, IfErr, OnOk, string_bytes};
+ghost use Rattle.std.specs.Prelude.{◌≡◌, true, IsTrue, IfOk, IfErr, OnOk, string_bytes};
+ghost use Rattle.module_tree.specs.Modules.{module_view};
 ghost use Rattle.wblock_line.specs.Answers.{CountsFault, IsOfFile};
-ghost use Rattle.wblock_line.specs.Modules.{StopsAt};
-ghost use Rattle.wblock_modules.specs.Texts.{IsFound, IsDone, IsAnswer, WritesText, unwritten_line};
+ghost use Rattle.wblock_line.specs.Modules.{IsUnspelled, StopsAt};
+ghost use Rattle.wblock_modules.specs.Texts.{IsRead, IsFound, IsAnswer, WritesText, unwritten_line};
 
 use module_text::{TextRefusal, text_of};
+use module_tree::module::Module;
 use std::alloc::{AllocError, Global};
 use wblock_io::Files;
-use wblock_line::{Answer, Fault, Stop, Write, read_file, read_valid};
+use wblock_line::{Answer, Fault, Stop, read_file, read_module, read_valid, write_counted};
 
-/// What a valid module comes to.
+/// What a module comes to.
 #[derive(Drop)]
 enum Found {
     /// This text names it.
@@ -21,13 +23,36 @@ enum Found {
     Unwritten,
 }
 
-/// The text of the module of these bytes, where it is valid.
-fn find_text(alloc: Global, bytes: &[u8]) -> Result<Found, Stop>
-    ensures found { IfOk result (IsFound bytes.now) }
+/// The module of these bytes, where it is valid; unchecked, valid or not.
+fn read_tree(alloc: Global, unchecked: bool, bytes: &[u8]) -> Result<Module<Global>, Stop>
+    ensures read { IfOk result (λ m. IsRead unchecked bytes.now (module_view m)) }
     ensures refused { IfErr result (StopsAt bytes.now) }
+    ensures none { IfErr result (λ s. unchecked ≡ true → IsUnspelled bytes.now s) }
 {
-    let valid = read_valid(alloc, alloc, bytes)?;
-    match text_of(alloc, valid.module()) {
+    if unchecked {
+        match read_module(alloc, bytes) {
+            Ok(module) => Ok(module),
+            Err(stop) => Err(stop),
+        }
+    } else {
+        match read_valid(alloc, alloc, bytes) {
+            Ok(valid) => Ok(valid.into_module()),
+            Err(stop) => Err(stop),
+        }
+    }
+}
+
+/// The text of the module of these bytes, where it is valid; unchecked, valid or not.
+fn find_text(alloc: Global, unchecked: bool, bytes: &[u8]) -> Result<Found, Stop>
+    ensures found { IfOk result (IsFound unchecked bytes.now) }
+    ensures refused { IfErr result (StopsAt bytes.now) }
+    ensures none { IfErr result (λ s. unchecked ≡ true → IsUnspelled bytes.now s) }
+{
+    let tree = match read_tree(alloc, unchecked, bytes) {
+        Ok(tree) => tree,
+        Err(stop) => return Err(stop),
+    };
+    match text_of(alloc, &tree) {
         Ok(text) => Ok(Found::Text(text)),
         Err(TextRefusal::TooLong) => Ok(Found::TooLong),
         Err(TextRefusal::Unwritten) => Ok(Found::Unwritten),
@@ -44,31 +69,18 @@ fn unwritten_text(alloc: Global, number: u8, why: &str) -> Result<(String, Strin
     Ok((line, why))
 }
 
-/// The answer of a text, which is to be written to a file.
-fn done<'a>(alloc: Global, target: &'a str, text: String) -> Result<Answer<'a>, AllocError>
-    ensures { IfOk result (λ a. IsDone target.entry.now (string_bytes text) a) }
-{
-    let bytes = text.into_bytes();
-    let count = bytes.len();
-    let line = format!(in alloc; "text {count} bytes\n")?;
-    let mut writes = Vec::new(alloc);
-    writes.push(Write {
-        name: target,
-        bytes,
-    })?;
-    Ok(Answer::Done(writes, line))
-}
-
 /// The text of the module of these bytes, or why it is refused.
+#[tactic(auto, using(crate::proofs::Unread::tells_unread))]
 fn answer_or_refuse<'a>(
     alloc: Global,
+    unchecked: bool,
     target: &'a str,
     bytes: &[u8],
 ) -> Result<Answer<'a>, AllocError>
-    ensures { IfOk result (IsAnswer bytes.now target.entry.now) }
+    ensures { IfOk result (IsAnswer unchecked bytes.now target.entry.now) }
 {
-    match find_text(alloc, bytes) {
-        Ok(Found::Text(text)) => done(alloc, target, text),
+    match find_text(alloc, unchecked, bytes) {
+        Ok(Found::Text(text)) => write_counted(alloc, "text", target, text.into_bytes()),
         Ok(Found::TooLong) => {
             let (line, why) = unwritten_text(
                 alloc,
@@ -89,22 +101,23 @@ fn answer_or_refuse<'a>(
     }
 }
 
-/// What `text` comes to: a text that names the module of a file is to be written to the file `target`, where the module is valid; or why it is refused. No
-/// file is written yet.
+/// What `text` comes to: a text that names the module of a file is to be written to the file `target`, where the module is valid, or, unchecked, valid or
+/// not; or why it is refused. No file is written yet.
 pub fn write_text<'a, F: Files>(
     alloc: Global,
     files: &mut F,
     source: &'a str,
     target: &'a str,
+    unchecked: bool,
 ) -> Result<Answer<'a>, Fault<'a>>
-    ensures answers { IfOk result (λ a. IsTrue F.tells → WritesText (F.holds files.old) source.entry.now target.entry.now a) }
+    ensures answers { IfOk result (λ a. IsTrue F.tells → WritesText unchecked (F.holds files.old) source.entry.now target.entry.now a) }
     ensures kept { IsTrue F.tells → F.holds files.new ≡ F.holds files.old }
     ensures calm { OnOk result (F.failures files.new ≡ F.failures files.old) }
     ensures counted { IfErr result (λ f. CountsFault f (F.failures files.old) (F.failures files.new)) }
     ensures named { IfErr result (IsOfFile (λ name. name ≡ source.entry.now)) }
 {
     let bytes = read_file(alloc, files, source)?;
-    match answer_or_refuse(alloc, target, bytes.as_slice()) {
+    match answer_or_refuse(alloc, unchecked, target, bytes.as_slice()) {
         Ok(answer) => Ok(answer),
         Err(AllocError) => Err(Fault::NoMemory),
     }

@@ -2,9 +2,6 @@
 use Rattle.std.proofs.Common.{◌≡◌, ℕ, List, [], ◌∷◌, ◌++◌, codes, append_assoc}
 use Rattle.wblock_picture.specs.Boxes.{box_front, box_inside}
 
-pub lock_parts : (k p d s : List ℕ) → k ≡ p → k ++ (d ++ (codes ":" ++ s)) ≡ p ++ d ++ codes ":" ++ s
-lock_parts k p d s kp = simp (append_assoc, kp)
-
 pub hot_parts : (y l m h : List ℕ) → l ≡ m
     → codes "<text x=\"24\" y=\"" ++ (y ++ (codes "\">hot: " ++ (l ++ (codes ", in " ++ (h ++ (codes " positions</text>" ++ 10 ∷ []))))))
     ≡ codes "<text x=\"24\" y=\"" ++ y ++ codes "\">hot: " ++ m ++ codes ", in " ++ h ++ codes " positions</text>" ++ 10 ∷ []

@@ -4,7 +4,7 @@ use Rattle.figures.specs.declared.hottest.SharedLock.{SharedLock}
 use Rattle.wblock_picture.specs.declared.head.Told.{Told}
 use Rattle.wblock_picture.specs.declared.head.TheConstants.{STYLE, LEGEND}
 use Rattle.wblock_picture.specs.declared.seat.TheConstants.{COLUMN, ROW}
-use Rattle.wblock_picture.specs.Words.{lock_text}
+use Rattle.figures.specs.Words.{lock_text}
 
 -- the first line: the picture is as wide as the columns, at least 720, and as high as the head and the rows
 abbrev pub size_text : Told → ℕ → List ℕ

@@ -1,13 +1,9 @@
--- Locks and outcomes in words.
+-- The locks of a position, and outcomes, in words.
 use Rattle.std.specs.Prelude.{ℕ, zero, suc, ◌-◌, List, [], ◌∷◌, ◌++◌, codes, decimal, length, take}
-use Rattle.spec_ledger.specs.declared.Kind.{Kind}
-use Rattle.spec_ledger.specs.declared.Kind.TheVariants.{Map, Counter}
-use Rattle.spec_ledger.specs.declared.Lock.{Lock}
-use Rattle.spec_ledger.specs.declared.Mode.{Mode}
-use Rattle.spec_ledger.specs.declared.Mode.TheVariants.{Read, Add, Excl}
 use Rattle.spec_ledger.specs.declared.Entry.{Entry}
 use Rattle.spec_ledger.specs.declared.Outcome.{Outcome}
 use Rattle.spec_ledger.specs.declared.Outcome.TheVariants.{Returned, Trapped, OutOfFuel, Rejected}
+use Rattle.figures.specs.Words.{lock_text, mode_word}
 use Rattle.wblock_picture.specs.declared.scene.TheConstants.{MOST_LOCKS}
 
 -- the letter of a box
@@ -16,19 +12,6 @@ letter (Returned v) = codes "R"
 letter (Trapped t) = codes "T"
 letter OutOfFuel = codes "F"
 letter (Rejected n) = codes "X"
-
-abbrev pub kind_word : Kind → List ℕ
-kind_word Map = codes "map "
-kind_word Counter = codes "counter "
-
--- `map C:K` or `counter C:K`
-abbrev pub lock_text : Lock → List ℕ
-lock_text lock = kind_word lock.kind ++ decimal lock.contract ++ codes ":" ++ decimal lock.key
-
-abbrev pub mode_word : Mode → List ℕ
-mode_word Read = codes "read"
-mode_word Add = codes "add"
-mode_word Excl = codes "excl"
 
 -- a newline and `LOCK MODE turn T`
 abbrev pub entry_text : Entry → List ℕ

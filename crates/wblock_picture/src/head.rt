@@ -4,8 +4,7 @@ ghost use Rattle.std.specs.Prelude.{◌≡◌, ◌≤◌, ◌^◌, IfOk, length,
 ghost use Rattle.wblock_picture.specs.Heads.{size_text, summary, more_word, drawn_text, hot_text, hot_texts, head};
 
 use crate::seat::{COLUMN, ROW};
-use crate::words::lock_text_of;
-use figures::SharedLock;
+use figures::{SharedLock, lock_text_of};
 use std::alloc::{AllocError, Global};
 
 /// How the parts of a picture look, on a screen, light or dark, and in print.

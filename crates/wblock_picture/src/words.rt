@@ -1,11 +1,12 @@
-//! Locks and outcomes in words.
+//! The locks of a position, and outcomes, in words.
 
 ghost use Rattle.std.specs.Prelude.{◌≡◌, ◌-◌, ◌≤◌, length, take, IfOk, string_bytes};
-ghost use Rattle.wblock_picture.specs.Words.{kind_word, lock_text, entry_text, entries_text, more_text, locks_text, letter, mode_word};
+ghost use Rattle.wblock_picture.specs.Words.{entry_text, entries_text, more_text, locks_text, letter};
 
 use crate::first::first_of;
 use crate::scene::MOST_LOCKS;
-use spec_ledger::{Entry, Kind, Lock, Mode, Outcome};
+use figures::{lock_text_of, word_of_mode};
+use spec_ledger::{Entry, Outcome};
 use std::alloc::{AllocError, Global};
 
 /// The letter of a box, which is its class too: `R` returned, `T` trapped, `F` out of fuel, `X` rejected.
@@ -20,41 +21,12 @@ pub(crate) fn letter_of(outcome: Outcome) -> &'static str
     }
 }
 
-fn kind_word_of(kind: Kind) -> &'static str
-    ensures { result.now ≡ kind_word kind }
-{
-    match kind {
-        Kind::Map => "map ",
-        Kind::Counter => "counter ",
-    }
-}
-
-/// A lock, as `map C:K` or `counter C:K`.
-pub(crate) fn lock_text_of(alloc: Global, lock: Lock) -> Result<String, AllocError>
-    ensures { IfOk result (λ text. string_bytes text ≡ lock_text lock) }
-{
-    let contract = lock.contract;
-    let key = lock.key;
-    let kind = kind_word_of(lock.kind);
-    format!(in alloc; "{kind}{contract}:{key}")
-}
-
-fn mode_word_of(mode: Mode) -> &'static str
-    ensures { result.now ≡ mode_word mode }
-{
-    match mode {
-        Mode::Read => "read",
-        Mode::Add => "add",
-        Mode::Excl => "excl",
-    }
-}
-
 /// A line for a lock that a position holds.
 fn entry_text_of(alloc: Global, entry: Entry) -> Result<String, AllocError>
     ensures { IfOk result (λ text. string_bytes text ≡ entry_text entry) }
 {
     let lock = lock_text_of(alloc, entry.lock)?;
-    let mode = mode_word_of(entry.mode);
+    let mode = word_of_mode(entry.mode);
     let turn = entry.turn;
     format!(in alloc; "\n{lock} {mode} turn {turn}")
 }

@@ -1,29 +1,22 @@
 -- What `show` answers where a picture is asked for.
-use Rattle.std.specs.Prelude.{◌≡◌, ◌⊎◌, ℕ, Option, Some, None, List, [], ◌∷◌, ◌++◌, codes, decimal, length, string_bytes}
+use Rattle.std.specs.Prelude.{◌≡◌, ◌⊎◌, ℕ, Option, Some, None, List, codes, string_bytes}
 use Rattle.spec_block.specs.Worlds.{Block}
 use Rattle.spec_block.specs.Bytes.{SpellsBlock}
 use Rattle.wblock_picture.specs.Drawings.{IsPictureOf}
 use Rattle.wblock_io.specs.Holding.{Holding}
 use Rattle.wblock_line.specs.declared.answer.Answer.{Answer}
 use Rattle.wblock_line.specs.declared.answer.Answer.TheVariants.{Done, Refused}
-use Rattle.wblock_line.specs.declared.perform.Status.TheVariants as status
-use Rattle.wblock_line.specs.Answers.{writes_of, text_of, status_of}
+use Rattle.wblock_line.specs.Answers.{IsCounted}
 use Rattle.wblock_contents.specs.declared.kind.Kind.{Kind}
 use Rattle.wblock_contents.specs.declared.kind.Kind.TheVariants as kind
 use Rattle.wblock_contents.specs.Shows.{IsOfKind, IsUnknown}
 use Rattle.wblock_show.specs.Shows.{IsUnspelled}
 
--- a file is to hold this text, and `picture N bytes` is to be printed
-pub record IsDone (target text : List ℕ) (a : Answer) : Type 0 where
-  pub status : status_of a ≡ status.Done
-  pub writes : writes_of a ≡ (target, text) ∷ []
-  pub line : text_of a ≡ codes "picture " ++ decimal (length text) ++ codes " bytes" ++ 10 ∷ []
-
 -- the file is to hold the picture of the block
 pub record TellsPicture (b : Block) (target : List ℕ) (a : Answer) : Type 0 where
   pub text : List ℕ
   pub is_picture : IsPictureOf b text
-  pub is_done : IsDone target text a
+  pub is_done : IsCounted (codes "picture") target text a
 
 -- the block that the bytes spell is drawn
 pub record DrawsSpelled (bytes target : List ℕ) (a : Answer) : Type 0 where

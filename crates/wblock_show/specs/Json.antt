@@ -1,5 +1,5 @@
 -- What `show --json` answers.
-use Rattle.std.specs.Prelude.{◌≡◌, ◌⊎◌, ℕ, Option, Some, None, List, [], ◌∷◌, ◌++◌, length}
+use Rattle.std.specs.Prelude.{◌≡◌, ◌⊎◌, ℕ, Bool, Option, Some, None, List, [], ◌∷◌, ◌++◌, length}
 use Rattle.spec_syntax.specs.Syntax.{Module}
 use Rattle.spec_block.specs.Worlds.{Block, Call, World}
 use Rattle.spec_block.specs.Bytes.{SpellsBlock, SpellsWorld}
@@ -68,30 +68,30 @@ pub record TellsModuleJson (bytes text : List ℕ) : Type 0 where
   pub text_is : IsLineOf (IsModuleJson (length bytes) tree) text
 
 -- the bytes spell a world, and the text is its line
-pub record TellsWorldJson (bytes text : List ℕ) : Type 0 where
+pub record TellsWorldJson (signed : Bool) (bytes text : List ℕ) : Type 0 where
   pub world : World
   pub spelled : SpellsWorld bytes world
-  pub text_is : IsLineOf (IsWorldJson world) text
+  pub text_is : IsLineOf (IsWorldJson signed world) text
 
 -- what is told of bytes of a kind, or of none: a block is told without its calls
-abbrev pub IsToldAs : List ℕ → Option Kind → Answer → Type 0
-IsToldAs bytes (Some kind.Module) a = Answers (TellsModuleJson bytes) (TellsNoModule bytes) a
-IsToldAs bytes (Some kind.World) a = Answers (TellsWorldJson bytes) (TellsNoWorld bytes) a
-IsToldAs bytes (Some kind.Block) a = TellsBlock bytes None a
-IsToldAs bytes None a = IsUnknown a
+abbrev pub IsToldAs : (signed : Bool) → List ℕ → Option Kind → Answer → Type 0
+IsToldAs signed bytes (Some kind.Module) a = Answers (TellsModuleJson bytes) (TellsNoModule bytes) a
+IsToldAs signed bytes (Some kind.World) a = Answers (TellsWorldJson signed bytes) (TellsNoWorld bytes) a
+IsToldAs signed bytes (Some kind.Block) a = TellsBlock bytes None a
+IsToldAs signed bytes None a = IsUnknown a
 
 -- what is told of bytes
-pub record IsTold (bytes : List ℕ) (a : Answer) : Type 0 where
+pub record IsTold (signed : Bool) (bytes : List ℕ) (a : Answer) : Type 0 where
   pub of : Option Kind
   pub is : IsOfKind bytes of
-  pub told : IsToldAs bytes of a
+  pub told : IsToldAs signed bytes of a
 
 -- no calls are named, and what is in the file is told
 pub record TellsContents (holds : Holding) (task : Showing) (a : Answer) : Type 0 where
   pub alone : task.calls ≡ None
   pub bytes : List ℕ
   pub held : holds task.file.now ≡ Some bytes
-  pub told : IsTold bytes a
+  pub told : IsTold task.signed bytes a
 
 -- the block is told with its calls, where they are named, or else what is in the file, whatever its kind
 abbrev pub TellsNamed : Holding → Showing → Answer → Type 0

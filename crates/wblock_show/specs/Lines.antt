@@ -3,13 +3,12 @@ use Rattle.std.specs.Prelude.{◌==◌, ℕ, ◌+◌, ◌*◌, ◌/◌, Option, 
 use Rattle.std.specs.Borrow.{Bor}
 use Rattle.hex.specs.Hex.{encode_lower}
 use Rattle.wtypes.specs.declared.Value.{Value}
-use Rattle.spec_ledger.specs.declared.Lock.{Lock}
 use Rattle.spec_ledger.specs.declared.Entry.{Entry}
 use Rattle.spec_block.specs.Worlds.{Block, Call, Position}
 use Rattle.spec_block.specs.Bytes.{trap_code, version_code}
 use Rattle.wblock_calls.specs.Texts.{value_text}
 use Rattle.wblock_calls.specs.Receipts.{position_text}
-use Rattle.figures.specs.Words.{hundredth, kind_word, mode_word}
+use Rattle.figures.specs.Words.{hundredth, lock_text, mode_word}
 use Rattle.figures.specs.declared.figures.Chains.{Chains}
 use Rattle.figures.specs.declared.figures.Figures.{Figures}
 use Rattle.figures.specs.declared.hottest.SharedLock.{SharedLock}
@@ -21,10 +20,6 @@ use Rattle.figures.specs.declared.outcomes.OutcomeKind.TheVariants.{Returned, Tr
 abbrev pub calls_of : Option (Bor (List Call)) → Option (List Call)
 calls_of None = None
 calls_of (Some calls) = Some calls.now
-
--- `map CONTRACT:KEY` or `counter CONTRACT:KEY`
-abbrev pub lock_text : Lock → List ℕ
-lock_text l = kind_word l.kind ++ codes " " ++ decimal l.contract ++ codes ":" ++ decimal l.key
 
 -- ` LOCK MODE turn T`
 abbrev pub entry_text : Entry → List ℕ

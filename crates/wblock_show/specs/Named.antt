@@ -21,7 +21,7 @@ IsAnswerTo (Block bytes) a = Shows bytes.items None a
 pub record ShowsContents (holds : Holding) (task : Showing) (a : Answer) : Type 0 where
   pub alone : task.calls ≡ None
   pub contents : Contents
-  pub of_file : listing.Shows holds task.file.now contents
+  pub of_file : listing.Shows task.signed holds task.file.now contents
   pub answer : IsAnswerTo contents a
 
 -- the block is shown with its calls, where they are named, or else what is in the file, whatever its kind

@@ -1,16 +1,16 @@
 //! The command `show BLOCK --svg PICTURE`: a picture of the block of a file.
 
-ghost use Rattle.std.specs.Prelude.{◌≡◌, IsTrue, IfOk, IfErr, None, OnOk, string_bytes};
+ghost use Rattle.std.specs.Prelude.{◌≡◌, IsTrue, IfOk, IfErr, None, OnOk};
 ghost use Rattle.wblock_line.specs.Answers.{CountsFault, IsOfFile};
 ghost use Rattle.wblock_contents.specs.Shows.{IsOfKind, IsUnknown};
-ghost use Rattle.wblock_show.specs.Draws.{Draws, DrawsFile, HasNoPicture, IsDone, IsDrawn, TellsPicture};
+ghost use Rattle.wblock_show.specs.Draws.{Draws, DrawsFile, HasNoPicture, IsDrawn, TellsPicture};
 
 use crate::show::judge_bytes;
 use block::Block;
 use std::alloc::{AllocError, Global};
 use wblock_contents::{Contents, Kind, show_bytes};
 use wblock_io::Files;
-use wblock_line::{Answer, Fault, Write, read_file};
+use wblock_line::{Answer, Fault, read_file, write_counted};
 use wblock_picture::draw_block;
 use wtypes::NoMemory;
 
@@ -22,27 +22,12 @@ const A_MODULE: &str =
 const A_WORLD: &str =
     "show: the file is a world, and only a block is drawn; name a block, or leave `--svg` out";
 
-/// The answer of a picture, which is to be written to a file.
-fn done<'a>(alloc: Global, picture: &'a str, text: String) -> Result<Answer<'a>, AllocError>
-    ensures { IfOk result (IsDone picture.entry.now (string_bytes text)) }
-{
-    let bytes = text.into_bytes();
-    let count = bytes.len();
-    let line = format!(in alloc; "picture {count} bytes\n")?;
-    let mut writes = Vec::new(alloc);
-    writes.push(Write {
-        name: picture,
-        bytes,
-    })?;
-    Ok(Answer::Done(writes, line))
-}
-
 /// The answer that draws a block.
 fn draw_it<'a>(alloc: Global, block: &Block, picture: &'a str) -> Result<Answer<'a>, NoMemory>
     ensures { IfOk result (TellsPicture block.now picture.entry.now) }
 {
     let text = draw_block(alloc, block)?;
-    let answer = done(alloc, picture, text)?;
+    let answer = write_counted(alloc, "picture", picture, text.into_bytes())?;
     Ok(answer)
 }
 
@@ -71,7 +56,7 @@ fn answer_unknown<'a>(alloc: Global, bytes: Vec<u8>) -> Result<Answer<'a>, Alloc
     requires { IsOfKind bytes.items None }
     ensures { IfOk result IsUnknown }
 {
-    match show_bytes(alloc, bytes)? {
+    match show_bytes(alloc, false, bytes)? {
         Contents::Told(answer) => Ok(answer),
         Contents::Block(_) => unreachable!(),
     }

@@ -31,6 +31,8 @@ pub struct Showing<'a> {
     pub calls: Option<&'a str>,
     /// How it is to be shown.
     pub form: Form<'a>,
+    /// Whether the numbers of a world's cells are to be shown signed, as lines of calls take them. Nothing else has such numbers.
+    pub signed: bool,
 }
 
 /// The calls of a file, or why it spells none.

@@ -1,4 +1,4 @@
-//! The command `show FILE --json [--calls CALLS]`: what is in a module, a world or a block, as one JSON object on a line.
+//! The command `show FILE --json [--calls CALLS] [--signed]`: what is in a module, a world or a block, as one JSON object on a line.
 
 ghost use Rattle.std.specs.Prelude.{◌≡◌, ◌∷◌, ◌++◌, [], IsTrue, IfOk, IfErr, MatchResult, OnOk, length, string_bytes};
 ghost use Rattle.module_tree.specs.Modules.{module_view};
@@ -152,21 +152,25 @@ fn tell_module(alloc: Global, bytes: &[u8]) -> Result<Result<String, (String, St
     }
 }
 
-/// The line of a world.
-fn world_line_of(alloc: Global, world: &World) -> Result<String, AllocError>
-    ensures { IfOk result (λ text. IsLineOf (IsWorldJson (world_view world.now)) (string_bytes text)) }
+/// The line of a world, with the numbers of its cells signed or not.
+fn world_line_of(alloc: Global, signed: bool, world: &World) -> Result<String, AllocError>
+    ensures { IfOk result (λ text. IsLineOf (IsWorldJson signed (world_view world.now)) (string_bytes text)) }
 {
-    let json = world_json(alloc, world)?;
+    let json = world_json(alloc, signed, world)?;
     line_of(json)
 }
 
 /// The line of the world of these bytes, or the line and the sentence that say why they are no world.
-fn tell_world(alloc: Global, bytes: &[u8]) -> Result<Result<String, (String, String)>, AllocError>
-    ensures { IfOk result (λ read. MatchResult read (λ text. TellsWorldJson bytes.now (string_bytes text)) (λ told. TellsNoWorld bytes.now (string_bytes told.0))) }
+fn tell_world(
+    alloc: Global,
+    signed: bool,
+    bytes: &[u8],
+) -> Result<Result<String, (String, String)>, AllocError>
+    ensures { IfOk result (λ read. MatchResult read (λ text. TellsWorldJson signed bytes.now (string_bytes text)) (λ told. TellsNoWorld bytes.now (string_bytes told.0))) }
 {
     match judge_world(alloc, bytes)? {
         Ok(world) => {
-            let text = world_line_of(alloc, &world)?;
+            let text = world_line_of(alloc, signed, &world)?;
             Ok(Ok(text))
         }
         Err(told) => Ok(Err(told)),
@@ -186,22 +190,22 @@ fn module_answer<'a>(alloc: Global, bytes: &[u8]) -> Result<Answer<'a>, AllocErr
 }
 
 /// The answer to bytes that begin as a world does.
-fn world_answer<'a>(alloc: Global, bytes: &[u8]) -> Result<Answer<'a>, AllocError>
-    ensures { IfOk result (Answers (TellsWorldJson bytes.now) (TellsNoWorld bytes.now)) }
+fn world_answer<'a>(alloc: Global, signed: bool, bytes: &[u8]) -> Result<Answer<'a>, AllocError>
+    ensures { IfOk result (Answers (TellsWorldJson signed bytes.now) (TellsNoWorld bytes.now)) }
 {
-    match tell_world(alloc, bytes)? {
+    match tell_world(alloc, signed, bytes)? {
         Ok(text) => Ok(Answer::Done(Vec::new(alloc), text)),
         Err((line, why)) => Ok(Answer::Refused(line, why)),
     }
 }
 
-/// What is told of bytes, whatever their kind.
-fn tell_bytes<'a>(alloc: Global, bytes: &[u8]) -> Result<Answer<'a>, NoMemory>
-    ensures { IfOk result (IsTold bytes.now) }
+/// What is told of bytes, whatever their kind, with the numbers of a world's cells signed or not.
+fn tell_bytes<'a>(alloc: Global, signed: bool, bytes: &[u8]) -> Result<Answer<'a>, NoMemory>
+    ensures { IfOk result (IsTold signed bytes.now) }
 {
     match Kind::of(bytes) {
         Some(Kind::Module) => Ok(module_answer(alloc, bytes)?),
-        Some(Kind::World) => Ok(world_answer(alloc, bytes)?),
+        Some(Kind::World) => Ok(world_answer(alloc, signed, bytes)?),
         Some(Kind::Block) => {
             let answer = tell_block(alloc, bytes, None)?;
             Ok(answer)
@@ -227,7 +231,7 @@ pub fn json_named<'a, F: Files>(
         return tell_file_block(alloc, files, task);
     }
     let bytes = read_file(alloc, files, task.file)?;
-    match tell_bytes(alloc, bytes.as_slice()) {
+    match tell_bytes(alloc, task.signed, bytes.as_slice()) {
         Ok(answer) => Ok(answer),
         Err(NoMemory) => Err(Fault::NoMemory),
     }

@@ -1,28 +1,18 @@
 //! The lines of a block that is shown.
 
 ghost use Rattle.std.specs.Prelude.{◌≡◌, ◌≤◌, ◌<◌, ◌^◌, IfOk, length, string_bytes};
-ghost use Rattle.wblock_show.specs.Lines.{args_text, block_text, call_text, called_text, calls_of, chain_line, chain_lines, digest_line, entries_text, entry_text, fuel_line, head_lines, kind_text, lock_text, more_entries, no_chain_lines, outcome_lines, position_line, position_lines, ratio_line, ratio_text, shared_line, shared_lines, version_line, wave_text, waves_line};
+ghost use Rattle.wblock_show.specs.Lines.{args_text, block_text, call_text, called_text, calls_of, chain_line, chain_lines, digest_line, entries_text, entry_text, fuel_line, head_lines, kind_text, more_entries, no_chain_lines, outcome_lines, position_line, position_lines, ratio_line, ratio_text, shared_line, shared_lines, version_line, wave_text, waves_line};
 
 use block::{Block, Position};
 use call::Call;
 use figures::{
-    Chains, Figures, OutcomeCount, OutcomeKind, SharedLock, hundredth_of, number_of_version,
-    word_of_kind, word_of_mode,
+    Chains, Figures, OutcomeCount, OutcomeKind, SharedLock, hundredth_of, lock_text_of,
+    number_of_version, word_of_mode,
 };
-use spec_ledger::{Entry, Lock};
+use spec_ledger::Entry;
 use std::alloc::{AllocError, Global};
 use wblock_calls::{PositionLine, ValueText};
 use wtypes::Value;
-
-fn lock_text_of(alloc: Global, lock: Lock) -> Result<String, AllocError>
-    ensures { IfOk result (λ text. string_bytes text ≡ lock_text lock) }
-{
-    let kind = word_of_kind(lock.kind);
-    let contract = lock.contract;
-    let key = lock.key;
-    let text = format!(in alloc; "{kind} {contract}:{key}")?;
-    Ok(text)
-}
 
 fn entry_text_of(alloc: Global, entry: Entry) -> Result<String, AllocError>
     ensures { IfOk result (λ text. string_bytes text ≡ entry_text entry) }

@@ -1,4 +1,4 @@
-//! The command `show FILE [--calls CALLS] [--json]`, or `show BLOCK --svg PICTURE`: what is in a module, a world or a block, as lines or as JSON, or a
+//! The command `show FILE [--calls CALLS] [--json] [--signed]`, or `show BLOCK --svg PICTURE`: what is in a module, a world or a block, as lines or as JSON, or a
 //! picture of the block.
 
 ghost use Rattle.std.specs.Prelude.{◌≡◌, IsTrue, IfOk, IfErr, OnOk};
@@ -42,7 +42,7 @@ fn show_lines<'a, F: Files>(
     if task.calls.is_some() {
         return show_file_block(alloc, files, task);
     }
-    let contents = show_file(alloc, files, task.file)?;
+    let contents = show_file(alloc, files, task.signed, task.file)?;
     match answer_to(alloc, contents) {
         Ok(answer) => Ok(answer),
         Err(NoMemory) => Err(Fault::NoMemory),

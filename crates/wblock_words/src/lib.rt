@@ -3,6 +3,7 @@
 #![tactic(auto)]
 
 mod blocks;
+mod extensions;
 mod files;
 mod modules;
 mod places;

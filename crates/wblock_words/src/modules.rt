@@ -3,28 +3,67 @@
 ghost use Rattle.std.specs.Prelude.{◌++◌, IfOk, codes, decimal, string_bytes};
 ghost use Rattle.wblock_words.specs.Sentences.{Begins, broken_place};
 
+use crate::extensions::{FLOATS, extension_at};
 use crate::places::{place_line, shown};
 use body_typing::rule::Rule;
 use module_tree::limit::Limit;
 use std::alloc::{AllocError, Global};
 
-/// The sentence of a limit on modules that is passed.
-pub fn limit_words(alloc: Global, limit: Limit) -> Result<String, AllocError> {
-    format!(in alloc;
-        "a limit of this profile is passed: {limit} are the most; make the module smaller"
-    )
+/// What to do where a limit is passed.
+fn limit_advice(limit: Limit) -> &'static str {
+    match limit {
+        Limit::Bytes =>
+            "names and debug sections count, which --strip-all of the linker leaves out, and in a text its comments",
+        Limit::Functions =>
+            "leave out what no export needs, as --gc-sections does, or make several contracts",
+        Limit::Locals => "split the function, or compile it with -O1 or more",
+        Limit::Nesting =>
+            "split the function: a compiler nests a block for each case of a `switch`",
+        Limit::Labels => "split the `switch`: each of its cases has a label",
+    }
 }
 
-/// The sentence of a file that is no module, at this byte: because of a form that the profile leaves out, or of one that is none.
-pub fn form_words(alloc: Global, at: usize, left_out: bool) -> Result<String, AllocError>
+/// The sentence of a limit on modules that is passed.
+pub fn limit_words(alloc: Global, limit: Limit) -> Result<String, AllocError> {
+    let advice = limit_advice(limit);
+    format!(in alloc; "a limit of this profile is passed: {limit} are the most; {advice}")
+}
+
+/// What is said of the byte at which these bytes are no module: because of a form that the profile leaves out, or of one that is none.
+fn form_fault(
+    alloc: Global,
+    bytes: &[u8],
+    at: usize,
+    left_out: bool,
+) -> Result<String, AllocError> {
+    if left_out {
+        return FLOATS.to_string(alloc);
+    }
+    match extension_at(bytes, at) {
+        Some(extension) => extension.words(alloc),
+        None if at < 8 =>
+            "the bytes are no module: the item that begins here is cut off, or is not what the binary format has here; a module in text is assembled first, by `asm`".to_string(
+                alloc,
+            ),
+        None =>
+            "the bytes are no module: the item that begins here is cut off, or is not what WebAssembly 1.0 has here; a compiler writes that with -mcpu=mvp -msign-ext (clang), or for wasm32v1-none (Rust)".to_string(
+                alloc,
+            ),
+    }
+}
+
+/// The sentence of bytes that are no module, at this byte of them: because of a form that the profile leaves out, or of one that is none.
+pub fn form_words(
+    alloc: Global,
+    bytes: &[u8],
+    at: usize,
+    left_out: bool,
+) -> Result<String, AllocError>
     ensures { IfOk result (λ s. Begins (codes "byte " ++ decimal at) (string_bytes s)) }
 {
-    let said = if left_out {
-        ": a form of the standard that this profile leaves out: `f32`, `f64` and their instructions; compile without floating point"
-    } else {
-        ": the bytes are no module: the item that begins here is cut off, or is not what the binary format has here; a module in text is assembled first, by `asm`"
-    };
-    place_line(alloc, "byte ", at, said)
+    let fault = form_fault(alloc, bytes, at, left_out)?;
+    let said = format!(in alloc; ": {fault}")?;
+    place_line(alloc, "byte ", at, said.as_str())
 }
 
 /// What is said of a rule that is broken in a function, which is exported by this name, at this instruction.
@@ -70,8 +109,26 @@ pub fn rule_words(
     }
 }
 
+/// What to do about an import of these names that is no host call, by what compilers import.
+fn import_advice(names: &str) -> &'static str {
+    if names == "`env` `memory`" {
+        return "; link without --import-memory";
+    }
+    if names.starts_with("`env` `__") {
+        return "; so an object file imports: link it, without -c, -r, -fPIC and --import-table";
+    }
+    if names.starts_with("`env`") {
+        return "; clang gives `env` to a function that is declared and nowhere defined: define it, or give it the import_module `boost`, and link without --allow-undefined";
+    }
+    if names.starts_with("`wasi") {
+        return "; compile for wasm32-unknown-unknown, and not for WASI";
+    }
+    ""
+}
+
 /// What is said of an import of these names.
 fn import_fault(alloc: Global, names: &str, has_call: bool) -> Result<String, AllocError> {
+    let advice = import_advice(names);
     let names = shown(names);
     if has_call {
         return format!(in alloc;
@@ -79,7 +136,7 @@ fn import_fault(alloc: Global, names: &str, has_call: bool) -> Result<String, Al
         );
     }
     format!(in alloc;
-        ", {names}: it is no host call; a contract imports functions of the module `boost` alone: `get`, `has`, `put`, `del`, `add`, `total`, `ask`, `answer`"
+        ", {names}: it is no host call; a contract imports functions of the module `boost` alone: `get`, `has`, `put`, `del`, `add`, `total`, `ask`, `answer`{advice}"
     )
 }
 

@@ -46,4 +46,14 @@ impl<A: Allocator> World<A> {
     {
         &self.cells
     }
+
+    /// Hands out the contracts, by their numbers, and the cells.
+    pub fn into_parts(self) -> (Vec<Deployed<A>, A>, Cells<A>)
+        ensures contracts { map contract_view result.0.items ≡ (world_view self).contracts }
+        ensures few { vec_len result.0 ≤ World.MOST_CONTRACTS }
+        ensures cells { result.1.cells ≡ (world_view self).cells }
+    {
+        let World { contracts, cells } = self;
+        (contracts, cells)
+    }
 }

@@ -15,9 +15,9 @@ returns-in-Ok g c =
     let at = slice_get_read calls (length calls) c.args.number c.index-job-number.result refl c.requires c.index-job-number.is in
     is_run c.run.result _ c.in-Ok.machine.setting _ c.args.number c.in-Ok.machine.call c.run.ensures.setting c.run.ensures.call start.setting (at ∙ ap (λ x. Some x) (c.index-job-number.is ∙ sym start.call_is))
 
-pub returns-in-Err : goal.returns-in-Err
-returns-in-Err g c =
-    let r = c.rejected.ensures in
+pub returns-in-Some-rejected : goal.returns-in-Some-rejected
+returns-in-Some-rejected g c =
+    let r = c.in-Some-rejected.ensures.some in
     let calls = c.args.job.now.calls.now in
     let at = slice_get_read calls (length calls) c.args.number c.index-job-number.result refl c.requires c.index-job-number.is in
     record { lent = r.lent; call_is = at ∙ ap (λ x. Some x) (c.index-job-number.is ∙ sym r.call_is) }

@@ -17,6 +17,16 @@ returns-in-Ok-clause-defined g c =
     let k : Contract = contract_of Two c.args.call.now.contract d in
     ltb-false c.in-Ok.func (length (hosts_of d)) (entry_defined Two (deployed_view d) c.args.call.now k c.in-Ok.func (c.in-Ok.ensures.opens Two))
 
+pub returns-in-Ok-clause-opens : goal.returns-in-Ok-clause-opens
+returns-in-Ok-clause-opens g c = λ version.
+    let lent = c.args.contracts.now in
+    let call = c.args.call.now in
+    let item = c.in-Some.ensures.lookup in
+    let found : slice_get lent c.contract.result ≡ Some c.in-Some.deployed.now = slice_get_read lent (length lent) c.contract.result c.in-Some.deployed.now refl item.3.0 item.1 in
+    let seen : slice_get (contracts_view lent) call.contract ≡ Some (contract_view c.in-Some.deployed.now) =
+    slice_get-map contract_view lent call.contract ∙ ap (option_map contract_view) (ap (slice_get lent) (sym c.contract.ensures) ∙ found) in
+    ap (by_contract version call) seen ∙ c.in-Ok.ensures.opens version
+
 pub returns-in-Err-clause-refused : goal.returns-in-Err-clause-refused
 returns-in-Err-clause-refused g c = λ version.
     let lent = c.args.contracts.now in

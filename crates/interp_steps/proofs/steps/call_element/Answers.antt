@@ -17,19 +17,17 @@ function_of_element-requires g c =
     let k = contract_of c.args.lent.now in
     let r = c.requires.ready in
     let number : bits_of c.pop_top.result ≡ c.bits-element.result = sym c.bits-element.ensures in
-    subst (λ x. IsSome (element_called k.deployed c.deref.result.now x c.args.type_index)) number
-    (subst (λ xs. IsSome (element_called k.deployed xs (bits_of c.pop_top.result) c.args.type_index)) (sym c.deref.ensures.value)
-    (element_there k (view r.base c.args.parts.now) r.safe (r.ordered r.base) c.requires.here.ordinal (items_of c.args.rest.now) c.args.type_index c.requires.here.here c.pop_top.new.stack.items c.pop_top.result c.pop_top.ensures.items))
+    subst (λ x. IsSome (element_called k.deployed c.args.parts.now.instance.table.now x c.args.type_index)) number
+    (element_there k (view r.base c.args.parts.now) r.safe (r.ordered r.base) c.requires.here.ordinal (items_of c.args.rest.now) c.args.type_index c.requires.here.here c.pop_top.new.stack.items c.pop_top.result c.pop_top.ensures.items)
 
 pub returns-in-Ok-clause-led : goal.returns-in-Ok-clause-led
 returns-in-Ok-clause-led g c b safe suits =
     let k = contract_of c.args.lent.now in
     let o = c.requires.ready.ordered b in
-    let table = c.args.parts.now.instance.table.items in
+    let table = c.args.parts.now.instance.table.now in
     let is = items_of c.args.rest.now in
     let found : element_called k.deployed table (bits_of c.pop_top.result) c.args.type_index ≡ Some (Ok c.in-Ok.func) =
-    ap (λ x. element_called k.deployed table x c.args.type_index) (sym c.bits-element.ensures) ∙ ap (λ xs. element_called k.deployed xs c.bits-element.result c.args.type_index) (sym c.deref.ensures.value)
-    ∙ c.function_of_element.ensures ∙ ap Some c.in-Ok.is in
+    ap (λ x. element_called k.deployed table x c.args.type_index) (sym c.bits-element.ensures) ∙ c.function_of_element.ensures ∙ ap Some c.in-Ok.is in
     element_calls k (view b c.args.parts.now) safe o c.requires.here.ordinal is c.args.type_index c.requires.here.here c.pop_top.new.stack.items c.pop_top.result c.pop_top.ensures.items c.in-Ok.func found
     _ refl refl refl refl refl
 
@@ -37,10 +35,9 @@ pub returns-in-Err-clause-led : goal.returns-in-Err-clause-led
 returns-in-Err-clause-led g c b safe suits =
     let k = contract_of c.args.lent.now in
     let o = c.requires.ready.ordered b in
-    let table = c.args.parts.now.instance.table.items in
+    let table = c.args.parts.now.instance.table.now in
     let is = items_of c.args.rest.now in
     let found : element_called k.deployed table (bits_of c.pop_top.result) c.args.type_index ≡ Some (Err c.in-Err.code) =
-    ap (λ x. element_called k.deployed table x c.args.type_index) (sym c.bits-element.ensures) ∙ ap (λ xs. element_called k.deployed xs c.bits-element.result c.args.type_index) (sym c.deref.ensures.value)
-    ∙ c.function_of_element.ensures ∙ ap Some c.in-Err.is in
+    ap (λ x. element_called k.deployed table x c.args.type_index) (sym c.bits-element.ensures) ∙ c.function_of_element.ensures ∙ ap Some c.in-Err.is in
     element_falls k (view b c.args.parts.now) safe o c.requires.here.ordinal is c.args.type_index c.requires.here.here c.pop_top.new.stack.items c.pop_top.result c.pop_top.ensures.items c.in-Err.code found
     _ refl refl refl

@@ -1,5 +1,6 @@
-use Rattle.std.proofs.Common.{arith, refl, ap, ◌∙◌, ◌∷◌, ◌++◌, []}
+use Rattle.std.proofs.Common.{◌<◌, List, length, slice_get, arith, refl, sym, ap, ◌∙◌, subst, ◌∷◌, ◌++◌, []}
 use Rattle.wtypes.specs.declared.PlainInstr.{PlainInstr}
+use Rattle.wtypes.specs.declared.Value.{Value}
 use Rattle.spec_syntax.specs.Syntax.{Plain}
 use Rattle.interp_state.specs.declared.parts.Parts.{Parts}
 use Rattle.interp_state.specs.Memories.{DidStore}
@@ -9,18 +10,17 @@ use Rattle.interp_state.specs.Views.{view, items_of}
 use Rattle.interp_steps.proofs.Acting.{if_ok}
 use Rattle.interp_steps.proofs.Controlling.{global_there, global_got, set_there, global_was_set}
 use Rattle.laws_reduction.specs.Finding.{read_at}
-use Rattle.std.proofs.lemmas.Option.{slice_get_read}
 use Rattle.interp_steps.proofs.Reaching.{load_place, load_led, store_place, store_led, size_charged, grow_place, grow_charged}
 use Rattle.interp_steps.proofs.steps.execute_on_instance.Goals as goal
 
-pub index-value-requires : goal.index-value-requires
-index-value-requires g c =
+pub bounds-globals-x : goal.bounds-globals-x
+bounds-globals-x g c =
     let p = c.args.parts.now in
     let r = c.requires.ready in
     let n = c.requires.here.ordinal in
     let is = items_of c.args.rest.now in
     let here = c.requires.here.here ∙ ap (λ (o : PlainInstr). record { ordinal = n; instr = Plain o } ∷ is) c.in-GlobalGet.is in
-    omega (arith, global_there (contract_of c.args.lent.now) (view r.base p) r.safe (r.ordered r.base) n is c.in-GlobalGet.x here, p.instance.globals.ok.0)
+    subst (λ (vs : List Value). c.in-GlobalGet.x < length vs) (sym c.as_slice-globals.ensures) (global_there (contract_of c.args.lent.now) (view r.base p) r.safe (r.ordered r.base) n is c.in-GlobalGet.x here)
 
 pub returns-in_ok-push-in-GlobalGet-clause-led : goal.returns-in_ok-push-in-GlobalGet-clause-led
 returns-in_ok-push-in-GlobalGet-clause-led g c b safe suits =
@@ -30,8 +30,10 @@ returns-in_ok-push-in-GlobalGet-clause-led g c b safe suits =
     let n = c.requires.here.ordinal in
     let is = items_of c.args.rest.now in
     let here = c.requires.here.here ∙ ap (λ (o : PlainInstr). record { ordinal = n; instr = Plain o } ∷ is) c.in-GlobalGet.is in
-    let lt = global_there (contract_of c.args.lent.now) (view r.base p) r.safe (r.ordered r.base) n is c.in-GlobalGet.x here in
-    global_got k (view b p) safe (r.ordered b) n is c.in-GlobalGet.x here c.index-value.result.now (slice_get_read p.instance.globals.items _ c.in-GlobalGet.x c.index-value.result.now refl lt c.index-value.ensures)
+    let x = c.in-GlobalGet.x in
+    let vs = c.as_slice-globals.result.now in
+    let lt : x < length vs = subst (λ (ws : List Value). x < length ws) (sym c.as_slice-globals.ensures) (global_there (contract_of c.args.lent.now) (view r.base p) r.safe (r.ordered r.base) n is x here) in
+    global_got k (view b p) safe (r.ordered b) n is x here _ (ap (λ (ws : List Value). slice_get ws x) (sym c.as_slice-globals.ensures) ∙ read_at vs x _ lt)
     _ refl refl c.in_ok-push-in-GlobalGet.ensures.items refl refl
 
 pub pop_top-value-requires : goal.pop_top-value-requires
@@ -43,15 +45,6 @@ pop_top-value-requires g c =
     let here = c.requires.here.here ∙ ap (λ (o : PlainInstr). record { ordinal = n; instr = Plain o } ∷ is) c.in-GlobalSet.is in
     omega (arith, (set_there (contract_of c.args.lent.now) (view r.base p) r.safe (r.ordered r.base) n is c.in-GlobalSet.x here).0, p.stack.ok.0)
 
-pub index_mut-requires : goal.index_mut-requires
-index_mut-requires g c =
-    let p = c.args.parts.now in
-    let r = c.requires.ready in
-    let n = c.requires.here.ordinal in
-    let is = items_of c.args.rest.now in
-    let here = c.requires.here.here ∙ ap (λ (o : PlainInstr). record { ordinal = n; instr = Plain o } ∷ is) c.in-GlobalSet.is in
-    omega (arith, (set_there (contract_of c.args.lent.now) (view r.base p) r.safe (r.ordered r.base) n is c.in-GlobalSet.x here).1, p.instance.globals.ok.0)
-
 pub returns-in-GlobalSet-clause-led : goal.returns-in-GlobalSet-clause-led
 returns-in-GlobalSet-clause-led g c b safe suits =
     let k = contract_of c.args.lent.now in
@@ -61,8 +54,9 @@ returns-in-GlobalSet-clause-led g c b safe suits =
     let is = items_of c.args.rest.now in
     let here = c.requires.here.here ∙ ap (λ (o : PlainInstr). record { ordinal = n; instr = Plain o } ∷ is) c.in-GlobalSet.is in
     let lt = (set_there (contract_of c.args.lent.now) (view r.base p) r.safe (r.ordered r.base) n is c.in-GlobalSet.x here).1 in
+    let v = view b p in
     global_was_set k (view b p) safe (r.ordered b) n is c.in-GlobalSet.x here c.pop_top-value.new.stack.items c.pop_top-value.result _ c.pop_top-value.ensures.items
-    (read_at p.instance.globals.items c.in-GlobalSet.x c.pop_top-value.result lt) _ refl refl refl refl refl
+    (read_at p.instance.globals c.in-GlobalSet.x c.pop_top-value.result lt) _ (ap (λ (vs : List Value). record v.base { globals = vs }) c.set.ensures) refl refl refl refl
 
 pub execute_load-after-requires : goal.execute_load-after-requires
 execute_load-after-requires g c =

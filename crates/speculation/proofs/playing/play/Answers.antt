@@ -19,13 +19,13 @@ returns-in-Ok-clause-played g c =
     subst (λ s. IfOk c.run.result (λ r. IsPlayedBeside s c.args.call.now r.0 r.1.entries)) c.in-Ok.ensures.start.setting
     (subst (λ x. IfOk c.run.result (λ r. IsPlayedBeside c.in-Ok.machine.setting x r.0 r.1.entries)) c.in-Ok.ensures.start.call_is c.run.ensures.played)
 
-pub returns-in-Err-clause-played : goal.returns-in-Err-clause-played
-returns-in-Err-clause-played g c =
-    let is = c.rejected.ensures in
-    nothing_played (setting_view c.args.version c.args.contracts.now) c.args.call.now c.rejected.result c.new-in-Err.result.entries is.lent is.call_is is.trace c.new-in-Err.ensures.empty
+pub returns-in-Some-rejected-clause-played : goal.returns-in-Some-rejected-clause-played
+returns-in-Some-rejected-clause-played g c =
+    let is = c.in-Some-rejected.ensures.some in
+    nothing_played (setting_view c.args.version c.args.contracts.now) c.args.call.now c.in-Some-rejected.finished c.new-in-Some-rejected.result.entries is.lent is.call_is is.trace c.new-in-Some-rejected.ensures.empty
 
 pub returns-in-Some-clause-read : goal.returns-in-Some-clause-read
 returns-in-Some-clause-read g c = none_found (g.V.Reads.may_read c.args.view.now) c.new.result.entries c.new.ensures.empty
 
-pub returns-in-Err-clause-read : goal.returns-in-Err-clause-read
-returns-in-Err-clause-read g c = none_found (g.V.Reads.may_read c.args.view.now) c.new-in-Err.result.entries c.new-in-Err.ensures.empty
+pub returns-in-Some-rejected-clause-read : goal.returns-in-Some-rejected-clause-read
+returns-in-Some-rejected-clause-read g c = none_found (g.V.Reads.may_read c.args.view.now) c.new-in-Some-rejected.result.entries c.new-in-Some-rejected.ensures.empty

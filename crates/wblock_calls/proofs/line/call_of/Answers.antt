@@ -1,6 +1,7 @@
 use Rattle.std.proofs.Common.{ap, ◌∙◌}
 use Rattle.wblock_calls.specs.Texts.{words_of}
-use Rattle.wblock_calls.proofs.WordLemmas.{of_words, texts}
+use Rattle.wblock_calls.specs.Words.{texts}
+use Rattle.wblock_calls.proofs.WordLemmas.{of_words}
 use Rattle.wblock_calls.proofs.line.call_of.Goals as goal
 
 pub returns : goal.returns

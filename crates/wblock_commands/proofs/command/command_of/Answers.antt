@@ -1,4 +1,4 @@
-use Rattle.std.proofs.Common.{rules, ℕ, List, Option}
+use Rattle.std.proofs.Common.{rules, ℕ, Bool, List, Option}
 use Rattle.wblock_line.specs.Words.{line_of}
 use Rattle.wblock_show.specs.declared.file.Showing.{Showing}
 use Rattle.wblock_commands.specs.declared.command.Deploying.{Deploying}
@@ -10,7 +10,7 @@ pub returns-in-None : goal.returns-in-None
 returns-in-None c =
     let stored : ¬ AsksStored (line_of c.args.line.now) = search rules in
     let assembled : (text target : List ℕ) → ¬ AsksAsm (line_of c.args.line.now) text target = search rules in
-    let written : (source target : List ℕ) → ¬ AsksText (line_of c.args.line.now) source target = search rules in
+    let written : (source target : List ℕ) (unchecked : Bool) → ¬ AsksText (line_of c.args.line.now) source target unchecked = search rules in
     let checked : (target : List ℕ) (heap : Option ℕ) → ¬ AsksCheck (line_of c.args.line.now) target heap = search rules in
     let deployed : (d : Deploying) → ¬ AsksDeploy (line_of c.args.line.now) d = search rules in
     let shown : (s : Showing) → ¬ AsksShow (line_of c.args.line.now) s = search rules in

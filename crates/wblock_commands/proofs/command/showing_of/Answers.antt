@@ -1,7 +1,8 @@
 use Rattle.std.proofs.Common.{◌≡◌, true, false}
 use Rattle.wblock_commands.proofs.Lines.{if_none, if_some}
 use Rattle.wblock_commands.proofs.Showing.{drawn_alike}
-use Rattle.wblock_commands.specs.Words.{texts, choices}
+use Rattle.wblock_calls.specs.Words.{texts}
+use Rattle.wblock_line.specs.Words.{choices}
 use Rattle.wblock_commands.proofs.command.showing_of.Goals as goal
 
 pub returns-in_default : goal.returns-in_default

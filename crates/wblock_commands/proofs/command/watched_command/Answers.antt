@@ -1,5 +1,6 @@
 use Rattle.std.proofs.Common.{rules, ◌≡◌, [], ◌∷◌, codes}
-use Rattle.wblock_commands.specs.Words.{AsksHelp, texts}
+use Rattle.wblock_calls.specs.Words.{texts}
+use Rattle.wblock_commands.specs.Words.{AsksHelp}
 use Rattle.wblock_commands.proofs.Asked.{nothing_told}
 use Rattle.wblock_commands.proofs.command.watched_command.Goals as goal
 

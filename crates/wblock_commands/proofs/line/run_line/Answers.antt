@@ -1,5 +1,6 @@
 use Rattle.std.proofs.Common.{rules, inl, inr}
-use Rattle.wblock_commands.specs.Words.{texts, Says}
+use Rattle.wblock_calls.specs.Words.{texts}
+use Rattle.wblock_commands.specs.Words.{Says}
 use Rattle.wblock_commands.proofs.Asked.{no_help}
 use Rattle.wblock_commands.proofs.Noting.{of_command}
 use Rattle.wblock_commands.proofs.line.run_line.Goals as goal

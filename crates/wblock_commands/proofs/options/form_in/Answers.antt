@@ -1,7 +1,8 @@
 use Rattle.std.proofs.Common.{rules, ◌≡◌, ℕ, List, MatchOption, codes, subst}
 use Rattle.wblock_show.specs.declared.file.Form.{Form}
 use Rattle.wblock_commands.specs.Options.{values_in, IsForm}
-use Rattle.wblock_commands.specs.Words.{texts, choices}
+use Rattle.wblock_calls.specs.Words.{texts}
+use Rattle.wblock_line.specs.Words.{choices}
 use Rattle.wblock_commands.proofs.options.form_in.Goals as goal
 
 pub returns : goal.returns

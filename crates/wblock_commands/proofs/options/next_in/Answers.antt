@@ -1,6 +1,7 @@
 use Rattle.std.proofs.Common.{rules, ◌≡◌, ℕ, List, Option, MatchOption, Bor, codes, subst}
 use Rattle.wblock_commands.specs.Options.{values_in, IsNameOrNone}
-use Rattle.wblock_commands.specs.Words.{texts, choices}
+use Rattle.wblock_calls.specs.Words.{texts}
+use Rattle.wblock_line.specs.Words.{choices}
 use Rattle.wblock_commands.proofs.options.next_in.Goals as goal
 
 pub returns : goal.returns

@@ -1,6 +1,7 @@
 use Rattle.std.proofs.Common.{rules, ◌≡◌, ℕ, List, IfOk, MatchOption, codes, subst}
 use Rattle.wblock_commands.specs.Options.{values_in, IsNumberOr}
-use Rattle.wblock_commands.specs.Words.{texts, choices}
+use Rattle.wblock_calls.specs.Words.{texts}
+use Rattle.wblock_line.specs.Words.{choices}
 use Rattle.wblock_commands.proofs.options.tries_in.Goals as goal
 
 pub returns : goal.returns

@@ -1,6 +1,7 @@
 use Rattle.std.proofs.Common.{◌≡◌, ◌++◌, drop}
 use Rattle.wblock_commands.specs.Options.{values_in}
-use Rattle.wblock_commands.specs.Words.{texts, choices}
+use Rattle.wblock_calls.specs.Words.{texts}
+use Rattle.wblock_line.specs.Words.{choices}
 use Rattle.wblock_commands.proofs.options.values_of.Given as goal
 
 abbrev pub invariant-loop-option : goal.invariant-loop-option

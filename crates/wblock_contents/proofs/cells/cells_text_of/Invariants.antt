@@ -9,4 +9,4 @@ invariant-loop-lock l =
     goal.iterator-loop-lock.can_next l.lock-iterator ×
     goal.iterator-loop-lock.is_finite l.lock-iterator ×
     (l.yielded ++ l.lock-iterator ≡ l.initial.lock-iterator) ×
-    (string_bytes l.text ≡ flat_map cell_line (filter (is_cell_of l.kind) l.yielded))
+    (string_bytes l.text ≡ flat_map (cell_line l.signed) (filter (is_cell_of l.kind) l.yielded))

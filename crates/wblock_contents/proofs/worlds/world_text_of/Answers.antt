@@ -18,5 +18,5 @@ returns c =
     (c.in_ok-counts.ensures ∙ ap₂ (λ (m n : ℕ). counts_line m n) contracts cells)
     (c.in_ok-digest.ensures ∙ ap digest_line c.requires)
     (c.in_ok-contracts.ensures ∙ ap (numbered contract_text 0) c.contracts-2.ensures.contracts)
-    (c.in_ok-maps.ensures ∙ ap (cells_text Map) c.cells-2.ensures)
-    (c.in_ok-counters.ensures ∙ ap (cells_text Counter) c.cells-3.ensures)
+    (c.in_ok-maps.ensures ∙ ap (cells_text c.args.signed Map) c.cells-2.ensures)
+    (c.in_ok-counters.ensures ∙ ap (cells_text c.args.signed Counter) c.cells-3.ensures)

@@ -1,6 +1,7 @@
 use Rattle.std.proofs.Common.{ℕ, List, Option, Bor, ap, sym, subst}
 use Rattle.wblock_line.specs.Words.{Choice, line_of}
-use Rattle.wblock_debug.specs.Words.{texts, choices}
+use Rattle.wblock_calls.specs.Words.{texts}
+use Rattle.wblock_line.specs.Words.{choices}
 use Rattle.wblock_debug.specs.Asks.{AsksBlock}
 use Rattle.wblock_debug.proofs.Colons.{at_none, at_some}
 use Rattle.wblock_debug.proofs.Options.{no_block, by_words}

@@ -1,5 +1,6 @@
 use Rattle.std.proofs.Common.{length, ◌-◌, ◌≤◌, take}
-use Rattle.wblock_debug.specs.Words.{Spell, texts}
+use Rattle.wblock_calls.specs.Words.{texts}
+use Rattle.wblock_debug.specs.Words.{Spell}
 use Rattle.wblock_debug.proofs.command.commands_of.Given as goal
 
 abbrev pub invariant-loop-at : goal.invariant-loop-at

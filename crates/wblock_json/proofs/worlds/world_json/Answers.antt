@@ -6,7 +6,7 @@ use Rattle.wblock_json.proofs.FlatModules.{world_flat}
 use Rattle.wblock_json.proofs.worlds.world_json.Goals as goal
 
 pub text_of-requires : goal.text_of-requires
-text_of-requires c = subst (IsFlat 127) (sym c.in_ok-value.ensures) (world_flat _)
+text_of-requires c = subst (IsFlat 127) (sym c.in_ok-value.ensures) (world_flat _ _)
 
 pub returns : goal.returns
 returns c =

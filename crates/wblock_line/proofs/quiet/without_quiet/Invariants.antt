@@ -1,5 +1,6 @@
 use Rattle.std.proofs.Common.{◌≡◌, ◌++◌, true, drop, if◌then◌else◌}
-use Rattle.wblock_line.specs.ProgressOfWords.{texts, others, has_quiet}
+use Rattle.wblock_calls.specs.Words.{texts}
+use Rattle.wblock_line.specs.ProgressOfWords.{others, has_quiet}
 use Rattle.wblock_line.proofs.quiet.without_quiet.Given as goal
 
 abbrev pub invariant-loop-word : goal.invariant-loop-word

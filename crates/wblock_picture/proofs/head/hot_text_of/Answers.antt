@@ -1,5 +1,5 @@
 use Rattle.std.proofs.Common.{◌+◌, ◌*◌, decimal, string_bytes}
-use Rattle.wblock_picture.specs.Words.{lock_text}
+use Rattle.figures.specs.Words.{lock_text}
 use Rattle.wblock_picture.proofs.Parts.{hot_parts}
 use Rattle.wblock_picture.proofs.Printed.{printed}
 use Rattle.wblock_picture.proofs.head.hot_text_of.Goals as goal

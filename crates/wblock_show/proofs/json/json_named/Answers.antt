@@ -9,5 +9,5 @@ returns-in-Ok-clause-answers g c = λ tells.
       alone = alone;
       bytes = c.in_ok-bytes.bytes.items;
       held = c.in_ok-bytes.ensures.bytes tells;
-      told = subst (λ (bytes : List ℕ). IsTold bytes c.in-Ok.answer) c.as_slice.ensures.value c.in-Ok.ensures;
+      told = subst (λ (bytes : List ℕ). IsTold c.args.task.signed bytes c.in-Ok.answer) c.as_slice.ensures.value c.in-Ok.ensures;
     })

@@ -1,8 +1,19 @@
-use Rattle.std.proofs.Common.{◌-◌, subst}
-use Rattle.debugger.specs.Commands.{HasContinued}
+use Rattle.std.proofs.Common.{◌≡◌, ◌-◌, ℕ, Result, Ok, Err, subst}
+use Rattle.std.specs.Result.{IsErrAnd}
+use Rattle.debugger.specs.Commands.{HasContinued, Continues}
+use Rattle.debugger.specs.declared.session.Refusal.{Refusal}
+use Rattle.debugger.specs.declared.session.Refusal.TheVariants.{NoMemory}
 use Rattle.debugger.specs.SessionView.{SessionView, session_view_of}
 use Rattle.debugger.proofs.Keeping.{kept_on, kept_still, continued}
 use Rattle.debugger.proofs.session.Session.cont.Goals as goal
+
+pub returns-in_err-go_on : goal.returns-in_err-go_on
+returns-in_err-go_on g c =
+    stopped c.args.self.now _ c.from_residual-in_err-go_on.result c.from_residual-in_err-go_on.ensures.1 c.self.view_is
+  where
+    stopped : (s t : SessionView) (r : Result ℕ Refusal) → IsErrAnd r (λ e. e ≡ NoMemory) → t ≡ s → Continues s r t
+    stopped s t (Ok made) h same = absurd h
+    stopped s t (Err e) h same = (h, same)
 
 pub returns : goal.returns
 returns g c =

@@ -5,6 +5,7 @@ use Rattle.spec_execution.specs.Run.{Refused}
 use Rattle.spec_execution.specs.Levels.{RunsWith, refused}
 use Rattle.interp.specs.Callee.{setting_view}
 use Rattle.interp.specs.Played.{Played}
+use Rattle.interp.specs.Starting.{IsOpened}
 use Rattle.interp.proofs.finished.Finished.rejected.Goals as goal
 
 pub of-requires-clause-played : goal.of-requires-clause-played
@@ -24,3 +25,6 @@ returns-in-Err-clause-some g c =
       outcome = ap (λ (p : Played). p.outcome) f;
       refused = c.in-Err.ensures.refused c.args.version ∙ ap Refused (sym c.code.ensures);
     }
+
+pub returns-in-Ok-clause-none : goal.returns-in-Ok-clause-none
+returns-in-Ok-clause-none g c = subst IsOpened (sym (c.in-Ok.ensures.opens c.args.version)) tt

@@ -1,0 +1,54 @@
+//! The command `call WORLD CONTRACT FUEL ENTRY ARG...`: what one call comes to that runs alone over a world. Nothing is written.
+
+ghost use Rattle.std.specs.Prelude.{◌≡◌, IsTrue, IfOk, IfErr, OnOk};
+ghost use Rattle.world.specs.Views.{world_view};
+ghost use Rattle.wblock_line.specs.Answers.{CountsFault, IsOfFile};
+ghost use Rattle.wblock_debug.specs.Calling.{Calls, TellsExecution};
+
+use crate::Calling;
+use crate::effects::effects_text_of;
+use call::Call;
+use serial::execute;
+use spec_execution::an_execution_has_a_read_write_set;
+use spec_ledger::Version;
+use std::alloc::Global;
+use wblock_io::Files;
+use wblock_line::{Answer, Fault, WorldFile, read_world_file};
+use world::World;
+use wtypes::NoMemory;
+
+/// What a call comes to over the cells of a world, by the rules of version 2, by which calls are mined. The world is as it was.
+fn call_over<'a>(alloc: Global, world: &World, call: &Call) -> Result<Answer<'a>, NoMemory>
+    ensures { IfOk result (TellsExecution (world_view world.now) call.now) }
+{
+    an_execution_has_a_read_write_set();
+    let before = world.cells();
+    before.use_invariant();
+    let mut later = before.copy(alloc)?;
+    let executed = execute(alloc, world.contracts(), call, &mut later, Version::Two)?;
+    let text = effects_text_of(alloc, &executed, before, &later)?;
+    Ok(Answer::Done(Vec::new(alloc), text))
+}
+
+/// What `call` comes to: the receipt of the call alone over the cells of the world, the locks that it asks for, and the cells that it would change; or the
+/// line that says why the world is refused. No file is written.
+pub fn call_world<'a, F: Files>(
+    alloc: Global,
+    files: &mut F,
+    task: &Calling<'a>,
+) -> Result<Answer<'a>, Fault<'a>>
+    ensures answers { IfOk result (λ a. IsTrue F.tells → Calls (F.holds files.old) task.now a) }
+    ensures kept { IsTrue F.tells → F.holds files.new ≡ F.holds files.old }
+    ensures calm { OnOk result (F.failures files.new ≡ F.failures files.old) }
+    ensures counted { IfErr result (λ f. CountsFault f (F.failures files.old) (F.failures files.new)) }
+    ensures named { IfErr result (IsOfFile (λ name. name ≡ task.now.world.now)) }
+{
+    let world = match read_world_file(alloc, files, task.world)? {
+        WorldFile::Read(world) => world,
+        WorldFile::Refused(line, why) => return Ok(Answer::Refused(line, why)),
+    };
+    match call_over(alloc, &world, &task.call) {
+        Ok(answer) => Ok(answer),
+        Err(NoMemory) => Err(Fault::NoMemory),
+    }
+}
