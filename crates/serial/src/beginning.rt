@@ -1,16 +1,14 @@
 //! How the run of a call begins.
 
 ghost use Rattle.std.specs.Prelude.{IfOk};
-ghost use Rattle.spec_execution.specs.Run.{opening};
 ghost use Rattle.interp.specs.Callee.{setting_view};
-ghost use Rattle.interp.specs.Starting.{IsOpened, IsRejection, LacksFuel};
+ghost use Rattle.interp.specs.Starting.{LacksFuel};
 ghost use Rattle.interp.specs.Progress.{IsProgress, IsStartOf};
 ghost use Rattle.serial.specs.Beginning.{IfEnded, IfRuns, IsEmptyRun};
 
 use call::Call;
 use interp::finished::Finished;
 use interp::machine::Machine;
-use interp::start::StartRefusal;
 use link::deployed::Deployed as Contract;
 use spec_ledger::{NoMemory, Version};
 use std::alloc::Allocator;
@@ -22,22 +20,6 @@ pub enum Begun<'a, A: Allocator + Copy> {
     Ended(Finished<'a, A>),
     /// It runs: its first turn is next.
     Runs(Machine<'a, A>),
-}
-
-/// The empty run of a call that does not start.
-fn rejected<'a, A: Allocator + Copy>(
-    alloc: A,
-    contracts: &'a [Contract<A>],
-    call: &'a Call,
-    version: Version,
-) -> Finished<'a, A>
-    requires { ¬ IsOpened (opening (setting_view version contracts.now) call.now) }
-    ensures { IsRejection (setting_view version contracts.now) call.now result }
-{
-    match Finished::rejected(alloc, contracts, call, version) {
-        Some(finished) => finished,
-        None => unreachable!(),
-    }
 }
 
 /// Begins a call by the rules of this version. Where it has no fuel for its first instruction it ends before an instance is made.
@@ -62,7 +44,10 @@ pub fn begin<'a, A: Allocator + Copy>(
     }
     match Machine::start_as(alloc, contracts, call, version) {
         Ok(machine) => Ok(Begun::Runs(machine)),
-        Err(StartRefusal::NoMemory) => Err(NoMemory),
-        Err(_) => Ok(Begun::Ended(rejected(alloc, contracts, call, version))),
+        // Memory was refused where the call opens.
+        Err(_) => match Finished::rejected(alloc, contracts, call, version) {
+            Some(finished) => Ok(Begun::Ended(finished)),
+            None => Err(NoMemory),
+        },
     }
 }

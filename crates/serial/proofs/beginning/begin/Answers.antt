@@ -6,7 +6,7 @@ returns-in-Some-clause-ended g c =
     let is = c.in-Some.ensures.some in
     record { lent = is.lent; call_is = is.call_is; trace = is.trace; cause = inr is }
 
-pub returns-in-Err-clause-ended : goal.returns-in-Err-clause-ended
-returns-in-Err-clause-ended g c =
-    let is = c.rejected.ensures in
+pub returns-in-Some-rejected-clause-ended : goal.returns-in-Some-rejected-clause-ended
+returns-in-Some-rejected-clause-ended g c =
+    let is = c.in-Some-rejected.ensures.some in
     record { lent = is.lent; call_is = is.call_is; trace = is.trace; cause = inl is }
