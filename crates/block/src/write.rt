@@ -7,9 +7,8 @@ ghost use Rattle.spec_ledger.specs.declared.Version.{Version};
 ghost use Rattle.spec_block.specs.Bytes.{block_bytes, counted, position_bytes, version_code, ForVersion};
 
 use crate::read::MAGIC;
-use crate::refusal::WriteRefusal;
 use crate::value::Block;
-use byte_sinks::{Sink, put_all};
+use byte_sinks::{Sink, WriteRefusal, put_all};
 use records::{Position, append_position, append_u32, append_u64};
 use spec_ledger::Version;
 use std::alloc::{AllocError, Allocator};

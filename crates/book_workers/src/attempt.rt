@@ -9,7 +9,7 @@ ghost use Rattle.book_workers.specs.Handed.{IsCommitted};
 use crate::admission::AdmissionLimit;
 use boost::book::{BeginRefusal, CommitRefusal, EnterRefusal, OpRefusal, Run};
 use call::Call;
-use intake::Intake;
+use crate::Intake;
 use interp::finished::Finished;
 use link::deployed::Deployed as Contract;
 use lock_profile::Touched;

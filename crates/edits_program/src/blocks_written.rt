@@ -5,8 +5,8 @@ ghost use Rattle.std.specs.List.{AllByRecursion};
 ghost use Rattle.byte_sinks.specs.Putting.{IsCutShort, IsRaised};
 ghost use Rattle.spec_block.specs.Bytes.{block_bytes, ForVersion};
 
-use block::{Block, WriteRefusal};
-use byte_sinks::Sink;
+use block::Block;
+use byte_sinks::{Sink, WriteRefusal};
 use std::alloc::Allocator;
 
 /// As [`block::write_block`].

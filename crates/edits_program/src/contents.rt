@@ -1,7 +1,7 @@
 //! What is in a file.
 
 ghost use Rattle.std.specs.Prelude.{MatchOption};
-ghost use Rattle.wblock_words.specs.Sentences.{Begins};
+ghost use Rattle.wblock_calls.specs.Sentences.{Begins};
 ghost use Rattle.wblock_contents.specs.Kinds.{magic};
 ghost use Rattle.wblock_contents.specs.declared.kind.Kind.{Kind as TheKind};
 

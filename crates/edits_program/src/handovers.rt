@@ -1,10 +1,10 @@
 //! A handover of numbers that lie below a bound.
 
 ghost use Rattle.std.specs.Prelude.{◌≡◌, ◌<◌, IfErr, IfOk, IfSome};
-ghost use Rattle.typed_queue.specs.Passes.{IsPassOf};
+ghost use Rattle.lanes.specs.Passes.{IsPassOf};
 
 use std::alloc::Allocator;
-use typed_queue::{ItemFact, QueuePass, TypedQueue};
+use lanes::{ItemFact, QueuePass, TypedQueue};
 use wtypes::NoMemory;
 
 /// That a number lies below the bound.

@@ -2,11 +2,11 @@
 
 ghost use Rattle.std.specs.Prelude.{◌≡◌, ◌<◌, false, IsSome, IfSome, IfNone, ◌+◌, ◌≤◌, true};
 ghost use Rattle.std.specs.List.{All, sum};
-ghost use Rattle.intake.specs.Accounts.{drew, told_done, saw, grant, refuse};
-ghost use Rattle.intake.specs.Intakes.{IsSeatOf};
-ghost use Rattle.intake.specs.Seats.{account};
+ghost use Rattle.book_workers.specs.Accounts.{drew, told_done, saw, grant, refuse};
+ghost use Rattle.book_workers.specs.Intakes.{IsSeatOf};
+ghost use Rattle.book_workers.specs.Seats.{account};
 
-use intake::{Intake, Seat};
+use book_workers::{Intake, Seat};
 use std::alloc::Allocator;
 use std::sync::Wait;
 

@@ -3,7 +3,7 @@
 ghost use Rattle.std.specs.Prelude.{◌≡◌, IfOk, IfErr, ◌⊎◌};
 ghost use Rattle.spec_block.specs.Bytes.{SpellsWorld};
 ghost use Rattle.world.specs.Views.{world_view};
-ghost use Rattle.world.specs.declared.read.ReadRefusal.TheVariants.{NoMemory};
+ghost use Rattle.records.specs.declared.refusal.ReadRefusal.TheVariants.{NoMemory};
 ghost use Rattle.world.specs.Reading.{IsNoWorld, Refuses};
 
 use std::alloc::Global;

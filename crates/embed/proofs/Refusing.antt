@@ -1,8 +1,8 @@
 -- What a refusal tells follows from what was found.
 use Rattle.std.proofs.Common.{◌≡◌, ◌⊎◌, ⊎_elim, ℕ, List, Option, Some, None}
 use Rattle.world.specs.Reading.{IsNoWorld, Refuses}
-use Rattle.world.specs.declared.read.ReadRefusal.{ReadRefusal}
-use Rattle.world.specs.declared.read.ReadRefusal.TheVariants as cause
+use Rattle.records.specs.declared.refusal.ReadRefusal.{ReadRefusal}
+use Rattle.records.specs.declared.refusal.ReadRefusal.TheVariants as cause
 use Rattle.embed.specs.Refusals.{IfRefused, RefusesWorld, world_refusal}
 use Rattle.embed.specs.declared.failure.Refusal.{Refusal}
 use Rattle.embed.specs.declared.failure.Failure.{Failure}

@@ -7,8 +7,8 @@ use Rattle.spec_block.specs.Bytes.{SpellsWorld, SpellsBlock}
 use Rattle.spec_block.specs.Verdicts.{Verdict, IsVerdictOf, place}
 use Rattle.block_judge.specs.Judging.{place_in}
 use Rattle.world.specs.Reading.{IsNoWorld, Refuses}
-use Rattle.world.specs.declared.read.ReadRefusal.{ReadRefusal}
-use Rattle.world.specs.declared.read.ReadRefusal.TheVariants as world
+use Rattle.records.specs.declared.refusal.ReadRefusal.{ReadRefusal}
+use Rattle.records.specs.declared.refusal.ReadRefusal.TheVariants as world
 use Rattle.wblock_calls.specs.Texts.{SpellsCalls}
 use Rattle.wblock_calls.specs.Refusals.{Tells}
 use Rattle.wblock_calls.specs.declared.reader.CallsRefusal.{CallsRefusal}

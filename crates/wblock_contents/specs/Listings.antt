@@ -3,7 +3,7 @@ use Rattle.std.specs.Prelude.{◌≡◌, ℕ, Bool, List, length}
 use Rattle.spec_syntax.specs.Syntax.{Module}
 use Rattle.spec_block.specs.Worlds.{World}
 use Rattle.spec_block.specs.Bytes.{SpellsWorld}
-use Rattle.function_names.specs.Names.{AreNamesOf, Named}
+use Rattle.wblock_words.specs.Names.{AreNamesOf, Named}
 use Rattle.wblock_line.specs.Modules.{IsValidOf}
 use Rattle.wblock_contents.specs.ModuleText.{module_text}
 use Rattle.wblock_contents.specs.WorldText.{world_text}

@@ -7,7 +7,7 @@ use Rattle.spec_syntax.specs.Shape.{size}
 use Rattle.spec_typing.specs.Modules.{type_at, func_type_indices, imported_globals}
 use Rattle.module_tree.specs.Readers.{imported_funcs}
 use Rattle.figures.specs.Names.{type_name}
-use Rattle.function_names.specs.Names.{Named, name_among}
+use Rattle.wblock_words.specs.Names.{Named, name_among}
 use Rattle.wblock_contents.specs.Names.{name_text}
 use Rattle.wblock_contents.specs.Lines.{numbered}
 

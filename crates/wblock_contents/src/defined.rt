@@ -1,7 +1,7 @@
 //! What a module defines.
 
 ghost use Rattle.std.specs.Prelude.{◌≡◌, ◌+◌, ◌<◌, ◌≤◌, ℕ, List, IfOk, Some, length, map, option_map, string_bytes};
-ghost use Rattle.function_names.specs.Names.{IsFrom, Named, Rises, name_among, names_in};
+ghost use Rattle.wblock_words.specs.Names.{IsFrom, Named, Rises, name_among, names_in};
 ghost use Rattle.std.specs.List.{flat_map};
 ghost use Rattle.spec_typing.specs.Modules.{imported_globals};
 ghost use Rattle.module_tree.specs.ModuleView.{limits_view, func_view, global_view};
@@ -14,7 +14,7 @@ use crate::names::quoted;
 use crate::types::{global_type_text_of, limits_text_of, type_text_at};
 use body_typing::spaces::Spaces;
 use figures::first_func;
-use function_names::FunctionName;
+use wblock_words::FunctionName;
 use module_tree::module::{Func, Global as Variable, Module};
 use std::alloc::{AllocError, Global};
 use wtypes::Limits;

@@ -2,14 +2,14 @@
 
 ghost use Rattle.std.specs.Prelude.{◌≡◌, IfOk, MatchResult, length, string_bytes};
 ghost use Rattle.module_tree.specs.Modules.{module_view};
-ghost use Rattle.function_names.specs.Names.{Rises, names_in};
+ghost use Rattle.wblock_words.specs.Names.{Rises, names_in};
 ghost use Rattle.wblock_line.specs.Refusals.{TellsNoModule};
 ghost use Rattle.wblock_contents.specs.ModuleText.{module_text};
 ghost use Rattle.wblock_contents.specs.Listings.{TellsModule};
 
 use crate::defined::defined_text_of;
 use crate::interface::interface_text_of;
-use function_names::{FunctionName, names_of};
+use wblock_words::{FunctionName, names_of};
 use module_tree::module::Module;
 use std::alloc::{AllocError, Global};
 use wblock_line::{Stop, read_valid};

@@ -2,21 +2,22 @@
 
 ghost use Rattle.std.specs.Prelude.{◌≡◌, [], ◌∷◌, ◌++◌, Some, None, IfOk, string_bytes};
 ghost use Rattle.module_tree.specs.Modules.{module_view};
-ghost use Rattle.wblock_words.specs.Sentences.{Begins, broken_place};
+ghost use Rattle.wblock_calls.specs.Sentences.{Begins};
+ghost use Rattle.wblock_words.specs.Sentences.{broken_place};
 ghost use Rattle.wblock_line.specs.Places.{TellsPlace, TellsRefusal, TellsRule};
 ghost use Rattle.wblock_line.specs.Refusals.{refusal_text};
 
 use crate::sites::import_text;
 use body_typing::rule::Rule;
-use function_names::FunctionName;
 use loader::load;
 use module_tree::limit::Limit;
 use module_tree::module::{Export, ExportDesc, Module};
 use std::alloc::{AllocError, Allocator, Global};
 use std::fmt;
 use typing_errors::{item_text, site_text};
+use wblock_calls::shown;
 use wblock_words::{
-    form_words, import_words, limit_words, room_words, rule_words, segment_words, shown,
+    FunctionName, form_words, import_words, limit_words, room_words, rule_words, segment_words,
 };
 
 /// Why a module's bytes give no contract, printed as `refused load N P`, `refused check RULE F O` or `refused deploy N I`.
@@ -121,7 +122,7 @@ fn body_words<A: Allocator>(
 ) -> Result<String, AllocError>
     ensures { IfOk result (λ s. TellsPlace (string_bytes s) (module_view tree.now) func ordinal) }
 {
-    let names = function_names::names_of(alloc, bytes)?;
+    let names = wblock_words::names_of(alloc, bytes)?;
     let name = match export_of(tree, func) {
         Some(name) => Some(name),
         None => name_among(&names, func),

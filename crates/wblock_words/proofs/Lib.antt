@@ -1,1 +1,1 @@
-pub mod Beginning
+mod Fronts

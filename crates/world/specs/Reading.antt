@@ -11,8 +11,8 @@ use Rattle.records.specs.declared.fault.Fault.TheVariants.{Malformed, TooLarge, 
 use Rattle.records.specs.Reading.{Read, ◌>>=◌, Fails, number_at, tag_at}
 use Rattle.world.specs.Cells.{lists_at, AreStored, stored_bytes}
 use Rattle.spec_ledger.specs.Cells.{Cells}
-use Rattle.world.specs.declared.read.ReadRefusal.{ReadRefusal}
-use Rattle.world.specs.declared.read.ReadRefusal.TheVariants as refusal
+use Rattle.records.specs.declared.refusal.ReadRefusal.{ReadRefusal}
+use Rattle.records.specs.declared.refusal.ReadRefusal.TheVariants as refusal
 
 -- ---- contracts
 

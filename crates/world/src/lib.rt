@@ -12,6 +12,7 @@ mod value;
 mod write;
 
 pub use cells::read_cells;
-pub use read::{ReadRefusal, read_world};
+pub use read::read_world;
+pub use records::ReadRefusal;
 pub use value::World;
 pub use write::{digest_world, encode_world, is_kind, write_world};

@@ -10,8 +10,7 @@ ghost use Rattle.spec_block.specs.Bytes.{counted, contract_bytes, cell_bytes, ce
 ghost use Rattle.world.specs.Views.{contract_view, world_view, is_of, is_cell_of};
 
 use crate::value::World;
-use block::WriteRefusal;
-use byte_sinks::{Sink, put_all};
+use byte_sinks::{Sink, WriteRefusal, put_all};
 use link::deployed::Deployed;
 use records::{append_u32, append_u64};
 use sha2::{Digest, Sha256};

@@ -3,7 +3,7 @@ use Rattle.wtypes.specs.declared.FuncType.{FuncType}
 use Rattle.spec_syntax.specs.Syntax.{Func}
 use Rattle.spec_syntax.specs.Shape.{size}
 use Rattle.spec_typing.specs.Modules.{type_at}
-use Rattle.function_names.specs.Names.{name_among}
+use Rattle.wblock_words.specs.Names.{name_among}
 use Rattle.module_tree.specs.ModuleView.{func_type_view, func_view}
 use Rattle.module_tree.specs.Modules.{module_view}
 use Rattle.wblock_contents.specs.ModuleText.{func_type_text, amounts_text, called_text}

@@ -1,6 +1,6 @@
 use Rattle.std.proofs.Common.{◌≡◌, ◌<◌, ◌++◌, length, get_or, string_bytes, ap, ◌∙◌, arith, rules}
 use Rattle.module_tree.specs.ModuleView.{func_view}
-use Rattle.function_names.specs.Names.{names_in}
+use Rattle.wblock_words.specs.Names.{names_in}
 use Rattle.module_tree.specs.Modules.{module_view}
 use Rattle.wblock_contents.specs.ModuleText.{func_line}
 use Rattle.wblock_contents.proofs.Places.{item_at, defined_at}

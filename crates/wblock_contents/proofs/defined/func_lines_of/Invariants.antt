@@ -1,5 +1,5 @@
 use Rattle.std.proofs.Common.{◌≡◌, ℕ, ◌+◌, ◌≤◌, ◌++◌, drop, map, string_bytes}
-use Rattle.function_names.specs.Names.{IsFrom, Rises, name_among, names_in}
+use Rattle.wblock_words.specs.Names.{IsFrom, Rises, name_among, names_in}
 use Rattle.module_tree.specs.ModuleView.{func_type_view, func_view, import_view}
 use Rattle.module_tree.specs.Readers.{imported_funcs}
 use Rattle.wblock_contents.specs.Lines.{numbered}
