@@ -13,7 +13,7 @@ use link::deployed::Deployed as Contract;
 use serial::Executed;
 use spec_execution::Access;
 use spec_ledger::NoMemory;
-use speculation::{Reads, run_over, write_back};
+use serial::{Reads, run_over, write_back};
 use std::alloc::Allocator;
 use storage::Cells;
 

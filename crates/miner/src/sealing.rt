@@ -11,11 +11,11 @@ ghost use Rattle.world.specs.Views.{world_view};
 use block::{Block, Position, digest_calls};
 use call::Call;
 use lock_profile::Touched;
-use serial::{Core, copied, positions_of};
+use serial::{Core, positions_of};
 use spec_ledger::{Receipt, Version};
 use std::alloc::Allocator;
 use std::thread::{Threads, join};
-use world::{World, digest_world};
+use world::{World, copied, digest_world};
 use wtypes::NoMemory;
 
 /// SHA-256 of what a block is made of.

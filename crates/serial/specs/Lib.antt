@@ -6,3 +6,7 @@ pub mod Going
 pub mod Ordered
 pub mod Runs
 pub mod Over
+pub mod Behind
+pub mod Found
+pub mod Touches
+pub mod Calls

@@ -1,16 +1,21 @@
-//! Serial execution of calls, the requests of a run to its host, and the block of an order: calls run one after another over boosted storage (Dickerson,
-//! Gazzillo, Herlihy, Koskinen, "Adding Concurrency to Smart Contracts", PODC 2017, section 4: the serial order that a miner publishes).
+//! Runs of calls, from one request to the host to the next: one after another over boosted storage, with the block of their order, or one over a view of the
+//! cells, which gives its read-write set (Dickerson, Gazzillo, Herlihy, Koskinen, "Adding Concurrency to Smart Contracts", PODC 2017, section 4: the serial
+//! order that a miner publishes, and calls that run speculatively).
 #![tactic(auto)]
 
 mod again;
 mod beginning;
 mod blocks;
-mod contracts;
+mod listing;
 mod locks;
+mod over_view;
+mod over_view_playing;
 mod playing;
 mod positions;
+mod read_write_set;
 mod steps;
 mod storage_loop;
+mod touches;
 mod turn_loop;
 
 ghost use Rattle.std.specs.Prelude.{◌≡◌, ◌<◌, ◌↔◌, IfOk, OnErr, IfSome, IfNone, IsSome, length};
@@ -25,15 +30,16 @@ ghost use Rattle.interp.specs.Callee.{setting_view};
 ghost use Rattle.serial.specs.Playing.{AreDone};
 ghost use Rattle.serial.specs.Positions.{results_of};
 
+use call::Call;
 use crate::again::act_again;
 pub use crate::beginning::{Begun, begin};
 pub use crate::blocks::{build_block, run, run_as};
 pub use crate::locks::touched_by;
+pub use crate::over_view::{Reads, run_over};
 use crate::playing::play;
+pub use crate::read_write_set::write_back;
 pub use crate::storage_loop::{Storage, play_over};
 pub use crate::turn_loop::{HostRequest, next_request};
-use call::Call;
-pub use contracts::{copied, world_after};
 use interp::finished::Finished;
 use link::deployed::Deployed as Contract;
 use lock_profile::Touched;

@@ -22,11 +22,11 @@ use block_judge::Reason;
 use in_order::OrderProgress;
 use lock_profile::Touched;
 use pace::{Pace, digesters};
-use serial::{Core, serial_core, world_after};
+use serial::{Core, serial_core};
 use spec_ledger::{NoMemory, Receipt};
 use std::alloc::Allocator;
 use std::thread::{Threads, join};
-use world::{World, digest_world};
+use world::{World, digest_world, world_after};
 
 fn is_digest(a: &[u8; 32], b: &[u8; 32]) -> bool
     ensures { IsTrue result ↔ (a.now ≡ b.now) }

@@ -6,3 +6,4 @@ mod Parts
 mod Spelled
 mod Storing
 mod Worlds
+pub mod Copies

@@ -1,6 +1,7 @@
 //! Worlds, which are contracts and cells, and their bytes.
 #![tactic(auto)]
 
+mod after;
 mod cell;
 mod cells;
 mod contracts;
@@ -11,6 +12,7 @@ mod store;
 mod value;
 mod write;
 
+pub use after::{copied, world_after};
 pub use cells::read_cells;
 pub use read::read_world;
 pub use records::ReadRefusal;
