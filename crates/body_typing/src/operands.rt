@@ -4,7 +4,7 @@ ghost use Rattle.std.specs.Prelude.{◌≡◌, ◌∷◌, ◌++◌, [], reverse,
 ghost use Rattle.spec_typing.specs.Typing.{of};
 ghost use Rattle.spec_typing.specs.Principal.{Stack, Operand, empty, anything, may_be, guard, pop, pop_type, arrow, ends};
 
-use spec_numeric::same_type;
+use spec_modules::same_type;
 use std::alloc::{AllocError, Allocator};
 use std::marker::Model;
 use wtypes::ValType;

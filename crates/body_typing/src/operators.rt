@@ -1,8 +1,8 @@
 // The types of operators.
 
 ghost use Rattle.std.specs.Prelude.{◌≡◌};
-ghost use Rattle.spec_numeric.specs.Operators;
-ghost use Rattle.spec_numeric.specs.Storage;
+ghost use Rattle.spec_modules.specs.Operators;
+ghost use Rattle.spec_modules.specs.Storage;
 
 use wtypes::{BinOp, CvtOp, LoadOp, RelOp, StoreOp, TestOp, UnOp, ValType, Value};
 

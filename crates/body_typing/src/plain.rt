@@ -13,7 +13,7 @@ use crate::operands::Operands;
 use crate::operators;
 use crate::rule::Rule;
 use crate::scope::{Scope, TypeRefusal};
-use spec_numeric::same_type;
+use spec_modules::same_type;
 use std::alloc::Allocator;
 use wtypes::{LoadOp, PlainInstr, StoreOp, ValType};
 

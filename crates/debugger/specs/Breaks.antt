@@ -1,8 +1,8 @@
 -- Breaks at places of instructions.
 use Rattle.std.specs.Prelude.{ℕ, ◌==◌, ◌&&◌, ◌||◌, Bool, false, not, List, [], ◌∷◌, ◌++◌, Option, Some, None, option_and_then, option_map, if◌then◌else◌, slice_get}
 use Rattle.std.specs.List.{filter}
-use Rattle.spec_syntax.specs.Syntax.{Name, Instr, Module, ExportDesc, ExportFunc, ExportTable, ExportMemory, ExportGlobal}
-use Rattle.spec_syntax.specs.Shape.{instr_at}
+use Rattle.spec_modules.specs.Syntax.{Name, Instr, Module, ExportDesc, ExportFunc, ExportTable, ExportMemory, ExportGlobal}
+use Rattle.spec_modules.specs.Shape.{instr_at}
 use Rattle.spec_execution.specs.Configuration.{Deployed}
 use Rattle.spec_execution.specs.Run.{exported}
 use Rattle.module_tree.specs.Readers.{defined_func}

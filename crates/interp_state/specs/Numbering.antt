@@ -1,10 +1,10 @@
 -- The ordinals of a body.
 use Rattle.std.proofs.Common.{◌≡◌, ℕ, zero, suc, ◌+◌, Bool, true, ◌&&◌, List, [], ◌∷◌, ◌++◌, length, map, refl, sym, ap, ap₂, ◌∙◌, Some, slice_get, subst, rules, arith, Vec, Option, length-append}
-use Rattle.spec_syntax.specs.Shape.{instr_preorder, preorder, size}
+use Rattle.spec_modules.specs.Shape.{instr_preorder, preorder, size}
 use Rattle.wtypes.specs.declared.ValType.{ValType}
 use Rattle.std.specs.List.{list_all}
-use Rattle.spec_syntax.specs.Syntax as syntax
-use Rattle.spec_syntax.specs.Limits.{counts_from, first, second}
+use Rattle.spec_modules.specs.Syntax as syntax
+use Rattle.spec_modules.specs.Limits.{counts_from, first, second}
 use Rattle.std.proofs.lemmas.Bool.{eqb-true}
 use Rattle.wtypes.specs.declared.PlainInstr.{PlainInstr}
 use Rattle.module_tree.specs.declared.instr.Instr.{Instr, Plain, BrTable, Block, Loop, If, out-Instr, fold_out-Instr, fold-Instr, fold-roll-Instr, roll-Instr, map-Instr, ind-Instr, the_lemmas}

@@ -1,6 +1,6 @@
 -- What blocks, loops and calls do to the parts of a machine, and what the parts keep.
 use Rattle.std.specs.Prelude.{◌≡◌, ℕ, ◌≤◌, true, List, [], ◌∷◌, length}
-use Rattle.spec_syntax.specs.Limits.{counts_from}
+use Rattle.spec_modules.specs.Limits.{counts_from}
 use Rattle.module_tree.specs.declared.instr.Instr.{Instr}
 use Rattle.module_tree.specs.View.{instr_ordinals, ordinal_of}
 use Rattle.spec_execution.specs.Configuration.{Contract, State}

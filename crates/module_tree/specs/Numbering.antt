@@ -1,7 +1,7 @@
 -- Ordinals that rise by one.
 use Rattle.std.proofs.Common.{true, ◌≡◌, ℕ, zero, suc, ◌+◌, ◌-◌, ◌≤◌, List, [], ◌∷◌, ◌++◌, map, refl, sym, ap, ap₂, ◌∙◌, arith, rules, append_assoc, Option, Vec}
 use Rattle.std.specs.List.{range_with_len}
-use Rattle.spec_syntax.specs.Limits.{counts_from}
+use Rattle.spec_modules.specs.Limits.{counts_from}
 use Rattle.std.proofs.lemmas.Bool.{eq-eqb}
 use Rattle.std.proofs.lemmas.List.{map-append}
 use Rattle.wtypes.specs.declared.ValType.{ValType}

@@ -8,7 +8,7 @@ ghost use Rattle.text_resolve.specs.declared.refusal.ResolveFault.TheVariants.{N
 ghost use Rattle.text_resolve.specs.Types.{same_types, same_func, first_type, given, is_bare, use_at};
 
 use crate::{ResolveFault, Space, index_in};
-use spec_numeric::same_type;
+use spec_modules::same_type;
 use std::alloc::Allocator;
 use text_body::{Binding, Index, TypeUse};
 use wtypes::{FuncType, ValType};

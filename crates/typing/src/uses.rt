@@ -3,7 +3,7 @@
 ghost use Rattle.std.specs.Prelude.{◌≡◌, ◌||◌, ℕ, nat_lt, map, length, is_none, not, List, [], Some, IfOk, OnOk};
 ghost use Rattle.std.specs.List.{list_all};
 ghost use Rattle.std.specs.Str.{bytes_eq};
-ghost use Rattle.spec_syntax.specs.Syntax as syntax;
+ghost use Rattle.spec_modules.specs.Syntax as syntax;
 ghost use Rattle.module_tree.specs.View.{instrs_view};
 ghost use Rattle.module_tree.specs.ModuleView.{func_type_view, global_type_view, global_view, element_view, data_view, export_view, export_desc_view};
 ghost use Rattle.typing.specs.Names.{has_name};
@@ -17,7 +17,7 @@ use body_typing::spaces::Spaces;
 use module_tree::instr::Instr;
 use module_tree::lone::lone_plain;
 use module_tree::module::{DataSegment, Element, Export, ExportDesc, Global, GlobalType};
-use spec_numeric::same_type;
+use spec_modules::same_type;
 use std::alloc::{AllocError, Allocator};
 use std::collections::BTreeSet;
 use wtypes::{FuncType, PlainInstr, ValType};

@@ -1,7 +1,7 @@
 -- What instructions that pass find.
 use Rattle.std.proofs.Common.{◌≡◌, ℕ, Bool, List, Option, Some, None, Result, Ok, Err, IfOk, reverse, map, ◌++◌, slice_get, option_map, option_and_then, sym, ap, ◌∙◌, subst, refl}
 use Rattle.wtypes.specs.declared.ValType.{ValType}
-use Rattle.spec_syntax.specs.Syntax as syntax
+use Rattle.spec_modules.specs.Syntax as syntax
 use Rattle.spec_typing.specs.Modules.{type_at}
 use Rattle.spec_typing.specs.Principal.{Stack, arrow, leave, pop_types}
 use Rattle.typing_errors.specs.Takes.{finds, is_there}

@@ -1,6 +1,6 @@
 -- What is told of bytes.
 use Rattle.std.specs.Prelude.{◌≡◌, ℕ, Bool, List, length}
-use Rattle.spec_syntax.specs.Syntax.{Module}
+use Rattle.spec_modules.specs.Syntax.{Module}
 use Rattle.spec_block.specs.Worlds.{World}
 use Rattle.spec_block.specs.Bytes.{SpellsWorld}
 use Rattle.wblock_words.specs.Names.{AreNamesOf, Named}

@@ -3,7 +3,7 @@ use Rattle.std.specs.Prelude.{◌≡◌, ℕ, ◌+◌, ◌<◌, ◌≤◌, ◌�
 use Rattle.spec_ledger.specs.Cells.{Cells}
 use Rattle.spec_execution.specs.Configuration.{Setting}
 use Rattle.spec_execution.specs.Run.{ContractCall, opening, Refused}
-use Rattle.spec_syntax.specs.Syntax.{Instr}
+use Rattle.spec_modules.specs.Syntax.{Instr}
 use Rattle.debugger.specs.declared.place.Place.{Place}
 use Rattle.debugger.specs.Breaks.{as_place, with_break, without_break, instr_there, exported_function}
 use Rattle.debugger.specs.SessionView.{SessionView, IsSessionView, stack_at, locals_at, globals_at, memory_at}

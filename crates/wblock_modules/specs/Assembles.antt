@@ -1,8 +1,8 @@
 -- What `asm` answers.
 use Rattle.std.specs.Prelude.{◌≡◌, ℕ, Bool, List, [], ◌∷◌, ◌++◌, Option, Some, None, codes, decimal, string_bytes}
-use Rattle.spec_syntax.specs.Syntax.{Module}
-use Rattle.spec_binary.specs.Shortest.{shortest}
-use Rattle.spec_binary.specs.Spells.{Spells}
+use Rattle.spec_modules.specs.Syntax.{Module}
+use Rattle.spec_modules.specs.Shortest.{shortest}
+use Rattle.spec_modules.specs.Spells.{Spells}
 use Rattle.spec_text.specs.Names.{Names}
 use Rattle.lexer.specs.declared.LexRefusal.TheVariants as lexical
 use Rattle.module_tree.specs.LimitNumbers.{number_of}

@@ -1,7 +1,7 @@
 -- What `text` answers.
 use Rattle.std.specs.Prelude.{◌≡◌, ℕ, ◌⊎◌, Bool, true, false, List, [], ◌∷◌, ◌++◌, Some, codes, decimal, string_bytes}
-use Rattle.spec_syntax.specs.Syntax.{Module}
-use Rattle.spec_binary.specs.Spells.{Spells}
+use Rattle.spec_modules.specs.Syntax.{Module}
+use Rattle.spec_modules.specs.Spells.{Spells}
 use Rattle.spec_text.specs.Names.{Names}
 use Rattle.spec_typing.specs.Modules.{ModuleTyped}
 use Rattle.loader.specs.Refusals.{NoModule}

@@ -1,10 +1,10 @@
 -- What stands at the front of bytes: it is there, and nothing else is.
 use Rattle.std.proofs.Common.{◌≡◌, ℕ, ◌-◌, ◌≤◌, List, [], ◌∷◌, ◌++◌, length, take, drop, slice_range, Some, refl, sym, ap, ap₂, ◌∙◌, arith}
 use Rattle.std.proofs.lemmas.List.{take-append-drop, take_all, length-drop}
-use Rattle.spec_syntax.specs.Syntax.{Name}
-use Rattle.spec_binary.specs.Leb.{u32}
-use Rattle.spec_binary.specs.Reading.{unsigned_at}
-use Rattle.spec_binary.specs.NumberLaws.{unsigned_again}
+use Rattle.spec_modules.specs.Syntax.{Name}
+use Rattle.spec_modules.specs.Leb.{u32}
+use Rattle.spec_modules.specs.Reading.{unsigned_at}
+use Rattle.spec_modules.specs.NumberLaws.{unsigned_again}
 use Rattle.wblock_words.specs.Parts.{HasNumber, HasSized, HasName}
 
 -- ---- a number

@@ -1,10 +1,10 @@
 -- What stands at the front of bytes.
 use Rattle.std.specs.Prelude.{◌≡◌, ℕ, Bool, true, List, [], ◌∷◌, ◌++◌, codes, length, nat_lt}
 use Rattle.std.specs.Str.{IsUtf8}
-use Rattle.spec_syntax.specs.Syntax.{Name}
-use Rattle.spec_binary.specs.Language.{Language, empty, ◌⨾◌, ◌∣◌}
-use Rattle.spec_binary.specs.Leb.{u32}
-use Rattle.spec_binary.specs.Grammar.{name, section, times, header}
+use Rattle.spec_modules.specs.Syntax.{Name}
+use Rattle.spec_modules.specs.Language.{Language, empty, ◌⨾◌, ◌∣◌}
+use Rattle.spec_modules.specs.Leb.{u32}
+use Rattle.spec_modules.specs.Grammar.{name, section, times, header}
 use Rattle.wblock_words.specs.Names.{Named, anything, other_section}
 
 -- a number, and the rest

@@ -1,8 +1,8 @@
 //! The names of functions that a module carries in its custom section `name` (Core Specification, 7.4.1 Name Section).
 
 ghost use Rattle.std.specs.Prelude.{◌≡◌, ℕ, List, IfOk, MatchOption};
-ghost use Rattle.spec_binary.specs.Language.{◌⨾◌};
-ghost use Rattle.spec_binary.specs.Grammar.{header};
+ghost use Rattle.spec_modules.specs.Language.{◌⨾◌};
+ghost use Rattle.spec_modules.specs.Grammar.{header};
 ghost use Rattle.wblock_words.specs.Names.{AreNamesOf, Named, Rises, name_map, names_in};
 ghost use Rattle.wblock_words.specs.Parts.{HasFunctions, HasNameSection, IsNameData, exactly, is_above};
 

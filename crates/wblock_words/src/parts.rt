@@ -1,9 +1,9 @@
 //! The parts of a custom section.
 
 ghost use Rattle.std.specs.Prelude.{◌≡◌, ◌≢◌, ℕ, List, ◌++◌, IfSome, IfNone, MatchOption};
-ghost use Rattle.spec_syntax.specs.Syntax.{Name};
-ghost use Rattle.spec_binary.specs.Leb.{u32};
-ghost use Rattle.spec_binary.specs.Grammar.{name};
+ghost use Rattle.spec_modules.specs.Syntax.{Name};
+ghost use Rattle.spec_modules.specs.Leb.{u32};
+ghost use Rattle.spec_modules.specs.Grammar.{name};
 ghost use Rattle.wblock_words.specs.Parts.{HasNumber, HasSized, HasName};
 
 use leb::read_u32;

@@ -3,7 +3,7 @@
 use Rattle.std.specs.Prelude.{◌≡◌, ◌≢◌, ℕ, ◌*◌, ◌-◌, ◌<◌, List, [], ◌++◌, length, take, drop, Ok, Err, nat_lt, if◌then◌else◌}
 use Rattle.std.specs.Int.{w32}
 use Rattle.std.specs.List.{flat_map, AllByRecursion}
-use Rattle.spec_binary.specs.Shortest.{shortest}
+use Rattle.spec_modules.specs.Shortest.{shortest}
 use Rattle.spec_block.specs.Worlds.{Contract, World}
 use Rattle.spec_block.specs.Bytes.{contract_bytes, IsTree, SpellsWorld}
 use Rattle.records.specs.declared.fault.Fault.{Fault}

@@ -1,7 +1,7 @@
 use Rattle.std.proofs.Common.{◌≡◌, ℕ, List, [], ◌∷◌, ◌++◌, Some, codes, decimal, length, map, option_map, string_bytes, sym, ap, ◌∙◌, Global}
 use Rattle.wtypes.specs.declared.FuncType.{FuncType}
-use Rattle.spec_syntax.specs.Syntax.{Func}
-use Rattle.spec_syntax.specs.Shape.{size}
+use Rattle.spec_modules.specs.Syntax.{Func}
+use Rattle.spec_modules.specs.Shape.{size}
 use Rattle.spec_typing.specs.Modules.{type_at}
 use Rattle.wblock_words.specs.Names.{name_among}
 use Rattle.module_tree.specs.ModuleView.{func_type_view, func_view}

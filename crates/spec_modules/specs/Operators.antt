@@ -3,7 +3,7 @@
 use Rattle.std.specs.Prelude.{ℕ, ◌+◌, ◌-◌, ◌*◌, ◌/◌, ◌%◌, ◌^◌, pos, Bool, true, false, not, ◌==◌, nat_lt, nat_le, int_lt, int_le, int_div, int_rem, if◌then◌else◌, bit_and, bit_or, bit_xor, Result, Ok, Err}
 use Rattle.std.specs.Int.{Width, w8, w16, w32, w64}
 use mir.Val.{bits, hbits}
-use Rattle.spec_numeric.specs.Numbers.{modulus, signed, unsigned, zeros_above, zeros_below, ones_among, floor, rotated_left, rotated_right}
+use Rattle.spec_modules.specs.Numbers.{modulus, signed, unsigned, zeros_above, zeros_below, ones_among, floor, rotated_left, rotated_right}
 use Rattle.wtypes.specs.declared.ValType.{ValType}
 use Rattle.wtypes.specs.declared.ValType.TheVariants.{I32, I64}
 use Rattle.wtypes.specs.declared.Value.{Value}

@@ -1,6 +1,6 @@
 -- The trees of this profile, by tests: their numbers are in range, and they keep the limits on functions, locals, nesting and labels.
 --
--- The definition of these limits is `ModuleFits` of `spec_binary/specs/Spells.antt`, which says them as propositions, with the size of the
+-- The definition of these limits is `ModuleFits` of `spec_modules/specs/Spells.antt`, which says them as propositions, with the size of the
 -- shortest spelling: by it a spelling, and the module of a text, are stated. The other forms are stated for code and proofs:
 -- `module_fits` is the same as a test, without that size and with the ranges of numbers, which the grammar gives (the type of a module
 -- in memory keeps it); `expression_fits` is its part for one expression; `Fits` is `module_fits` part by part, by the two lemmas below it;
@@ -12,9 +12,9 @@ use Rattle.wtypes.specs.declared.Value.{Value}
 use Rattle.wtypes.specs.declared.Value.TheVariants as value
 use Rattle.wtypes.specs.declared.PlainInstr.{PlainInstr}
 use Rattle.wtypes.specs.declared.PlainInstr.TheVariants.{Unreachable, Nop, Br, BrIf, Return, Call, CallIndirect, Drop, Select, LocalGet, LocalSet, LocalTee, GlobalGet, GlobalSet, Load, Store, MemorySize, MemoryGrow, Const, Unary, Binary, Test, Compare, Convert}
-use Rattle.spec_syntax.specs.Syntax.{Instr, Plain, BrTable, Block, Loop, If, Instrs, nothing, seq, Limits, ImportDesc, ImportFunc, ImportTable, ImportMemory, ImportGlobal, ExportDesc, ExportFunc, ExportTable, ExportMemory, ExportGlobal, Import, Func, Global, Export, Element, DataSegment, Module}
-use Rattle.spec_syntax.specs.Shape.{instrs_depth}
-use Rattle.spec_syntax.specs.Profile.{function_limit, local_limit, nesting_limit, label_limit}
+use Rattle.spec_modules.specs.Syntax.{Instr, Plain, BrTable, Block, Loop, If, Instrs, nothing, seq, Limits, ImportDesc, ImportFunc, ImportTable, ImportMemory, ImportGlobal, ExportDesc, ExportFunc, ExportTable, ExportMemory, ExportGlobal, Import, Func, Global, Export, Element, DataSegment, Module}
+use Rattle.spec_modules.specs.Shape.{instrs_depth}
+use Rattle.spec_modules.specs.Profile.{function_limit, local_limit, nesting_limit, label_limit}
 
 -- ---- Numbers (Core 2.2, Values)
 

@@ -4,8 +4,8 @@ use Rattle.std.specs.Prelude.{Ok}
 use Rattle.std.proofs.Math.Nat.{pow-suc}
 use Rattle.std.proofs.Math.Arith.{mod-mul}
 use Rattle.std.proofs.lemmas.Grind.{common_steps}
-use Rattle.spec_numeric.specs.Storage.{number_of_bytes, bytes_of_number}
-use Rattle.spec_numeric.specs.Memory.{load, written, LoadsGiveWhatWasStored}
+use Rattle.spec_modules.specs.Storage.{number_of_bytes, bytes_of_number}
+use Rattle.spec_modules.specs.Memory.{load, written, LoadsGiveWhatWasStored}
 
 pub length-bytes_of_number : (n x : ℕ) → length (bytes_of_number n x) ≡ n
 length-bytes_of_number zero x = refl

@@ -7,10 +7,10 @@ use Rattle.wtypes.specs.declared.UnOp.TheVariants.{Clz, Ctz, Popcnt}
 use Rattle.wtypes.specs.declared.BinOp.TheVariants.{DivS, DivU, RemS, ShrS, Rotl, Rotr}
 use Rattle.wtypes.specs.declared.RelOp.TheVariants.{LtS, LtU}
 use Rattle.wtypes.specs.declared.CvtOp.TheVariants.{I32WrapI64, I64ExtendI32S, I64ExtendI32U, I32Extend8S, I32Extend16S, I64Extend8S, I64Extend16S, I64Extend32S}
-use Rattle.spec_numeric.specs.Numbers.{zeros_above, zeros_below, ones_among}
-use Rattle.spec_numeric.specs.Operators.{unary_of, binary_of, compare_of, convert_of}
-use Rattle.spec_numeric.specs.Storage.{bytes_of_number, extended}
-use Rattle.spec_numeric.specs.Memory.{load, store, written}
+use Rattle.spec_modules.specs.Numbers.{zeros_above, zeros_below, ones_among}
+use Rattle.spec_modules.specs.Operators.{unary_of, binary_of, compare_of, convert_of}
+use Rattle.spec_modules.specs.Storage.{bytes_of_number, extended}
+use Rattle.spec_modules.specs.Memory.{load, store, written}
 use Rattle.wtypes.specs.declared.LoadOp.TheVariants.{I32Load8S, I32Load8U}
 
 rotl_row : binary_of (Rotl valtype.I32) (I32 (negsuc 2147483646)) (I32 (pos 33)) ≡ Ok (I32 (pos 3))

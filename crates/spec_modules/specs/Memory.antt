@@ -2,7 +2,7 @@
 use Rattle.std.specs.Prelude.{◌≡◌, ℕ, ◌+◌, ◌%◌, ◌^◌, ◌≤◌, nat_le, if◌then◌else◌, List, ◌++◌, length, take, drop, Result, Ok, Err}
 use Rattle.wtypes.specs.declared.TrapCode.{TrapCode}
 use Rattle.wtypes.specs.declared.TrapCode.TheVariants.{MemoryOutOfBounds}
-use Rattle.spec_numeric.specs.Storage.{number_of_bytes, bytes_of_number}
+use Rattle.spec_modules.specs.Storage.{number_of_bytes, bytes_of_number}
 
 -- 4.4.4, t.load memarg: the number that the n bytes from an address on spell, where all of them lie in memory
 abbrev pub load : List ℕ → ℕ → ℕ → Result ℕ TrapCode

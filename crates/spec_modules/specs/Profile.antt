@@ -3,7 +3,7 @@ use Rattle.std.specs.Prelude.{ℕ, [], ◌∷◌, codes}
 use Rattle.wtypes.specs.declared.ValType.TheVariants.{I32, I64}
 use Rattle.wtypes.specs.declared.HostCall.{HostCall}
 use Rattle.wtypes.specs.declared.HostCall.TheVariants.{Get, Has, Put, Del, Add, Total, Ask, Answer}
-use Rattle.spec_syntax.specs.Syntax.{FuncType, Name}
+use Rattle.spec_modules.specs.Syntax.{FuncType, Name}
 
 -- ---- Limits of a module, with the number that a refusal gives
 
