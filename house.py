@@ -38,15 +38,15 @@ ALL_BYTES = 200_000
 # What each document has at most, in bytes.
 LIMITS = {
     "README.md": 4_500,
-    "CONTRIBUTING.md": 11_000,
-    "CHANGELOG.md": 8_000,
+    "CONTRIBUTING.md": 11_500,
+    "CHANGELOG.md": 7_500,
     "docs/ARCHITECTURE.md": 15_500,
     "docs/BENCHMARKS.md": 14_000,
     "docs/DECISIONS.md": 27_500,
     "docs/DEFINITIONS.md": 18_500,
-    "docs/GUIDE.md": 19_500,
+    "docs/GUIDE.md": 20_000,
     "docs/PROOFS.md": 7_500,
-    "docs/REFERENCE.md": 60_500,
+    "docs/REFERENCE.md": 60_000,
     "docs/STATUS.md": 9_000,
     "docs/WRONG_BODIES.md": 8_000,
 }
@@ -225,7 +225,7 @@ def faults_of_lemmas():
 
 def faults_of_links():
     readers = [TOP / name for name in documents()] + list(TOP.glob("crates/*/README.md")) + list(TOP.glob("*/*.sh")) + [TOP / ".ci/run", TOP / "wrong-bodies.py"]
-    readers += [path for path in (TOP / "kit/README.md", TOP / "examples/README.md") if path.is_file()]
+    readers += [path for path in (TOP / "kit/README.md", TOP / "examples/README.md", TOP / "embed/README.md") if path.is_file()]
     faults = []
     for reader in readers:
         for path in sorted(set(re.findall(r"\b(?:docs|crates|bench|examples|kit)/[\w./-]*\w", reader.read_text()))):

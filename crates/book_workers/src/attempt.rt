@@ -6,10 +6,10 @@ ghost use Rattle.interp.specs.Callee.{setting_view};
 ghost use Rattle.serial.specs.Runs.{IsRunOf};
 ghost use Rattle.book_workers.specs.Handed.{IsCommitted};
 
+use crate::Intake;
 use crate::admission::AdmissionLimit;
 use boost::book::{BeginRefusal, CommitRefusal, EnterRefusal, OpRefusal, Run};
 use call::Call;
-use crate::Intake;
 use interp::finished::Finished;
 use link::deployed::Deployed as Contract;
 use lock_profile::Touched;

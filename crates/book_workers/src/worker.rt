@@ -5,9 +5,9 @@ ghost use Rattle.interp.specs.Callee.{setting_view};
 ghost use Rattle.book_workers.specs.Intakes.{IsSeatOf};
 ghost use Rattle.book_workers.specs.Handed.{AreRuns};
 
+use crate::Seat;
 use crate::attempt::{CallResult, CommittedRun, Job, try_call};
 use call::Call;
-use crate::Seat;
 use pace::Pace;
 use spec_ledger::NoMemory;
 use std::alloc::Allocator;

@@ -9,7 +9,8 @@ use debugger::Contract;
 use spec_ledger::Version;
 use std::alloc::Global;
 use storage::Cells;
-use wblock_debug::{Command, Printed};
+use wblock_debug::Printed;
+use wblock_usage::debugging::Command;
 use wtypes::NoMemory;
 
 /// As [`wblock_debug::debug_call`].

@@ -3,8 +3,8 @@
 ghost use Rattle.std.specs.Prelude.{◌≡◌, ◌<◌, IfErr, IfOk, IfSome};
 ghost use Rattle.lanes.specs.Passes.{IsPassOf};
 
-use std::alloc::Allocator;
 use lanes::{ItemFact, QueuePass, TypedQueue};
+use std::alloc::Allocator;
 use wtypes::NoMemory;
 
 /// That a number lies below the bound.

@@ -8,11 +8,11 @@ ghost use Rattle.in_order.specs.Shares.{AreSpeculativeRunsOf};
 use crate::footprints::SpeculativeRuns;
 use crate::post::QueueEnd;
 use crate::{InOrder, Task};
+use lanes::{ItemFact, QueuePass, TypedQueue};
 use pace::Pace;
 use spec_ledger::NoMemory;
 use std::alloc::Allocator;
 use std::hint::spin_loop;
-use lanes::{ItemFact, QueuePass, TypedQueue};
 
 /// How often a thread tries to hand a batch over while another is in the way.
 const TRIES: u32 = 10_000;

@@ -2,8 +2,8 @@
 ghost use Rattle.std.specs.Prelude.{◌≡◌, length};
 ghost use Rattle.book_workers.specs.Intakes.{IsSeatOf};
 
-use call::Call;
 use book_workers::{Intake, Seat};
+use call::Call;
 use spec_ledger::NoMemory;
 use std::alloc::Allocator;
 use std::sync::Wait;

@@ -8,9 +8,10 @@ use std::alloc::Global;
 use std::sync::Wait;
 use std::thread::Threads;
 use wblock_chain::run_session;
-use wblock_commands::{run_line, usage_text};
+use wblock_commands::run_line;
 use wblock_io::{MemoryFiles, MemoryLines};
 use wblock_line::Status;
+use wblock_usage::usage_text;
 
 /// How many bytes a stream takes at a time.
 const PIECE: usize = 3;

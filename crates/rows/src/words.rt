@@ -3,8 +3,9 @@
 use crate::lines::words_of;
 use std::alloc::Global;
 use std::str::from_utf8;
-use wblock_debug::{command_of, commands_of, debugging_of};
+use wblock_debug::debugging_of;
 use wblock_line::split_words;
+use wblock_usage::debugging::{command_of, commands_of};
 
 /// The command that a word is, or None.
 fn command(alloc: Global, word: &str) -> Option<String> {

@@ -30,7 +30,6 @@ ghost use Rattle.interp.specs.Callee.{setting_view};
 ghost use Rattle.serial.specs.Playing.{AreDone};
 ghost use Rattle.serial.specs.Positions.{results_of};
 
-use call::Call;
 use crate::again::act_again;
 pub use crate::beginning::{Begun, begin};
 pub use crate::blocks::{build_block, run, run_as};
@@ -40,6 +39,7 @@ use crate::playing::play;
 pub use crate::read_write_set::write_back;
 pub use crate::storage_loop::{Storage, play_over};
 pub use crate::turn_loop::{HostRequest, next_request};
+use call::Call;
 use interp::finished::Finished;
 use link::deployed::Deployed as Contract;
 use lock_profile::Touched;

@@ -11,11 +11,11 @@ ghost use Rattle.serial.specs.Behind.{behind};
 ghost use Rattle.serial.specs.Found.{IsFoundBy};
 ghost use Rattle.serial.specs.Touches.{AreAccessesAt, IsCellAt};
 
+use crate::Executed;
 use crate::listing::list;
 use crate::over_view_playing::play;
 use call::Call;
 use link::deployed::Deployed as Contract;
-use crate::Executed;
 use spec_execution::{Access, an_execution_has_a_read_write_set};
 use spec_ledger::{Lock, NoMemory, Version};
 use std::alloc::Allocator;

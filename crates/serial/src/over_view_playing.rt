@@ -5,10 +5,10 @@ ghost use Rattle.serial.specs.Touches.{AreFoundBy, AreTouchesOf, IsPlayedBeside}
 
 use crate::over_view::Reads;
 use crate::touches::{Touch, act, leave};
+use crate::{Storage, play_over};
 use call::Call;
 use interp::finished::Finished;
 use link::deployed::Deployed as Contract;
-use crate::{Storage, play_over};
 use spec_ledger::{Inverse, Lock, NoMemory, Op, Reply, Version};
 use std::alloc::Allocator;
 use std::collections::BTreeMap;

@@ -5,7 +5,7 @@ use Rattle.spec_ledger.specs.declared.Outcome.{Outcome}
 use Rattle.spec_ledger.specs.declared.Outcome.TheVariants.{Returned}
 use Rattle.spec_block.specs.Worlds.{Position, Block}
 use Rattle.spec_block.specs.Bytes.{block_bytes}
-use Rattle.wblock_line.specs.Answers.{Written, Upshot}
+use Rattle.wblock_line.specs.Answers.{EndsLine, Written, Upshot}
 use Rattle.wblock_line.specs.declared.perform.Status.TheVariants as status
 
 abbrev pub IsReturn : Outcome → Type 0
@@ -15,9 +15,6 @@ IsReturn o = ⊥
 -- the call at a position returned
 abbrev pub HasReturned : Position → Type 0
 HasReturned p = IsReturn p.receipt.outcome
-
-abbrev pub EndsLine : List ℕ → Type 0
-EndsLine text = (front : List ℕ) × (text ≡ front ++ 10 ∷ [])
 
 -- nothing is said of calls that all returned, and else a text that ends with a newline
 pub record IsNoteOf (positions : List Position) (note : List ℕ) : Type 0 where

@@ -11,7 +11,7 @@ use link::deployed::Deployed;
 use spec_ledger::Outcome;
 use std::alloc::{AllocError, Global};
 use std::fmt;
-use wblock_line::entry_words;
+use wblock_words::entry_words;
 
 /// The calls that ended in one way, which is no return.
 #[derive(Clone, Copy, Debug)]

@@ -5,12 +5,11 @@ use Rattle.spec_block.specs.Worlds.{Contract, World}
 use Rattle.spec_block.specs.Bytes.{world_bytes}
 use Rattle.world.specs.Views.{world_view}
 use Rattle.wblock_io.specs.Holding.{Holding, Changes}
-use Rattle.wblock_line.specs.Answers.{Written, Wrote, file_line, sentence_line, write_of}
+use Rattle.wblock_line.specs.Answers.{EndsLine, Written, Wrote, file_line, sentence_line, write_of}
 use Rattle.wblock_line.specs.declared.transition.Change.{Change}
 use Rattle.wblock_line.specs.declared.transition.NextWorld.{NextWorld}
 use Rattle.wblock_line.specs.declared.perform.Status.{Status}
 use Rattle.wblock_line.specs.declared.perform.Status.TheVariants as status
-use Rattle.wblock_blocks.specs.Notes.{EndsLine}
 use Rattle.wblock_chain.specs.Replies.{block_line, reply, saved_line}
 use Rattle.wblock_chain.specs.Requests.{AreShort}
 use Rattle.wblock_chain.specs.Sessions.{Exchange, Session, DoesLine, FailsLine, IsUsage, reply_in, text_of_calls}

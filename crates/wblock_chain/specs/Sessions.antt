@@ -6,12 +6,11 @@ use Rattle.sha2.specs.Sha256.{sha256}
 use Rattle.spec_block.specs.Worlds.{World}
 use Rattle.spec_block.specs.Bytes.{world_bytes}
 use Rattle.wblock_io.specs.Holding.{Holding, Changes}
-use Rattle.wblock_line.specs.Answers.{Upshot, Written, Wrote, file_line, sentence_line}
+use Rattle.wblock_line.specs.Answers.{EndsLine, Upshot, Written, Wrote, file_line, sentence_line}
 use Rattle.wblock_line.specs.Inputs.{Holds, HoldsWorld}
 use Rattle.wblock_line.specs.Worlds.{TellsNoWorld}
 use Rattle.wblock_line.specs.declared.perform.Status.{Status}
 use Rattle.wblock_line.specs.declared.perform.Status.TheVariants as status
-use Rattle.wblock_blocks.specs.Notes.{EndsLine}
 use Rattle.wblock_commands.specs.Does.{ComesTo, Reads}
 use Rattle.wblock_commands.specs.declared.command.Command.{Command}
 use Rattle.wblock_commands.specs.declared.command.Command.TheVariants.{Mine}

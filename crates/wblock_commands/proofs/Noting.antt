@@ -3,9 +3,9 @@ use Rattle.std.proofs.Common.{◌≡◌, ℕ, ◌⊎◌, List, [], ◌∷◌, in
 use Rattle.std.specs.List.{AllByRecursion}
 use Rattle.spec_ledger.specs.declared.Outcome.{Outcome}
 use Rattle.spec_ledger.specs.declared.Outcome.TheVariants.{Returned, Trapped, OutOfFuel, Rejected}
-use Rattle.wblock_line.specs.Answers.{IsSaid}
+use Rattle.wblock_line.specs.Answers.{EndsLine, IsSaid}
 use Rattle.wblock_line.specs.declared.answer.Answer.{Answer}
-use Rattle.wblock_blocks.specs.Notes.{IsReturn, HasReturned, EndsLine}
+use Rattle.wblock_blocks.specs.Notes.{IsReturn, HasReturned}
 use Rattle.wblock_commands.specs.Does.{IsMine, IsNote, SaysNote}
 use Rattle.wblock_commands.specs.declared.command.Command.{Command}
 use Rattle.wblock_commands.specs.declared.command.Command.TheVariants.{Stored, Help, Version, Asm, Text, Check, Deploy, Mine, Validate, Call, Debug, Show}

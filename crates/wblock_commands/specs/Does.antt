@@ -3,17 +3,17 @@ use Rattle.std.specs.Prelude.{◌≡◌, ℕ, ◌⊎◌, List, [], ◌++◌, str
 use Rattle.wblock_io.specs.Holding.{Holding, Failing, IsFailed}
 use Rattle.wblock_line.specs.declared.answer.Answer.{Answer}
 use Rattle.wblock_line.specs.declared.perform.Status.{Status}
-use Rattle.wblock_line.specs.Answers.{Upshot, upshot_of, status_of, writes_of, text_of, Wrote, IsFailing, IsSaid}
+use Rattle.wblock_line.specs.Answers.{EndsLine, Upshot, upshot_of, status_of, writes_of, text_of, Wrote, IsFailing, IsSaid}
 use Rattle.wblock_commands.specs.Stored.{ShowsStored}
-use Rattle.wblock_commands.specs.Texts.{TellsText}
+use Rattle.wblock_usage.specs.Texts.{TellsText}
 use Rattle.wblock_modules.specs.Assembles.{Assembles}
 use Rattle.wblock_modules.specs.Checks.{Checks}
 use Rattle.wblock_modules.specs.Texts.{WritesText}
 use Rattle.wblock_line.specs.Inputs.{IsNextInput}
 use Rattle.wblock_blocks.specs.Mines.{Mines}
-use Rattle.wblock_blocks.specs.Notes.{EndsLine, Notes}
+use Rattle.wblock_blocks.specs.Notes.{Notes}
 use Rattle.wblock_blocks.specs.Validates.{Validates, IsNextFile}
-use Rattle.wblock_debug.specs.Calling.{Calls}
+use Rattle.wblock_call.specs.Calling.{Calls}
 use Rattle.wblock_debug.specs.Debugs.{Debugs, IsNotListed, IsNextRead}
 use Rattle.wblock_show.specs.Named.{ShowsNamed, IsNextNamed}
 use Rattle.wblock_commands.specs.declared.command.Command.{Command}

@@ -8,9 +8,9 @@ use Rattle.wblock_commands.specs.declared.command.Command.TheVariants.{Stored, H
 use Rattle.wblock_commands.specs.declared.command.Deploying.{Deploying}
 use Rattle.wblock_commands.specs.Options.{AsksFuel, AsksWorkers, AsksTries, AsksBoosted, AsksNext, AsksCalls, AsksForm, AsksJson, AsksSigned, AsksUnchecked, AsksForce, AsksHeap, AsksOnto, HasOnlyDeploying, HasOnlyMining, HasOnlyTwo, HasOnlyValidation, HasOnlyShowing}
 use Rattle.wblock_debug.specs.Asks.{AsksDebug}
-use Rattle.wblock_debug.specs.Calling.{AsksCall}
+use Rattle.wblock_call.specs.Calling.{AsksCall}
 use Rattle.wblock_debug.specs.declared.asked.Debugging.{Debugging}
-use Rattle.wblock_debug.specs.declared.called.Calling.{Calling}
+use Rattle.wblock_call.specs.declared.called.Calling.{Calling}
 use Rattle.wblock_blocks.specs.declared.mine.Mining.{Mining}
 use Rattle.wblock_blocks.specs.declared.validate.Validation.{Validation}
 use Rattle.wblock_show.specs.declared.file.Form.{Form}

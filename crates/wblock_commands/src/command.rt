@@ -11,7 +11,6 @@ ghost use Rattle.wblock_blocks.specs.declared.mine.Mining.{Mining as TheMining};
 ghost use Rattle.wblock_blocks.specs.declared.validate.Validation.{Validation as TheValidation};
 ghost use Rattle.wblock_show.specs.declared.file.Showing.{Showing as TheShowing};
 
-use crate::declared::HEAP;
 use crate::options::{
     boosted_in, calls_in, force_in, form_in, fuel_in, has_only_deploying, has_only_mining,
     has_only_showing, has_only_two, has_only_validation, heap_in, json_in, next_in, onto_in,
@@ -19,9 +18,11 @@ use crate::options::{
 };
 use std::alloc::{AllocError, Global};
 use wblock_blocks::{Mining, Validation};
-use wblock_debug::{Calling, Debugging, calling_of, debugging_of};
+use wblock_call::{Calling, calling_of};
+use wblock_debug::{Debugging, debugging_of};
 use wblock_line::{JSON_SWITCH, Line, UNCHECKED_SWITCH, is_word, switch_alone};
 use wblock_show::{Form, Showing};
+use wblock_usage::declared::HEAP;
 
 /// What is to be deployed.
 #[derive(Clone, Copy, Debug)]

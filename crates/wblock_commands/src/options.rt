@@ -7,13 +7,13 @@ ghost use Rattle.wblock_calls.specs.Words.{texts};
 ghost use Rattle.wblock_line.specs.Words.{choices};
 ghost use Rattle.wblock_show.specs.declared.file.Form.{Form as TheForm};
 
-use crate::declared::{
-    CALLS, FUEL, HEAP, NEXT, ONTO, SVG, TRIES, USUAL_TRIES, USUAL_WORKERS, WORKERS,
-};
 use std::alloc::{AllocError, Global};
 use wblock_calls::number_of;
 use wblock_line::{BOOSTED_SWITCH, FORCE_SWITCH, JSON_SWITCH, SIGNED_SWITCH, UNCHECKED_SWITCH};
 use wblock_show::Form;
+use wblock_usage::declared::{
+    CALLS, FUEL, HEAP, NEXT, ONTO, SVG, TRIES, USUAL_TRIES, USUAL_WORKERS, WORKERS,
+};
 
 /// The values of the options of a name, in their order.
 fn values_of<'w>(

@@ -14,9 +14,9 @@ use crate::names::quoted;
 use crate::types::{global_type_text_of, limits_text_of, type_text_at};
 use body_typing::spaces::Spaces;
 use figures::first_func;
-use wblock_words::FunctionName;
 use module_tree::module::{Func, Global as Variable, Module};
 use std::alloc::{AllocError, Global};
+use wblock_words::FunctionName;
 use wtypes::Limits;
 
 /// ` locals L instructions N`.

@@ -9,10 +9,10 @@ ghost use Rattle.wblock_contents.specs.Listings.{TellsModule};
 
 use crate::defined::defined_text_of;
 use crate::interface::interface_text_of;
-use wblock_words::{FunctionName, names_of};
 use module_tree::module::Module;
 use std::alloc::{AllocError, Global};
 use wblock_line::{Stop, read_valid};
+use wblock_words::{FunctionName, names_of};
 
 /// The lines of a module that so many bytes spell, which carry these names.
 fn module_text_of(

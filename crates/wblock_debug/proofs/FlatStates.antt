@@ -12,9 +12,9 @@ use Rattle.wblock_json.specs.Json.{IsFlat, array_of, hex_data, large, maybe, sma
 use Rattle.wblock_json.specs.Blocks.{receipt_members, value_data}
 use Rattle.wblock_json.proofs.Flat.{array_flat, boolean_flat, deeper, map_flat, maybe_flat, null_flat, object_flat, small_flat, string_flat}
 use Rattle.wblock_json.proofs.FlatBlocks.{receipt_flat, value_flat}
-use Rattle.wblock_debug.specs.EffectsJson.{change_items}
+use Rattle.wblock_call.specs.EffectsJson.{change_items}
 use Rattle.wblock_debug.specs.StatesJson.{at_data, bytes_data, cells_data, done_data, frame_data, ok_data, place_data, receipt_data, state_data, values_data, where_data}
-use Rattle.wblock_debug.proofs.FlatEffects.{changes_flat}
+use Rattle.wblock_call.proofs.FlatEffects.{changes_flat}
 
 place_flat : (contract level : ℕ) (place : ℕ × ℕ) → IsFlat 1 (place_data contract level place)
 unfolding place_data

@@ -1,10 +1,6 @@
-mod Colons
-mod FlatEffects
 mod FlatStates
-mod Lists
 mod Options
 mod Printing
-mod Spots
 mod Telling
 mod Fuels
 mod PrefixSums

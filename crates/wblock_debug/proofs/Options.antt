@@ -2,7 +2,7 @@
 use Rattle.std.proofs.Common.{◌≡◌, ℕ, Bool, List, [], ◌∷◌, codes, filter, length, slice_index_or, Bor, Option, Some, None, Result, Ok, Err, IfOk, IfSome, MatchOption, subst, sym, inr, ⊎_elim, arith}
 use Rattle.wblock_line.specs.Words.{AsksAlone, Line, Choice}
 use Rattle.wblock_line.specs.Words.{choices}
-use Rattle.wblock_debug.specs.Words.{choice}
+use Rattle.wblock_usage.specs.Words.{choice}
 use Rattle.wblock_debug.specs.Asks.{AreBlockWithFuel, AreBlockWithFuelInAnyOrder, AsksBlock, AsksDebug, AsksWords, is_json, is_other}
 use Rattle.wblock_debug.specs.declared.asked.Debugging.{Debugging}
 

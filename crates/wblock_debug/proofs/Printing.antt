@@ -3,7 +3,7 @@ use Rattle.std.proofs.Common.{◌≡◌, ℕ, ◌+◌, ◌<◌, Bool, true, List
 use Rattle.std.proofs.lemmas.List.{take_more}
 use Rattle.debugger.specs.SessionView.{SessionView, IsSessionView}
 use Rattle.debugger.specs.declared.session.Refusal.{Refusal}
-use Rattle.wblock_debug.specs.declared.command.Command.{Command}
+use Rattle.wblock_usage.specs.declared.debugging.Command.{Command}
 use Rattle.wblock_debug.specs.declared.printed.Printed.{Printed}
 use Rattle.wblock_debug.specs.Tells.{TellsRefusal}
 use Rattle.wblock_debug.specs.Prints.{Does, Refuses, IsPrinted, done, refused, AddsCommand}

@@ -5,7 +5,7 @@ use Rattle.spec_execution.specs.Configuration.{Setting}
 use Rattle.spec_execution.specs.Run.{ContractCall}
 use Rattle.debugger.specs.SessionView.{SessionView, IsSessionView}
 use Rattle.debugger.specs.Commands.{IsOpened}
-use Rattle.wblock_debug.specs.declared.command.Command.{Command}
+use Rattle.wblock_usage.specs.declared.debugging.Command.{Command}
 use Rattle.wblock_debug.specs.declared.printed.Printed.{Printed}
 use Rattle.wblock_debug.specs.Prints.{IsPrinted, IsNotStarted, IsDebugged}
 

@@ -3,7 +3,7 @@ use Rattle.std.specs.Prelude.{◌≡◌, ◌⊎◌, ℕ, ◌<◌, ◌^◌, Bool,
 use Rattle.std.specs.Borrow.{Bor}
 use Rattle.std.specs.Str.{bytes_eq}
 use Rattle.wblock_line.specs.Words.{AsksAlone, Line, Choice}
-use Rattle.wblock_debug.specs.Words.{Spell}
+use Rattle.wblock_usage.specs.Words.{Spell}
 use Rattle.wblock_debug.specs.declared.asked.Debugging.{Debugging}
 
 -- the words are `debug`, these three and the words of commands, at least one

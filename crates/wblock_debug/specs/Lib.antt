@@ -1,10 +1,6 @@
 pub mod Asks
-pub mod Calling
 pub mod Debugs
-pub mod Effects
-pub mod EffectsJson
 pub mod Lines
 pub mod Prints
 pub mod StatesJson
 pub mod Tells
-pub mod Words

@@ -12,7 +12,7 @@ use Rattle.debugger.specs.declared.session.Refusal.{Refusal}
 use Rattle.debugger.specs.Commands.{code_of}
 use Rattle.wblock_calls.specs.Texts.{value_text}
 use Rattle.wblock_calls.specs.Receipts.{receipt_text}
-use Rattle.wblock_debug.specs.Effects.{change_lines, number_text}
+use Rattle.wblock_call.specs.Effects.{change_lines, number_text}
 
 -- ` in C level L`, where a level is inside the outer one
 abbrev pub level_text : (contract level : ℕ) → List ℕ

@@ -10,10 +10,10 @@ use Rattle.debugger.specs.SessionView.{SessionView, IsSessionView, stack_at, loc
 use Rattle.debugger.specs.Commands.{IsOpened, HasStepped, HasGoneBack, HasContinued}
 use Rattle.debugger.specs.declared.session.Refusal.{Refusal}
 use Rattle.debugger.specs.declared.session.Refusal.TheVariants as refusal
-use Rattle.wblock_debug.specs.declared.spot.Spot.{Spot}
-use Rattle.wblock_debug.specs.declared.spot.Spot.TheVariants.{Own, Of, Exported}
-use Rattle.wblock_debug.specs.declared.command.Command.{Command}
-use Rattle.wblock_debug.specs.declared.command.Command.TheVariants.{Step, Back, Cont, Place, Break, Clear, Stack, Locals, Globals, Bytes, Cells as CellsShown, Where}
+use Rattle.wblock_usage.specs.declared.spot.Spot.{Spot}
+use Rattle.wblock_usage.specs.declared.spot.Spot.TheVariants.{Own, Of, Exported}
+use Rattle.wblock_usage.specs.declared.debugging.Command.{Command}
+use Rattle.wblock_usage.specs.declared.debugging.Command.TheVariants.{Step, Back, Cont, Place, Break, Clear, Stack, Locals, Globals, Bytes, Cells as CellsShown, Where}
 use Rattle.wblock_debug.specs.Lines.{OthersAreAsBefore}
 use Rattle.wblock_debug.specs.Tells.{TellsBytes, TellsCells, TellsOk, TellsRefusal, TellsStart, TellsState, TellsValues, TellsWhere}
 use Rattle.wblock_debug.specs.declared.perform.Said.{Said}

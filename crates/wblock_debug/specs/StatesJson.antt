@@ -10,7 +10,7 @@ use Rattle.interp_state.specs.declared.frames.OpenFrame.{OpenFrame}
 use Rattle.debugger.specs.SessionView.{SessionView, ending_at, place_at, contract_at, level_at, asks_at, cells_at, frames_at}
 use Rattle.wblock_json.specs.Json.{array_of, hex_data, large, maybe, object_of, small}
 use Rattle.wblock_json.specs.Blocks.{receipt_members, value_data}
-use Rattle.wblock_debug.specs.EffectsJson.{change_items}
+use Rattle.wblock_call.specs.EffectsJson.{change_items}
 
 -- the function and the instruction to come, of this contract at this level
 unfoldable pub place_data : (contract level : ℕ) → ℕ × ℕ → Data

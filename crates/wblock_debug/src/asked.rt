@@ -5,14 +5,14 @@ ghost use Rattle.std.specs.Borrow.{Bor};
 ghost use Rattle.wblock_line.specs.Words.{line_of};
 ghost use Rattle.wblock_calls.specs.Words.{texts};
 ghost use Rattle.wblock_line.specs.Words.{choices};
-ghost use Rattle.wblock_debug.specs.Words.{choice};
+ghost use Rattle.wblock_usage.specs.Words.{choice};
 ghost use Rattle.wblock_debug.specs.Asks.{AreBlockWithFuel, AreBlockWithFuelInAnyOrder, AsksBlock, AsksDebug, AsksWords, IsSplit, is_json, is_other};
 ghost use Rattle.wblock_debug.specs.declared.asked.Debugging.{Debugging as TheDebugging};
 
-use crate::{Command, commands_of};
 use std::alloc::{AllocError, Global};
 use wblock_calls::number_of;
 use wblock_line::{JSON_SWITCH, Line, is_word, switch_alone};
+use wblock_usage::debugging::{Command, commands_of};
 
 /// What is to be debugged.
 #[derive(Debug, Drop)]

@@ -3,12 +3,12 @@
 ghost use Rattle.std.specs.Prelude.{◌≡◌, Some, IfOk, string_bytes};
 ghost use Rattle.wblock_debug.specs.Lines.{level_text, state_line, values_text, values_line, bytes_line, frame_line, frame_lines, where_text};
 
-use crate::effects::NumberText;
 use debugger::OpenFrame;
 use debugger::session::Session;
 use spec_ledger::Receipt;
 use std::alloc::{AllocError, Allocator};
 use std::fmt;
+use wblock_call::NumberText;
 use wblock_calls::{ReceiptText, ValueText};
 use wtypes::{NoMemory, Value};
 

@@ -4,10 +4,11 @@ ghost use Rattle.std.specs.Prelude.{◌≡◌, IfOk};
 ghost use Rattle.wblock_debug.specs.Prints.{Performs, place_named};
 
 use crate::told::{bytes_told, cells_told, ok_told, state_told, values_told, where_told};
-use crate::{Command, Spot};
 use debugger::Place;
 use debugger::session::{Refusal, Session};
 use std::alloc::{Allocator, Global};
+use wblock_usage::Spot;
+use wblock_usage::debugging::Command;
 use wtypes::NoMemory;
 
 /// What a command prints.

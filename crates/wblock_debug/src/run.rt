@@ -10,7 +10,6 @@ ghost use Rattle.wblock_debug.specs.Prints.{IsPrinted, AddsCommand, IsNotStarted
 use crate::perform::{Said, perform};
 use crate::printed::Printed;
 use crate::told::{refusal_told, start_told};
-use crate::{Command, Spot};
 use call::Call;
 use debugger::Contract;
 use debugger::session::{Refusal, Session};
@@ -18,7 +17,9 @@ use interp::start::StartRefusal;
 use spec_ledger::Version;
 use std::alloc::{AllocError, Global};
 use storage::Cells;
-use wblock_line::entry_words;
+use wblock_usage::Spot;
+use wblock_usage::debugging::Command;
+use wblock_words::entry_words;
 use wtypes::NoMemory;
 
 /// What to do about a place that there is not.

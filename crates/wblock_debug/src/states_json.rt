@@ -6,13 +6,13 @@ ghost use Rattle.wblock_json.specs.Json.{array_of, maybe, small, IsJson, IsLineO
 ghost use Rattle.wblock_debug.specs.StatesJson.{at_data, bytes_data, cells_data, done_data, frame_data, ok_data, place_data, receipt_data, state_data, values_data, where_data};
 ghost use Rattle.wblock_debug.specs.Lines.{OthersAreAsBefore};
 
-use crate::effects_json::changes_of;
 use debugger::OpenFrame;
 use debugger::session::Session;
 use serde_json::{Map, Value as Json, json};
 use serial::touched_by;
 use spec_ledger::{Outcome, Receipt};
 use std::alloc::{AllocError, Global};
+use wblock_call::changes_of;
 use wblock_json::{hex_of, large_of, value_line, values_of, with_member, with_receipt};
 use wtypes::{NoMemory, Value};
 

@@ -4,7 +4,7 @@ ghost use Rattle.std.specs.Prelude.{◌≡◌, true, IfOk, OnOk, string_bytes};
 ghost use Rattle.wblock_debug.specs.Lines.{OthersAreAsBefore, refusal_line, start_line};
 ghost use Rattle.wblock_debug.specs.Tells.{TellsBytes, TellsCells, TellsOk, TellsRefusal, TellsStart, TellsState, TellsValues, TellsWhere};
 
-use crate::effects::cells_text_of;
+use crate::cells::cells_text_of;
 use crate::lines::{bytes_line_of, state_line_of, values_line_of, where_text_of};
 use crate::states_json::{
     bytes_json_of, cells_json_of, ok_json_of, state_json_of, values_json_of, where_json_of,

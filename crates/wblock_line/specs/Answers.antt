@@ -11,6 +11,10 @@ use Rattle.wblock_line.specs.declared.perform.Status.{Status}
 use Rattle.wblock_line.specs.declared.perform.Status.TheVariants as status
 use Rattle.wblock_line.specs.Told.{IsCountText}
 
+-- a text ends with a newline
+abbrev pub EndsLine : List ℕ → Type 0
+EndsLine text = (front : List ℕ) × (text ≡ front ++ 10 ∷ [])
+
 -- a file's name and all of its bytes
 abbrev pub Written : Type 0
 Written = List ℕ × List ℕ

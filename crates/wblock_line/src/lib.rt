@@ -3,7 +3,6 @@
 #![tactic(auto)]
 
 mod answer;
-mod entries;
 mod inputs;
 mod line;
 mod modules;
@@ -20,7 +19,6 @@ mod words;
 mod worlds;
 
 pub use answer::{Answer, Fault, Write, read_file, write_counted};
-pub use entries::entry_words;
 pub use inputs::{Inputs, WorldFile, judge_calls, read_inputs, read_world_file};
 pub use line::WIPE;
 pub use modules::{Stop, read_contract, read_module, read_valid};

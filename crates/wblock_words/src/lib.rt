@@ -4,6 +4,7 @@
 #![tactic(auto)]
 
 mod blocks;
+mod entries;
 mod extensions;
 mod files;
 mod function_names;
@@ -14,6 +15,7 @@ mod texts;
 mod worlds;
 
 pub use blocks::{advice_on, block_words};
+pub use entries::entry_words;
 pub use function_names::{FunctionName, names_of};
 pub use modules::{form_words, import_words, limit_words, room_words, rule_words, segment_words};
 pub use places::{LineColumn, place_of};

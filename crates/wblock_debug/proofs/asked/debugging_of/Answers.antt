@@ -3,7 +3,7 @@ use Rattle.wblock_line.specs.Words.{AsksAlone, Choice, line_of}
 use Rattle.wblock_calls.specs.Words.{texts}
 use Rattle.wblock_line.specs.Words.{choices}
 use Rattle.wblock_debug.specs.Asks.{AsksBlock, is_json, is_other}
-use Rattle.wblock_debug.proofs.Colons.{at_none, at_some}
+use Rattle.wblock_usage.proofs.Colons.{at_none, at_some}
 use Rattle.wblock_debug.proofs.Options.{no_block, no_json, by_words}
 use Rattle.wblock_debug.proofs.asked.debugging_of.Goals as goal
 

@@ -1,5 +1,5 @@
 use Rattle.std.proofs.Common.{rules, ◌≡◌, ℕ, List, [], false, take, string_bytes, subst, sym}
-use Rattle.wblock_debug.specs.declared.command.Command.{Command}
+use Rattle.wblock_usage.specs.declared.debugging.Command.{Command}
 use Rattle.wblock_debug.specs.Prints.{IsPrinted, nothing}
 use Rattle.wblock_debug.proofs.run.perform_all.Goals as goal
 
