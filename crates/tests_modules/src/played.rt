@@ -95,9 +95,9 @@ fn a_thousand_modules_come_back(rt: HostRuntime) -> Result<(), Fail> {
         made: [0; THINGS],
     };
     assert_eq!(rt; fault(rt.alloc(), &mut source, 1000)?, None);
-    assert_eq!(rt; unmade(&source, &BARE), None);
+    assert_eq!(rt; unmade(&source, BARE), None);
     assert_eq!(rt; unmade(&source, &NUMBERED), None);
-    assert_eq!(rt; unmade(&source, &ACCESSES), None);
+    assert_eq!(rt; unmade(&source, ACCESSES), None);
     assert_eq!(rt; unmade(&source, &SIZES), None);
     assert_eq!(rt; unmade(&source, &OPENINGS), None);
     assert_eq!(rt; unmade(&source, &OTHERS), None);
