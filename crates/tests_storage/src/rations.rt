@@ -22,7 +22,7 @@ fn each_block_takes_one(rt: HostRuntime) {
     equal(&rt, &"left when one was given back", &ration.left(), &1);
     asks(&rt, &ration, true, 0);
     holds(&rt, &"none is refused", !ration.has_refused());
-    for _ in 0..3 {
+    for _ in 0..3u32 {
         asks(&rt, &ration, false, 0);
         holds(&rt, &"each is refused", ration.has_refused());
     }
@@ -35,7 +35,7 @@ fn one_block_alone_is_refused(rt: HostRuntime) {
     holds(&rt, &"none is refused", !ration.has_refused());
     asks(&rt, &ration, false, 0);
     holds(&rt, &"one is refused", ration.has_refused());
-    for _ in 0..100 {
+    for _ in 0..100u32 {
         asks(&rt, &ration, true, 0);
     }
     holds(&rt, &"one was refused", ration.has_refused());
