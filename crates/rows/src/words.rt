@@ -1,6 +1,7 @@
-//! What words ask to debug.
+//! What words ask to debug, and the words of what can be measured.
 
 use crate::lines::words_of;
+use bench::USAGE;
 use std::alloc::Global;
 use std::str::from_utf8;
 use wblock_debug::debugging_of;
@@ -37,12 +38,14 @@ fn debugging(alloc: Global, line: &str) -> Option<String> {
     .ok()
 }
 
-/// What words are as commands of the debugger, or what a line of words asks of it; None where there is no such kind, or memory is refused.
+/// What words are as commands of the debugger, or what a line of words asks of it, or what can be measured; None where there is no such kind, or memory is
+/// refused.
 pub(crate) fn answer(alloc: Global, kind: &str, input: &[u8]) -> Option<String> {
     match kind {
         "command" => command(alloc, from_utf8(input).ok()?),
         "commands" => commands(alloc, from_utf8(input).ok()?),
         "debugging" => debugging(alloc, from_utf8(input).ok()?),
+        "measuring" => format!(in alloc; "{USAGE}\n").ok(),
         _ => None,
     }
 }

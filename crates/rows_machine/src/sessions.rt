@@ -1,5 +1,6 @@
 //! What a session of the debugger answers, command by command.
 
+use crate::put::put_debug;
 use crate::question::{number, question_of};
 use crate::refused::Refused;
 use debugger::Place;
@@ -47,7 +48,7 @@ fn put_move(
         "back" => session.back(number(rest)?),
         _ => session.cont(),
     };
-    writeln!(out, " {made:?}")?;
+    put_debug(out, " ", &made)?;
     Ok(())
 }
 
@@ -63,7 +64,7 @@ fn put_break(
         "break" => session.break_at(place),
         _ => session.clear(place),
     };
-    writeln!(out, " {done:?}")?;
+    put_debug(out, " ", &done)?;
     Ok(())
 }
 
@@ -79,8 +80,7 @@ fn put_state(out: &mut String, session: &Session<'_, Global>) -> Result<(), Refu
 /// Puts the contract that the innermost level runs, how many levels are around it, and how many were entered.
 fn put_levels(out: &mut String, session: &Session<'_, Global>, word: &str) -> Result<(), Refused> {
     if word == "asks" {
-        let asks = session.asks();
-        writeln!(out, " {asks}")?;
+        put_debug(out, " ", &session.asks())?;
     } else {
         let contract = session.contract();
         let level = session.level();
@@ -96,7 +96,7 @@ fn put_values(out: &mut String, session: &Session<'_, Global>, word: &str) -> Re
         "locals" => session.locals(),
         _ => session.globals(),
     };
-    writeln!(out, " {values:?}")?;
+    put_debug(out, " ", &values)?;
     Ok(())
 }
 
@@ -104,7 +104,7 @@ fn put_values(out: &mut String, session: &Session<'_, Global>, word: &str) -> Re
 fn put_bytes(out: &mut String, session: &Session<'_, Global>, rest: &str) -> Result<(), Refused> {
     let (from, count) = two(rest)?;
     let bytes = session.bytes(from, count);
-    writeln!(out, " {bytes:?}")?;
+    put_debug(out, " ", &bytes)?;
     Ok(())
 }
 
@@ -121,7 +121,7 @@ fn put_asked(
         "step" | "back" | "cont" => put_move(out, session, word, rest),
         "back_by_ones" => {
             let gone = back_by_ones(session, number(rest)?);
-            writeln!(out, " {gone:?}")?;
+            put_debug(out, " ", &gone)?;
             Ok(())
         }
         "break" | "clear" => put_break(out, session, word, rest),

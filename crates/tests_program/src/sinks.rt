@@ -37,7 +37,7 @@ fn takes_all_in_pieces(rt: HostRuntime) {
 }
 
 /// After how many pieces a call fails, and what is kept.
-const FAILING: [(u64, &[u8]); 4] = [(0, b""), (1, b"abc"), (2, b"abcdef"), (3, b"abcdefg")];
+const FAILING: &[(u64, &[u8])] = &[(0, b""), (1, b"abc"), (2, b"abcdef"), (3, b"abcdefg")];
 
 #[test]
 fn keeps_a_beginning_after_a_failure(rt: HostRuntime) {
@@ -45,11 +45,11 @@ fn keeps_a_beginning_after_a_failure(rt: HostRuntime) {
         let is_kept = keeps(
             rt.alloc(),
             3,
-            Failures::after(calls),
+            Failures::after(*calls),
             &[b"abcdefg"],
-            calls < 3,
-            kept,
+            *calls < 3,
+            *kept,
         );
-        holds(&rt, &("calls", calls), is_kept);
+        holds(&rt, &("calls", *calls), is_kept);
     }
 }

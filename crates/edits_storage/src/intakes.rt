@@ -10,7 +10,7 @@ use book_workers::{Intake, Seat};
 use std::alloc::Allocator;
 use std::sync::Wait;
 
-/// As [`intake::Intake::draw`].
+/// As [`book_workers::Intake::draw`].
 pub fn draw<A: Allocator>(intake: &Intake<A>, seat: &mut Seat) -> Option<u32>
     requires { IsSeatOf intake.now seat.old }
     ensures same { IsSeatOf intake.now seat.new }
@@ -23,7 +23,7 @@ pub fn draw<A: Allocator>(intake: &Intake<A>, seat: &mut Seat) -> Option<u32>
     intake.draw(seat)
 }
 
-/// As [`intake::Intake::left`].
+/// As [`book_workers::Intake::left`].
 pub fn left<A: Allocator>(intake: &Intake<A>, seat: &mut Seat) -> u64
     requires { IsSeatOf intake.now seat.old }
     ensures same { IsSeatOf intake.now seat.new }
@@ -34,7 +34,7 @@ pub fn left<A: Allocator>(intake: &Intake<A>, seat: &mut Seat) -> u64
     intake.left(seat)
 }
 
-/// As [`intake::Intake::reserve`].
+/// As [`book_workers::Intake::reserve`].
 pub fn reserve<A: Allocator, R: Wait>(
     intake: &Intake<A>,
     rt: &R,

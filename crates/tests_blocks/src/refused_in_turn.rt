@@ -51,7 +51,7 @@ const TEXT: &str = r#"(module
 
 /// `(module (memory 1) (global (mut i64) (i64.const 1)) (func (export "w") (global.set 0 (i64.const 5)) (i32.store8 (i32.const 0)
 /// (i32.const 9))))`
-const STORER: [u8; 55] = [
+const STORER: &[u8] = &[
     0, 97, 115, 109, 1, 0, 0, 0, 1, 4, 1, 96, 0, 0, 3, 2, 1, 0, 5, 3, 1, 0, 1, 6, 6, 1, 126, 1, 66,
     1, 11, 7, 5, 1, 1, 119, 0, 0, 10, 15, 1, 13, 0, 66, 5, 36, 0, 65, 0, 65, 9, 58, 0, 0, 11,
 ];
@@ -60,7 +60,7 @@ const STORER: [u8; 55] = [
 type CellRow = (Kind, u64, u64);
 
 /// The cells of the world that is lent.
-const CELLS: [CellRow; 2] = [(Map, 1, 10), (Counter, 7, 3)];
+const CELLS: &[CellRow] = &[(Map, 1, 10), (Counter, 7, 3)];
 
 /// An entry of contract 0, and its arguments.
 type Entry = (&'static str, &'static [Value]);
@@ -75,7 +75,7 @@ struct Sample {
 
 /// Two calls of the example contract, the first before the second.
 const PEEK_THEN_SET: Sample = Sample {
-    module: &EXAMPLE,
+    module: EXAMPLE,
     first: ("peek", &[I64(1)]),
     second: ("set", &[I64(1), I64(9)]),
     after: &[(Map, 1, 9), (Counter, 7, 3)],
@@ -84,7 +84,7 @@ const PEEK_THEN_SET: Sample = Sample {
 /// Two calls of a contract that asks itself, with key 7: `both` of `fall`, which is dropped, and of `count`, which is kept; and `probe` of
 /// `probe` of `spoil` of `store`, where the third level is dropped and the fourth is kept.
 const LEVELS_IN_LEVELS: Sample = Sample {
-    module: &PROBING,
+    module: PROBING,
     first: ("both", &[I64(115_728)]),
     second: ("probe", &[I64(2_081_554_432)]),
     after: &[(Map, 1, 10), (Counter, 7, 4)],
@@ -146,7 +146,7 @@ fn calling(alloc: Global, entry: Entry) -> Result<Call, Fail>
 
 /// The bytes of the block of two calls, one after another.
 fn block_bytes(heap: Global, sample: &Sample) -> Result<Vec<u8>, Fail> {
-    let world = world_of(heap, sample.module, &CELLS)?;
+    let world = world_of(heap, sample.module, CELLS)?;
     let first = calling(heap, sample.first)?;
     let calls = [first, calling(heap, sample.second)?];
     match run(heap, &world, &calls, &[0, 1]) {
@@ -204,11 +204,11 @@ fn is_module<A: Allocator>(heap: Global, module: &Module<A>, spelled: &[u8]) -> 
 
 /// Whether the module is the example contract's.
 fn is_example<A: Allocator>(heap: Global, module: &Module<A>) -> bool {
-    is_module(heap, module, &EXAMPLE)
+    is_module(heap, module, EXAMPLE)
 }
 
 fn load_in<A: Allocator + Copy>(heap: Global, alloc: A) -> Came {
-    match load(alloc, &EXAMPLE) {
+    match load(alloc, EXAMPLE) {
         Ok(module) => answered(is_example(heap, &module)),
         Err(refusal) => refused(refusal == LoadRefusal::NoMemory),
     }
@@ -238,7 +238,7 @@ fn checked<A: Allocator + Copy>(heap: Global, alloc: A, tree: Module<Global>) ->
 
 // The tree is in another heap.
 fn check_in<A: Allocator + Copy>(heap: Global, alloc: A) -> Result<Came, Fail> {
-    let tree = load(heap, &EXAMPLE)?;
+    let tree = load(heap, EXAMPLE)?;
     Ok(checked(heap, alloc, tree))
 }
 
@@ -251,7 +251,7 @@ fn deployed<A: Allocator + Copy>(heap: Global, alloc: A, valid: Valid<A>) -> Cam
 }
 
 fn deploy_in<A: Allocator + Copy>(heap: Global, lent: A, alloc: A) -> Result<Came, Fail> {
-    let valid = typed(lent, &EXAMPLE)?;
+    let valid = typed(lent, EXAMPLE)?;
     Ok(deployed(heap, alloc, valid))
 }
 
@@ -263,12 +263,12 @@ fn is_lent<A: Allocator + Copy>(heap: Global, world: &World<A>, module: &[u8]) -
     };
     contracts.len() == 1
         && is_module(heap, contract.module(), module)
-        && are_cells(world.cells(), &CELLS)
+        && are_cells(world.cells(), CELLS)
 }
 
 /// The bytes of the world of the example contract and of the cells that are lent.
 fn lent_bytes(heap: Global) -> Result<Vec<u8>, Fail> {
-    let lent = world_of(heap, &EXAMPLE, &CELLS)?;
+    let lent = world_of(heap, EXAMPLE, CELLS)?;
     match encode_world(heap, &lent) {
         Ok(bytes) => Ok(bytes),
         Err(_) => Err(Fail::from("no memory")),
@@ -277,7 +277,7 @@ fn lent_bytes(heap: Global) -> Result<Vec<u8>, Fail> {
 
 fn world_read<A: Allocator + Copy>(heap: Global, alloc: A, bytes: &[u8]) -> Came {
     match read_world(alloc, bytes) {
-        Ok(world) => answered(is_lent(heap, &world, &EXAMPLE)),
+        Ok(world) => answered(is_lent(heap, &world, EXAMPLE)),
         Err(refusal) => refused(refusal == ReadRefusal::NoMemory),
     }
 }
@@ -342,7 +342,7 @@ fn run_in<A: Allocator + Copy>(
     sample: &Sample,
 ) -> Result<Came, Fail> {
     let bytes = block_bytes(heap, sample)?;
-    let world = world_of(lent, sample.module, &CELLS)?;
+    let world = world_of(lent, sample.module, CELLS)?;
     let is_right = ran(heap, lent, alloc, &world, sample, &bytes)?;
     let is_lent = is_lent(heap, &world, sample.module);
     match is_right {
@@ -427,7 +427,7 @@ fn all_shown<A: Allocator + Copy>(session: &mut Session<'_, A>) -> Came {
 }
 
 fn debug_in<A: Allocator + Copy>(heap: Global, lent: A, alloc: A) -> Result<Came, Fail> {
-    let world = world_of(lent, &STORER, &[])?;
+    let world = world_of(lent, STORER, &[])?;
     let call = calling(heap, ("w", &[]))?;
     match Session::open(alloc, world.contracts(), world.cells(), &call, Version::Two) {
         Ok(session) => {

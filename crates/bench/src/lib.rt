@@ -27,23 +27,24 @@ mod with_intake;
 mod with_mutex;
 
 use std::alloc::Global;
+use std::io;
 use std::sync::Wait;
 use std::thread::Threads;
 use std::time::Clock;
-use std::{env, io};
 
-const USAGE: &str = "usage: bench assemble TEXT
-       bench load MODULE
-       bench run MODULE EXPORT FUEL
-       bench debug MODULE EXPORT TURNS
-       bench draw THREADS DRAWS
-       bench operate KEYS
-       bench serial CALLS
-       bench mine WORKERS WORLD CALLS
-       bench block serial|mine|book|validate|board WORKERS WORLD CALLS";
+/// The words of what can be measured.
+pub const USAGE: &str = "usage: rows bench assemble TEXT
+       rows bench load MODULE
+       rows bench run MODULE EXPORT FUEL
+       rows bench debug MODULE EXPORT TURNS
+       rows bench draw THREADS DRAWS
+       rows bench operate KEYS
+       rows bench serial CALLS
+       rows bench mine WORKERS WORLD CALLS
+       rows bench block serial|mine|book|validate|board WORKERS WORLD CALLS";
 
 /// The line of what the words ask to measure. `None` where they ask for nothing.
-fn measured<R: Threads + Wait + Clock + std::rt::Files + Sync>(
+pub fn measured<R: Threads + Wait + Clock + std::rt::Files + Sync>(
     rt: &R,
     alloc: Global,
     words: &[String],
@@ -62,16 +63,5 @@ fn measured<R: Threads + Wait + Clock + std::rt::Files + Sync>(
         "mine" => mined::measured(rt, alloc, words),
         "block" => verdicts::measured(rt, alloc, words),
         _ => Ok(None),
-    }
-}
-
-fn main(rt: HostRuntime) -> io::Result<()> {
-    let mut words = Vec::new(rt.alloc());
-    for word in env::args(&rt)?.skip(1) {
-        words.push(word)?;
-    }
-    match measured(&rt, rt.alloc(), &words)? {
-        Some(line) => println!(rt; "{line}"),
-        None => println!(rt; "{USAGE}"),
     }
 }
