@@ -11,6 +11,7 @@ file or the program failed; whoever started it may start it again.
 """
 
 import argparse
+import fcntl
 import os
 import pathlib
 import shutil
@@ -71,6 +72,11 @@ def started(given):
     """The log and the member that the words of a command ask for. The command runs in its folder then."""
     signal.signal(signal.SIGINT, signal.SIG_DFL)
     os.chdir(given.folder)
+    given.lock = open("lock", "w")  # held until the process ends, however it does
+    try:
+        fcntl.flock(given.lock, fcntl.LOCK_EX | fcntl.LOCK_NB)
+    except BlockingIOError:
+        raise OSError("another process works here") from None
     return Log(given.etcd, given.patience), Member(given.program, given.fuel)
 
 
@@ -79,9 +85,9 @@ def follow(given):
     log, member = started(given)
     unsettled = {}
     for entry in log.entries(member.position):
-        verdict = member.take(entry)
-        unsettled[member.position] = member.digest()
-        log.publish(given.name, member.position, f"{member.digest()} {verdict}")
+        verdict, came = member.take(entry), member.digest()
+        unsettled[member.position] = came
+        log.publish(given.name, member.position, f"{came} {verdict}")
         # (the last positions stay unsettled until enough others have come to them)
         for position, digest in list(unsettled.items()):
             most = majority(log.told(position, given.nodes), given.nodes)
@@ -91,7 +97,7 @@ def follow(given):
                 raise Fault(f"at position {position} most nodes came to the world {most}, and this one to {digest}")
             del unsettled[position]
         member.save()
-        print(f"position {member.position}, of {repr(parts_of(entry)[0][:32])[2:-1]}: {verdict}, the world {member.digest()}", flush=True)
+        print(f"position {member.position}, of {repr(parts_of(entry)[0][:32])[2:-1]}: {verdict}, the world {came}", flush=True)
 
 
 def status_of(work, given):

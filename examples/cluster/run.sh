@@ -35,13 +35,15 @@ runs() { timeout --foreground 120 "$here/cluster/$1.py" "$2" "$2" --fuel 5000 --
 
 # Whether a command is so within 30 seconds.
 soon() {
-    local tries=300
+    local until=$((SECONDS + 30))
     until "$@" 2>/dev/null; do
-        tries=$((tries - 1))
-        if [ $tries = 0 ]; then return 1; fi
+        if ((SECONDS > until)); then return 1; fi
         sleep 0.1
     done
 }
+
+# Ends here where something failed, since what follows counts on it.
+all_so_far() { [ "$failed" = 0 ] || { told; exit 1; }; }
 
 # Whether SIGKILL ends what runs: $1 its number.
 killed() {
@@ -68,6 +70,9 @@ alone() { ! readlink /proc/[0-9]*/cwd | grep -q "^$work/"; }
 stands() { "$here/cluster/log.py" --etcd "${client[a]}" >table && told_of "$@"; }
 told_of() { grep -qE "^$1 $2\$" table; }
 
+# Whether all nodes refuse a position, and stay on the world of position 31: $1 the position, $2 the verdict, a colon, and why.
+refused() { told_of "$1" "final $(grep '^31 ' table | cut -d ' ' -f 3) ${2%%:*} by a,b,c" && echo "cluster: a, b and c refuse position $1, $2"; }
+
 # Writes the calls of a block, which issues 1,000 units: $1 to whom, $2 the number of the block.
 calls_of() {
     printf '0 200 %s\n' "issue i64:100 i64:$1 i64:1000" "transfer i64:$1 i64:$(($2 + 10)) i64:$(($2 * 7))" "transfer i64:$1 i64:1 i64:9999999" "balance i64:$1" \
@@ -89,9 +94,16 @@ both_propose() {
 }
 
 machines=(a b c)
-read -r -a free < <(python3 -c 'import socket
-held = [socket.create_server(("127.0.0.1", 0)) for _ in range(7)]
-print(*(one.getsockname()[1] for one in held))')
+# (ports that are free, below those that outgoing connections take)
+read -r -a free < <(python3 -c 'import random, socket
+held = {}
+while len(held) < 7:
+    port = random.randrange(20000, 32768)
+    try:
+        held[port] = socket.create_server(("127.0.0.1", port))
+    except OSError:
+        pass
+print(*held)')
 for number in 0 1 2; do
     client[${machines[number]}]=http://127.0.0.1:${free[number]}
     peer[${machines[number]}]=http://127.0.0.1:${free[number + 3]}
@@ -123,16 +135,17 @@ from=$(sed 's/^position //; s/,.*//; q' c.said)
 is "it goes on from where it fell, at position $from" between 11 "$from" 22
 is "each block was final" [ "$(grep -c ' is final' final)" = 31 ]
 echo "cluster: 31 blocks are final; $(grep -vc 'by try 1:' final) of them were mined again, since another was first; c fell, and went on from position $from"
+all_so_far
 
 # lies, each of which all nodes refuse and nobody goes on by
-calls_of 9 1 | runs lie liar a >lies
+calls_of 9 1 | runs lie liar a >lies || sed 's/^/    said: /' lies
 is "the liar ends with a right block" grep -q '^position 45 is right, and final$' lies
 is "the nodes come to it" soon stands 45 'final [0-9a-f]{64} accept by a,b,c'
 is "there were lies" [ "$(grep -c ' is refused, ' lies)" = 13 ]
 while IFS=' ,' read -r _ position _ _ verdict; do
-    is "all refuse position $position" told_of "$position" "final $(grep '^31 ' table | cut -d ' ' -f 3) ${verdict%%:*} by a,b,c"
-    echo "cluster: a, b and c refuse position $position, $verdict"
+    is "all refuse position $position" refused "$position" "$verdict"
 done < <(grep ' is refused, ' lies)
+all_so_far
 
 # who comes later begins with the first world, also where the log was written over; and what is bad has an answer
 start_node later b --patience 10
@@ -149,6 +162,7 @@ start_node late b --program nothing
 is "a node without the program" ends late 2 "there is no program nothing"
 is "a node that comes later" soon test -e later/45.world
 is "another one" soon test -e lost/45.world
+is "a second process in one folder" grep -qx 'later: in the folder later: another process works here' <(runs member later b)
 rm -r lost a/45.world
 is "a late proposer" eval 'calls_of 9 2 | runs propose late b >late.said'
 is "it met an entry that had gone" grep -q '^position 46 is final, by try 2: ' late.said
