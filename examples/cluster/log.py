@@ -7,7 +7,7 @@ The entry of position N is **the first value that was ever put** under the key `
 to keep its history, as it does unless compaction is asked for. An entry is a line that names who proposes, the lines of the calls, an empty line, and the block.
 
 What the node A came to by the entry N stands under `digest/A/N`: the digest of its world, a space, and its verdict. Where more than half of the nodes have the
-same digest, the position is final. Whoever may write to etcd may write all this: give each node an etcd user for its own `digest/A/`.
+same digest, the position is final. Whoever reaches etcd may write all this, since nobody logs in here.
 """
 
 import argparse
@@ -80,7 +80,7 @@ class Log:
                 why = "its answer ended"
             except urllib.error.HTTPError as fault:
                 why = fault.read().decode(errors="replace")
-                if fault.code == 400:
+                if fault.code < 500:
                     raise Away(f"etcd at {self.url} refuses it: {why}") from None
             except (OSError, http.client.HTTPException, ValueError) as fault:
                 why = fault

@@ -124,11 +124,18 @@ def program_of(word):
     return os.path.abspath(path)
 
 
+def fuel_of(word):
+    """Fuel, which is a decimal number."""
+    if not word.isdecimal():
+        raise argparse.ArgumentTypeError(f"{word} is no decimal number")
+    return int(word)
+
+
 # The words of a node and of a proposer.
 WORDS = (
     ("name", {"help": "its name"}),
     ("folder", {"help": "the folder of its world"}),
-    ("--fuel", {"metavar": "N", "type": int, "required": True, "help": "the fuel of a block, the same of all"}),
+    ("--fuel", {"metavar": "N", "type": fuel_of, "required": True, "help": "the fuel of a block, the same of all"}),
     ("--program", {"metavar": "FILE", "type": program_of, "default": "wblock", "help": "the program wblock"}),
 )
 

@@ -148,7 +148,7 @@ done < <(grep ' is refused, ' lies)
 all_so_far
 
 # who comes later begins with the first world, also where the log was written over; and what is bad has an answer
-start_node later b --patience 10
+start_node later b
 start_node lost b
 start_node stranger b
 is "a node of another ledger" ends stranger 1 "at position 1 most nodes came to the world "
@@ -179,8 +179,10 @@ is "no temporary file is left" tidy .
 for name in b c; do is "$name is there to the end" killed "${node[$name]}"; done
 is "a block that one node of three came to" grep -q '^late: position 47 is not final: .*: a$' <(calls_of 9 3 | runs propose late b --patience 5)
 is "it is open" stands 47 'open [0-9a-f]{64} accept by a'
+start_node q b --patience 8
+is "a proposer's world is a node's" soon test -e q/47.world
 for machine in "${machines[@]}"; do is "the etcd of $machine falls" killed "${etcd[$machine]}"; done
-is "a node whose etcd falls" ends later 3 "does not answer: "
-is "a is there to the end" killed "${node[a]}"
+is "a node whose etcd falls" ends q 3 "does not answer: "
+for name in a later; do is "$name is there to the end" killed "${node[$name]}"; done
 is "no process is left" soon alone
 told
