@@ -66,6 +66,12 @@ between() { [ "$1" -lt "$2" ] && [ "$2" -lt "$3" ]; }
 # Whether no process runs in a folder of these.
 alone() { ! readlink /proc/[0-9]*/cwd | grep -q "^$work/"; }
 
+# Whether nodes came to a position: $1 the position, and their names.
+reached() {
+    local name
+    for name in "${@:2}"; do grep -q "^position $1," "$name.said" || return 1; done
+}
+
 # Whether the nodes tell this of a position: $1 the position, $2 a pattern.
 stands() { "$here/cluster/log.py" --etcd "${client[a]}" >table && told_of "$@"; }
 told_of() { grep -qE "^$1 $2\$" table; }
@@ -124,13 +130,16 @@ for machine in "${machines[@]}"; do start_node "$machine" "$machine"; done
 echo "0 200 open i64:100" | runs propose p a >final
 is "a block is final" grep -q '^position 1 is final' final
 is "ten blocks with three machines" both_propose 1 true
-is "all came to the last" soon stands 11 'final [0-9a-f]{64} accept by a,b,c'
+is "all came to the last" soon reached 11 a b c
+is "it is final" stands 11 'final [0-9a-f]{64} accept by a,b,c'
 falls() { is "a node is killed" killed "${node[c]}"; is "its etcd is killed" killed "${etcd[c]}"; }
 is "ten blocks while a machine falls" both_propose 6 falls
-is "two came to the last" soon stands 21 'final [0-9a-f]{64} accept by a,b'
+is "two came to the last" soon reached 21 a b
+is "it is final by two" stands 21 'final [0-9a-f]{64} accept by a,b'
 rises() { start_etcd c; start_node c c; }
 is "ten blocks while it rises" both_propose 11 rises
-is "it catches up" soon stands 31 'final [0-9a-f]{64} accept by a,b,c'
+is "it catches up" soon reached 31 a b c
+is "the last is final" stands 31 'final [0-9a-f]{64} accept by a,b,c'
 from=$(sed 's/^position //; s/,.*//; q' c.said)
 is "it goes on from where it fell, at position $from" between 11 "$from" 22
 is "each block was final" [ "$(grep -c ' is final' final)" = 31 ]
@@ -140,7 +149,8 @@ all_so_far
 # lies, each of which all nodes refuse and nobody goes on by
 calls_of 9 1 | runs lie liar a >lies || sed 's/^/    said: /' lies
 is "the liar ends with a right block" grep -q '^position 45 is right, and final$' lies
-is "the nodes come to it" soon stands 45 'final [0-9a-f]{64} accept by a,b,c'
+is "the nodes come to it" soon reached 45 a b c
+is "it is final by all" stands 45 'final [0-9a-f]{64} accept by a,b,c'
 is "there were lies" [ "$(grep -c ' is refused, ' lies)" = 13 ]
 while IFS=' ,' read -r _ position _ _ verdict; do
     is "all refuse position $position" refused "$position" "$verdict"
