@@ -2,7 +2,7 @@
 # Runs random programs in C, as many as asked: csmith (Debian's csmith and libcsmith-dev) writes them, clang compiles each without LLVM's passes and at the levels 1, 2,
 # 3 and s, and each eight programs are the contracts of one world, whose `run` gives the checksum of all variables in the end. The program mines a block of one call of each by
 # 4 workers, and accepts it; and what each call returned, or how it trapped, has to be what V8 (node) gives of the module. Left out are modules that pass a limit of
-# docs/REFERENCE.md, section 9, and calls that use up 50,000,000 units of fuel. It prints a line a minute and how many there were, and fails at
+# docs/REFERENCE.md, section 9, or that clang takes more than five minutes for, and calls that use up 50,000,000 units of fuel. It prints a line a minute and how many there were, and fails at
 # the first difference, whose world it then keeps. Run it anywhere in the repository:
 #
 #   bench/csmith.sh [PROGRAM] PROGRAMS [SEED]
@@ -22,8 +22,8 @@ case $2 in
   0) level="-O1 -Xclang -disable-llvm-passes" ;;
   *) level=-O$2 ;;
 esac
-exec timeout 300 clang -w $level --target=wasm32 -mcpu=mvp -msign-ext -ffreestanding -fno-builtin -nostdlib -I bench/c -isystem /usr/include/csmith -Wl,--no-entry \
-  -Wl,--stack-first -Wl,-z,stack-size=65536 -Wl,--strip-all -o "$BATCH/$1.$2.wasm" "$BATCH/$1.c"
+timeout 300 clang -w $level --target=wasm32 -mcpu=mvp -msign-ext -ffreestanding -fno-builtin -nostdlib -I bench/c -isystem /usr/include/csmith -Wl,--no-entry \
+  -Wl,--stack-first -Wl,-z,stack-size=65536 -Wl,--strip-all -o "$BATCH/$1.$2.wasm" "$BATCH/$1.c" || [ $? = 124 ]
 COMPILE
 chmod +x "$work/compile"
 export BATCH=$work/batch
@@ -49,6 +49,7 @@ programs=0
 compared=0
 trapped=0
 limited=0
+uncompiled=0
 endless=0
 fuel=0
 while ((programs < most)); do
@@ -63,7 +64,9 @@ while ((programs < most)); do
     for level in 0 1 2 3 s; do echo "$place $level"; done
   done | xargs -P "$(nproc)" -L 1 "$work/compile" || keep batch "clang does not compile a program of those from $programs on of seed $seed"
   modules=()
-  for module in "$BATCH"/*.wasm; do
+  made=("$BATCH"/*.wasm)
+  uncompiled=$((uncompiled + 5 * count - ${#made[@]}))
+  for module in "${made[@]}"; do
     status=0
     "$wblock" check "$module" >"$BATCH/said" 2>&1 || status=$?
     if ((status == 0)); then
@@ -106,5 +109,5 @@ while ((programs < most)); do
     echo "$programs programs, $compared modules compared"
   fi
 done
-echo "seed $seed: $programs programs, $compared modules give what V8 gives, $trapped of them a trap, in $((fuel / 1000000)) million instructions; left out are $limited past a limit and $endless out of fuel"
+echo "seed $seed: $programs programs, $compared modules give what V8 gives, $trapped of them a trap, in $((fuel / 1000000)) million instructions; left out are $limited past a limit, $endless out of fuel and $uncompiled that clang did not compile in five minutes"
 took

@@ -1,22 +1,23 @@
 #!/usr/bin/env bash
 # Refuses memory to the program: in each command of the examples' sessions, and in some more over their files, each allocation and each start of a thread in turn, first it
 # alone and then it and all behind it (refuse.c, by LD_PRELOAD); and, for as many minutes as asked in all, some that are drawn by chance. A run has to end with status 4, with
-# the word `memory` and with all files as they were; or as the command does that is refused nothing. It prints a line a minute and how many runs came to what, and
+# the word `memory` and with all files as they were; with status 3 and the name of a file that it could not begin to write, each file being as it was or whole; or as the
+# command does that is refused nothing. It prints a line a minute and how many runs came to what, and
 # fails, keeping the files, at the first that ends otherwise. Run it anywhere in the repository:
 #
-#   bench/refuse.sh [PROGRAM] MINUTES [SEED]
+#   bench/refuse.sh [PROGRAM] MINUTES [SEED [EXAMPLE ..]]
 source "$(dirname "${BASH_SOURCE[0]}")/common.sh" wblock gcc python3
 
 take_program "$@"
 set -- "${rest[@]}"
-[[ $# -ge 1 && $# -le 2 && $1 =~ ^[1-9][0-9]{0,3}$ && ${2:-0} =~ ^[0-9]{1,9}$ ]] || usage "[PROGRAM] MINUTES [SEED]"
+[[ $# -ge 1 && $1 =~ ^[1-9][0-9]{0,3}$ && ${2:-0} =~ ^[0-9]{1,9}$ ]] || usage "[PROGRAM] MINUTES [SEED [EXAMPLE ..]]"
 
 gcc -O2 -shared -fPIC -o "$work/refuse.so" bench/refuse.c
-python3 - "$wblock" "$work" "$1" "${2:-1}" <<'RUNS' || exit 1
+python3 - "$wblock" "$work" "$1" "${2:-1}" "${@:3}" <<'RUNS' || exit 1
 import collections, os, random, shutil, subprocess, sys, tempfile, time
-program, work, minutes, seed = sys.argv[1], sys.argv[2], int(sys.argv[3]), sys.argv[4]
+program, work, minutes, seed, *examples = sys.argv[1:]
 begun = told = time.monotonic()
-end = begun + 60 * minutes
+end = begun + 60 * int(minutes)
 ALL = 2**60
 endings = collections.Counter()
 
@@ -59,33 +60,39 @@ class Command:
         put_back(folder, self.before)
         self.sign = signature(folder)
 
-    def boosted(self):
-        return "--boosted" in self.words and self.words[0] == "mine"
-
-    def is_as_plain(self, status, out, err):
-        now = files(self.folder)
-        if [status, out, err] == self.plain and now == self.after:
-            return True
-        if not self.boosted() or status != 0 or now.keys() != self.after.keys():
-            return False
-        # (its order differs from run to run: the block has to be accepted with the world that was written)
+    def is_accepted(self, now):
+        """Whether a block of workers whose order differs from run to run is accepted; with the world that was written, where one was."""
         world, calls, block, world_after = self.words[1:5]
-        if any(now[name] != self.after[name] for name in now if name not in (block, world_after)):
-            return False
         fuel = self.words[self.words.index("--fuel") + 1]
-        said = subprocess.run([program, "validate", world, calls, block, "--fuel", fuel, "--next", "again"], cwd=self.folder, capture_output=True)
-        return said.returncode == 0 and files(self.folder)["again"] == now[world_after]
+        said = subprocess.run([program, "validate", world, calls, block, "--fuel", fuel, "--next", f"{work}/again"], cwd=self.folder, capture_output=True)
+        return said.returncode == 0 and now.get(world_after) in (self.before.get(world_after), open(f"{work}/again", "rb").read())
+
+    def is_whole(self, now, as_plain):
+        """Whether each file is as the command leaves it, or, where that is not asked, as it was."""
+        wanted = [self.after] if as_plain else [self.before, self.after]
+        differ = {name for name in {*now, *self.after} if now.get(name) not in [it.get(name) for it in wanted]}
+        if differ and "--boosted" in self.words and self.words[0] == "mine":
+            return differ <= set(self.words[3:5]) and self.is_accepted(now)
+        return not differ
+
+    def how(self, status, out, err, refused, changed):
+        """How a run ended, where it may end so."""
+        if refused and (status, out, err) == (4, b"", b"memory\n") and not changed:
+            return "with status 4"
+        now = files(self.folder)
+        if refused and status == 3 and out == b"" and err in {f"file {word}\n".encode() for word in self.words[1:]} and self.is_whole(now, False):
+            return "with status 3"
+        is_ordered = "--boosted" not in self.words or self.words[0] != "mine"
+        if status == self.plain[0] and (not is_ordered or [out, err] == self.plain[1:]) and self.is_whole(now, True):
+            return "as without" if refused else "refused nothing"
+        return None
 
     def refuse(self, at, count):
         """Whether an allocation was refused, of so many from this one on."""
         global told
         status, out, err, refused = run(self.folder, self.words, at, count)
         changed = signature(self.folder) != self.sign
-        how = None
-        if refused and (status, out, err) == (4, b"", b"memory\n") and not changed:
-            how = "with status 4"
-        elif self.is_as_plain(status, out, err):
-            how = "as without" if refused else "refused nothing"
+        how = self.how(status, out, err, refused, changed)
         if how is None:
             kept = tempfile.mkdtemp()
             shutil.copytree(self.folder, f"{kept}/after")
@@ -126,9 +133,7 @@ def more(folder):
         yield ["deploy", "1.world", *modules, "--onto", "1.world"]
 
 commands = []
-for session in sorted(os.listdir("examples")):
-    if not os.path.exists(f"examples/{session}/session.txt"):
-        continue
+for session in examples or sorted(it for it in os.listdir("examples") if os.path.exists(f"examples/{it}/session.txt")):
     folder = f"{work}/{session}"
     shutil.copytree(f"examples/{session}", folder)
     lines = [line[2:].split()[1:] for line in open(f"{folder}/session.txt") if line.startswith("$ wblock")]
@@ -154,6 +159,6 @@ while time.monotonic() < end:
         drawn += 1
     command.go_on()
 print(f"seed {seed}: {len(commands)} commands with up to {max(it.reached for it in commands) - 1} allocations, each of {sum(it.reached - 1 for it in commands)} refused, alone and with all behind it, in {whole / 60:.0f} minutes, and {drawn} runs by chance: "
-      f"{endings['with status 4']} runs end with status 4 and every file as it was, {endings['as without']} as without, {endings['refused nothing']} were refused nothing")
+      f"{endings['with status 4']} runs end with status 4 and every file as it was, {endings['with status 3']} with status 3, {endings['as without']} as without, {endings['refused nothing']} were refused nothing")
 RUNS
 took
