@@ -51,7 +51,8 @@ looks_whole() {
     is "$1" all_whole
     if ((most > 0 && failed > 0)); then
         trap - EXIT
-        give_up "seed $seed: the files stay in $work"
+        echo "$script: seed $seed: the files stay in $work"
+        exit 1
     fi
 }
 
