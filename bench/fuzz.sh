@@ -88,7 +88,7 @@ by_afl() {
   fi
   # (it runs each some times before it changes one)
   mkdir "$out.from"
-  find "$from" -type f | sort | head -n 500 | xargs -d '\n' cp -t "$out.from"
+  find "$from" -type f | sort | sed -n 1,500p | xargs -d '\n' cp -t "$out.from"
   # shellcheck disable=SC2046 # the words of one command
   AFL_SKIP_CPUFREQ=1 AFL_I_DONT_CARE_ABOUT_MISSING_CRASHES=1 AFL_NO_UI=1 AFL_NO_AFFINITY=1 \
     timeout -s INT $((60 * minutes)) afl-fuzz "${mode[@]}" -s "$seed" -i "$out.from" -o "$out" -- "${limited[@]}" $(words "$reader") >"$work/log" 2>&1 || (($? == 124)) || fail "afl-fuzz: $(tail -n 3 "$work/log")"
