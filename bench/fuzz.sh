@@ -92,7 +92,7 @@ by_afl() {
   # shellcheck disable=SC2046 # the words of one command
   AFL_SKIP_CPUFREQ=1 AFL_I_DONT_CARE_ABOUT_MISSING_CRASHES=1 AFL_NO_UI=1 AFL_NO_AFFINITY=1 \
     timeout -s INT $((60 * minutes)) afl-fuzz "${mode[@]}" -s "$seed" -i "$out.from" -o "$out" -- "${limited[@]}" $(words "$reader") >"$work/log" 2>&1 || (($? == 124)) || fail "afl-fuzz: $(tail -n 3 "$work/log")"
-  found=$(find "$out" \( -path '*/crashes/*' -o -path '*/hangs/*' \) -type f ! -name README.txt | head -n 1)
+  found=$(find "$out" \( -path '*/crashes/*' -o -path '*/hangs/*' \) -type f ! -name README.txt -print -quit)
   if [[ -n $found ]]; then
     cp "$found" "$work/found"
     keep found "$reader: the program ends badly, or runs on"

@@ -13,7 +13,7 @@ work=$(mktemp -d)
 trap 'rm -rf "$work"' EXIT
 "$kit/toolchain/bin/clang" --target=x86_64-unknown-linux-gnu --sysroot="$kit/toolchain" -march=x86-64-v2 -mllvm -trap-unreachable --no-default-config -fintegrated-cc1 -fPIE -O2 \
   -fsanitize-coverage=trace-pc-guard -c -x ir "$1" -o "$work/program.o"
-"$kit/bin/rattle-link" --target x86_64-unknown-linux-gnu --toolchain "$kit/toolchain" -o "$2" "$work/program.o" "$kit"/c/lib{os,libc}_c.a /usr/lib/afl/afl-compiler-rt.o >"$work/log" || {
+"$kit/bin/rattle-link" --target x86_64-unknown-linux-gnu --toolchain "$kit/toolchain" -o "$2" "$work/program.o" "$kit"/c/lib{os,libc}_c.a /usr/lib/afl/afl-compiler-rt.o >"$work/log" 2>&1 || {
   cat "$work/log" >&2
   exit 1
 }
