@@ -1,9 +1,9 @@
 #!/usr/bin/env bash
-# Runs random programs in C, as many as asked: csmith (Debian's csmith and libcsmith-dev) writes them, clang compiles each without LLVM's passes and at the levels 1, 2,
-# 3 and s, and each eight programs are the contracts of one world, whose `run` gives the checksum of all variables in the end. The program mines a block of one call of each by
-# 4 workers, and accepts it; and what each call returned, or how it trapped, has to be what V8 (node) gives of the module. Left out are modules that pass a limit of
-# docs/REFERENCE.md, section 9, or that clang takes more than five minutes for, and calls that use up 50,000,000 units of fuel. It prints a line a minute and how many there were, and fails at
-# the first difference, whose world it then keeps. Run it anywhere in the repository:
+# Runs random programs in C, as many as asked: csmith (Debian's csmith and libcsmith-dev) writes them, clang compiles each without LLVM's passes and at the levels 1, 2, 3
+# and s, and each eight programs are the contracts of one world, whose `run` gives the checksum of all variables in the end. The program mines a block of one call of each
+# by 4 workers, and accepts it; and what each call returned, or how it trapped, has to be what V8 (node) gives of the module. Left out are modules that pass a limit of
+# docs/REFERENCE.md, section 9, or that clang takes more than five minutes for, and calls that use up 50,000,000 units of fuel. It prints a line a minute and how many there
+# were, and fails at the first difference, whose world it then keeps. Run it anywhere in the repository:
 #
 #   bench/csmith.sh [PROGRAM] PROGRAMS [SEED]
 source "$(dirname "${BASH_SOURCE[0]}")/common.sh" wblock csmith clang wasm-ld node

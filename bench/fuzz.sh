@@ -1,10 +1,9 @@
 #!/usr/bin/env bash
-# Gives the program random files, changed from good ones, for as many minutes a reader as asked: to the loader (`wblock check`), the assembler (`wblock asm`), the reader of calls
-# and those of worlds and of blocks (`wblock validate`), and that of words (`wblock debug`, a word a line of the file). The good ones are those of the examples and of the rows of
-# tests (seeds.py). What the program answers is its own affair; it must end with one of its statuses, 0 to 4, by no signal, within ten
-# seconds of processor time (and ten minutes of the clock: there may be other work on the machine). The files are made by a loop of Python, and where AFL++ (Debian's afl++) is
-# installed by that, too, for as long again. It prints what each reader got, and fails, keeping the file, at the first that ends the program otherwise. Run it anywhere in
-# the repository:
+# Gives the program random files, changed from good ones, for as many minutes a reader as asked: to the loader (`wblock check`), the assembler (`wblock asm`), the reader of
+# calls and those of worlds and of blocks (`wblock validate`), and that of words (`wblock debug`, a word a line of the file). The good ones are those of the examples and of
+# the rows of tests (seeds.py). What the program answers is its own affair; it must end with one of its statuses, 0 to 4, by no signal, within ten seconds of processor time
+# (and ten minutes of the clock: there may be other work on the machine). The files are made by a loop of Python, and where AFL++ (Debian's afl++) is installed by that,
+# too, for as long again. It prints what each reader got, and fails, keeping the file, at the first that ends the program otherwise. Run it anywhere in the repository:
 #
 #   bench/fuzz.sh [PROGRAM] MINUTES [SEED [module|text|calls|world|block|words ..]]
 #

@@ -1,9 +1,9 @@
 #!/usr/bin/env bash
 # Refuses memory to the program: in each command of the examples' sessions, and in some more over their files, each allocation and each start of a thread in turn, first it
-# alone and then it and all behind it (refuse.c, by LD_PRELOAD); and, for as many minutes as asked in all, some that are drawn by chance. A run has to end with status 4, with
-# the word `memory` and with all files as they were; with status 3 and the name of a file that it could not begin to write, each file being as it was or whole; or as the
-# command does that is refused nothing. It prints a line a minute and how many runs came to what, and
-# fails, keeping the files, at the first that ends otherwise. Run it anywhere in the repository:
+# alone and then it and all behind it (refuse.c, by LD_PRELOAD); and, for as many minutes as asked in all, some that are drawn by chance. A run has to end with status 4,
+# with the word `memory` and with all files as they were; with status 3 and the name of a file that it could not begin to write, each file being as it was or whole; or as
+# the command does that is refused nothing. It prints a line a minute and how many runs came to what, and fails, keeping the files, at the first that ends otherwise. Run it
+# anywhere in the repository:
 #
 #   bench/refuse.sh [PROGRAM] MINUTES [SEED [EXAMPLE ..]]
 source "$(dirname "${BASH_SOURCE[0]}")/common.sh" wblock gcc python3
