@@ -7,21 +7,22 @@ ghost use Rattle.wblock_debug.specs.Prints.{IsDebugged};
 use call::Call;
 use debugger::Contract;
 use spec_ledger::Version;
-use std::alloc::Allocator;
+use std::alloc::Global;
 use storage::Cells;
 use wblock_debug::{Command, Printed};
 use wtypes::NoMemory;
 
 /// As [`wblock_debug::debug_call`].
-pub fn debug_call<A: Allocator + Copy>(
-    alloc: A,
-    contracts: &[Contract<A>],
-    cells: &Cells<A>,
+pub fn debug_call(
+    alloc: Global,
+    contracts: &[Contract<Global>],
+    cells: &Cells,
     call: &Call,
     commands: &[Command],
     version: Version,
-) -> Result<Printed<A>, NoMemory>
-    ensures { IfOk result (λ p. IsDebugged (setting_view version contracts.now) cells.now.cells call.now commands.now p.refused (string_bytes p.text)) }
+    json: bool,
+) -> Result<Printed, NoMemory>
+    ensures { IfOk result (λ p. IsDebugged json (setting_view version contracts.now) cells.now.cells call.now commands.now p.refused (string_bytes p.text)) }
 {
-    wblock_debug::debug_call(alloc, contracts, cells, call, commands, version)
+    wblock_debug::debug_call(alloc, contracts, cells, call, commands, version, json)
 }

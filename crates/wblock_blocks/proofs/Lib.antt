@@ -1,2 +1,5 @@
+mod FlatObjects
 mod Notes
+mod Rejected
+mod Silent
 mod Versions

@@ -3,6 +3,7 @@
 
 mod mine;
 mod note;
+mod objects;
 mod text;
 mod validate;
 

@@ -1,4 +1,4 @@
-//! The command `mine WORLD CALLS BLOCK NEXT --fuel N [--workers 4] [--boosted] [--tries 3]`: a block of calls over a world, and the world after it.
+//! The command `mine WORLD CALLS BLOCK NEXT --fuel N [--workers 4] [--boosted] [--tries 3] [--json]`: a block of calls over a world, and the world after it.
 
 ghost use Rattle.std.specs.Prelude.{◌≡◌, ◌≤◌, false, IsTrue, IfOk, IfErr, OnOk, length, string_bytes};
 ghost use Rattle.std.specs.List.{AllByRecursion};
@@ -10,21 +10,23 @@ ghost use Rattle.spec_block.specs.Headline.{Headline, IsLeft};
 ghost use Rattle.world.specs.Views.{world_view};
 ghost use Rattle.wblock_line.specs.Answers.{CountsFault, IsOfFile};
 ghost use Rattle.wblock_line.specs.Inputs.{IsNextInput};
-ghost use Rattle.wblock_blocks.specs.Mines.{IsDone, Mines};
+ghost use Rattle.wblock_line.specs.Told.{IsRefusalIn};
+ghost use Rattle.wblock_blocks.specs.Mines.{IsDone, IsMinedText, Mines};
 ghost use Rattle.wblock_blocks.specs.Notes.{IsNoteOf, Notes};
 
 use crate::note::{Noted, note_of};
+use crate::objects::mined_line_of;
 use crate::text::block_text_of;
 use block::{Block, write_block};
 use byte_sinks::{Failures, MemorySink};
 use call::Call;
 use miner::{Mined, mine};
 use pace::{Pace, Watched};
-use std::alloc::Global;
+use std::alloc::{AllocError, Global};
 use std::sync::Wait;
 use std::thread::Threads;
 use wblock_io::Files;
-use wblock_line::{Answer, Fault, Inputs, Write, read_inputs};
+use wblock_line::{Answer, Fault, Inputs, Write, read_inputs, refuse};
 use world::{World, encode_world};
 use wtypes::NoMemory;
 
@@ -47,6 +49,8 @@ pub struct Mining<'a> {
     pub tries: u32,
     /// Whether workers over one book run the calls, as the papers describe it: then the order is theirs, and else that of the list.
     pub boosted: bool,
+    /// Whether it is told as JSON.
+    pub json: bool,
 }
 
 /// What is mined of calls over a world.
@@ -92,14 +96,35 @@ fn encode_block(alloc: Global, block: &Block) -> Result<Vec<u8>, NoMemory>
     Ok(bytes)
 }
 
-/// The answer that writes a block and the world after it, and prints the block's lines.
-fn done<'a>(alloc: Global, task: Mining<'a>, mined: &Mined) -> Result<Answer<'a>, NoMemory>
+/// What is printed of a block of these calls.
+fn mined_text_of(
+    alloc: Global,
+    json: bool,
+    calls: &[Call],
+    mined: &Mined,
+) -> Result<String, AllocError>
+    ensures { IfOk result (λ text. IsMinedText json mined.now.block calls.now mined.now.left.items (string_bytes text)) }
+{
+    if json {
+        mined_line_of(alloc, &mined.block, calls, &mined.left)
+    } else {
+        block_text_of(alloc, &mined.block, &mined.left)
+    }
+}
+
+/// The answer that writes a block of these calls and the world after it, and tells the block.
+fn done<'a>(
+    alloc: Global,
+    calls: &[Call],
+    task: Mining<'a>,
+    mined: &Mined,
+) -> Result<Answer<'a>, NoMemory>
     requires { mined.now.block.version ≡ Two }
-    ensures { IfOk result (IsDone task.entry mined.now.block (world_view mined.now.world) mined.now.left.items) }
+    ensures { IfOk result (IsDone task.entry mined.now.block (world_view mined.now.world) calls.now mined.now.left.items) }
 {
     let block = encode_block(alloc, &mined.block)?;
     let next = encode_world(alloc, &mined.world)?;
-    let text = block_text_of(alloc, &mined.block, &mined.left)?;
+    let text = mined_text_of(alloc, task.json, calls, mined)?;
     let mut writes = Vec::new(alloc);
     writes.push(Write {
         name: task.block,
@@ -134,16 +159,37 @@ fn noted<'a>(
     mined: &Mined,
 ) -> Result<Noted<'a>, NoMemory>
     requires { mined.now.block.version ≡ Two }
-    ensures answer { IfOk result (λ n. IsDone task.entry mined.now.block (world_view mined.now.world) mined.now.left.items n.answer) }
+    ensures answer { IfOk result (λ n. IsDone task.entry mined.now.block (world_view mined.now.world) calls.now mined.now.left.items n.answer) }
     ensures note { IfOk result (λ n. IsNoteOf mined.now.block.positions (string_bytes n.note)) }
 {
-    let answer = done(alloc, task, mined)?;
+    let answer = done(alloc, calls, task, mined)?;
     let note = note_of_mined(alloc, world, calls, mined)?;
     Ok(Noted { answer, note })
 }
 
-/// What `mine` comes to: a block of the calls over the world is to be written, and then the world after it, and the block's lines are to be
-/// printed; or the line that says why the world or the calls are refused. No file is written yet. Behind a block something is to be said on standard
+/// The answer that the world or the calls are refused, with this line and this sentence. Nothing is said behind it.
+#[tactic(auto, using(crate::proofs::Silent::of_refusal))]
+fn refuse_inputs<'a>(
+    alloc: Global,
+    json: bool,
+    line: String,
+    why: String,
+) -> Result<Noted<'a>, Fault<'a>>
+    ensures told { IfOk result (λ n. IsRefusalIn json (string_bytes line) n.answer) }
+    ensures notes { IfOk result (λ n. Notes n.answer (string_bytes n.note)) }
+    ensures fault { IfErr result (λ f. f ≡ Fault.NoMemory) }
+{
+    match refuse(alloc, json, line, why) {
+        Ok(answer) => Ok(Noted {
+            answer,
+            note: String::new(alloc),
+        }),
+        Err(fault) => Err(fault),
+    }
+}
+
+/// What `mine` comes to: a block of the calls over the world is to be written, and then the world after it, and the block is to be told; or why the
+/// world or the calls are refused. It is told in lines or as JSON. No file is written yet. Behind a block something is to be said on standard
 /// error of the calls that did not return. The pace is told the steps of the workers; what it says of watching is not asked, since the command says it.
 pub fn mine_block<'a, R: Threads + Wait + Sync, F: Files, P: Pace>(
     rt: &R,
@@ -163,12 +209,7 @@ pub fn mine_block<'a, R: Threads + Wait + Sync, F: Files, P: Pace>(
 {
     let (world, calls) = match read_inputs(alloc, files, task.world, task.calls)? {
         Inputs::Read(world, calls) => (world, calls),
-        Inputs::Refused(line, why) => {
-            return Ok(Noted {
-                answer: Answer::Refused(line, why),
-                note: String::new(alloc),
-            });
-        }
+        Inputs::Refused(line, why) => return refuse_inputs(alloc, task.json, line, why),
     };
     let Ok(mined) = mine_calls(rt, alloc, &world, &calls, task, pace) else {
         return Err(Fault::NoMemory);

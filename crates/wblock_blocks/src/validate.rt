@@ -1,23 +1,26 @@
-//! The command `validate WORLD CALLS BLOCK --fuel N [--workers 4] [--boosted] [--next NEXT]`: the verdict on a block of calls over a world, and the world after
+//! The command `validate WORLD CALLS BLOCK --fuel N [--workers 4] [--boosted] [--next NEXT] [--json]`: the verdict on a block of calls over a world, and the world after
 //! the block.
 
 ghost use Rattle.std.specs.Prelude.{◌≡◌, ◌≤◌, IsTrue, IfOk, IfErr, OnOk, length, map, string_bytes};
+ghost use Rattle.serde_json.specs.View.{view};
 ghost use Rattle.spec_block.specs.Verdicts.{IsVerdictOf};
 ghost use Rattle.validator.specs.Judged.{verdict_view};
 ghost use Rattle.world.specs.Views.{world_view};
 ghost use Rattle.wblock_line.specs.Answers.{CountsFault, IsOfFile, write_of};
-ghost use Rattle.wblock_blocks.specs.Validates.{accept_text, next_writes, TellsVerdict, Validates, IsNextFile};
+ghost use Rattle.wblock_json.specs.Json.{IsJson, IsLineOf};
+ghost use Rattle.wblock_blocks.specs.Objects.{accept_data};
+ghost use Rattle.wblock_blocks.specs.Validates.{accept_text, next_writes, IsAcceptText, TellsVerdict, Validates, IsNextFile};
 
 use call::Call;
 use pace::{Pace, Watched};
+use serde_json::{Value as Json, json};
 use std::alloc::Global;
 use std::sync::Wait;
 use std::thread::Threads;
 use validator::{Verdict, validate};
 use wblock_io::Files;
-use wblock_line::{
-    Answer, Fault, Inputs, Write, read_file, read_inputs, reason_words, reject_line_of,
-};
+use wblock_json::{digest_of, value_line};
+use wblock_line::{Answer, Fault, Inputs, Write, read_file, read_inputs, refuse, reject};
 use world::{World, digest_world, encode_world};
 use wtypes::NoMemory;
 
@@ -38,6 +41,8 @@ pub struct Validation<'a> {
     pub boosted: bool,
     /// The name of the file that is to hold the world after the block where it is accepted, if any.
     pub next: Option<&'a str>,
+    /// Whether it is told as JSON.
+    pub json: bool,
 }
 
 /// The verdict on the bytes of a block.
@@ -77,6 +82,43 @@ fn accept_text_of(alloc: Global, next: &World) -> Result<String, NoMemory>
     Ok(text)
 }
 
+/// The digest of the world after the block, as JSON.
+#[tactic(auto, unfolding(crate::specs::Objects::accept_data))]
+fn accept_of(alloc: Global, next: &World) -> Result<Json, NoMemory>
+    ensures { IfOk result (λ v. view v ≡ accept_data (world_view next.now)) }
+{
+    let digest = digest_world(alloc, next)?;
+    let after = digest_of(alloc, &digest)?;
+    let accept = json!(in alloc; {
+        "verdict": "accept",
+        "reason": null,
+        "place": null,
+        "sentence": null,
+        "after": after,
+    })?;
+    Ok(accept)
+}
+
+/// The line of the digest of the world after the block, as JSON.
+fn accept_json_of(alloc: Global, next: &World) -> Result<String, NoMemory>
+    ensures { IfOk result (λ text. IsLineOf (IsJson (accept_data (world_view next.now))) (string_bytes text)) }
+{
+    let value = accept_of(alloc, next)?;
+    let line = value_line(alloc, &value)?;
+    Ok(line)
+}
+
+/// What is printed of a block that is accepted.
+fn accept_told(alloc: Global, json: bool, next: &World) -> Result<String, NoMemory>
+    ensures { IfOk result (λ text. IsAcceptText json (world_view next.now) (string_bytes text)) }
+{
+    if json {
+        accept_json_of(alloc, next)
+    } else {
+        accept_text_of(alloc, next)
+    }
+}
+
 /// What is to be written of the world after a block that is accepted: all of it, where a file is named for it.
 fn next_writes_of<'a>(
     alloc: Global,
@@ -94,30 +136,31 @@ fn next_writes_of<'a>(
 }
 
 /// The answer that tells a verdict on these bytes, and writes the world after a block that is accepted where a file is named for it.
+#[tactic(auto, using(crate::proofs::Rejected::tells))]
 fn tell<'a>(
     alloc: Global,
+    json: bool,
     name: Option<&'a str>,
     bytes: &[u8],
     verdict: &Verdict,
 ) -> Result<Answer<'a>, NoMemory>
-    ensures { IfOk result (TellsVerdict name.entry (verdict_view verdict.now)) }
+    ensures { IfOk result (TellsVerdict json name.entry (verdict_view verdict.now)) }
 {
     match verdict {
         Verdict::Accept(next) => {
-            let text = accept_text_of(alloc, next)?;
+            let text = accept_told(alloc, json, next)?;
             let writes = next_writes_of(alloc, name, next)?;
             Ok(Answer::Done(writes, text))
         }
         Verdict::Reject(reason) => {
-            let line = reject_line_of(alloc, *reason)?;
-            let why = reason_words(alloc, bytes, *reason)?;
-            Ok(Answer::Refused(line, why))
+            let rejected = reject(alloc, json, bytes, *reason)?;
+            Ok(rejected)
         }
     }
 }
 
 /// What `validate` comes to: `accept` and the digest of the world after the block, which is to be written where a file is named for it, or `reject`
-/// with the first of the nine reasons that holds; or the line that says why the world or the calls are refused. No file is written yet. The pace is
+/// with the first of the nine reasons that holds; or why the world or the calls are refused. It is told in lines or as JSON. No file is written yet. The pace is
 /// told the steps of the workers; what it says of watching is not asked, since the command says it.
 pub fn validate_block<'a, R: Threads + Wait + Sync, F: Files, P: Pace>(
     rt: &R,
@@ -135,13 +178,13 @@ pub fn validate_block<'a, R: Threads + Wait + Sync, F: Files, P: Pace>(
 {
     let (world, calls) = match read_inputs(alloc, files, task.world, task.calls)? {
         Inputs::Read(world, calls) => (world, calls),
-        Inputs::Refused(line, why) => return Ok(Answer::Refused(line, why)),
+        Inputs::Refused(line, why) => return refuse(alloc, task.json, line, why),
     };
     let bytes = read_file(alloc, files, task.block)?;
     let Ok(verdict) = judge(rt, alloc, &world, &calls, task, &bytes, pace) else {
         return Err(Fault::NoMemory);
     };
-    match tell(alloc, task.next, &bytes, &verdict) {
+    match tell(alloc, task.json, task.next, &bytes, &verdict) {
         Ok(answer) => Ok(answer),
         Err(NoMemory) => Err(Fault::NoMemory),
     }

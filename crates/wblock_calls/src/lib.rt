@@ -10,7 +10,7 @@ mod refusal;
 mod words;
 
 pub use fault::{call_words, calls_words};
-pub use line::call_of_words;
+pub use line::{call_of_words, split_words};
 pub use number::NumberText;
 pub use reader::{CallsRefusal, MOST_CALLS, read_calls};
 pub use receipt::{PositionLine, ReceiptText, ValueText};

@@ -35,9 +35,9 @@ is_text : (c : Command) (a : Answer) (note : List ℕ) → IsNote c a note → (
 is_text Stored a note h = inl h
 is_text (Help words) a note h = inl h
 is_text Version a note h = inl h
-is_text (Asm text target) a note h = inl h
-is_text (Text source target unchecked) a note h = inl h
-is_text (Check target heap) a note h = inl h
+is_text (Asm text target json) a note h = inl h
+is_text (Text source target unchecked json) a note h = inl h
+is_text (Check target heap json) a note h = inl h
 is_text (Deploy task) a note h = inl h
 is_text (Mine task) (Done writes text) note h = of_either (all_or_not HasReturned (λ p. returned_or_not p.receipt.outcome) h.0.positions) h.4.silent h.4.told
 is_text (Mine task) (Refused line why) note h = inl h

@@ -22,7 +22,7 @@ IsFree d holds = (holds d.world.now ≡ None) ⊎ MayReplace d
 -- the world of the modules, which takes no file's place unasked
 pub record DeploysFree (d : Deploying) (holds : Holding) (a : Answer) : Type 0 where
   pub free : IsFree d holds
-  pub deploys : Deploys holds d.world.now d.onto (texts d.modules.now) a
+  pub deploys : Deploys d.json holds d.world.now d.onto (texts d.modules.now) a
 
 -- neither OLD nor a module is read where the file of the world is there unasked
 pub record IsNextToDeploy (d : Deploying) (holds : Holding) (name : List ℕ) : Type 0 where

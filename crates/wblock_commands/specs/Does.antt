@@ -25,9 +25,9 @@ abbrev pub Answers : Command → Holding → Answer → Type 0
 Answers Stored holds answer = ShowsStored answer
 Answers (Help words) holds answer = TellsText answer
 Answers Version holds answer = TellsText answer
-Answers (Asm text target) holds answer = Assembles holds text.now target.now answer
-Answers (Text source target unchecked) holds answer = WritesText unchecked holds source.now target.now answer
-Answers (Check target heap) holds answer = Checks holds target.now answer
+Answers (Asm text target json) holds answer = Assembles json holds text.now target.now answer
+Answers (Text source target unchecked json) holds answer = WritesText unchecked json holds source.now target.now answer
+Answers (Check target heap json) holds answer = Checks json holds target.now answer
 Answers (Deploy task) holds answer = DeploysFree task holds answer
 Answers (Mine task) holds answer = Mines holds task answer
 Answers (Validate task) holds answer = Validates holds task answer
@@ -76,9 +76,9 @@ abbrev pub Reads : Command → Holding → List ℕ → Type 0
 Reads Stored holds name = ⊥
 Reads (Help words) holds name = ⊥
 Reads Version holds name = ⊥
-Reads (Asm text target) holds name = name ≡ text.now
-Reads (Text source target unchecked) holds name = name ≡ source.now
-Reads (Check target heap) holds name = name ≡ target.now
+Reads (Asm text target json) holds name = name ≡ text.now
+Reads (Text source target unchecked json) holds name = name ≡ source.now
+Reads (Check target heap json) holds name = name ≡ target.now
 Reads (Deploy task) holds name = IsNextToDeploy task holds name
 Reads (Mine task) holds name = IsNextInput holds task.world.now task.calls.now name
 Reads (Validate task) holds name = IsNextFile holds task name

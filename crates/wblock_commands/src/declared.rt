@@ -56,10 +56,10 @@ pub(crate) const QUIET: Switch = Switch {
     help: "Says nothing of the progress on standard error",
 };
 
-/// What is shown, as JSON.
+/// What is told, as JSON.
 pub(crate) const JSON: Switch = Switch {
     name: "json",
-    help: "Shows the same as one JSON object on a line",
+    help: "Prints the same as one JSON object on a line",
 };
 
 /// The numbers of cells, signed.

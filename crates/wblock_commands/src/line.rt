@@ -55,11 +55,11 @@ fn answer_of<'l, 'w, R: Threads + Wait + Sync, F: Files, P: Pace>(
         Command::Stored => show_stored(alloc)?,
         Command::Help(words) => tell_help(alloc, words)?,
         Command::Version => tell_version(alloc)?,
-        Command::Asm(text, target) => assemble_file(alloc, files, text, target)?,
-        Command::Text(source, target, unchecked) => {
-            write_text(alloc, files, source, target, unchecked)?
+        Command::Asm(text, target, json) => assemble_file(alloc, files, text, target, json)?,
+        Command::Text(source, target, unchecked, json) => {
+            write_text(alloc, files, source, target, unchecked, json)?
         }
-        Command::Check(target, heap) => check_module(alloc, files, target, heap)?,
+        Command::Check(target, heap, json) => check_module(alloc, files, target, heap, json)?,
         Command::Mine(task) => return Ok(Some(mine_block(rt, alloc, files, task, pace)?)),
         Command::Validate(task) => validate_block(rt, alloc, files, task, pace)?,
         Command::Show(task) => show_named(alloc, files, task)?,

@@ -4,9 +4,7 @@ use crate::declared::{BLOCK, CALLS, FUEL, NEXT, ONTO, SVG};
 use std::alloc::{AllocError, Global};
 use wblock_calls::{call_words, number_of};
 use wblock_debug::command_of;
-use wblock_line::{
-    BOOSTED_SWITCH, FORCE_SWITCH, JSON_SWITCH, SIGNED_SWITCH, UNCHECKED_SWITCH, split_words,
-};
+use wblock_line::{FORCE_SWITCH, JSON_SWITCH, is_switch, split_words};
 
 /// Two words of a line that name one file, the second of which would be written.
 fn clash(alloc: Global, first: &str, second: &str, name: &str) -> Result<String, AllocError> {
@@ -39,7 +37,12 @@ fn deploying_misuse(
         return Ok(Some(clash(alloc, "MODULE", "WORLD", world)?));
     }
     let is_forced = options.iter().any(|option| option.0 == FORCE_SWITCH);
-    if !is_forced && options.len() <= 1 {
+    let is_once = match options {
+        [] | [_] => true,
+        [first, second] => first.0 != second.0,
+        _ => false,
+    };
+    if !is_forced && is_once {
         return Ok(Some(format!(in alloc;
             "usage: WORLD `{world}` is there already: {FORCE_SWITCH} writes the new world in its place"
         )?));
@@ -203,15 +206,6 @@ fn names_file(name: &str) -> bool {
         || name == NEXT.word
         || name == ONTO.word
         || name == SVG.word
-}
-
-/// Whether the option of this name has no value.
-fn is_switch(name: &str) -> bool {
-    name == JSON_SWITCH
-        || name == FORCE_SWITCH
-        || name == BOOSTED_SWITCH
-        || name == SIGNED_SWITCH
-        || name == UNCHECKED_SWITCH
 }
 
 /// `usage`, and what is wrong with words that the command line's reader takes.

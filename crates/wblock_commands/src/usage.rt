@@ -73,7 +73,8 @@ fn asm<'a>(alloc: Global) -> Result<Command<'a>, AllocError> {
     Command::new(alloc, "asm")
         .about("Assembles a module in text, and writes it in binary")
         .arg(required(alloc, "TEXT", "The file of the module in text"))?
-        .arg(required(alloc, "MODULE", "The file to be written; another than TEXT"))
+        .arg(required(alloc, "MODULE", "The file to be written; another than TEXT"))?
+        .arg(switch(alloc, JSON))
 }
 
 fn text<'a>(alloc: Global) -> Result<Command<'a>, AllocError> {
@@ -83,14 +84,16 @@ fn text<'a>(alloc: Global) -> Result<Command<'a>, AllocError> {
         )
         .arg(required(alloc, "MODULE", "The file of the module in binary"))?
         .arg(required(alloc, "TEXT", "The file to be written; another than MODULE"))?
-        .arg(switch(alloc, UNCHECKED))
+        .arg(switch(alloc, UNCHECKED))?
+        .arg(switch(alloc, JSON))
 }
 
 fn check<'a>(alloc: Global) -> Result<Command<'a>, AllocError> {
     Command::new(alloc, "check")
         .about("Says whether a module is valid")
         .arg(required(alloc, "MODULE", "The file of the module in binary"))?
-        .arg(number(alloc, HEAP))
+        .arg(number(alloc, HEAP))?
+        .arg(switch(alloc, JSON))
 }
 
 fn deploy<'a>(alloc: Global) -> Result<Command<'a>, AllocError> {
@@ -108,7 +111,8 @@ fn deploy<'a>(alloc: Global) -> Result<Command<'a>, AllocError> {
         )
         .num_args(1..))?
         .arg(file(alloc, ONTO))?
-        .arg(switch(alloc, FORCE))
+        .arg(switch(alloc, FORCE))?
+        .arg(switch(alloc, JSON))
 }
 
 fn mine<'a>(alloc: Global) -> Result<Command<'a>, AllocError> {
@@ -130,6 +134,7 @@ fn mine<'a>(alloc: Global) -> Result<Command<'a>, AllocError> {
         .arg(number(alloc, WORKERS))?
         .arg(switch(alloc, BOOSTED))?
         .arg(number(alloc, TRIES))?
+        .arg(switch(alloc, JSON))?
         .arg(switch(alloc, QUIET))
 }
 
@@ -145,6 +150,7 @@ fn validate<'a>(alloc: Global) -> Result<Command<'a>, AllocError> {
         .arg(number(alloc, WORKERS))?
         .arg(switch(alloc, BOOSTED))?
         .arg(file(alloc, NEXT))?
+        .arg(switch(alloc, JSON))?
         .arg(switch(alloc, QUIET))
 }
 
@@ -163,7 +169,8 @@ fn call<'a>(alloc: Global) -> Result<Command<'a>, AllocError> {
             Arg::new(alloc, "ARG").num_args(0..).help(
                 "The arguments, each `i32:N` or `i64:N` with N in signed decimal",
             ),
-        )
+        )?
+        .arg(switch(alloc, JSON))
 }
 
 fn debug<'a>(alloc: Global) -> Result<Command<'a>, AllocError> {
@@ -184,6 +191,7 @@ fn debug<'a>(alloc: Global) -> Result<Command<'a>, AllocError> {
         .arg(number(alloc, FUEL).help(
             "The fuel with which BLOCK is judged, 0 to 18446744073709551615: the calls before CALL run for at most this; if not given, it is the least that its calls need",
         ))?
+        .arg(switch(alloc, JSON))?
         .arg(switch(alloc, QUIET))
 }
 

@@ -1,4 +1,6 @@
 mod Colons
+mod FlatEffects
+mod FlatStates
 mod Lists
 mod Options
 mod Printing

@@ -1,5 +1,5 @@
 -- What the words of a line ask to call, and what `call` answers.
-use Rattle.std.specs.Prelude.{◌≡◌, ℕ, ◌⊎◌, List, [], ◌∷◌, None, codes, string_bytes}
+use Rattle.std.specs.Prelude.{◌≡◌, ℕ, ◌⊎◌, Bool, true, false, List, [], ◌∷◌, None, codes}
 use Rattle.std.specs.FinMap.{get}
 use Rattle.spec_ledger.specs.declared.Version.TheVariants.{Two}
 use Rattle.spec_ledger.specs.declared.Lock.{Lock}
@@ -8,15 +8,17 @@ use Rattle.spec_execution.specs.Serial.{CallResult}
 use Rattle.spec_block.specs.Worlds.{World, Call}
 use Rattle.spec_block.specs.Serial.{Executed}
 use Rattle.wblock_calls.specs.Texts.{AreCall}
+use Rattle.wblock_json.specs.Json.{IsJson, IsLineOf}
 use Rattle.wblock_io.specs.Holding.{Holding}
 use Rattle.wblock_line.specs.declared.answer.Answer.{Answer}
-use Rattle.wblock_line.specs.declared.answer.Answer.TheVariants.{Done, Refused}
 use Rattle.wblock_line.specs.declared.perform.Status.TheVariants as status
 use Rattle.wblock_line.specs.Answers.{writes_of, text_of, status_of}
 use Rattle.wblock_line.specs.Inputs.{Holds, HoldsWorld}
-use Rattle.wblock_line.specs.Words.{Line}
+use Rattle.wblock_line.specs.Told.{IsRefusalIn}
+use Rattle.wblock_line.specs.Words.{AsksAlone, Line}
 use Rattle.wblock_line.specs.Worlds.{TellsNoWorld}
 use Rattle.wblock_debug.specs.Effects.{effects_text}
+use Rattle.wblock_debug.specs.EffectsJson.{effects_data}
 use Rattle.wblock_debug.specs.declared.called.Calling.{Calling}
 
 -- ---- words
@@ -25,28 +27,33 @@ use Rattle.wblock_debug.specs.declared.called.Calling.{Calling}
 abbrev pub IsCallOf : (words : List (List ℕ)) (world : List ℕ) (spelling : List (List ℕ)) → Type 0
 IsCallOf words world spelling = words ≡ codes "call" ∷ world ∷ spelling
 
--- `call WORLD CONTRACT FUEL ENTRY ARG...`, behind WORLD the words of a line of calls
+-- `call WORLD CONTRACT FUEL ENTRY ARG... [--json]`, behind WORLD the words of a line of calls
 pub record AsksCall (line : Line) (c : Calling) : Type 0 where
   -- the words of the call
   pub spelling : List (List ℕ)
   pub words : IsCallOf line.words c.world.now spelling
   pub spelled : AreCall spelling c.call
-  pub options : line.options ≡ []
+  pub json : AsksAlone (codes "--json") line.options c.json
 
 -- ---- answers
 
--- the text is printed, and no file is written
-pub record Prints (text : List ℕ) (a : Answer) : Type 0 where
+-- the lines of what a call came to, or the line of its JSON
+abbrev pub TellsEffects : (json : Bool) → CallResult → (before later : Cells) → List ℕ → Type 0
+TellsEffects false ran before later text = text ≡ effects_text ran before later
+TellsEffects true ran before later text = IsLineOf (IsJson (effects_data ran before later)) text
+
+-- a text of which this is true is printed, and no file is written
+pub record Prints (Is : List ℕ → Type 0) (a : Answer) : Type 0 where
   pub status_is : status_of a ≡ status.Done
   pub writes : writes_of a ≡ []
-  pub text_is : text_of a ≡ text
+  pub text_is : Is (text_of a)
 
 -- The call is executed over the world's cells by the rules of version 2, and the text tells its receipt, its locks and the cells at them that it changes.
-pub record TellsExecution (world : World) (call : Call) (a : Answer) : Type 0 where
+pub record TellsExecution (json : Bool) (world : World) (call : Call) (a : Answer) : Type 0 where
   pub ran : CallResult
   pub later : Cells
   pub executed : Executed Two world call world.cells ran later
-  pub told : Prints (effects_text ran world.cells later) a
+  pub told : Prints (TellsEffects json ran world.cells later) a
   -- a cell at another lock is not changed
   pub others : (lock : Lock) → get ran.touched lock ≡ None → get later lock ≡ get world.cells lock
 
@@ -54,12 +61,13 @@ pub record TellsExecution (world : World) (call : Call) (a : Answer) : Type 0 wh
 pub record IsOfWorld (holds : Holding) (task : Calling) (a : Answer) : Type 0 where
   pub world : World
   pub held : HoldsWorld holds task.world.now world
-  pub tells : TellsExecution world task.call a
+  pub tells : TellsExecution task.json world task.call a
 
 -- the answer tells why the file holds no world
-abbrev pub IsRefused : Holding → Calling → Answer → Type 0
-IsRefused holds task (Done writes text) = ⊥
-IsRefused holds task (Refused line why) = Holds holds task.world.now (λ bytes. TellsNoWorld bytes (string_bytes line))
+pub record IsRefused (holds : Holding) (task : Calling) (a : Answer) : Type 0 where
+  pub line : List ℕ
+  pub why : Holds holds task.world.now (λ bytes. TellsNoWorld bytes line)
+  pub told : IsRefusalIn task.json line a
 
 abbrev pub Calls : Holding → Calling → Answer → Type 0
 Calls holds task a = IsRefused holds task a ⊎ IsOfWorld holds task a

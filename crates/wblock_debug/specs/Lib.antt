@@ -2,6 +2,9 @@ pub mod Asks
 pub mod Calling
 pub mod Debugs
 pub mod Effects
+pub mod EffectsJson
 pub mod Lines
 pub mod Prints
+pub mod StatesJson
+pub mod Tells
 pub mod Words

@@ -1,12 +1,13 @@
 //! A command and its word.
 
-ghost use Rattle.std.specs.Prelude.{◌≡◌, ◌↔◌, List, IfOk, IsTrue, MatchOption};
+ghost use Rattle.std.specs.Prelude.{List, IfOk, MatchOption};
 ghost use Rattle.wblock_calls.specs.Words.{texts};
 ghost use Rattle.wblock_debug.specs.Words.{IsNotPlain, IsNoMove, IsNoPair, Spells, Spell};
 ghost use Rattle.wblock_debug.specs.declared.command.Command.{Command as Asked};
 
 use crate::numbers::{number_after, numbers_after, small_numbers_after};
 use std::alloc::{AllocError, Global};
+use wblock_line::is_word;
 
 /// A command of a debugger.
 #[derive(Clone, Copy, Debug, PartialEq, Eq)]
@@ -31,13 +32,6 @@ pub enum Command {
     Globals,
     /// `bytes:FROM:N`: shows so many bytes from this address on of the same level's memory.
     Bytes(u64, u64),
-}
-
-/// Whether a word is this one.
-fn is_word(word: &str, name: &str) -> bool
-    ensures { IsTrue result ↔ (word.now ≡ name.now) }
-{
-    word == name
 }
 
 /// The command of a word that has no numbers.

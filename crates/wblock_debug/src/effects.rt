@@ -51,7 +51,7 @@ fn lock_lines_of(alloc: Global, locks: &[Held]) -> Result<String, AllocError>
 }
 
 /// Whether two cells hold the same.
-fn is_same(one: Option<u64>, other: Option<u64>) -> bool
+pub(crate) fn is_same(one: Option<u64>, other: Option<u64>) -> bool
     ensures { result ≡ is_same one other }
 {
     match (one, other) {

@@ -6,12 +6,15 @@ mod called;
 mod command;
 mod debug;
 mod effects;
+mod effects_json;
 mod lines;
 mod numbers;
 mod one_call;
 mod perform;
 mod printed;
 mod run;
+mod states_json;
+mod told;
 
 pub use asked::{Debugging, debugging_of};
 pub use called::{Calling, calling_of};

@@ -1,37 +1,61 @@
-//! The command `call WORLD CONTRACT FUEL ENTRY ARG...`: what one call comes to that runs alone over a world. Nothing is written.
+//! The command `call WORLD CONTRACT FUEL ENTRY ARG... [--json]`: what one call comes to that runs alone over a world. Nothing is written.
 
-ghost use Rattle.std.specs.Prelude.{◌≡◌, IsTrue, IfOk, IfErr, OnOk};
+ghost use Rattle.std.specs.Prelude.{◌≡◌, IsTrue, IfOk, IfErr, OnOk, string_bytes};
 ghost use Rattle.world.specs.Views.{world_view};
 ghost use Rattle.wblock_line.specs.Answers.{CountsFault, IsOfFile};
-ghost use Rattle.wblock_debug.specs.Calling.{Calls, TellsExecution};
+ghost use Rattle.wblock_debug.specs.Calling.{Calls, TellsEffects, TellsExecution};
 
 use crate::Calling;
 use crate::effects::effects_text_of;
+use crate::effects_json::effects_line_of;
 use call::Call;
-use serial::execute;
+use serial::{Executed, execute};
 use spec_execution::an_execution_has_a_read_write_set;
 use spec_ledger::Version;
-use std::alloc::Global;
+use std::alloc::{AllocError, Global};
+use storage::Cells;
 use wblock_io::Files;
-use wblock_line::{Answer, Fault, WorldFile, read_world_file};
+use wblock_line::{Answer, Fault, WorldFile, read_world_file, refuse};
 use world::World;
 use wtypes::NoMemory;
 
+/// What a call that was executed came to, in lines or as JSON.
+fn effects_told(
+    alloc: Global,
+    json: bool,
+    executed: &Executed,
+    before: &Cells,
+    later: &Cells,
+) -> Result<String, AllocError>
+    ensures { IfOk result (λ text. TellsEffects json (record { receipt = executed.now.receipt; touched = executed.now.touched }) before.now.cells later.now.cells (string_bytes text)) }
+{
+    if json {
+        effects_line_of(alloc, executed, before, later)
+    } else {
+        effects_text_of(alloc, executed, before, later)
+    }
+}
+
 /// What a call comes to over the cells of a world, by the rules of version 2, by which calls are mined. The world is as it was.
-fn call_over<'a>(alloc: Global, world: &World, call: &Call) -> Result<Answer<'a>, NoMemory>
-    ensures { IfOk result (TellsExecution (world_view world.now) call.now) }
+fn call_over<'a>(
+    alloc: Global,
+    json: bool,
+    world: &World,
+    call: &Call,
+) -> Result<Answer<'a>, NoMemory>
+    ensures { IfOk result (TellsExecution json (world_view world.now) call.now) }
 {
     an_execution_has_a_read_write_set();
     let before = world.cells();
     before.use_invariant();
     let mut later = before.copy(alloc)?;
     let executed = execute(alloc, world.contracts(), call, &mut later, Version::Two)?;
-    let text = effects_text_of(alloc, &executed, before, &later)?;
+    let text = effects_told(alloc, json, &executed, before, &later)?;
     Ok(Answer::Done(Vec::new(alloc), text))
 }
 
-/// What `call` comes to: the receipt of the call alone over the cells of the world, the locks that it asks for, and the cells that it would change; or the
-/// line that says why the world is refused. No file is written.
+/// What `call` comes to: the receipt of the call alone over the cells of the world, the locks that it asks for, and the cells that it would change; or why
+/// the world is refused. It is told in lines or as JSON. No file is written.
 pub fn call_world<'a, F: Files>(
     alloc: Global,
     files: &mut F,
@@ -45,9 +69,9 @@ pub fn call_world<'a, F: Files>(
 {
     let world = match read_world_file(alloc, files, task.world)? {
         WorldFile::Read(world) => world,
-        WorldFile::Refused(line, why) => return Ok(Answer::Refused(line, why)),
+        WorldFile::Refused(line, why) => return refuse(alloc, task.json, line, why),
     };
-    match call_over(alloc, &world, &task.call) {
+    match call_over(alloc, task.json, &world, &task.call) {
         Ok(answer) => Ok(answer),
         Err(NoMemory) => Err(Fault::NoMemory),
     }

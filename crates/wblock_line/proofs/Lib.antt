@@ -1,3 +1,4 @@
 mod Beginning
+mod FlatObjects
 mod Saying
 mod Splitting

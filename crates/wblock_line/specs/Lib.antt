@@ -9,3 +9,4 @@ pub mod Inputs
 pub mod Rejections
 pub mod Lines
 pub mod ProgressOfWords
+pub mod Told

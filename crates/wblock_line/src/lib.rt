@@ -13,6 +13,7 @@ mod quiet;
 mod refusals;
 mod rejections;
 mod sites;
+mod told;
 mod wiped;
 mod words;
 mod worlds;
@@ -26,9 +27,11 @@ pub use perform::{Status, carry_out, tell_fault};
 pub use progress::Progress;
 pub use quiet::{QUIET_NAME, Words, without_quiet};
 pub use refusals::ModuleRefusal;
-pub use rejections::{reason_words, reject_line_of};
+pub use rejections::reject;
+pub use told::{in_form, refuse};
 pub use wiped::Wiped;
 pub use words::{
-    BOOSTED_SWITCH, FORCE_SWITCH, JSON_SWITCH, Line, SIGNED_SWITCH, UNCHECKED_SWITCH, split_words,
+    BOOSTED_SWITCH, FORCE_SWITCH, JSON_SWITCH, Line, SIGNED_SWITCH, UNCHECKED_SWITCH, is_switch,
+    is_word, split_words, switch_alone,
 };
 pub use worlds::judge_world;

@@ -1,3 +1,4 @@
+mod FlatObjects
 mod Onto
 mod Reading
 mod Told

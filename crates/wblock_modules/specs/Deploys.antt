@@ -1,9 +1,11 @@
 -- What `deploy` answers.
-use Rattle.std.specs.Prelude.{◌≡◌, ℕ, ◌+◌, ◌≤◌, ◌<◌, ◌⊎◌, List, [], ◌∷◌, ◌++◌, Option, Some, None, codes, decimal, length, map, take, slice_get, vec_len, string_bytes}
+use Rattle.std.specs.Prelude.{◌≡◌, ℕ, ◌+◌, ◌≤◌, ◌<◌, ◌⊎◌, Bool, true, false, List, [], ◌∷◌, ◌++◌, Option, Some, None, codes, decimal, length, map, take, slice_get, vec_len, string_bytes}
 use Rattle.std.specs.Borrow.{Bor}
 use Rattle.std.specs.FinMap.{empty}
 use Rattle.spec_block.specs.Worlds.{Contract, World}
 use Rattle.spec_block.specs.Bytes.{world_bytes}
+use Rattle.wblock_json.specs.Json.{IsJson, IsLineOf}
+use Rattle.wblock_json.specs.Refusals.{refusal_data}
 use Rattle.wblock_io.specs.Holding.{Holding}
 use Rattle.wblock_line.specs.declared.answer.Answer.{Answer}
 use Rattle.wblock_line.specs.declared.answer.Answer.TheVariants.{Done, Refused}
@@ -15,10 +17,12 @@ use Rattle.wblock_line.specs.Answers.{writes_of, text_of, status_of}
 use Rattle.wblock_line.specs.Inputs.{Holds as HoldsBytes, HoldsWorld}
 use Rattle.wblock_line.specs.Modules.{IsContractOf, IsWhy}
 use Rattle.wblock_line.specs.Refusals.{refusal_text}
+use Rattle.wblock_line.specs.Told.{IsRefusalIn}
 use Rattle.wblock_line.specs.Worlds.{TellsNoWorld}
 use Rattle.world.specs.Views.{contract_view, world_view}
 use Rattle.wblock_modules.specs.declared.deploy.Modules.{Modules}
 use Rattle.wblock_modules.specs.declared.deploy.Modules.TheVariants as modules
+use Rattle.wblock_modules.specs.Objects.{deployed_data}
 
 -- the file of a name holds the bytes of a module that is this contract
 pub record Holds (holds : Holding) (name : List ℕ) (c : Contract) : Type 0 where
@@ -72,14 +76,20 @@ pub record TellsCrowd (holds : Holding) (onto : Option (Bor (List ℕ))) (count 
   pub line_is : line ≡ crowd_line (length base.contracts + count)
 
 -- OLD holds no world, or one without room for so many contracts more
-abbrev pub RefusesOld : Holding → Option (Bor (List ℕ)) → ℕ → Answer → Type 0
-RefusesOld holds onto count (Done writes text) = ⊥
-RefusesOld holds onto count (Refused line why) = TellsNoBase holds onto (string_bytes line) ⊎ TellsCrowd holds onto count (string_bytes line)
+pub record RefusesOld (json : Bool) (holds : Holding) (onto : Option (Bor (List ℕ))) (count : ℕ) (a : Answer) : Type 0 where
+  pub line : List ℕ
+  pub why : TellsNoBase holds onto line ⊎ TellsCrowd holds onto count line
+  pub told : IsRefusalIn json line a
 
 -- ---- modules
 
 abbrev pub refusal_line : ModuleRefusal → ℕ → List ℕ
 refusal_line refusal number = refusal_text refusal ++ codes " module " ++ decimal number ++ 10 ∷ []
+
+-- this tells that the module of this number is refused: the line, or the object of it and of the sentence
+abbrev pub IsModuleLine : (json : Bool) → ModuleRefusal → (number : ℕ) → (told sentence : List ℕ) → Type 0
+IsModuleLine false refusal number told sentence = told ≡ refusal_line refusal number
+IsModuleLine true refusal number told sentence = IsLineOf (IsJson (refusal_data (Some number) (refusal_text refusal ++ 10 ∷ []) sentence)) told
 
 -- the file of this name is read once those before it hold contracts
 pub record IsNextModule (holds : Holding) (names : List (List ℕ)) (name : List ℕ) : Type 0 where
@@ -88,8 +98,8 @@ pub record IsNextModule (holds : Holding) (names : List (List ℕ)) (name : List
   pub held_before : AreHeld holds (take number names) before
   pub there : slice_get names number ≡ Some name
 
--- the line says why the first of the files that hold no contract holds none, and its number
-pub record TellsRefusal (holds : Holding) (names : List (List ℕ)) (line : List ℕ) : Type 0 where
+-- this tells why the first of the files that hold no contract holds none, and its number
+pub record TellsRefusal (json : Bool) (holds : Holding) (names : List (List ℕ)) (told sentence : List ℕ) : Type 0 where
   pub number : ℕ
   pub before : List Contract
   pub held_before : AreHeld holds (take number names) before
@@ -99,40 +109,45 @@ pub record TellsRefusal (holds : Holding) (names : List (List ℕ)) (line : List
   pub held : holds name ≡ Some bytes
   pub refusal : ModuleRefusal
   pub why : IsWhy bytes refusal
-  pub line_is : line ≡ refusal_line refusal number
+  pub line_is : IsModuleLine json refusal number told sentence
 
 -- ` onto M`, M the number of OLD's contracts, where OLD is named
 abbrev pub onto_text : Option (Bor (List ℕ)) → ℕ → List ℕ
 onto_text None count = []
 onto_text (Some old) count = codes " onto " ++ decimal count
 
--- a file is to hold these bytes, and `deployed N contracts` is to be printed, and this behind it
-pub record IsDone (world bytes : List ℕ) (count : ℕ) (behind : List ℕ) (a : Answer) : Type 0 where
+-- `deployed N contracts`, and ` onto M` behind it; or the same as JSON
+abbrev pub IsDeployedText : (json : Bool) → (count : ℕ) → Option (Bor (List ℕ)) → (before : ℕ) → List ℕ → Type 0
+IsDeployedText false count onto before text = text ≡ codes "deployed " ++ decimal count ++ codes " contracts" ++ onto_text onto before ++ 10 ∷ []
+IsDeployedText true count onto before text = IsLineOf (IsJson (deployed_data count onto before)) text
+
+-- a file is to hold these bytes, and it is to be told that so many contracts were deployed behind so many of OLD
+pub record IsDone (json : Bool) (world bytes : List ℕ) (count : ℕ) (onto : Option (Bor (List ℕ))) (before : ℕ) (a : Answer) : Type 0 where
   pub status : status_of a ≡ status.Done
   pub writes : writes_of a ≡ (world, bytes) ∷ []
-  pub text : text_of a ≡ codes "deployed " ++ decimal count ++ codes " contracts" ++ behind ++ 10 ∷ []
+  pub text : IsDeployedText json count onto before (text_of a)
 
 -- the bytes are those of the world with the contracts that the files hold behind its own
-pub record TellsWorld (holds : Holding) (world : List ℕ) (onto : Option (Bor (List ℕ))) (base : World) (names : List (List ℕ)) (a : Answer) : Type 0 where
+pub record TellsWorld (json : Bool) (holds : Holding) (world : List ℕ) (onto : Option (Bor (List ℕ))) (base : World) (names : List (List ℕ)) (a : Answer) : Type 0 where
   pub contracts : List Contract
   pub held : AreHeld holds names contracts
-  pub is : IsDone world (world_bytes (extended base contracts)) (length names) (onto_text onto (length base.contracts)) a
+  pub is : IsDone json world (world_bytes (extended base contracts)) (length names) onto (length base.contracts) a
 
 -- what comes of the modules, behind the contracts of this world
-abbrev pub Extends : Holding → List ℕ → Option (Bor (List ℕ)) → World → List (List ℕ) → Answer → Type 0
-Extends holds world onto base names (Done writes text) = TellsWorld holds world onto base names (Done writes text)
-Extends holds world onto base names (Refused line why) = TellsRefusal holds names (string_bytes line)
+abbrev pub Extends : (json : Bool) → Holding → List ℕ → Option (Bor (List ℕ)) → World → List (List ℕ) → Answer → Type 0
+Extends json holds world onto base names (Done writes text) = TellsWorld json holds world onto base names (Done writes text)
+Extends json holds world onto base names (Refused line why) = TellsRefusal json holds names (string_bytes line) (string_bytes why)
 
 -- ---- answers
 
 -- the world that is gone on from has room for the modules
-pub record DeploysOnto (holds : Holding) (world : List ℕ) (onto : Option (Bor (List ℕ))) (names : List (List ℕ)) (a : Answer) : Type 0 where
+pub record DeploysOnto (json : Bool) (holds : Holding) (world : List ℕ) (onto : Option (Bor (List ℕ))) (names : List (List ℕ)) (a : Answer) : Type 0 where
   pub base : World
   pub room : HasRoom holds onto (length names) base
-  pub extends : Extends holds world onto base names a
+  pub extends : Extends json holds world onto base names a
 
-abbrev pub Deploys : Holding → List ℕ → Option (Bor (List ℕ)) → List (List ℕ) → Answer → Type 0
-Deploys holds world onto names a = RefusesOld holds onto (length names) a ⊎ DeploysOnto holds world onto names a
+abbrev pub Deploys : (json : Bool) → Holding → List ℕ → Option (Bor (List ℕ)) → List (List ℕ) → Answer → Type 0
+Deploys json holds world onto names a = RefusesOld json holds onto (length names) a ⊎ DeploysOnto json holds world onto names a
 
 -- ---- files that are read
 
@@ -156,19 +171,18 @@ abbrev pub GivesBase : Holding → Option (Bor (List ℕ)) → WorldFile → Typ
 GivesBase holds onto (file.Read w) = IsBase holds onto (world_view w)
 GivesBase holds onto (file.Refused line why) = TellsNoBase holds onto (string_bytes line)
 
--- the answer's line tells that the contracts are so many
-abbrev pub TellsCount : ℕ → Answer → Type 0
-TellsCount count (Done writes text) = ⊥
-TellsCount count (Refused line why) = string_bytes line ≡ crowd_line count
+-- the answer tells that the contracts are so many
+abbrev pub TellsCount : (json : Bool) → ℕ → Answer → Type 0
+TellsCount json count a = IsRefusalIn json (crowd_line count) a
 
 abbrev pub HasCount : ℕ → Modules → Type 0
 HasCount count (modules.Linked contracts) = vec_len contracts ≡ count
 HasCount count (modules.Refused line why) = Unit {0}
 
-abbrev pub IsRead : Holding → List (List ℕ) → Modules → Type 0
-IsRead holds names (modules.Linked contracts) = AreHeld holds names (map contract_view contracts.items)
-IsRead holds names (modules.Refused line why) = TellsRefusal holds names (string_bytes line)
+abbrev pub IsRead : (json : Bool) → Holding → List (List ℕ) → Modules → Type 0
+IsRead json holds names (modules.Linked contracts) = AreHeld holds names (map contract_view contracts.items)
+IsRead json holds names (modules.Refused line why) = TellsRefusal json holds names (string_bytes line) (string_bytes why)
 
-abbrev pub IsRefusalLine : ModuleRefusal → ℕ → Modules → Type 0
-IsRefusalLine refusal number (modules.Linked contracts) = ⊥
-IsRefusalLine refusal number (modules.Refused line why) = string_bytes line ≡ refusal_line refusal number
+abbrev pub IsRefusalLine : (json : Bool) → ModuleRefusal → ℕ → Modules → Type 0
+IsRefusalLine json refusal number (modules.Linked contracts) = ⊥
+IsRefusalLine json refusal number (modules.Refused line why) = IsModuleLine json refusal number (string_bytes line) (string_bytes why)

@@ -1,5 +1,5 @@
-use Rattle.std.proofs.Common.{◌≡◌, IsTrue, Some, inl, inr, subst}
-use Rattle.std.proofs.lemmas.Result.{err_from_is_err_and}
+use Rattle.std.proofs.Common.{◌≡◌, IsTrue, Some, inl, inr, string_bytes, subst}
+use Rattle.std.proofs.lemmas.Result.{IfOk-weaker, err_from_is_err_and}
 use Rattle.spec_block.specs.Verdicts.{IsVerdictOf}
 use Rattle.validator.specs.Judged.{verdict_view}
 use Rattle.wblock_line.specs.Inputs.{HoldsWorld, HoldsCalls, Gives, IsNextInput}
@@ -7,6 +7,13 @@ use Rattle.wblock_blocks.specs.Validates.{IsNextFile}
 use Rattle.wblock_line.specs.FaultLaws.{of_file_weaker}
 use Rattle.world.specs.Views.{world_view}
 use Rattle.wblock_blocks.proofs.validate.validate_block.Goals as goal
+
+pub returns-in-Refused-clause-answers : goal.returns-in-Refused-clause-answers
+returns-in-Refused-clause-answers g c = IfOk-weaker c.refuse.result _ _ (λ a told t. inl (record {
+  line = string_bytes c.in-Refused.line;
+  why = subst (λ inputs. Gives (g.F.Files.holds c.args.files.now) c.args.task.world.now c.args.task.calls.now inputs) c.in-Refused.is (c.in_ok-world.ensures.gives t);
+  told = told;
+})) c.refuse.ensures.told
 
 pub returns-in-Ok-tell-clause-answers : goal.returns-in-Ok-tell-clause-answers
 returns-in-Ok-tell-clause-answers g c = λ t.

@@ -9,9 +9,9 @@ use Rattle.wblock_commands.proofs.command.command_of.Goals as goal
 pub returns-in-None : goal.returns-in-None
 returns-in-None c =
     let stored : ¬ AsksStored (line_of c.args.line.now) = search rules in
-    let assembled : (text target : List ℕ) → ¬ AsksAsm (line_of c.args.line.now) text target = search rules in
-    let written : (source target : List ℕ) (unchecked : Bool) → ¬ AsksText (line_of c.args.line.now) source target unchecked = search rules in
-    let checked : (target : List ℕ) (heap : Option ℕ) → ¬ AsksCheck (line_of c.args.line.now) target heap = search rules in
+    let assembled : (text target : List ℕ) (json : Bool) → ¬ AsksAsm (line_of c.args.line.now) text target json = search rules in
+    let written : (source target : List ℕ) (unchecked json : Bool) → ¬ AsksText (line_of c.args.line.now) source target unchecked json = search rules in
+    let checked : (target : List ℕ) (heap : Option ℕ) (json : Bool) → ¬ AsksCheck (line_of c.args.line.now) target heap json = search rules in
     let deployed : (d : Deploying) → ¬ AsksDeploy (line_of c.args.line.now) d = search rules in
     let shown : (s : Showing) → ¬ AsksShow (line_of c.args.line.now) s = search rules in
     let task : AsksNoTask (line_of c.args.line.now) = search rules in
