@@ -339,8 +339,8 @@ pub fn deploy_modules<'a, F: Files>(
         WorldFile::Refused(line, why) => return refuse(alloc, json, line, why),
     };
     let contracts = count_of(&base);
-    let total = contracts + modules.len();
-    if total > World::MOST_CONTRACTS {
+    let is_crowded = contracts + modules.len() > World::MOST_CONTRACTS;
+    if is_crowded {
         return refuse_crowd(alloc, json, contracts, modules.len());
     }
     match deploy_behind(alloc, files, json, world, onto, base, modules) {

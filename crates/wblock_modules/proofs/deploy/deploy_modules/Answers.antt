@@ -1,4 +1,4 @@
-use Rattle.std.proofs.Common.{◌≡◌, ◌+◌, IsTrue, length, map, string_bytes, subst, inl, inr, arith}
+use Rattle.std.proofs.Common.{◌≡◌, ℕ, ◌+◌, List, Bor, IsTrue, length, map, string_bytes, subst, inl, inr, arith}
 use Rattle.std.proofs.lemmas.List.{length-map}
 use Rattle.std.proofs.lemmas.Result.{IfOk-weaker, err_from_is_err_and}
 use Rattle.wblock_io.specs.Holding.{Holding}
@@ -13,26 +13,26 @@ returns-in-Refused-clause-answers g c = IfOk-weaker c.refuse.result _ _ (λ a to
     let holds = g.F.Files.holds c.args.files.now in
     inl (no_base c.args.json holds c.args.onto (length (map (λ w. w.now) c.args.modules.now)) (string_bytes c.in-Refused.line) a (subst (λ found. GivesBase holds c.args.onto found) c.in-Refused.is (c.in_ok-base.ensures.gives t)) told)) c.refuse.ensures.told
 
-pub returns-then-total-MOST_CONTRACTS-clause-answers : goal.returns-then-total-MOST_CONTRACTS-clause-answers
-returns-then-total-MOST_CONTRACTS-clause-answers g c = IfOk-weaker c.refuse_crowd.result _ _ (λ a told t.
+pub returns-then-is_crowded-clause-answers : goal.returns-then-is_crowded-clause-answers
+returns-then-is_crowded-clause-answers g c = IfOk-weaker c.refuse_crowd.result _ _ (λ a told t.
     let holds = g.F.Files.holds c.args.files.now in
     let base = world_view c.in-Read.base in
     let names = map (λ w. w.now) c.args.modules.now in
-    let count = length-map (λ w. w.now) c.args.modules.now in
+    let count = length-map c.args.modules.now (λ (w : Bor (List ℕ)). w.now) in
     let is : IsBase holds c.args.onto base = subst (λ found. GivesBase holds c.args.onto found) c.in-Read.is (c.in_ok-base.ensures.gives t) in
     let same : c.count_of-contracts.result + length c.args.modules.now ≡ length base.contracts + length names = omega (arith, count, c.count_of-contracts.ensures.count) in
-    inl (crowded c.args.json holds c.args.onto (length names) base a is (omega (arith, same, c.if-total-MOST_CONTRACTS.true)) (subst (λ n. TellsCount c.args.json n a) same told))) c.refuse_crowd.ensures.told
+    inl (crowded c.args.json holds c.args.onto (length names) base a is (omega (arith, same, c.if-is_crowded.true)) (subst (λ (n : ℕ). TellsCount c.args.json n a) same told))) c.refuse_crowd.ensures.told
 
 pub returns-in-Ok-clause-answers : goal.returns-in-Ok-clause-answers
 returns-in-Ok-clause-answers g c = λ t.
     let holds = g.F.Files.holds c.args.files.now in
     let base = world_view c.in-Read.base in
     let names = map (λ w. w.now) c.args.modules.now in
-    let count = length-map (λ w. w.now) c.args.modules.now in
+    let count = length-map c.args.modules.now (λ (w : Bor (List ℕ)). w.now) in
     let is : IsBase holds c.args.onto base = subst (λ found. GivesBase holds c.args.onto found) c.in-Read.is (c.in_ok-base.ensures.gives t) in
     inr (record {
       base = base;
-      room = record { is_base = is; room = omega (arith, count, c.count_of-contracts.ensures.count, c.if-total-MOST_CONTRACTS.false) };
+      room = record { is_base = is; room = omega (arith, count, c.count_of-contracts.ensures.count, c.if-is_crowded.false) };
       extends = subst (λ (h : Holding). Extends c.args.json h c.args.world.now c.args.onto base names c.in-Ok.answer) (c.in_ok-base.ensures.kept t) (c.in-Ok.ensures.answers t);
     })
 
@@ -49,11 +49,11 @@ returns-clause-next g c =
     let holds = g.F.Files.holds c.args.files.now in
     let base = world_view c.in-Read.base in
     let names = map (λ w. w.now) c.args.modules.now in
-    let count = length-map (λ w. w.now) c.args.modules.now in
+    let count = length-map c.args.modules.now (λ (w : Bor (List ℕ)). w.now) in
     of_file_weaker (λ name. IsTrue g.F.Files.tells → IsNextModule (g.F.Files.holds c.read_base.new.files) names name) (λ name. IsTrue g.F.Files.tells → IsNextDeployed holds c.args.onto names name) c.in-Err.fault (λ name next t.
     let is : IsBase holds c.args.onto base = subst (λ found. GivesBase holds c.args.onto found) c.in-Read.is (c.in_ok-base.ensures.gives t) in
     inr (record {
       base = base;
-      room = record { is_base = is; room = omega (arith, count, c.count_of-contracts.ensures.count, c.if-total-MOST_CONTRACTS.false) };
+      room = record { is_base = is; room = omega (arith, count, c.count_of-contracts.ensures.count, c.if-is_crowded.false) };
       next = subst (λ (h : Holding). IsNextModule h names name) (c.in_ok-base.ensures.kept t) (next t);
     })) c.in-Err.ensures.next
