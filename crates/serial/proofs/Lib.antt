@@ -14,3 +14,4 @@ pub mod Copies
 pub mod Crossing
 pub mod BlocksLimits
 pub mod BlocksOrders
+pub mod Untouched

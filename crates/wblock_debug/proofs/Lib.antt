@@ -3,4 +3,3 @@ mod Lists
 mod Options
 mod Printing
 mod Telling
-mod Untouched

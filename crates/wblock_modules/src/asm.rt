@@ -18,7 +18,11 @@ use wblock_line::{Answer, Fault, read_file, write_counted};
 use wblock_words::text_words;
 
 /// The shortest spelling of the module that a text names. Its tree stands in an arena.
-fn spell(alloc: Global, text: &str) -> Result<Vec<u8>, AsmRefusal>
+///
+/// # Errors
+///
+/// The first refusal of the text, which then names no module; or memory was refused.
+pub fn spell(alloc: Global, text: &str) -> Result<Vec<u8>, AsmRefusal>
     ensures spelled { IfOk result (λ v. IsSpelled text.now v.items) }
     ensures refused { IfErr result (Unless (NamesNothing text.now)) }
     ensures why { IfErr result (IsWhy text.now) }
@@ -33,7 +37,7 @@ fn spell(alloc: Global, text: &str) -> Result<Vec<u8>, AsmRefusal>
 }
 
 /// The number of a refusal, and its place or the number of the limit that is passed; or None for lack of memory.
-fn numbered(refusal: AsmRefusal) -> Option<(u8, usize)>
+pub fn numbered(refusal: AsmRefusal) -> Option<(u8, usize)>
     ensures { result ≡ told refusal }
 {
     match refusal {

@@ -12,7 +12,11 @@ use wblock_io::Files;
 use wblock_line::{Answer, Fault, Stop, read_file, read_valid};
 
 /// The number of the functions that a valid module defines. Its tree stands under `room`.
-fn count_functions<A: Allocator + Clone>(
+///
+/// # Errors
+///
+/// The first refusal of the bytes; or memory was refused.
+pub fn count_functions<A: Allocator + Clone>(
     alloc: Global,
     room: A,
     bytes: &[u8],

@@ -87,7 +87,7 @@ fn read_modules<'a, F: Files>(
 }
 
 /// The world of nothing.
-fn empty_world(alloc: Global) -> World
+pub fn empty_world(alloc: Global) -> World
     ensures { IsEmpty (world_view result) }
 {
     World::new(Vec::new(alloc), Cells::new(alloc))
@@ -120,7 +120,11 @@ fn count_of(world: &World) -> usize
 }
 
 /// The bytes of a world with these contracts behind its own.
-fn encode_extended(
+///
+/// # Errors
+///
+/// Memory was refused.
+pub fn encode_extended(
     alloc: Global,
     base: World,
     contracts: Vec<Deployed<Global>>,

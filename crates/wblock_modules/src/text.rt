@@ -14,7 +14,7 @@ use wblock_line::{Answer, Fault, Stop, read_file, read_module, read_valid, write
 
 /// What a module comes to.
 #[derive(Drop)]
-enum Found {
+pub enum Found {
     /// This text names it.
     Text(String),
     /// Its text would be too long.
@@ -43,7 +43,11 @@ fn read_tree(alloc: Global, unchecked: bool, bytes: &[u8]) -> Result<Module<Glob
 }
 
 /// The text of the module of these bytes, where it is valid; unchecked, valid or not.
-fn find_text(alloc: Global, unchecked: bool, bytes: &[u8]) -> Result<Found, Stop>
+///
+/// # Errors
+///
+/// The first refusal of the bytes; or memory was refused.
+pub fn find_text(alloc: Global, unchecked: bool, bytes: &[u8]) -> Result<Found, Stop>
     ensures found { IfOk result (IsFound unchecked bytes.now) }
     ensures refused { IfErr result (StopsAt bytes.now) }
     ensures none { IfErr result (λ s. unchecked ≡ true → IsUnspelled bytes.now s) }
@@ -57,6 +61,19 @@ fn find_text(alloc: Global, unchecked: bool, bytes: &[u8]) -> Result<Found, Stop
         Err(TextRefusal::TooLong) => Ok(Found::TooLong),
         Err(TextRefusal::Unwritten) => Ok(Found::Unwritten),
         Err(TextRefusal::NoMemory) => Err(Stop::NoMemory),
+    }
+}
+
+impl Found {
+    /// Why there is no text, for people; nothing where there is one.
+    pub fn advice(&self) -> &'static str {
+        match self {
+            Found::Text(_) => "",
+            Found::TooLong => {
+                "the module's text would have more than 1048576 bytes, the most that `asm` takes"
+            }
+            Found::Unwritten => "no text was found that names the module",
+        }
     }
 }
 
@@ -82,15 +99,11 @@ fn answer_or_refuse<'a>(
     match find_text(alloc, unchecked, bytes) {
         Ok(Found::Text(text)) => write_counted(alloc, "text", target, text.into_bytes()),
         Ok(Found::TooLong) => {
-            let (line, why) = unwritten_text(
-                alloc,
-                1,
-                "the module's text would have more than 1048576 bytes, the most that `asm` takes",
-            )?;
+            let (line, why) = unwritten_text(alloc, 1, Found::TooLong.advice())?;
             Ok(Answer::Refused(line, why))
         }
         Ok(Found::Unwritten) => {
-            let (line, why) = unwritten_text(alloc, 2, "no text was found that names the module")?;
+            let (line, why) = unwritten_text(alloc, 2, Found::Unwritten.advice())?;
             Ok(Answer::Refused(line, why))
         }
         Err(Stop::Refused(refusal)) => {
