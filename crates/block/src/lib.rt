@@ -14,4 +14,4 @@ pub use read::read_block;
 pub use records::Position;
 pub use refusal::{BlockRefusal, WriteRefusal};
 pub use value::Block;
-pub use write::{encode_block, write_block};
+pub use write::write_block;

@@ -1,6 +1,6 @@
 //! Writing a block.
 
-ghost use Rattle.std.specs.Prelude.{◌≡◌, ◌≤◌, ◌++◌, length, OnOk, IfOk, IsErrOf, IsTrue};
+ghost use Rattle.std.specs.Prelude.{◌≡◌, ◌≤◌, ◌++◌, length, OnOk, IsErrOf, IsTrue};
 ghost use Rattle.std.specs.List.{AllByRecursion};
 ghost use Rattle.byte_sinks.specs.Putting.{IsCutShort, IsRaised};
 ghost use Rattle.spec_ledger.specs.declared.Version.{Version};
@@ -13,7 +13,6 @@ use byte_sinks::{Sink, put_all};
 use records::{Position, append_position, append_u32, append_u64};
 use spec_ledger::Version;
 use std::alloc::{AllocError, Allocator};
-use wtypes::NoMemory;
 
 /// Puts bytes that are made.
 pub(crate) fn put_made<S: Sink>(sink: &mut S, bytes: &[u8]) -> Result<(), WriteRefusal>
@@ -66,19 +65,6 @@ fn append_block<A: Allocator>(out: &mut Vec<u8, A>, block: &Block<A>) -> Result<
     append_u64(out, block.fuel())?;
     out.extend_from_slice(block.after())?;
     Ok(())
-}
-
-/// A block's bytes, those of its own version.
-///
-/// # Errors
-///
-/// Memory was refused.
-pub fn encode_block<A: Allocator>(alloc: A, block: &Block<A>) -> Result<Vec<u8, A>, NoMemory>
-    ensures { IfOk result (λ bytes. bytes.items ≡ block_bytes block.now) }
-{
-    let mut bytes = Vec::new(alloc);
-    append_block(&mut bytes, block)?;
-    Ok(bytes)
 }
 
 /// Writes a block's bytes, those of its own version.

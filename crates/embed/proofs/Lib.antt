@@ -1,1 +1,3 @@
 mod Refusing
+mod Untouched
+mod Versions

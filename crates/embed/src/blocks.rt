@@ -1,7 +1,8 @@
 //! Blocks: produced in the list's order, verified, and read.
 
 ghost use Rattle.std.specs.Prelude.{◌≡◌, ◌≤◌, None, IfOk, IfErr, length};
-ghost use Rattle.spec_block.specs.Bytes.{SpellsBlock};
+ghost use Rattle.std.specs.List.{AllByRecursion};
+ghost use Rattle.spec_block.specs.Bytes.{SpellsBlock, ForVersion, block_bytes};
 ghost use Rattle.spec_block.specs.Verdicts.{place};
 ghost use Rattle.block_judge.specs.Judging as judged;
 ghost use Rattle.world.specs.Views.{world_view};
@@ -12,8 +13,9 @@ ghost use Rattle.embed.specs.Refusals.{IfRefused, Rejects, RefusesBlock, Refuses
 
 use crate::failure::{Failure, Refusal, Subject};
 use crate::inputs::{calls_of, world_of};
-use block::{Block, BlockRefusal, encode_block, read_block};
+use block::{Block, BlockRefusal, read_block, write_block};
 use block_judge::Reason;
+use byte_sinks::{Failures, MemorySink};
 use call::Call;
 use miner::mine_alone;
 use std::alloc::Global;
@@ -30,6 +32,19 @@ pub struct BlockAndWorld {
     pub block: Vec<u8>,
     /// The world after it.
     pub next: Vec<u8>,
+}
+
+/// The bytes of a block. A sink in memory fails only where memory is refused.
+fn encode_block(alloc: Global, block: &Block) -> Result<Vec<u8>, NoMemory>
+    requires { AllByRecursion (λ p. ForVersion block.now.version p.receipt) block.now.positions }
+    ensures { IfOk result (λ bytes. bytes.items ≡ block_bytes block.now) }
+{
+    let mut sink = MemorySink::new(alloc, usize::MAX, Failures::none());
+    if write_block(alloc, block, &mut sink).is_err() {
+        return Err(NoMemory);
+    }
+    let bytes = sink.bytes().to_vec(alloc)?;
+    Ok(bytes)
 }
 
 /// The block of calls over a world in the list's order, and the world after it.

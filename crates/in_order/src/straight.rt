@@ -41,7 +41,9 @@ pub(crate) fn run_to<A: Allocator + Copy, P: Pace>(
 {
     let end = end.min(job.order.len());
     for position in ran.receipts.len()..end {
-        if job.is_stopped.load(Ordering::SeqCst) || must_stop_before(job.pace, job.order[position]) {
+        if job.is_stopped.load(Ordering::SeqCst)
+            || must_stop_before(job.pace, job.order[position])
+        {
             return Ok(StraightRun { ran, stops: true });
         }
         ran = do_next(job, ran, None, &[], None)?;

@@ -14,4 +14,3 @@ pub mod Copies
 pub mod Crossing
 pub mod BlocksLimits
 pub mod BlocksOrders
-pub mod Untouched

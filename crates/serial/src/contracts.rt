@@ -1,13 +1,10 @@
 //! Copies of the contracts of a world.
 
 ghost use Rattle.std.specs.Prelude.{◌≡◌, IfOk, map};
-ghost use Rattle.spec_block.specs.Blocks.{world_after};
-ghost use Rattle.world.specs.Views.{contract_view, world_view};
+ghost use Rattle.world.specs.Views.{contract_view};
 
 use link::deployed::Deployed;
 use std::alloc::Allocator;
-use storage::Cells;
-use world::World;
 use wtypes::NoMemory;
 
 /// The same contracts once more.
@@ -26,19 +23,4 @@ pub fn copied<A: Allocator + Copy>(
         copies.push(contract.copy_in(alloc)?)?;
     }
     Ok(copies)
-}
-
-/// The same contracts over other cells.
-///
-/// # Errors
-///
-/// Memory was refused.
-pub fn world_after<A: Allocator + Copy>(
-    alloc: A,
-    world: &World<A>,
-    cells: Cells<A>,
-) -> Result<World<A>, NoMemory>
-    ensures { IfOk result (λ next. world_view next ≡ world_after (world_view world.now) cells.cells) }
-{
-    Ok(World::new(copied(alloc, world.contracts())?, cells))
 }

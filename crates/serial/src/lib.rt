@@ -29,7 +29,7 @@ pub use crate::locks::touched_by;
 use crate::playing::play;
 pub use crate::turn_loop::{HostRequest, next_request};
 use call::Call;
-pub use contracts::{copied, world_after};
+pub use contracts::copied;
 use interp::finished::Finished;
 use link::deployed::Deployed as Contract;
 use lock_profile::Touched;

@@ -5,6 +5,7 @@ ghost use Rattle.serial.specs.Positions.{results_of};
 ghost use Rattle.spec_block.specs.Worlds.{Call as TheCall};
 ghost use Rattle.sha2.specs.Sha256.{sha256};
 ghost use Rattle.spec_block.specs.Bytes.{world_bytes};
+ghost use Rattle.spec_block.specs.Blocks.{world_after as after};
 ghost use Rattle.spec_block.specs.Verdicts.{HoldsOf, RunOf};
 ghost use Rattle.block_judge.specs.Judging.{IsFirstFrom};
 ghost use Rattle.world.specs.Views.{world_view};
@@ -22,16 +23,28 @@ use block_judge::Reason;
 use in_order::OrderProgress;
 use lock_profile::Touched;
 use pace::{Pace, digesters};
-use serial::{Core, serial_core, world_after};
+use serial::{Core, copied, serial_core};
 use spec_ledger::{NoMemory, Receipt};
 use std::alloc::Allocator;
 use std::thread::{Threads, join};
+use storage::Cells;
 use world::{World, digest_world};
 
 fn is_digest(a: &[u8; 32], b: &[u8; 32]) -> bool
     ensures { IsTrue result ↔ (a.now ≡ b.now) }
 {
     a == b
+}
+
+/// The same contracts over other cells.
+fn world_after<A: Allocator + Copy>(
+    alloc: A,
+    world: &World<A>,
+    cells: Cells<A>,
+) -> Result<World<A>, NoMemory>
+    ensures { IfOk result (λ next. world_view next ≡ after (world_view world.now) cells.cells) }
+{
+    Ok(World::new(copied(alloc, world.contracts())?, cells))
 }
 
 /// Compares what a block says of its calls with what they came to, and gives the digest of the world after them, each of the two by a thread of its own where

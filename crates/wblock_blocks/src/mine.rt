@@ -1,9 +1,11 @@
 //! The command `mine WORLD CALLS BLOCK NEXT --fuel N [--workers 4] [--boosted] [--tries 3]`: a block of calls over a world, and the world after it.
 
 ghost use Rattle.std.specs.Prelude.{◌≡◌, ◌≤◌, false, IsTrue, IfOk, IfErr, OnOk, length, string_bytes};
+ghost use Rattle.std.specs.List.{AllByRecursion};
 ghost use Rattle.spec_ledger.specs.declared.Version.TheVariants.{Two};
 ghost use Rattle.spec_ledger.specs.Order.{first_fit};
 ghost use Rattle.spec_block.specs.Worlds.{limits, order_of};
+ghost use Rattle.spec_block.specs.Bytes.{block_bytes, ForVersion};
 ghost use Rattle.spec_block.specs.Headline.{Headline, IsLeft};
 ghost use Rattle.world.specs.Views.{world_view};
 ghost use Rattle.wblock_line.specs.Answers.{CountsFault, IsOfFile};
@@ -13,7 +15,8 @@ ghost use Rattle.wblock_blocks.specs.Notes.{IsNoteOf, Notes};
 
 use crate::note::{Noted, note_of};
 use crate::text::block_text_of;
-use block::encode_block;
+use block::{Block, write_block};
+use byte_sinks::{Failures, MemorySink};
 use call::Call;
 use miner::{Mined, mine};
 use pace::{Pace, Watched};
@@ -76,8 +79,22 @@ fn mine_calls<R: Threads + Wait + Sync, P: Pace>(
     )
 }
 
+/// The bytes of a block. A sink in memory fails only where memory is refused.
+fn encode_block(alloc: Global, block: &Block) -> Result<Vec<u8>, NoMemory>
+    requires { AllByRecursion (λ p. ForVersion block.now.version p.receipt) block.now.positions }
+    ensures { IfOk result (λ bytes. bytes.items ≡ block_bytes block.now) }
+{
+    let mut sink = MemorySink::new(alloc, usize::MAX, Failures::none());
+    if write_block(alloc, block, &mut sink).is_err() {
+        return Err(NoMemory);
+    }
+    let bytes = sink.bytes().to_vec(alloc)?;
+    Ok(bytes)
+}
+
 /// The answer that writes a block and the world after it, and prints the block's lines.
 fn done<'a>(alloc: Global, task: Mining<'a>, mined: &Mined) -> Result<Answer<'a>, NoMemory>
+    requires { mined.now.block.version ≡ Two }
     ensures { IfOk result (IsDone task.entry mined.now.block (world_view mined.now.world) mined.now.left.items) }
 {
     let block = encode_block(alloc, &mined.block)?;
@@ -116,6 +133,7 @@ fn noted<'a>(
     task: Mining<'a>,
     mined: &Mined,
 ) -> Result<Noted<'a>, NoMemory>
+    requires { mined.now.block.version ≡ Two }
     ensures answer { IfOk result (λ n. IsDone task.entry mined.now.block (world_view mined.now.world) mined.now.left.items n.answer) }
     ensures note { IfOk result (λ n. IsNoteOf mined.now.block.positions (string_bytes n.note)) }
 {

@@ -3,3 +3,4 @@ mod Lists
 mod Options
 mod Printing
 mod Telling
+mod Untouched

@@ -1,5 +1,9 @@
 use Rattle.world.specs.Views.{world_view}
+use Rattle.embed.proofs.Versions.{told}
 use Rattle.embed.proofs.blocks.mine_over.Goals as goal
+
+pub encode_block-requires : goal.encode_block-requires
+encode_block-requires c = told c.in_ok-mined.mined.block.version c.in_ok-mined.mined.block.positions c.in_ok-mined.ensures.version
 
 pub returns : goal.returns
 returns c =

@@ -7,7 +7,7 @@ use Rattle.spec_block.specs.Serial.{setting_of}
 use Rattle.interp.specs.Callee.{setting_view}
 use Rattle.lock_profile.specs.Groups.{pairs}
 use Rattle.world.specs.Views.{world_view}
-use Rattle.serial.proofs.Untouched.{untouched}
+use Rattle.embed.proofs.Untouched.{untouched}
 use Rattle.embed.specs.Given.{change_at}
 use Rattle.embed.proofs.calling.effects_of.Goals as goal
 

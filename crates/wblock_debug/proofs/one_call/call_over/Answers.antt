@@ -7,7 +7,7 @@ use Rattle.spec_block.specs.Serial.{setting_of}
 use Rattle.interp.specs.Callee.{setting_view}
 use Rattle.world.specs.Views.{world_view}
 use Rattle.wblock_debug.specs.Effects.{effects_text}
-use Rattle.serial.proofs.Untouched.{untouched}
+use Rattle.wblock_debug.proofs.Untouched.{untouched}
 use Rattle.wblock_debug.proofs.one_call.call_over.Goals as goal
 
 pub returns : goal.returns

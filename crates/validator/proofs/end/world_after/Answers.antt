@@ -1,7 +1,7 @@
 use Rattle.std.proofs.Common.{◌≡◌, ◌∙◌, ap, sym, length, arith}
 use Rattle.std.proofs.lemmas.List.{length-map}
 use Rattle.world.specs.Views.{contract_view}
-use Rattle.serial.proofs.contracts.world_after.Goals as goal
+use Rattle.validator.proofs.end.world_after.Goals as goal
 
 pub new-requires : goal.new-requires
 new-requires g c =
