@@ -1,7 +1,7 @@
 //! What bytes spell.
 
-use crate::refused::Refused;
 use crate::put_instrs;
+use crate::refused::Refused;
 use encoder::encode;
 use expr_reader::read_expr;
 use loader::load;

@@ -1,7 +1,7 @@
 //! Which function a call starts with.
 
-use crate::refused::Refused;
 use crate::numbers::first_line;
+use crate::refused::Refused;
 use call::Call;
 use instance::{asked_entry, entry_of};
 use std::alloc::Global;
