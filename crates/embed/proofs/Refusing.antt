@@ -3,6 +3,10 @@ use Rattle.std.proofs.Common.{◌≡◌, ◌⊎◌, ⊎_elim, ℕ, List, Option,
 use Rattle.world.specs.Reading.{IsNoWorld, Refuses}
 use Rattle.world.specs.declared.read.ReadRefusal.{ReadRefusal}
 use Rattle.world.specs.declared.read.ReadRefusal.TheVariants as cause
+use Rattle.text_resolve.specs.Refused.{Unless}
+use Rattle.text_resolve.specs.declared.refusal.AsmRefusal.{AsmRefusal}
+use Rattle.text_resolve.specs.declared.refusal.AsmRefusal.TheVariants as of_text
+use Rattle.wblock_modules.specs.Assembles.{told}
 use Rattle.embed.specs.Refusals.{IfRefused, RefusesWorld, world_refusal}
 use Rattle.embed.specs.declared.failure.Refusal.{Refusal}
 use Rattle.embed.specs.declared.failure.Failure.{Failure}
@@ -17,3 +21,13 @@ pub no_world : (bytes : List ℕ) (c : ReadRefusal) (r : Refusal) → ((c ≡ ca
 no_world bytes (cause.Malformed at) r none first told = record { none = ⊎_elim (λ same. absurd (cc)) (λ n. n) none; cause = cause.Malformed at; first = first; told_is = told }
 no_world bytes cause.TooLarge r none first told = record { none = ⊎_elim (λ same. absurd (cc)) (λ n. n) none; cause = cause.TooLarge; first = first; told_is = told }
 no_world bytes cause.NoMemory r none first told = absurd (cc)
+
+-- so is a refusal of a text
+pub unless_told : (P : Type 0) (c : AsmRefusal) (n : ℕ × ℕ) → Unless P c → told c ≡ Some n → P
+unless_told P of_text.NoMemory n p is = absurd (cc)
+unless_told P (of_text.Lex refusal) n p is = p
+unless_told P (of_text.Unexpected at) n p is = p
+unless_told P (of_text.UnknownName at) n p is = p
+unless_told P (of_text.RepeatedName at) n p is = p
+unless_told P (of_text.NumberRange at) n p is = p
+unless_told P (of_text.TooLarge limit) n p is = p

@@ -22,11 +22,7 @@ const NO_MEMORY: u32 = 3;
 pub(crate) fn lay<T: Copy>(items: &[T], out: &mut [T])
     ensures { out.new ≡ laid items.now out.old }
 {
-    let count = if items.len() < out.len() {
-        items.len()
-    } else {
-        out.len()
-    };
+    let count = items.len().min(out.len());
     let (front, _rest) = out.split_at_mut(count);
     front.copy_from_slice(&items[..count]);
 }
