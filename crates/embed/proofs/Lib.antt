@@ -1,3 +1,4 @@
 mod Refusing
+mod Rejecting
 mod Untouched
 mod Versions

@@ -22,9 +22,12 @@ const NO_MEMORY: u32 = 3;
 pub(crate) fn lay<T: Copy>(items: &[T], out: &mut [T])
     ensures { out.new ≡ laid items.now out.old }
 {
-    let count = items.len().min(out.len());
-    let (front, _rest) = out.split_at_mut(count);
-    front.copy_from_slice(&items[..count]);
+    if items.len() <= out.len() {
+        out[..items.len()].copy_from_slice(items);
+    } else {
+        let count = out.len();
+        out.copy_from_slice(&items[..count]);
+    }
 }
 
 /// What stands from this place on.

@@ -1,4 +1,4 @@
-use Rattle.std.proofs.Common.{length, sym, ◌∙◌, arith}
+use Rattle.std.proofs.Common.{ℕ, List, ap, length, sym, ◌∙◌, arith}
 use Rattle.serial.specs.Positions.{results_of}
 use Rattle.interp.specs.Callee.{setting_view}
 use Rattle.world.specs.Views.{world_view}
@@ -14,7 +14,7 @@ compare-compared-requires-clause-few g c =
     let many = as_many_numbers t.block.now t.order.now c.requires.trial.trial.order in
     let few = c.requires.trial.trial.few in
     let order = c.requires.trial.trial.order in
-    omega (arith, many, few, (λ k. length (order k)))
+    omega (arith, many, few, ap (λ (l : List ℕ). length l) order)
 
 pub compare-compared-requires-clause-receipts : goal.compare-compared-requires-clause-receipts
 compare-compared-requires-clause-receipts g c =
