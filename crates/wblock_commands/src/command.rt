@@ -168,7 +168,9 @@ fn text_of<'w>(words: &[&'w str], options: &[(&str, &str)]) -> Option<(&'w str, 
     if is_word(words[1], words[2]) {
         return None;
     }
-    let unchecked = switch_alone(options, UNCHECKED_SWITCH)?;
+    let Some(unchecked) = switch_alone(options, UNCHECKED_SWITCH) else {
+        return None;
+    };
     Some((words[1], words[2], unchecked))
 }
 
