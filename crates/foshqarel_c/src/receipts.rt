@@ -52,10 +52,8 @@ fn value_of(outcome: Outcome) -> i64
     match outcome {
         Outcome::Returned(Some(Value::I32(value))) => i64::from(value),
         Outcome::Returned(Some(Value::I64(value))) => value,
-        Outcome::Returned(None)
-        | Outcome::Trapped(_)
-        | Outcome::OutOfFuel
-        | Outcome::Rejected(_) => 0,
+        Outcome::Returned(None) | Outcome::Trapped(_) | Outcome::OutOfFuel | Outcome::Rejected(_) =>
+            0,
     }
 }
 
