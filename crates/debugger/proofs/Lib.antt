@@ -5,3 +5,5 @@ pub mod Replies
 pub mod Keeping
 pub mod Spacing
 pub mod Places
+mod Finding
+mod Untouched

@@ -18,7 +18,7 @@ pub fn debug_call<A: Allocator + Copy>(
     contracts: &[Contract<A>],
     cells: &Cells<A>,
     call: &Call,
-    commands: &[Command],
+    commands: &[Command<'_>],
     version: Version,
 ) -> Result<Printed<A>, NoMemory>
     ensures { IfOk result (λ p. IsDebugged (setting_view version contracts.now) cells.now.cells call.now commands.now p.refused (string_bytes p.text)) }

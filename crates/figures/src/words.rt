@@ -5,7 +5,7 @@ ghost use Rattle.spec_block.specs.Bytes.{version_code};
 ghost use Rattle.figures.specs.Words.{hundredth, kind_word, lock_text, mode_word};
 
 use spec_ledger::{Kind, Lock, Mode, Version};
-use std::alloc::{AllocError, Global};
+use std::alloc::{AllocError, Allocator, Global};
 
 /// The word of a kind of locks.
 pub fn word_of_kind(kind: Kind) -> &'static str
@@ -22,7 +22,7 @@ pub fn word_of_kind(kind: Kind) -> &'static str
 /// # Errors
 ///
 /// The allocator refused memory.
-pub fn lock_text_of(alloc: Global, lock: Lock) -> Result<String, AllocError>
+pub fn lock_text_of<A: Allocator>(alloc: A, lock: Lock) -> Result<String<A>, AllocError>
     ensures { IfOk result (λ text. string_bytes text ≡ lock_text lock) }
 {
     let kind = word_of_kind(lock.kind);

@@ -2,6 +2,7 @@
 
 use crate::question::{number, question_of};
 use crate::refused::Refused;
+use debugger::Place;
 use debugger::session::{Refusal, Session};
 use spec_ledger::Version;
 use std::alloc::Global;
@@ -13,11 +14,15 @@ fn two(words: &str) -> Result<(u64, u64), Refused> {
     Ok((number(first)?, number(second)?))
 }
 
-/// The function and the ordinal of a place.
-fn place_of(words: &str) -> Result<(u32, u32), Refused> {
+/// The place of this function and ordinal in a contract.
+fn place_of(contract: u32, words: &str) -> Result<Place, Refused> {
     let (func, ordinal) = two(words)?;
     match (u32::try_from(func), u32::try_from(ordinal)) {
-        (Ok(func), Ok(ordinal)) => Ok((func, ordinal)),
+        (Ok(func), Ok(ordinal)) => Ok(Place {
+            contract,
+            func,
+            ordinal,
+        }),
         _ => Err(Refused::Line),
     }
 }
@@ -46,17 +51,17 @@ fn put_move(
     Ok(())
 }
 
-/// Puts what a break comes to that is set or cleared.
+/// Puts what a break comes to that is set or cleared in the contract that is called.
 fn put_break(
     out: &mut String,
     session: &mut Session<'_, Global>,
     word: &str,
     rest: &str,
 ) -> Result<(), Refused> {
-    let (func, ordinal) = place_of(rest)?;
+    let place = place_of(session.called(), rest)?;
     let done = match word {
-        "break" => session.break_at(func, ordinal),
-        _ => session.clear(func, ordinal),
+        "break" => session.break_at(place),
+        _ => session.clear(place),
     };
     writeln!(out, " {done:?}")?;
     Ok(())

@@ -8,6 +8,7 @@ use block::{Block, BlockRefusal, read_block, write_block};
 use body_typing::scope::TypeRefusal;
 use byte_sinks::{Failures, MemorySink};
 use call::Call;
+use debugger::Place;
 use debugger::session::{Refusal, Session};
 use encoder::encode;
 use interp::start::StartRefusal;
@@ -380,7 +381,11 @@ fn goes<A: Allocator + Copy>(session: &mut Session<'_, A>, ask: Ask) -> Result<(
         Ask::Cont => {
             session.cont()?;
         }
-        Ask::Break => session.break_at(0, 4)?,
+        Ask::Break => session.break_at(Place {
+            contract: 0,
+            func: 0,
+            ordinal: 4,
+        })?,
     }
     Ok(())
 }

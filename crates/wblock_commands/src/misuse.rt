@@ -154,7 +154,7 @@ fn debugging_misuse(
     for command in commands {
         if command_of(alloc, *command)?.is_none() {
             return format!(in alloc;
-                "usage: `{command}` is no CMD: step:N, back:N, cont, place, break:F:O, clear:F:O, stack, locals, globals, bytes:FROM:N, each number decimal without needless zeros"
+                "usage: `{command}` is no CMD: step:N, back:N, cont, place, break:F:O or break:C:F:O or break:NAME:O, clear with the same, stack, locals, globals, cells, where, bytes:FROM:N, each number decimal without needless zeros"
             );
         }
     }

@@ -177,7 +177,7 @@ fn debug<'a>(alloc: Global) -> Result<Command<'a>, AllocError> {
         .arg(required(
             alloc,
             "CMD",
-            "step:N, back:N, cont, place, break:F:O, clear:F:O, stack, locals, globals, bytes:FROM:N",
+            "step:N, back:N, cont, place, break:F:O or break:C:F:O or break:NAME:O, clear with the same, stack, locals, globals, cells, where, bytes:FROM:N",
         )
         .num_args(1..))?
         .arg(file(alloc, BLOCK))?

@@ -1,5 +1,8 @@
 -- Words that are cut at their colons.
-use Rattle.std.proofs.Common.{◌≡◌, ◌≢◌, ℕ, suc, ◌+◌, ◌%◌, ◌<◌, ◌^◌, List, [], ◌∷◌, ◌++◌, length, get_or, Bor, refl, sym, ap, ap₂, ◌∙◌, subst, arith, Option, Some, None, Result, Ok, Err, IfOk, MatchOption, decimal, true, false}
+use Rattle.std.proofs.Common.{◌≡◌, ◌≢◌, ℕ, suc, ◌+◌, ◌%◌, ◌<◌, ◌≤◌, ◌^◌, List, [], ◌∷◌, ◌++◌, length, take, drop, get_or, Bor, refl, sym, ap, ap₂, ◌∙◌, subst, arith, Option, Some, None, Result, Ok, Err, IfOk, MatchOption, decimal, lit<, true, false}
+use Rattle.std.proofs.lemmas.List.{take-append-drop}
+use Rattle.std.proofs.lemmas.Str.Pattern.{NoCharPasses-char, drop_at_char}
+use Rattle.std.specs.Str.Pattern.{RFindsChar}
 use Rattle.std.proofs.lemmas.Slice.Eq.{bytes_eq-Decides}
 use Rattle.std.specs.Str.{bytes_eq}
 use Rattle.std.proofs.lemmas.Fmt.{decimal_by_steps, decimal_injective}
@@ -72,24 +75,29 @@ behind_name_two (Ok None) word name numbers free is h = λ m n low high e. h m n
 behind_name_two (Ok (Some x)) word name numbers free is h = is ∙ ap (λ ds. name ++ 58 ∷ ds) h
 behind_name_two (Err e) word name numbers free is h = h
 
--- two numbers behind a name are these two alone
-pub record AreSame (a b m n : ℕ) : Type 0 where
-  pub first : a ≡ m
-  pub second : b ≡ n
+-- a number that is too great is no other one
+pub too_great : (text : List ℕ) (a : ℕ) → a < 2 ^ 64 → ¬ (a < 2 ^ 32) → text ≡ decimal a → (n : ℕ) → n < 2 ^ 32 → text ≢ decimal n
+too_great text a small great is n low e = let eq = decimal_injective a n small (omega (arith, low)) (sym is ∙ e) in great (omega (arith, eq, low))
 
-pub same_numbers : (word name : List ℕ) (a b m n : ℕ) → HasNoColon name → a < 2 ^ 64 → b < 2 ^ 64 → m < 2 ^ 64 → n < 2 ^ 64 → word ≡ with_numbers name a b → word ≡ with_numbers name m n → AreSame a b m n
-same_numbers word name a b m n free la lb lm ln is e =
-    let outer = one_cut name name (decimal a ++ 58 ∷ decimal b) (decimal m ++ 58 ∷ decimal n) free free (sym is ∙ e) in
-    let inner = one_cut (decimal a) (decimal m) (decimal b) (decimal n) (decimal_free a la) (decimal_free m lm) outer.rest in
-    record { first = decimal_injective a m la lm inner.front; second = decimal_injective b n lb ln inner.rest }
+-- ---- the last colon
 
--- a number that is too great stands in no other place
-pub first_too_great : (word name : List ℕ) (a b : ℕ) → HasNoColon name → a < 2 ^ 64 → b < 2 ^ 64 → ¬ (a < 2 ^ 32) → word ≡ with_numbers name a b → (m n : ℕ) → m < 2 ^ 32 → n < 2 ^ 32 → word ≢ with_numbers name m n
-first_too_great word name a b free la lb great is m n lm ln e =
-    let same = same_numbers word name a b m n free la lb (omega (arith, lm)) (omega (arith, ln)) is e in
-    let eq = same.first in great (omega (arith, eq, lm))
+pub of_last_parts : (bs : List ℕ) (r : Option (Bor (List ℕ) × Bor (List ℕ)))
+    → MatchOption r (RFindsChar 58 bs None) (λ x. (i : ℕ) × (j : ℕ) × RFindsChar 58 bs (Some (i, j)) × (x.0.now ≡ take i bs) × (x.1.now ≡ drop j bs) × (i ≤ j) × (length x.0.now ≡ i) × (length x.1.now + j ≡ length bs))
+    → MatchOption r (HasNoColon bs) (λ x. HasNoColon x.1.now × (bs ≡ x.0.now ++ 58 ∷ x.1.now))
+of_last_parts bs None h = free_of_colons bs (λ i lt. NoCharPasses-char 58 bs i h (lit< tt) lt)
+of_last_parts bs (Some x) h =
+    let i = h.0 in
+    let j = h.1 in (
+      subst HasNoColon (sym h.4) (free_of_colons (drop j bs) (λ k lt. NoCharPasses-char 58 (drop j bs) k h.2.0 (lit< tt) lt)),
+      sym (take-append-drop i bs) ∙ ap (λ l. take i bs ++ l) (drop_at_char 58 bs i j h.2.1 (lit< tt)) ∙ ap₂ (λ f b. f ++ 58 ∷ b) (sym h.3) (sym h.4),
+    )
 
-pub second_too_great : (word name : List ℕ) (a b : ℕ) → HasNoColon name → a < 2 ^ 64 → b < 2 ^ 64 → ¬ (b < 2 ^ 32) → word ≡ with_numbers name a b → (m n : ℕ) → m < 2 ^ 32 → n < 2 ^ 32 → word ≢ with_numbers name m n
-second_too_great word name a b free la lb great is m n lm ln e =
-    let same = same_numbers word name a b m n free la lb (omega (arith, lm)) (omega (arith, ln)) is e in
-    let eq = same.second in great (omega (arith, eq, ln))
+-- a word has one last colon
+pub last_cut : (a b r s : List ℕ) → HasNoColon r → HasNoColon s → a ++ 58 ∷ r ≡ b ++ 58 ∷ s → IsOneCut a b r s
+last_cut [] [] r s p q e = let tail : r ≡ s = cc in record { front = refl; rest = tail }
+last_cut [] (y ∷ b) r s p q e = let tail : r ≡ b ++ 58 ∷ s = cc in absurd (not_cut r b s p tail)
+last_cut (x ∷ a) [] r s p q e = let tail : a ++ 58 ∷ r ≡ s = cc in absurd (not_cut s a r q (sym tail))
+last_cut (x ∷ a) (y ∷ b) r s p q e =
+    let head : x ≡ y = cc in
+    let tail : a ++ 58 ∷ r ≡ b ++ 58 ∷ s = cc in
+    let more : IsOneCut a b r s = last_cut a b r s p q tail in record { front = ap₂ (λ z zs. z ∷ zs) head more.front; rest = more.rest }

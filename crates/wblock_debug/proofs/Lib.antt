@@ -2,5 +2,6 @@ mod Colons
 mod Lists
 mod Options
 mod Printing
+mod Spots
 mod Telling
 mod Untouched

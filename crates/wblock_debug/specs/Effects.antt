@@ -16,10 +16,10 @@ abbrev pub lock_lines : List (Lock × Mode) → List ℕ
 lock_lines [] = []
 lock_lines (held ∷ more) = lock_line held ++ lock_lines more
 
--- the number in a cell, or `-` where the cell is absent
-abbrev pub cell_text : Option ℕ → List ℕ
-cell_text None = codes "-"
-cell_text (Some n) = decimal n
+-- a number, or `-` where there is none
+abbrev pub number_text : Option ℕ → List ℕ
+number_text None = codes "-"
+number_text (Some n) = decimal n
 
 abbrev pub is_same : Option ℕ → Option ℕ → Bool
 is_same None None = true
@@ -29,7 +29,7 @@ is_same (Some m) (Some n) = m == n
 
 -- `LOCK BEFORE -> LATER` of a cell that is changed, and of another one nothing
 abbrev pub change_line : Lock → (before later : Option ℕ) → List ℕ
-change_line lock before later = if is_same before later then [] else lock_text lock ++ codes " " ++ cell_text before ++ codes " -> " ++ cell_text later ++ 10 ∷ []
+change_line lock before later = if is_same before later then [] else lock_text lock ++ codes " " ++ number_text before ++ codes " -> " ++ number_text later ++ 10 ∷ []
 
 -- of the cells at these locks
 abbrev pub change_lines : (before later : Cells) → List (Lock × Mode) → List ℕ

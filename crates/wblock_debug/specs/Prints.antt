@@ -1,38 +1,62 @@
 -- What commands print of a call that runs alone over cells.
-use Rattle.std.specs.Prelude.{◌≡◌, ℕ, ◌+◌, ◌<◌, ◌≤◌, ◌⊎◌, Bool, true, false, List, [], ◌∷◌, ◌++◌, None, IsSome, codes, take, drop, length, string_bytes}
+use Rattle.std.specs.Prelude.{◌≡◌, ℕ, ◌+◌, ◌<◌, ◌≤◌, ◌⊎◌, Bool, true, false, List, [], ◌∷◌, ◌++◌, Option, Some, None, IsSome, option_map, option_and_then, codes, take, drop, length, string_bytes}
 use Rattle.spec_ledger.specs.Cells.{Cells}
 use Rattle.spec_execution.specs.Configuration.{Setting}
 use Rattle.spec_execution.specs.Run.{ContractCall, opening, Refused}
-use Rattle.debugger.specs.Breaks.{with_break, without_break, instr_there}
+use Rattle.spec_syntax.specs.Syntax.{Instr}
+use Rattle.debugger.specs.declared.place.Place.{Place}
+use Rattle.debugger.specs.Breaks.{as_place, with_break, without_break, instr_there, exported_function}
 use Rattle.debugger.specs.SessionView.{SessionView, IsSessionView, stack_at, locals_at, globals_at, memory_at}
 use Rattle.debugger.specs.Commands.{IsOpened, HasStepped, HasGoneBack, HasContinued}
 use Rattle.debugger.specs.declared.session.Refusal.{Refusal}
 use Rattle.debugger.specs.declared.session.Refusal.TheVariants as refusal
+use Rattle.wblock_debug.specs.declared.spot.Spot.{Spot}
+use Rattle.wblock_debug.specs.declared.spot.Spot.TheVariants.{Own, Of, Exported}
 use Rattle.wblock_debug.specs.declared.command.Command.{Command}
-use Rattle.wblock_debug.specs.declared.command.Command.TheVariants.{Step, Back, Cont, Place, Break, Clear, Stack, Locals, Globals, Bytes}
-use Rattle.wblock_debug.specs.Lines.{state_line, values_line, bytes_line, ok_line, refusal_line, start_line}
+use Rattle.wblock_debug.specs.declared.command.Command.TheVariants.{Step, Back, Cont, Place, Break, Clear, Stack, Locals, Globals, Bytes, Cells as CellsShown, Where}
+use Rattle.wblock_debug.specs.Lines.{cells_text, OthersAreAsBefore, where_text, state_line, values_line, bytes_line, ok_line, refusal_line, start_line}
 use Rattle.wblock_debug.specs.declared.perform.Said.{Said}
 use Rattle.wblock_debug.specs.declared.printed.Printed.{Printed}
 use Rattle.wblock_debug.specs.declared.perform.Said.TheVariants as said
 
--- A command that is done leads from one state to another, and prints a line: what is read of the state that it comes to.
+-- the place that a spot names: a function of the contract that is called, by its number or its name, or a function of another one
+abbrev pub place_named : SessionView → Spot → Option Place
+place_named s (Own f o) = Some (as_place s.call.contract f o)
+place_named s (Of c f o) = Some (as_place c f o)
+place_named s (Exported name o) = option_map (λ f. as_place s.call.contract f o) (exported_function s.contract.deployed.tree name.now)
+
+-- the instruction there
+abbrev pub instr_named : SessionView → Spot → Option Instr
+instr_named s spot = option_and_then (instr_there s.setting.contracts) (place_named s spot)
+
+abbrev pub with_break_at : List Place → Option Place → List Place
+with_break_at breaks None = breaks
+with_break_at breaks (Some p) = with_break breaks p
+
+abbrev pub without_break_at : List Place → Option Place → List Place
+without_break_at breaks None = breaks
+without_break_at breaks (Some p) = without_break breaks p
+
+-- A command that is done leads from one state to another, and prints a line, or several: what is read of the state that it comes to.
 abbrev pub Does : Command → SessionView → SessionView → List ℕ → Type 0
 Does (Step n) s t line = ((made : ℕ) × HasStepped s n made t) × (line ≡ state_line t)
 Does (Back n) s t line = HasGoneBack s n t × (line ≡ state_line t)
 Does Cont s t line = ((made : ℕ) × HasContinued s made t) × (line ≡ state_line t)
 Does Place s t line = (t ≡ s) × (line ≡ state_line t)
-Does (Break f o) s t line = IsSome (instr_there s.contract.deployed.tree (f, o)) × (t ≡ record s { breaks = with_break s.breaks (f, o) }) × (line ≡ ok_line)
-Does (Clear f o) s t line = IsSome (instr_there s.contract.deployed.tree (f, o)) × (t ≡ record s { breaks = without_break s.breaks (f, o) }) × (line ≡ ok_line)
+Does (Break spot) s t line = IsSome (instr_named s spot) × (t ≡ record s { breaks = with_break_at s.breaks (place_named s spot) }) × (line ≡ ok_line)
+Does (Clear spot) s t line = IsSome (instr_named s spot) × (t ≡ record s { breaks = without_break_at s.breaks (place_named s spot) }) × (line ≡ ok_line)
 Does Stack s t line = (t ≡ s) × (line ≡ values_line (codes "stack") (stack_at t))
 Does Locals s t line = (t ≡ s) × (line ≡ values_line (codes "locals") (locals_at t))
 Does Globals s t line = (t ≡ s) × (line ≡ values_line (codes "globals") (globals_at t))
+Does CellsShown s t line = (t ≡ s) × (line ≡ cells_text t) × OthersAreAsBefore t
+Does Where s t line = (t ≡ s) × (line ≡ where_text t)
 Does (Bytes from n) s t line = (t ≡ s) × (from + n ≤ length (memory_at t)) × (line ≡ bytes_line (take n (drop from (memory_at t))))
 
 -- a command that is refused, and why
 abbrev pub Refuses : Command → SessionView → Refusal → Type 0
 Refuses (Back n) s refusal.BeforeStart = s.turns < n
-Refuses (Break f o) s refusal.NoSuchPlace = instr_there s.contract.deployed.tree (f, o) ≡ None
-Refuses (Clear f o) s refusal.NoSuchPlace = instr_there s.contract.deployed.tree (f, o) ≡ None
+Refuses (Break spot) s refusal.NoSuchPlace = instr_named s spot ≡ None
+Refuses (Clear spot) s refusal.NoSuchPlace = instr_named s spot ≡ None
 Refuses (Bytes from n) s refusal.OutOfRange = length (memory_at s) < from + n
 Refuses c s r = ⊥
 

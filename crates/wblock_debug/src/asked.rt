@@ -24,7 +24,7 @@ pub struct Debugging<'w> {
     /// The number of the call, from 0.
     pub call: u64,
     /// The commands, at least one, in their order.
-    pub commands: Vec<Command>,
+    pub commands: Vec<Command<'w>>,
     /// The name of the file of the block in which the call is to run; None where it is to run alone over the world.
     pub block: Option<&'w str>,
     /// The fuel with which the block is judged, where one is given; else it is the least that the calls of the block need.

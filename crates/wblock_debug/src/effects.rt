@@ -1,24 +1,27 @@
 //! The lines that tell what a call alone over cells came to.
 
-ghost use Rattle.std.specs.Prelude.{◌≡◌, Some, IfOk, string_bytes};
+ghost use Rattle.std.specs.Prelude.{◌≡◌, Some, IfOk, OnOk, string_bytes};
 ghost use Rattle.lock_profile.specs.Groups.{pair_of, pairs};
-ghost use Rattle.wblock_debug.specs.Effects.{cell_text, change_line, change_lines, effects_text, is_same, lock_line, lock_lines};
+ghost use Rattle.wblock_debug.specs.Lines.{cells_text, OthersAreAsBefore};
+ghost use Rattle.wblock_debug.specs.Effects.{change_line, change_lines, effects_text, is_same, lock_line, lock_lines, number_text};
 
+use debugger::session::Session;
 use figures::{lock_text_of, word_of_mode};
 use lock_profile::Held;
-use serial::Executed;
+use serial::{Executed, touched_by};
 use spec_ledger::Lock;
-use std::alloc::{AllocError, Global};
+use std::alloc::{AllocError, Allocator, Global};
 use std::fmt;
 use storage::Cells;
 use wblock_calls::ReceiptText;
+use wtypes::NoMemory;
 
-/// The number in a cell, printed in decimal, or as `-` where the cell is absent.
+/// A number, printed in decimal, or as `-` where there is none.
 #[derive(Clone, Copy)]
-struct CellText(Option<u64>);
+pub(crate) struct NumberText(pub(crate) Option<u64>);
 
-impl fmt::Display for CellText {
-    ghost output = { λ c. Some (cell_text c.0) };
+impl fmt::Display for NumberText {
+    ghost output = { λ c. Some (number_text c.0) };
 
     fn fmt<W: fmt::Write>(&self, f: &mut fmt::Formatter<W>) -> fmt::Result {
         match self.0 {
@@ -62,31 +65,31 @@ fn is_same(one: Option<u64>, other: Option<u64>) -> bool
 }
 
 /// `LOCK BEFORE -> LATER` of a cell that is changed, and of another one nothing.
-fn change_line_of(
-    alloc: Global,
+fn change_line_of<A: Allocator + Copy>(
+    alloc: A,
     lock: Lock,
     before: Option<u64>,
     later: Option<u64>,
-) -> Result<String, AllocError>
+) -> Result<String<A>, AllocError>
     ensures { IfOk result (λ line. string_bytes line ≡ change_line lock before later) }
 {
     if is_same(before, later) {
         return Ok(String::new(alloc));
     }
     let lock = lock_text_of(alloc, lock)?;
-    let before = CellText(before);
-    let later = CellText(later);
+    let before = NumberText(before);
+    let later = NumberText(later);
     let line = format!(in alloc; "{lock} {before} -> {later}\n")?;
     Ok(line)
 }
 
 /// A line for each cell at these locks that is changed.
-fn change_lines_of(
-    alloc: Global,
+fn change_lines_of<A: Allocator + Copy>(
+    alloc: A,
     locks: &[Held],
-    before: &Cells,
-    later: &Cells,
-) -> Result<String, AllocError>
+    before: &Cells<A>,
+    later: &Cells<A>,
+) -> Result<String<A>, AllocError>
     ensures { IfOk result (λ text. string_bytes text ≡ change_lines before.now.cells later.now.cells (pairs locks.now)) }
 {
     let mut text = String::new(alloc);
@@ -95,6 +98,20 @@ fn change_lines_of(
         let line = change_line_of(alloc, lock, before.get(lock), later.get(lock))?;
         text.push_str(line.as_str())?;
     }
+    Ok(text)
+}
+
+/// `cells`, and behind it a line for each cell that stands otherwise than at the start of the session.
+pub(crate) fn cells_text_of<A: Allocator + Copy>(
+    alloc: A,
+    session: &Session<'_, A>,
+) -> Result<String<A>, NoMemory>
+    ensures text { IfOk result (λ text. string_bytes text ≡ cells_text session.now) }
+    ensures others { OnOk result (OthersAreAsBefore session.now) }
+{
+    let touched = touched_by(alloc, session.trace())?;
+    let changes = change_lines_of(alloc, touched.held(), session.start(), session.cells())?;
+    let text = format!(in alloc; "cells\n{changes}")?;
     Ok(text)
 }
 

@@ -12,6 +12,7 @@ mod one_call;
 mod perform;
 mod printed;
 mod run;
+mod spot;
 
 pub use asked::{Debugging, debugging_of};
 pub use called::{Calling, calling_of};
@@ -20,3 +21,4 @@ pub use debug::debug_world;
 pub use one_call::call_world;
 pub use printed::Printed;
 pub use run::debug_call;
+pub use spot::Spot;

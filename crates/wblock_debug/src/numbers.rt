@@ -1,20 +1,20 @@
 //! Words that have numbers behind a name.
 
-ghost use Rattle.std.specs.Prelude.{◌≡◌, ◌≢◌, ◌<◌, ◌^◌, ℕ, List, ◌∷◌, ◌++◌, decimal, IfOk, MatchOption};
-ghost use Rattle.wblock_debug.specs.Words.{HasNoColon, with_number, with_numbers};
+ghost use Rattle.std.specs.Prelude.{◌≡◌, ◌≢◌, ◌<◌, ◌^◌, ℕ, List, ◌∷◌, ◌++◌, IfOk, MatchOption};
+ghost use Rattle.wblock_debug.specs.Words.{HasNoColon, two_numbers, with_number, with_numbers};
 
 use std::alloc::{AllocError, Global};
 use wblock_calls::number_of;
 
 /// What stands before and after the first colon of a word.
-fn parts_of<'a>(word: &'a str) -> Option<(&'a str, &'a str)>
+pub(crate) fn parts_of<'a>(word: &'a str) -> Option<(&'a str, &'a str)>
     ensures { MatchOption result (HasNoColon word.entry.now) (λ x. HasNoColon x.0.now × (word.entry.now ≡ x.0.now ++ 58 ∷ x.1.now)) }
 {
     word.split_once(':')
 }
 
 /// What stands behind a name and a colon.
-fn after_name<'a>(word: &'a str, name: &str) -> Option<&'a str>
+pub(crate) fn after_name<'a>(word: &'a str, name: &str) -> Option<&'a str>
     requires { HasNoColon name.now }
     ensures { MatchOption result ((rest : List ℕ) → word.entry.now ≢ name.now ++ 58 ∷ rest) (λ rest. word.entry.now ≡ name.now ++ 58 ∷ rest.now) }
 {
@@ -37,7 +37,7 @@ pub(crate) fn number_after(alloc: Global, word: &str, name: &str) -> Result<Opti
 
 /// The numbers of `M:N`.
 fn pair_of(alloc: Global, word: &str) -> Result<Option<(u64, u64)>, AllocError>
-    ensures { IfOk result (λ found. MatchOption found ((m n : ℕ) → m < 2 ^ 64 → n < 2 ^ 64 → word.now ≢ decimal m ++ 58 ∷ decimal n) (λ x. word.now ≡ decimal x.0 ++ 58 ∷ decimal x.1)) }
+    ensures { IfOk result (λ found. MatchOption found ((m n : ℕ) → m < 2 ^ 64 → n < 2 ^ 64 → word.now ≢ two_numbers m n) (λ x. word.now ≡ two_numbers x.0 x.1)) }
 {
     let Some((first, second)) = parts_of(word) else {
         return Ok(None);
@@ -64,25 +64,4 @@ pub(crate) fn numbers_after(
         Some(numbers) => pair_of(alloc, numbers),
         None => Ok(None),
     }
-}
-
-/// The numbers of `NAME:M:N`, both of 32 bits.
-pub(crate) fn small_numbers_after(
-    alloc: Global,
-    word: &str,
-    name: &str,
-) -> Result<Option<(u32, u32)>, AllocError>
-    requires { HasNoColon name.now }
-    ensures { IfOk result (λ found. MatchOption found ((m n : ℕ) → m < 2 ^ 32 → n < 2 ^ 32 → word.now ≢ with_numbers name.now m n) (λ x. word.now ≡ with_numbers name.now x.0 x.1)) }
-{
-    let Some((first, second)) = numbers_after(alloc, word, name)? else {
-        return Ok(None);
-    };
-    let Ok(first) = u32::try_from(first) else {
-        return Ok(None);
-    };
-    let Ok(second) = u32::try_from(second) else {
-        return Ok(None);
-    };
-    Ok(Some((first, second)))
 }

@@ -1,10 +1,12 @@
 //! One command on a session.
 
-ghost use Rattle.std.specs.Prelude.{IfOk};
-ghost use Rattle.wblock_debug.specs.Prints.{Performs};
+ghost use Rattle.std.specs.Prelude.{◌≡◌, IfOk};
+ghost use Rattle.wblock_debug.specs.Prints.{Performs, place_named};
 
-use crate::Command;
-use crate::lines::{bytes_line_of, state_line_of, values_line_of};
+use crate::effects::cells_text_of;
+use crate::lines::{bytes_line_of, state_line_of, values_line_of, where_text_of};
+use crate::{Command, Spot};
+use debugger::Place;
 use debugger::session::{Refusal, Session};
 use std::alloc::Allocator;
 use wtypes::NoMemory;
@@ -12,7 +14,7 @@ use wtypes::NoMemory;
 /// What a command prints.
 #[derive(Debug, Drop)]
 pub(crate) enum Said<A: Allocator> {
-    /// This line, with its newline.
+    /// This line or these lines, each with its newline.
     Line(String<A>),
     /// That it is refused.
     Refused(Refusal),
@@ -57,16 +59,45 @@ fn cont<A: Allocator + Copy>(alloc: A, session: &mut Session<'_, A>) -> Result<S
     }
 }
 
+/// The place that a spot names. None where its name is that of no function that the contract that is called exports.
+fn place_named<A: Allocator + Copy>(session: &Session<'_, A>, spot: Spot<'_>) -> Option<Place>
+    ensures { result ≡ place_named session.now spot }
+{
+    let called = session.called();
+    match spot {
+        Spot::Own(func, ordinal) => Some(Place {
+            contract: called,
+            func,
+            ordinal,
+        }),
+        Spot::Of(contract, func, ordinal) => Some(Place {
+            contract,
+            func,
+            ordinal,
+        }),
+        Spot::Exported(name, ordinal) => match session.exported_function(name) {
+            Some(func) => Some(Place {
+                contract: called,
+                func,
+                ordinal,
+            }),
+            None => None,
+        },
+    }
+}
+
 /// Sets a break.
 fn break_at<A: Allocator + Copy>(
     alloc: A,
     session: &mut Session<'_, A>,
-    func: u32,
-    ordinal: u32,
+    spot: Spot<'_>,
 ) -> Result<Said<A>, NoMemory>
-    ensures { IfOk result (Performs (Command.Break func ordinal) session.old session.new) }
+    ensures { IfOk result (Performs (Command.Break spot) session.old session.new) }
 {
-    match session.break_at(func, ordinal) {
+    let Some(place) = place_named(session, spot) else {
+        return Ok(Said::Refused(Refusal::NoSuchPlace));
+    };
+    match session.break_at(place) {
         Ok(()) => Ok(Said::Line("ok\n".to_string(alloc)?)),
         Err(Refusal::NoSuchPlace) => Ok(Said::Refused(Refusal::NoSuchPlace)),
         Err(_) => Err(NoMemory),
@@ -77,12 +108,14 @@ fn break_at<A: Allocator + Copy>(
 fn clear<A: Allocator + Copy>(
     alloc: A,
     session: &mut Session<'_, A>,
-    func: u32,
-    ordinal: u32,
+    spot: Spot<'_>,
 ) -> Result<Said<A>, NoMemory>
-    ensures { IfOk result (Performs (Command.Clear func ordinal) session.old session.new) }
+    ensures { IfOk result (Performs (Command.Clear spot) session.old session.new) }
 {
-    match session.clear(func, ordinal) {
+    let Some(place) = place_named(session, spot) else {
+        return Ok(Said::Refused(Refusal::NoSuchPlace));
+    };
+    match session.clear(place) {
         Ok(()) => Ok(Said::Line("ok\n".to_string(alloc)?)),
         Err(_) => Ok(Said::Refused(Refusal::NoSuchPlace)),
     }
@@ -108,7 +141,7 @@ fn bytes<A: Allocator + Copy>(
 pub(crate) fn perform<A: Allocator + Copy>(
     alloc: A,
     session: &mut Session<'_, A>,
-    command: Command,
+    command: Command<'_>,
 ) -> Result<Said<A>, NoMemory>
     ensures { IfOk result (Performs command session.old session.new) }
 {
@@ -117,11 +150,13 @@ pub(crate) fn perform<A: Allocator + Copy>(
         Command::Back(count) => back(alloc, session, count),
         Command::Cont => cont(alloc, session),
         Command::Place => Ok(Said::Line(state_line_of(alloc, session)?)),
-        Command::Break(func, ordinal) => break_at(alloc, session, func, ordinal),
-        Command::Clear(func, ordinal) => clear(alloc, session, func, ordinal),
+        Command::Break(spot) => break_at(alloc, session, spot),
+        Command::Clear(spot) => clear(alloc, session, spot),
         Command::Stack => Ok(Said::Line(values_line_of(alloc, "stack", session.stack())?)),
         Command::Locals => Ok(Said::Line(values_line_of(alloc, "locals", session.locals())?)),
         Command::Globals => Ok(Said::Line(values_line_of(alloc, "globals", session.globals())?)),
+        Command::Cells => Ok(Said::Line(cells_text_of(alloc, session)?)),
+        Command::Where => Ok(Said::Line(where_text_of(alloc, session)?)),
         Command::Bytes(from, count) => bytes(alloc, session, from, count),
     }
 }

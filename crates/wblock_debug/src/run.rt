@@ -8,9 +8,9 @@ ghost use Rattle.interp.specs.Starting.{IsOpened, IsRefusedFor};
 ghost use Rattle.wblock_debug.specs.Lines.{refusal_line};
 ghost use Rattle.wblock_debug.specs.Prints.{IsPrinted, AddsCommand, IsNotStarted, IsDebugged};
 
-use crate::Command;
 use crate::perform::{Said, perform};
 use crate::printed::Printed;
+use crate::{Command, Spot};
 use call::Call;
 use debugger::Contract;
 use debugger::session::{Refusal, Session};
@@ -30,12 +30,22 @@ fn refusal_line_of<A: Allocator>(alloc: A, refusal: Refusal) -> Result<String<A>
     Ok(line)
 }
 
+/// What to do about a place that there is not.
+fn place_advice(command: Command<'_>) -> &'static str {
+    match command {
+        Command::Break(Spot::Exported(_, _)) | Command::Clear(Spot::Exported(_, _)) =>
+            "name a function that the called contract exports (`show` lists them) and an instruction of its body, counted from 0",
+        Command::Break(Spot::Of(_, _, _)) | Command::Clear(Spot::Of(_, _, _)) =>
+            "name a contract of the world, a function, imports first, and an instruction of its body, each counted from 0",
+        _ => "name a function, imports first, and an instruction of its body, each counted from 0",
+    }
+}
+
 /// What to do about a command that is refused.
-fn advice_on(refusal: Refusal) -> &'static str {
+fn advice_on(command: Command<'_>, refusal: Refusal) -> &'static str {
     match refusal {
         Refusal::BeforeStart => "go back by fewer turns",
-        Refusal::NoSuchPlace =>
-            "name a function, imports first, and an instruction of its body, each counted from 0",
+        Refusal::NoSuchPlace => place_advice(command),
         Refusal::OutOfRange =>
             "a page of memory has 65,536 bytes, and not each contract has a page",
         Refusal::NoMemory => "memory was refused",
@@ -47,12 +57,13 @@ fn explain<A: Allocator + Copy>(
     alloc: A,
     why: &mut String<A>,
     number: usize,
+    command: Command<'_>,
     refusal: Refusal,
 ) -> Result<(), AllocError> {
     if !why.is_empty() {
         why.push_str("; ")?;
     }
-    let advice = advice_on(refusal);
+    let advice = advice_on(command, refusal);
     let reason = format!(in alloc; "command {number}: {refusal}: {advice}")?;
     why.push_str(reason.as_str())
 }
@@ -62,7 +73,7 @@ fn append<A: Allocator + Copy>(
     alloc: A,
     session: &mut Session<'_, A>,
     number: usize,
-    command: Command,
+    command: Command<'_>,
     printed: &mut Printed<A>,
 ) -> Result<(), NoMemory>
     ensures { OnOk result (AddsCommand command session.old session.new printed.old printed.new) }
@@ -75,7 +86,7 @@ fn append<A: Allocator + Copy>(
         }
         Said::Refused(refusal) => {
             let line = refusal_line_of(alloc, refusal)?;
-            explain(alloc, &mut printed.why, number, refusal)?;
+            explain(alloc, &mut printed.why, number, command, refusal)?;
             printed.text.push_str(line.as_str())?;
             printed.refused = true;
             Ok(())
@@ -87,7 +98,7 @@ fn append<A: Allocator + Copy>(
 fn perform_all<A: Allocator + Copy>(
     alloc: A,
     session: &mut Session<'_, A>,
-    commands: &[Command],
+    commands: &[Command<'_>],
 ) -> Result<Printed<A>, NoMemory>
     ensures { IfOk result (λ p. IsPrinted session.old commands.now session.new p.refused (string_bytes p.text)) }
 {
@@ -142,8 +153,8 @@ fn refuse_start<A: Allocator + Copy>(
     })
 }
 
-/// What the commands print of the call alone over the cells, by the rules of this version: a line for each, one after another. It is `K at F O` (at level 1 and above `K at F O in C level L`) or `K done RECEIPT` for a
-/// command that moves or asks for the place, `ok` for one that sets or clears a break, a name and the values or the bytes for one that shows
+/// What the commands print of the call alone over the cells, by the rules of this version: the line or the lines of each, one after another. It is `K at F O` (at level 1 and above `K at F O in C level L`) or `K done RECEIPT` for a
+/// command that moves or asks for the place, `ok` for one that sets or clears a break, a name and the values, the bytes, the cells or the frames for one that shows
 /// them, and `refused N` for one that is refused. The line is `refused start N` where the call does not start.
 ///
 /// # Errors
@@ -154,7 +165,7 @@ pub fn debug_call<A: Allocator + Copy>(
     contracts: &[Contract<A>],
     cells: &Cells<A>,
     call: &Call,
-    commands: &[Command],
+    commands: &[Command<'_>],
     version: Version,
 ) -> Result<Printed<A>, NoMemory>
     ensures { IfOk result (λ p. IsDebugged (setting_view version contracts.now) cells.now.cells call.now commands.now p.refused (string_bytes p.text)) }

@@ -8,6 +8,7 @@ ghost use Rattle.wblock_line.specs.Refusals.{refusal_text};
 
 use crate::sites::import_text;
 use body_typing::rule::Rule;
+use function_names::FunctionName;
 use loader::load;
 use module_tree::limit::Limit;
 use module_tree::module::{Export, ExportDesc, Module};
@@ -99,9 +100,20 @@ fn export_of<A: Allocator>(module: &Module<A>, func: u32) -> Option<&str> {
     None
 }
 
-/// The sentence of a rule that a module breaks at this instruction of a function, which is named by its export.
+/// The name of the function of this number among these.
+fn name_among<'b>(names: &[FunctionName<'b>], func: u32) -> Option<&'b str> {
+    for named in names {
+        if named.number == func {
+            return Some(named.name);
+        }
+    }
+    None
+}
+
+/// The sentence of a rule that a module of these bytes breaks at this instruction of a function, which is named by its export, or else by the custom section `name`.
 fn body_words<A: Allocator>(
     alloc: Global,
+    bytes: &[u8],
     tree: &Module<A>,
     rule: Rule,
     func: u32,
@@ -109,7 +121,12 @@ fn body_words<A: Allocator>(
 ) -> Result<String, AllocError>
     ensures { IfOk result (λ s. TellsPlace (string_bytes s) (module_view tree.now) func ordinal) }
 {
-    let words = rule_words(alloc, rule, Some(func), export_of(tree, func), ordinal)?;
+    let names = function_names::names_of(alloc, bytes)?;
+    let name = match export_of(tree, func) {
+        Some(name) => Some(name),
+        None => name_among(&names, func),
+    };
+    let words = rule_words(alloc, rule, Some(func), name, ordinal)?;
     let site = site_text(alloc, tree, func, ordinal, rule)?;
     joined(alloc, &words, &site)
 }
@@ -164,7 +181,7 @@ fn untyped_words(
     ensures { IfOk result (λ s. TellsRule (string_bytes s) bytes.now func ordinal) }
 {
     match load(alloc, bytes) {
-        Ok(tree) => body_words(alloc, &tree, rule, func, ordinal),
+        Ok(tree) => body_words(alloc, bytes, &tree, rule, func, ordinal),
         Err(_) => rule_words(alloc, rule, Some(func), None, ordinal),
     }
 }

@@ -86,7 +86,7 @@ fn function_fault(
     }
 }
 
-/// The sentence of a module that breaks this rule, in this function, imports counted first, which is exported by this name; or outside
+/// The sentence of a module that breaks this rule, in this function, imports counted first, which has this name; or outside
 /// bodies. And at this instruction of it, or item of the list at fault.
 pub fn rule_words(
     alloc: Global,
