@@ -16,6 +16,12 @@ pub none_returned : {X : Type 0} (A : Type 0) (B : X → Type 0) (r : Option X) 
 none_returned A B None is a = a
 none_returned A B (Some x) is a = absurd cc
 
+pub at_some : {X : Type 0} (A : Type 0) (B : X → Type 0) (r : Option X) (x : X) → r ≡ Some x → MatchOption r A B → B x
+at_some A B r x is h = subst (λ o. MatchOption o A B) is h
+
+pub at_none : {X : Type 0} (A : Type 0) (B : X → Type 0) (r : Option X) → r ≡ None → MatchOption r A B → A
+at_none A B r is h = subst (λ o. MatchOption o A B) is h
+
 -- ---- a number
 
 pub record IsOneNumber (n m : ℕ) (rest other : List ℕ) : Type 0 where

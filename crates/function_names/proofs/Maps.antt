@@ -1,12 +1,13 @@
 -- The names that bytes spell, as far as they are read.
 use Rattle.std.proofs.Common.{◌≡◌, ℕ, suc, ◌-◌, ◌<◌, Bool, true, false, true≢false, List, [], ◌∷◌, ◌++◌, length, nat_lt, slice_get, Option, Some, None, refl, sym, ap, ap₂, ◌∙◌, subst, arith, append_assoc, append-nil}
 use Rattle.std.proofs.lemmas.Bool.{ltb-true, lt-ltb}
+use Rattle.std.proofs.lemmas.List.{map-append}
 use Rattle.spec_syntax.specs.Syntax.{Name}
 use Rattle.spec_binary.specs.Language.{run}
 use Rattle.spec_binary.specs.Leb.{u32}
 use Rattle.spec_binary.specs.Grammar.{vector}
 use Rattle.function_names.specs.declared.FunctionName.{FunctionName}
-use Rattle.function_names.specs.Names.{Named, Rises, name_assoc, name_map, names_in}
+use Rattle.function_names.specs.Names.{Named, Rises, name_assoc, name_map, named_of, names_in}
 use Rattle.function_names.specs.Parts.{HasNumber, HasName, is_above}
 use Rattle.function_names.proofs.Fronts.{name_front, name_spelled, one_name, one_number}
 
@@ -27,10 +28,6 @@ above_last (a ∷ b ∷ more) number =
 pub is_above_last : (fs : List FunctionName) (number : ℕ) (last : FunctionName) → slice_get fs (length fs - 1) ≡ Some last → is_above (names_in fs) number ≡ nat_lt last.number number
 unfolding above_by
 is_above_last fs number last is = above_last fs number ∙ ap (λ o. above_by o number) is
-
-pub is_above_none : (fs : List FunctionName) (number : ℕ) → slice_get fs (length fs - 1) ≡ None → is_above (names_in fs) number ≡ true
-unfolding above_by
-is_above_none fs number is = above_last fs number ∙ ap (λ o. above_by o number) is
 
 rises_more : (names : List Named) (x : Named) → Rises names → is_above names x.0 ≡ true → Rises (names ++ x ∷ [])
 rises_more [] x r h = tt
@@ -102,8 +99,8 @@ counted bytes count rest h =
     record {
       rises = tt;
       into = λ all m.
-        let one = one_number bytes (length all) count m.1.1 rest (record { front = m.1.0; spelled = m.1.3; bytes_are = m.1.2 }) h in
-        record { more = all; all_are = refl; count = one.number; spelled = subst (run name_assoc all) one.rest_is m.1.4 };
+          let one = one_number bytes (length all) count m.1.1 rest (record { front = m.1.0; spelled = m.1.3; bytes_are = m.1.2 }) h in
+          record { more = all; all_are = refl; count = one.number; spelled = subst (run name_assoc all) one.rest_is m.1.4 };
       out = λ more len r. (h.front, rest, h.bytes_are, subst (λ (k : ℕ). u32 k h.front) (sym len) h.spelled, r);
     }
 
@@ -149,26 +146,31 @@ module _ (bytes : List ℕ) (names : List Named) (left : ℕ) (rest : List ℕ) 
         record {
           rises = rises_more names (number, name) s.rises is;
           into = λ all m.
-            let a = ahead all m in
-            let one = one_read rest a.next a.behind (number, name) behind a.reads r in
-            record {
-              more = a.more;
-              all_are = a.all_are ∙ ap (λ x. names ++ x ∷ a.more) one.named ∙ sym (append_assoc names ((number, name) ∷ []) a.more);
-              count = a.count;
-              spelled = subst (run name_assoc a.more) one.rest_is a.spelled;
-            };
+              let a = ahead all m in
+              let one = one_read rest a.next a.behind (number, name) behind a.reads r in
+              record {
+                more = a.more;
+                all_are = a.all_are ∙ ap (λ x. names ++ x ∷ a.more) one.named ∙ sym (append_assoc names ((number, name) ∷ []) a.more);
+                count = a.count;
+                spelled = subst (run name_assoc a.more) one.rest_is a.spelled;
+              };
           out = λ more len spelled.
-            subst (λ x. vector name_assoc x bytes) (sym (append_assoc names ((number, name) ∷ []) more)) (s.out ((number, name) ∷ more) (omega (arith, len, pos)) (spelled_of rest (number, name) behind more r spelled));
+              subst (λ x. vector name_assoc x bytes) (sym (append_assoc names ((number, name) ∷ []) more)) (s.out ((number, name) ∷ more) (omega (arith, len, pos)) (spelled_of rest (number, name) behind more r spelled));
         }
 
 -- ---- at the end
 
-nothing_more : (more : List Named) (rest : List ℕ) → length more ≡ 0 → run name_assoc more rest → rest ≡ []
-nothing_more [] rest len r = r
-nothing_more (a ∷ more) rest len r = absurd (omega (arith, len))
+no_bytes : (rest : List ℕ) → length rest ≡ 0 → rest ≡ []
+no_bytes [] len = refl
+no_bytes (b ∷ rest) len = absurd (omega (arith, len))
 
-pub all_read : (bytes : List ℕ) (names : List Named) (left : ℕ) (rest : List ℕ) → IsSoFar bytes names left rest → left ≡ 0 → rest ≡ [] → name_map names bytes
-all_read bytes names left rest s none is = (s.rises, subst (λ x. vector name_assoc x bytes) (append-nil names) (s.out [] (sym none) is))
+pub all_read : (bytes : List ℕ) (names : List Named) (left : ℕ) (rest : List ℕ) → IsSoFar bytes names left rest → left ≡ 0 → length rest ≡ 0 → name_map names bytes
+all_read bytes names left rest s none len = (s.rises, subst (λ x. vector name_assoc x bytes) (append-nil names) (s.out [] (sym none) (no_bytes rest len)))
 
-pub rest_left : (bytes : List ℕ) (names : List Named) (left : ℕ) (rest : List ℕ) → IsSoFar bytes names left rest → left ≡ 0 → (rest ≡ [] → ⊥) → (all : List Named) → name_map all bytes → ⊥
-rest_left bytes names left rest s none isnt all m = let r = s.into all m in isnt (nothing_more r.more rest (r.count ∙ none) r.spelled)
+-- ---- names as they are kept
+
+pub same_so_far : (bytes : List ℕ) (names : List Named) (left : ℕ) (rest : List ℕ) (others : List Named) (n : ℕ) → IsSoFar bytes names left rest → others ≡ names → n ≡ left → IsSoFar bytes others n rest
+same_so_far bytes names left rest others n s is same = subst (λ (k : ℕ). IsSoFar bytes others k rest) (sym same) (subst (λ ns. IsSoFar bytes ns left rest) (sym is) s)
+
+pub names_more : (fs new : List FunctionName) (f : FunctionName) → new ≡ fs ++ f ∷ [] → names_in new ≡ names_in fs ++ named_of f ∷ []
+names_more fs new f is = ap names_in is ∙ map-append named_of fs (f ∷ [])

@@ -1,5 +1,6 @@
 -- The first custom section `name`, and the subsection of the names of functions in it.
-use Rattle.std.proofs.Common.{◌≡◌, ◌≢◌, ◌⊎◌, ℕ, zero, suc, List, [], ◌∷◌, ◌++◌, codes, length, arith, length-append, ◌<◌, refl, sym, ap, ◌∙◌, subst, inl, inr, append_assoc}
+use Rattle.std.proofs.Common.{◌≡◌, ◌≢◌, ◌⊎◌, ℕ, zero, suc, List, [], ◌∷◌, ◌++◌, codes, length, arith, bytes_eq, true, false, true≢false, refl, sym, ap, ◌∙◌, subst, inl, inr, append_assoc}
+use Rattle.std.proofs.lemmas.Slice.Eq.{bytes_eq-Decides}
 use Rattle.spec_binary.specs.Language.{Language, byte, empty, ◌⨾◌, ◌∣◌}
 use Rattle.spec_binary.specs.Grammar.{name, section, times, header}
 use Rattle.function_names.specs.Names.{Named, Carries, anything, is_called, name_map, other_section, subsections}
@@ -13,6 +14,12 @@ abbrev titled : List ℕ → Language
 titled payload = name title ⨾ exactly payload
 
 -- ---- what a custom section `name` holds
+
+pub is_title : (text : List ℕ) → true ≡ bytes_eq text (codes "name") → text ≡ codes "name"
+is_title text e = (bytes_eq-Decides text (codes "name")).0 (sym e)
+
+pub is_no_title : (text : List ℕ) → false ≡ bytes_eq text (codes "name") → text ≡ codes "name" → ⊥
+is_no_title text e is = true≢false (sym ((bytes_eq-Decides text (codes "name")).1 is) ∙ sym e)
 
 pub data_there : (id : ℕ) (content text payload : List ℕ) → id ≡ 0 → HasName content text payload → text ≡ codes "name" → IsNameData id content payload
 data_there id content text payload zero_is h is =
@@ -123,17 +130,6 @@ module _ (rest : List ℕ) (id : ℕ) (content behind : List ℕ) (h : HasSectio
 
 -- ---- the header
 
-pub header_there : (bytes front rest : List ℕ) → bytes ≡ front ++ rest → header front → (header ⨾ exactly rest) bytes
-header_there bytes front rest is h = (front, rest, is, h, refl)
-
-pub too_few : (bytes : List ℕ) → length bytes < 8 → (rest : List ℕ) → (header ⨾ exactly rest) bytes → ⊥
-too_few bytes few rest h = omega (arith, few, ap length h.2, ap length h.3, length-append h.0 h.1)
-
-pub other_header : (bytes front back : List ℕ) → bytes ≡ front ++ back → length front ≡ 8 → (header front → ⊥) → (rest : List ℕ) → (header ⨾ exactly rest) bytes → ⊥
-other_header bytes front back is len isnt rest h =
-    let one = cut front h.0 back h.1 (len ∙ sym (ap length h.3)) (sym is ∙ h.2) in
-    isnt (one.front ∙ h.3)
-
 pub no_header : (bytes : List ℕ) → ((rest : List ℕ) → (header ⨾ exactly rest) bytes → ⊥) → (payload : List ℕ) → HasNameSection bytes payload → ⊥
 no_header bytes none payload n = let w = n.1 in none w.1 (w.0, w.1, w.2, w.3, refl)
 
@@ -184,7 +180,7 @@ module _ (payload : List ℕ) (id : ℕ) (content behind : List ℕ) (h : HasSec
 
   first_case : id ≡ 1 → (f : List ℕ) → Starts payload f ⊎ IsSecond payload f → f ≡ content
   first_case is f (inl s) = (one_section payload 1 f s.0 id content behind s.1 h).content_is
-  first_case is f (inr s) = absurd (omega ((one_section payload 0 s.content s.behind id content behind s.first h).id_is, is))
+  first_case is f (inr s) = absurd (omega (arith, (one_section payload 0 s.content s.behind id content behind s.first h).id_is, is))
 
   pub first_only : id ≡ 1 → (f : List ℕ) → HasFunctions payload f → f ≡ content
   first_only is f k = first_case is f (cases payload f k)
@@ -272,3 +268,17 @@ has_all bytes names c =
       functions_are = (m.0, m.1, m.2, m.3, (f.0, f.1, f.2, inside, f.4));
       map = g.4.4;
     }
+
+module _ (bytes : List ℕ) (names : List Named) (h : Carries bytes names) where
+  pub no_payload : ((payload : List ℕ) → HasNameSection bytes payload → ⊥) → ⊥
+  no_payload none = let a = has_all bytes names h in none a.payload a.section_is
+
+  module _ (payload : List ℕ) (only : IsOnly (HasNameSection bytes) payload) where
+    functions_there : HasFunctions payload (has_all bytes names h).functions
+    functions_there = let a = has_all bytes names h in subst (λ p. HasFunctions p a.functions) (only.1 a.payload a.section_is) a.functions_are
+
+    pub no_subsection : ((functions : List ℕ) → HasFunctions payload functions → ⊥) → ⊥
+    no_subsection none = none (has_all bytes names h).functions functions_there
+
+    pub no_map : (functions : List ℕ) → IsOnly (HasFunctions payload) functions → ((other : List Named) → name_map other functions → ⊥) → ⊥
+    no_map functions one none = let a = has_all bytes names h in none names (subst (name_map names) (one.1 a.functions functions_there) a.map)
