@@ -3,12 +3,12 @@ use Rattle.std.proofs.Common.{◌≡◌, ℕ, ◌<◌, ◌≤◌, List, [], ◌�
 use Rattle.std.specs.Str.{IsUtf8}
 use Rattle.std.proofs.lemmas.List.{take-append-drop, length-take}
 use Rattle.spec_syntax.specs.Syntax.{Name}
-use Rattle.spec_binary.specs.Language.{Language, byte, run, ◌⨾◌}
+use Rattle.spec_binary.specs.Language.{Language, byte, run}
 use Rattle.spec_binary.specs.Leb.{u32}
 use Rattle.spec_binary.specs.Grammar.{name, section}
 use Rattle.spec_binary.specs.Reading.{unsigned_at}
 use Rattle.spec_binary.specs.NumberLaws.{unsigned_again}
-use Rattle.function_names.specs.Parts.{HasNumber, HasSized, HasName, HasSection, exactly}
+use Rattle.function_names.specs.Parts.{HasNumber, HasSized, HasName, HasSection}
 
 -- ---- nothing is there
 

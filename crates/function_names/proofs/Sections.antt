@@ -1,7 +1,7 @@
 -- The first custom section `name`, and the subsection of the names of functions in it.
 use Rattle.std.proofs.Common.{◌≡◌, ◌≢◌, ◌⊎◌, ℕ, zero, suc, List, [], ◌∷◌, ◌++◌, codes, length, arith, bytes_eq, true, false, true≢false, refl, sym, ap, ◌∙◌, subst, inl, inr, append_assoc}
 use Rattle.std.proofs.lemmas.Slice.Eq.{bytes_eq-Decides}
-use Rattle.spec_binary.specs.Language.{Language, byte, empty, ◌⨾◌, ◌∣◌}
+use Rattle.spec_binary.specs.Language.{Language, empty, ◌⨾◌, ◌∣◌}
 use Rattle.spec_binary.specs.Grammar.{name, section, times, header}
 use Rattle.function_names.specs.Names.{Named, Carries, anything, is_called, name_map, other_section, subsections}
 use Rattle.function_names.specs.Parts.{HasName, HasSection, HasFunctions, HasNameSection, IsNameData, IsOnly, exactly}
