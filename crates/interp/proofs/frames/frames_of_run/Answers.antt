@@ -23,8 +23,8 @@ returns g c goes =
     let r = c.args.run.now in
     let before = c.loop-level.chain.items in
     let n = c.loop-level.level in
-    let none = drop_all n r.outer.items (omega (arith, c.loop-level-test.false, r.outer.ok.0)) in
+    let none = drop_all n r.outer.items (omega (arith, c.loop-level-test.false, c.len-level-end.ensures, r.outer.ok.0)) in
     let told = sym (append-nil before) ∙ ap (λ ls. before ++ waiting_frames n ls) (sym none) ∙ c.loop-level.invariant in
     c.in_ok-add_frames-2.ensures
-    ∙ ap₂ (λ (fs more : List _). fs ++ more) told (ap (λ (k : ℕ). in_level k r.lent.number c.deref-2.result.now) (omega (arith, c.len-2.ensures, r.outer.ok.0)))
+    ∙ ap₂ (λ (fs more : List _). fs ++ more) told (ap (λ (k : ℕ). in_level k r.lent.number c.deref-2.result.now) (omega (arith, c.len.ensures, r.outer.ok.0)))
     ∙ chain_is r c.deref-2.result.now (c.deref-2.ensures.value ∙ c.in_ok-inner.ensures goes)
