@@ -1,6 +1,5 @@
-use Rattle.std.proofs.Common.{◌≡◌, ◌+◌, ◌<◌, ◌∷◌, ◌++◌, List, ℕ, length, drop, sym, ap, ap₂, ◌∙◌, arith, append-nil}
+use Rattle.std.proofs.Common.{◌+◌, ◌<◌, ◌∷◌, ◌++◌, List, ℕ, length, drop, sym, ap, ap₂, ◌∙◌, arith, append-nil}
 use Rattle.std.proofs.lemmas.List.{drop_all, drop_more}
-use Rattle.interp_state.specs.Unwinding.{part_frames}
 use Rattle.interp_state.specs.Frames.{in_level}
 use Rattle.interp.specs.Chains.{waiting_frames}
 use Rattle.interp.proofs.Chaining.{chain_is, waiting_more}
