@@ -1,6 +1,7 @@
 // Boosted storage: cells whose changes can be taken back without memory.
 #![tactic(auto)]
 
+mod cells_ahead;
 mod changes;
 mod effects;
 
@@ -12,6 +13,7 @@ ghost use Rattle.storage.specs.Slots.{cells_in, counts_in, cell_back};
 ghost use Rattle.std.specs.FinMap as finite;
 ghost use Rattle.std.specs.Iterator.{YieldsFirst, item_count};
 
+pub use cells_ahead::Ahead;
 pub use changes::{end_all, returned, settle_all, take_all_back, take_back_to};
 use effects::reads;
 pub use effects::{counter_lock, former_cell, inverse, lock, map_lock, mode, next_cell, reply};

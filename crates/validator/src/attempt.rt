@@ -10,7 +10,6 @@ ghost use Rattle.validator.specs.Jobs.{IsJob};
 
 use crate::job::{Job, PositionResult, PositionRun};
 use crate::profile::allows;
-use ahead::Ahead;
 use call::Call;
 use in_order::Task;
 use interp::finished::Finished;
@@ -22,7 +21,7 @@ use serial::{HostRequest, next_request};
 use spec_ledger::{NoMemory, Op, Reply, Version};
 use std::alloc::Allocator;
 use std::sync::{Mutex, Wait};
-use storage::returned;
+use storage::{Ahead, returned};
 
 /// Why a run is not made.
 #[derive(Drop)]

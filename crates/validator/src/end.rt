@@ -81,7 +81,7 @@ fn compare_and_digest<R: Threads + Sync, A: Allocator + Copy + Send + Sync>(
     Ok((compared, digest?))
 }
 
-/// The verdict on a block that none of the first seven reasons speaks against, whose calls came to this.
+/// The verdict on a block that none of the first seven reasons speaks against, whose calls came to this. The world after a block that is accepted keeps its digest.
 fn conclude<R: Threads + Sync, A: Allocator + Copy + Send + Sync>(
     rt: &R,
     alloc: A,
@@ -116,7 +116,7 @@ fn conclude<R: Threads + Sync, A: Allocator + Copy + Send + Sync>(
     if !is_digest(block.after(), &digest) {
         return Ok(Verdict::Reject(Reason::WrongEnd));
     }
-    Ok(Verdict::Accept(next))
+    Ok(Verdict::Accept(next.with_digest(digest)))
 }
 
 /// How many of the calls were not done by what they did ahead of their turn.

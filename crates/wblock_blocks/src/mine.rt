@@ -1,6 +1,6 @@
 //! The command `mine WORLD CALLS BLOCK NEXT --fuel N [--workers 4] [--boosted] [--tries 3]`: a block of calls over a world, and the world after it.
 
-ghost use Rattle.std.specs.Prelude.{◌≡◌, ◌≤◌, false, IsTrue, IfOk, IfErr, OnOk, length, string_bytes};
+ghost use Rattle.std.specs.Prelude.{◌≡◌, ◌≤◌, false, IsTrue, IfOk, IfErr, OnOk, length, string_bytes, vec_len};
 ghost use Rattle.std.specs.List.{AllByRecursion};
 ghost use Rattle.spec_ledger.specs.declared.Version.TheVariants.{Two};
 ghost use Rattle.spec_ledger.specs.Order.{first_fit};
@@ -8,12 +8,14 @@ ghost use Rattle.spec_block.specs.Worlds.{limits, order_of};
 ghost use Rattle.spec_block.specs.Bytes.{block_bytes, ForVersion};
 ghost use Rattle.spec_block.specs.Headline.{Headline, IsLeft};
 ghost use Rattle.world.specs.Views.{world_view};
-ghost use Rattle.wblock_line.specs.Answers.{CountsFault, IsOfFile};
+ghost use Rattle.wblock_line.specs.Answers.{CountsFault, IsOfFile, upshot_of};
 ghost use Rattle.wblock_line.specs.Inputs.{IsNextInput};
-ghost use Rattle.wblock_blocks.specs.Mines.{IsDone, Mines};
+ghost use Rattle.wblock_line.specs.Transitions.{leaving, note_in, WritesBeside};
+ghost use Rattle.wblock_line.specs.declared.transition.Transition.TheVariants as transition;
+ghost use Rattle.wblock_blocks.specs.Mines.{IsDone, Mines, MinesOver};
 ghost use Rattle.wblock_blocks.specs.Notes.{IsNoteOf, Notes};
 
-use crate::note::{Noted, note_of};
+use crate::note::note_of;
 use crate::text::block_text_of;
 use block::{Block, write_block};
 use byte_sinks::{Failures, MemorySink};
@@ -24,8 +26,10 @@ use std::alloc::Global;
 use std::sync::Wait;
 use std::thread::Threads;
 use wblock_io::Files;
-use wblock_line::{Answer, Fault, Inputs, Write, read_inputs};
-use world::{World, encode_world};
+use wblock_line::{
+    Answer, Change, Fault, Inputs, NextWorld, Noted, Transition, Write, read_inputs, with_world,
+};
+use world::World;
 use wtypes::NoMemory;
 
 /// What is to be mined.
@@ -92,54 +96,90 @@ fn encode_block(alloc: Global, block: &Block) -> Result<Vec<u8>, NoMemory>
     Ok(bytes)
 }
 
-/// The answer that writes a block and the world after it, and prints the block's lines.
-fn done<'a>(alloc: Global, task: Mining<'a>, mined: &Mined) -> Result<Answer<'a>, NoMemory>
-    requires { mined.now.block.version ≡ Two }
-    ensures { IfOk result (IsDone task.entry mined.now.block (world_view mined.now.world) mined.now.left.items) }
-{
-    let block = encode_block(alloc, &mined.block)?;
-    let next = encode_world(alloc, &mined.world)?;
-    let text = block_text_of(alloc, &mined.block, &mined.left)?;
-    let mut writes = Vec::new(alloc);
-    writes.push(Write {
-        name: task.block,
-        bytes: block,
-    })?;
-    writes.push(Write {
-        name: task.next,
-        bytes: next,
-    })?;
-    Ok(Answer::Done(writes, text))
-}
-
-/// What is said of the calls of a mined block.
-fn note_of_mined(
-    alloc: Global,
-    world: &World,
-    calls: &[Call],
-    mined: &Mined,
-) -> Result<String, NoMemory>
-    ensures { IfOk result (λ note. IsNoteOf mined.now.block.positions (string_bytes note)) }
-{
-    let note = note_of(alloc, world.contracts(), calls, mined.block.positions())?;
-    Ok(note)
-}
-
-/// The answer of a mined block, with what is said of its calls.
-fn noted<'a>(
+/// What a mined block does: the block is to be written, and then the world after it, and the block's lines are to be printed.
+fn change_of<'a>(
     alloc: Global,
     world: &World,
     calls: &[Call],
     task: Mining<'a>,
-    mined: &Mined,
-) -> Result<Noted<'a>, NoMemory>
-    requires { mined.now.block.version ≡ Two }
-    ensures answer { IfOk result (λ n. IsDone task.entry mined.now.block (world_view mined.now.world) mined.now.left.items n.answer) }
-    ensures note { IfOk result (λ n. IsNoteOf mined.now.block.positions (string_bytes n.note)) }
+    mined: Mined,
+) -> Result<Change<'a>, NoMemory>
+    requires { mined.block.version ≡ Two }
+    ensures done { IfOk result (λ change. IsDone task.entry mined.block (world_view mined.world) mined.left.items (leaving (transition.Done change))) }
+    ensures note { IfOk result (λ change. IsNoteOf mined.block.positions (string_bytes change.note)) }
+    ensures beside { IfOk result (λ change. vec_len change.writes ≡ 1) }
 {
-    let answer = done(alloc, task, mined)?;
-    let note = note_of_mined(alloc, world, calls, mined)?;
-    Ok(Noted { answer, note })
+    let Mined {
+        block,
+        world: next,
+        left,
+        by_workers: _,
+    } = mined;
+    let bytes = encode_block(alloc, &block)?;
+    let text = block_text_of(alloc, &block, &left)?;
+    let note = note_of(alloc, world.contracts(), calls, block.positions())?;
+    let mut writes = Vec::new(alloc);
+    writes.push(Write {
+        name: task.block,
+        bytes,
+    })?;
+    let next = NextWorld {
+        name: task.next,
+        world: next,
+    };
+    Ok(Change {
+        writes,
+        next: Some(next),
+        text,
+        note,
+    })
+}
+
+/// What `mine` comes to over a world and calls: a block of the calls is to be written, and then the world after it, which has no bytes yet, and the
+/// block's lines are to be printed. Behind them something is to be said of the calls that did not return. The pace is told the steps of the workers;
+/// what it says of watching is not asked, since the task says it. No name of a file is looked at.
+///
+/// # Errors
+///
+/// Memory was refused.
+pub fn mine_over<'a, R: Threads + Wait + Sync, P: Pace>(
+    rt: &R,
+    alloc: Global,
+    world: &World,
+    calls: &[Call],
+    task: Mining<'a>,
+    pace: &P,
+) -> Result<Transition<'a>, NoMemory>
+    requires calls { length calls.now ≤ 65535 }
+    requires workers { (1 ≤ task.workers) × (task.workers ≤ 64) }
+    requires tries { (1 ≤ task.tries) × (task.tries ≤ 16) }
+    ensures mines { IfOk result (λ t. MinesOver (world_view world.now) calls.now task.entry (leaving t)) }
+    ensures notes { IfOk result (λ t. Notes (leaving t) (note_in t)) }
+    ensures beside { IfOk result (WritesBeside 1) }
+{
+    let mined = mine_calls(rt, alloc, world, calls, task, pace)?;
+    let change = change_of(alloc, world, calls, task, mined)?;
+    Ok(Transition::Done(change))
+}
+
+/// The same, with the bytes of the world after the block.
+fn mine_encoded<'a, R: Threads + Wait + Sync, P: Pace>(
+    rt: &R,
+    alloc: Global,
+    world: &World,
+    calls: &[Call],
+    task: Mining<'a>,
+    pace: &P,
+) -> Result<Noted<'a>, NoMemory>
+    requires calls { length calls.now ≤ 65535 }
+    requires workers { (1 ≤ task.workers) × (task.workers ≤ 64) }
+    requires tries { (1 ≤ task.tries) × (task.tries ≤ 16) }
+    ensures mines { IfOk result (λ n. MinesOver (world_view world.now) calls.now task.entry (upshot_of n.answer)) }
+    ensures notes { IfOk result (λ n. Notes (upshot_of n.answer) (string_bytes n.note)) }
+{
+    let transition = mine_over(rt, alloc, world, calls, task, pace)?;
+    let noted = with_world(alloc, transition)?;
+    Ok(noted)
 }
 
 /// What `mine` comes to: a block of the calls over the world is to be written, and then the world after it, and the block's lines are to be
@@ -154,8 +194,8 @@ pub fn mine_block<'a, R: Threads + Wait + Sync, F: Files, P: Pace>(
 ) -> Result<Noted<'a>, Fault<'a>>
     requires workers { (1 ≤ task.workers) × (task.workers ≤ 64) }
     requires tries { (1 ≤ task.tries) × (task.tries ≤ 16) }
-    ensures answers { IfOk result (λ n. IsTrue F.tells → Mines (F.holds files.old) task.entry n.answer) }
-    ensures notes { IfOk result (λ n. Notes n.answer (string_bytes n.note)) }
+    ensures answers { IfOk result (λ n. IsTrue F.tells → Mines (F.holds files.old) task.entry (upshot_of n.answer)) }
+    ensures notes { IfOk result (λ n. Notes (upshot_of n.answer) (string_bytes n.note)) }
     ensures kept { IsTrue F.tells → F.holds files.new ≡ F.holds files.old }
     ensures calm { OnOk result (F.failures files.new ≡ F.failures files.old) }
     ensures counted { IfErr result (λ f. CountsFault f (F.failures files.old) (F.failures files.new)) }
@@ -170,10 +210,7 @@ pub fn mine_block<'a, R: Threads + Wait + Sync, F: Files, P: Pace>(
             });
         }
     };
-    let Ok(mined) = mine_calls(rt, alloc, &world, &calls, task, pace) else {
-        return Err(Fault::NoMemory);
-    };
-    match noted(alloc, &world, &calls, task, &mined) {
+    match mine_encoded(rt, alloc, &world, &calls, task, pace) {
         Ok(noted) => Ok(noted),
         Err(NoMemory) => Err(Fault::NoMemory),
     }

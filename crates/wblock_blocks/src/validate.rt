@@ -1,12 +1,13 @@
 //! The command `validate WORLD CALLS BLOCK --fuel N [--workers 4] [--boosted] [--next NEXT]`: the verdict on a block of calls over a world, and the world after
 //! the block.
 
-ghost use Rattle.std.specs.Prelude.{◌≡◌, ◌≤◌, IsTrue, IfOk, IfErr, OnOk, length, map, string_bytes};
+ghost use Rattle.std.specs.Prelude.{◌≡◌, ◌≤◌, IsTrue, IfOk, IfErr, OnOk, length, string_bytes};
 ghost use Rattle.spec_block.specs.Verdicts.{IsVerdictOf};
 ghost use Rattle.validator.specs.Judged.{verdict_view};
 ghost use Rattle.world.specs.Views.{world_view};
-ghost use Rattle.wblock_line.specs.Answers.{CountsFault, IsOfFile, write_of};
-ghost use Rattle.wblock_blocks.specs.Validates.{accept_text, next_writes, TellsVerdict, Validates, IsNextFile};
+ghost use Rattle.wblock_line.specs.Answers.{CountsFault, IsOfFile, upshot_of};
+ghost use Rattle.wblock_line.specs.Transitions.{leaving, next_write, WritesBeside};
+ghost use Rattle.wblock_blocks.specs.Validates.{accept_text, next_writes, TellsVerdict, Validates, ValidatesOver, IsNextFile};
 
 use call::Call;
 use pace::{Pace, Watched};
@@ -16,9 +17,10 @@ use std::thread::Threads;
 use validator::{Verdict, validate};
 use wblock_io::Files;
 use wblock_line::{
-    Answer, Fault, Inputs, Write, read_file, read_inputs, reason_words, reject_line_of,
+    Answer, Change, Fault, Inputs, NextWorld, Noted, Transition, read_file, read_inputs,
+    reason_words, reject_line_of, with_world,
 };
-use world::{World, digest_world, encode_world};
+use world::{World, digest_world};
 use wtypes::NoMemory;
 
 /// What is to be validated.
@@ -77,43 +79,89 @@ fn accept_text_of(alloc: Global, next: &World) -> Result<String, NoMemory>
     Ok(text)
 }
 
-/// What is to be written of the world after a block that is accepted: all of it, where a file is named for it.
-fn next_writes_of<'a>(
-    alloc: Global,
-    name: Option<&'a str>,
-    next: &World,
-) -> Result<Vec<Write<'a>>, NoMemory>
-    ensures { IfOk result (λ writes. map write_of writes.items ≡ next_writes name.entry (world_view next.now)) }
+/// The world after a block that is accepted, which is to be written where a file is named for it.
+fn next_of<'a>(name: Option<&'a str>, world: World) -> Option<NextWorld<'a>>
+    ensures { next_write result ≡ next_writes name.entry (world_view world) }
 {
-    let mut writes = Vec::new(alloc);
-    if let Some(name) = name {
-        let bytes = encode_world(alloc, next)?;
-        writes.push(Write { name, bytes })?;
+    match name {
+        Some(name) => Some(NextWorld { name, world }),
+        None => None,
     }
-    Ok(writes)
 }
 
-/// The answer that tells a verdict on these bytes, and writes the world after a block that is accepted where a file is named for it.
+/// What tells a verdict on these bytes, and leaves the world after a block that is accepted where a file is named for it.
 fn tell<'a>(
     alloc: Global,
     name: Option<&'a str>,
     bytes: &[u8],
-    verdict: &Verdict,
-) -> Result<Answer<'a>, NoMemory>
-    ensures { IfOk result (TellsVerdict name.entry (verdict_view verdict.now)) }
+    verdict: Verdict,
+) -> Result<Transition<'a>, NoMemory>
+    ensures tells { IfOk result (λ t. TellsVerdict name.entry (verdict_view verdict) (leaving t)) }
+    ensures beside { IfOk result (WritesBeside 0) }
 {
     match verdict {
         Verdict::Accept(next) => {
-            let text = accept_text_of(alloc, next)?;
-            let writes = next_writes_of(alloc, name, next)?;
-            Ok(Answer::Done(writes, text))
+            let text = accept_text_of(alloc, &next)?;
+            Ok(Transition::Done(Change {
+                writes: Vec::new(alloc),
+                next: next_of(name, next),
+                text,
+                note: String::new(alloc),
+            }))
         }
         Verdict::Reject(reason) => {
-            let line = reject_line_of(alloc, *reason)?;
-            let why = reason_words(alloc, bytes, *reason)?;
-            Ok(Answer::Refused(line, why))
+            let line = reject_line_of(alloc, reason)?;
+            let why = reason_words(alloc, bytes, reason)?;
+            Ok(Transition::Refused(line, why))
         }
     }
+}
+
+/// What `validate` comes to over a world, calls and the bytes of a block: `accept` and the digest of the world after the block, which is left to be
+/// written where a file is named for it, or `reject` with the first of the nine reasons that holds. The pace is told the steps of the workers; what it
+/// says of watching is not asked, since the task says it. Of the files' names only that of the world after the block is looked at.
+///
+/// # Errors
+///
+/// Memory was refused.
+pub fn validate_over<'a, R: Threads + Wait + Sync, P: Pace>(
+    rt: &R,
+    alloc: Global,
+    world: &World,
+    calls: &[Call],
+    bytes: &[u8],
+    task: Validation<'a>,
+    pace: &P,
+) -> Result<Transition<'a>, NoMemory>
+    requires calls { length calls.now ≤ 65535 }
+    requires workers { (1 ≤ task.workers) × (task.workers ≤ 64) }
+    ensures validates { IfOk result (λ t. ValidatesOver (world_view world.now) calls.now bytes.now task.entry (leaving t)) }
+    ensures beside { IfOk result (WritesBeside 0) }
+{
+    let verdict = judge(rt, alloc, world, calls, task, bytes, pace)?;
+    tell(alloc, task.next, bytes, verdict)
+}
+
+/// The same, with the bytes of the world after the block.
+fn validate_encoded<'a, R: Threads + Wait + Sync, P: Pace>(
+    rt: &R,
+    alloc: Global,
+    world: &World,
+    calls: &[Call],
+    bytes: &[u8],
+    task: Validation<'a>,
+    pace: &P,
+) -> Result<Answer<'a>, NoMemory>
+    requires calls { length calls.now ≤ 65535 }
+    requires workers { (1 ≤ task.workers) × (task.workers ≤ 64) }
+    ensures { IfOk result (λ a. ValidatesOver (world_view world.now) calls.now bytes.now task.entry (upshot_of a)) }
+{
+    let transition = validate_over(rt, alloc, world, calls, bytes, task, pace)?;
+    let Noted {
+        answer,
+        note: _note,
+    } = with_world(alloc, transition)?;
+    Ok(answer)
 }
 
 /// What `validate` comes to: `accept` and the digest of the world after the block, which is to be written where a file is named for it, or `reject`
@@ -127,7 +175,7 @@ pub fn validate_block<'a, R: Threads + Wait + Sync, F: Files, P: Pace>(
     pace: &P,
 ) -> Result<Answer<'a>, Fault<'a>>
     requires workers { (1 ≤ task.workers) × (task.workers ≤ 64) }
-    ensures answers { IfOk result (λ a. IsTrue F.tells → Validates (F.holds files.old) task.entry a) }
+    ensures answers { IfOk result (λ a. IsTrue F.tells → Validates (F.holds files.old) task.entry (upshot_of a)) }
     ensures kept { IsTrue F.tells → F.holds files.new ≡ F.holds files.old }
     ensures calm { OnOk result (F.failures files.new ≡ F.failures files.old) }
     ensures counted { IfErr result (λ f. CountsFault f (F.failures files.old) (F.failures files.new)) }
@@ -138,10 +186,7 @@ pub fn validate_block<'a, R: Threads + Wait + Sync, F: Files, P: Pace>(
         Inputs::Refused(line, why) => return Ok(Answer::Refused(line, why)),
     };
     let bytes = read_file(alloc, files, task.block)?;
-    let Ok(verdict) = judge(rt, alloc, &world, &calls, task, &bytes, pace) else {
-        return Err(Fault::NoMemory);
-    };
-    match tell(alloc, task.next, &bytes, &verdict) {
+    match validate_encoded(rt, alloc, &world, &calls, &bytes, task, pace) {
         Ok(answer) => Ok(answer),
         Err(NoMemory) => Err(Fault::NoMemory),
     }

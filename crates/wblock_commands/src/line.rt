@@ -15,10 +15,10 @@ use pace::Pace;
 use std::alloc::{AllocError, Global};
 use std::sync::Wait;
 use std::thread::Threads;
-use wblock_blocks::{Noted, mine_block, validate_block};
+use wblock_blocks::{mine_block, validate_block};
 use wblock_debug::{call_world, debug_world};
 use wblock_io::Files;
-use wblock_line::{Answer, Fault, Status, carry_out, split_words, tell_fault};
+use wblock_line::{Answer, Fault, Noted, Status, carry_out, split_words, tell_fault};
 use wblock_modules::{assemble_file, check_module, write_text};
 use wblock_show::show_named;
 

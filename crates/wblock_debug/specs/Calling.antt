@@ -1,5 +1,5 @@
 -- What the words of a line ask to call, and what `call` answers.
-use Rattle.std.specs.Prelude.{◌≡◌, ℕ, ◌⊎◌, List, [], ◌∷◌, None, codes, string_bytes}
+use Rattle.std.specs.Prelude.{◌≡◌, ℕ, ◌⊎◌, List, [], ◌∷◌, None, codes}
 use Rattle.std.specs.FinMap.{get}
 use Rattle.spec_ledger.specs.declared.Version.TheVariants.{Two}
 use Rattle.spec_ledger.specs.declared.Lock.{Lock}
@@ -9,10 +9,8 @@ use Rattle.spec_block.specs.Worlds.{World, Call}
 use Rattle.spec_block.specs.Serial.{Executed}
 use Rattle.wblock_calls.specs.Texts.{AreCall}
 use Rattle.wblock_io.specs.Holding.{Holding}
-use Rattle.wblock_line.specs.declared.answer.Answer.{Answer}
-use Rattle.wblock_line.specs.declared.answer.Answer.TheVariants.{Done, Refused}
 use Rattle.wblock_line.specs.declared.perform.Status.TheVariants as status
-use Rattle.wblock_line.specs.Answers.{writes_of, text_of, status_of}
+use Rattle.wblock_line.specs.Answers.{Upshot, IsRefusal}
 use Rattle.wblock_line.specs.Inputs.{Holds, HoldsWorld}
 use Rattle.wblock_line.specs.Words.{Line}
 use Rattle.wblock_line.specs.Worlds.{TellsNoWorld}
@@ -36,30 +34,29 @@ pub record AsksCall (line : Line) (c : Calling) : Type 0 where
 -- ---- answers
 
 -- the text is printed, and no file is written
-pub record Prints (text : List ℕ) (a : Answer) : Type 0 where
-  pub status_is : status_of a ≡ status.Done
-  pub writes : writes_of a ≡ []
-  pub text_is : text_of a ≡ text
+pub record Prints (text : List ℕ) (u : Upshot) : Type 0 where
+  pub status_is : u.status ≡ status.Done
+  pub writes : u.writes ≡ []
+  pub text_is : u.text ≡ text
 
 -- The call is executed over the world's cells by the rules of version 2, and the text tells its receipt, its locks and the cells at them that it changes.
-pub record TellsExecution (world : World) (call : Call) (a : Answer) : Type 0 where
+pub record TellsExecution (world : World) (call : Call) (u : Upshot) : Type 0 where
   pub ran : CallResult
   pub later : Cells
   pub executed : Executed Two world call world.cells ran later
-  pub told : Prints (effects_text ran world.cells later) a
+  pub told : Prints (effects_text ran world.cells later) u
   -- a cell at another lock is not changed
   pub others : (lock : Lock) → get ran.touched lock ≡ None → get later lock ≡ get world.cells lock
 
--- the file holds a world, and the answer tells what the call comes to over it
-pub record IsOfWorld (holds : Holding) (task : Calling) (a : Answer) : Type 0 where
+-- the file holds a world, and what the call comes to over it is told
+pub record IsOfWorld (holds : Holding) (task : Calling) (u : Upshot) : Type 0 where
   pub world : World
   pub held : HoldsWorld holds task.world.now world
-  pub tells : TellsExecution world task.call a
+  pub tells : TellsExecution world task.call u
 
--- the answer tells why the file holds no world
-abbrev pub IsRefused : Holding → Calling → Answer → Type 0
-IsRefused holds task (Done writes text) = ⊥
-IsRefused holds task (Refused line why) = Holds holds task.world.now (λ bytes. TellsNoWorld bytes (string_bytes line))
+-- it is told why the file holds no world
+abbrev pub IsRefused : Holding → Calling → Upshot → Type 0
+IsRefused holds task u = IsRefusal u (λ line. Holds holds task.world.now (λ bytes. TellsNoWorld bytes line))
 
-abbrev pub Calls : Holding → Calling → Answer → Type 0
-Calls holds task a = IsRefused holds task a ⊎ IsOfWorld holds task a
+abbrev pub Calls : Holding → Calling → Upshot → Type 0
+Calls holds task u = IsRefused holds task u ⊎ IsOfWorld holds task u

@@ -17,6 +17,6 @@ pub use asked::{Debugging, debugging_of};
 pub use called::{Calling, calling_of};
 pub use command::{Command, command_of, commands_of};
 pub use debug::debug_world;
-pub use one_call::call_world;
+pub use one_call::{call_over, call_world};
 pub use printed::Printed;
 pub use run::debug_call;

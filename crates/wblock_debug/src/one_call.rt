@@ -2,7 +2,7 @@
 
 ghost use Rattle.std.specs.Prelude.{◌≡◌, IsTrue, IfOk, IfErr, OnOk};
 ghost use Rattle.world.specs.Views.{world_view};
-ghost use Rattle.wblock_line.specs.Answers.{CountsFault, IsOfFile};
+ghost use Rattle.wblock_line.specs.Answers.{CountsFault, IsOfFile, upshot_of};
 ghost use Rattle.wblock_debug.specs.Calling.{Calls, TellsExecution};
 
 use crate::Calling;
@@ -18,8 +18,12 @@ use world::World;
 use wtypes::NoMemory;
 
 /// What a call comes to over the cells of a world, by the rules of version 2, by which calls are mined. The world is as it was.
-fn call_over<'a>(alloc: Global, world: &World, call: &Call) -> Result<Answer<'a>, NoMemory>
-    ensures { IfOk result (TellsExecution (world_view world.now) call.now) }
+///
+/// # Errors
+///
+/// Memory was refused.
+pub fn call_over<'a>(alloc: Global, world: &World, call: &Call) -> Result<Answer<'a>, NoMemory>
+    ensures { IfOk result (λ a. TellsExecution (world_view world.now) call.now (upshot_of a)) }
 {
     an_execution_has_a_read_write_set();
     let before = world.cells();
@@ -37,7 +41,7 @@ pub fn call_world<'a, F: Files>(
     files: &mut F,
     task: &Calling<'a>,
 ) -> Result<Answer<'a>, Fault<'a>>
-    ensures answers { IfOk result (λ a. IsTrue F.tells → Calls (F.holds files.old) task.now a) }
+    ensures answers { IfOk result (λ a. IsTrue F.tells → Calls (F.holds files.old) task.now (upshot_of a)) }
     ensures kept { IsTrue F.tells → F.holds files.new ≡ F.holds files.old }
     ensures calm { OnOk result (F.failures files.new ≡ F.failures files.old) }
     ensures counted { IfErr result (λ f. CountsFault f (F.failures files.old) (F.failures files.new)) }

@@ -32,6 +32,24 @@ abbrev pub status_of : Answer → Status
 status_of (Done writes text) = status.Done
 status_of (Refused line why) = status.Refused
 
+-- ---- what a command comes to, without where it lies in memory
+
+pub record Upshot : Type 0 where
+  pub status : Status
+  pub writes : List Written
+  pub text : List ℕ
+
+abbrev pub upshot_of : Answer → Upshot
+upshot_of a = record { status = status_of a; writes = writes_of a; text = text_of a }
+
+-- it is refused with a line of which this is true, and no file is to be written
+pub record IsRefusal (u : Upshot) (Is : List ℕ → Type 0) : Type 0 where
+  pub status_is : u.status ≡ status.Refused
+  pub writes : u.writes ≡ []
+  pub line : Is u.text
+
+-- ---- answers
+
 -- a file is to hold these bytes, and `WORD N bytes` is to be printed
 pub record IsCounted (word target bytes : List ℕ) (a : Answer) : Type 0 where
   pub status : status_of a ≡ status.Done

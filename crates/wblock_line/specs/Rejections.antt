@@ -2,6 +2,7 @@
 use Rattle.std.specs.Prelude.{◌≡◌, ℕ, List, [], ◌∷◌, ◌++◌, Option, Some, None, codes, decimal, string_bytes}
 use Rattle.spec_block.specs.Verdicts.{Verdict, place}
 use Rattle.block_judge.specs.Judging.{place_in}
+use Rattle.wblock_line.specs.Answers.{Upshot, IsRefusal}
 use Rattle.wblock_line.specs.declared.answer.Answer.{Answer}
 use Rattle.wblock_line.specs.declared.answer.Answer.TheVariants.{Done, Refused}
 
@@ -13,6 +14,10 @@ place_text None = []
 -- `reject N`, with ` P` where the reason has a position or call
 abbrev pub reject_line : Verdict → List ℕ
 reject_line v = codes "reject " ++ decimal (place v) ++ place_text (place_in v) ++ 10 ∷ []
+
+-- it is refused with the line that tells why the block is rejected
+abbrev pub IsRejection : Verdict → Upshot → Type 0
+IsRejection v u = IsRefusal u (λ line. line ≡ reject_line v)
 
 -- the answer's line tells why the block is rejected, and no file is to be written
 abbrev pub Rejects : Verdict → Answer → Type 0

@@ -13,6 +13,7 @@ mod quiet;
 mod refusals;
 mod rejections;
 mod sites;
+mod transition;
 mod wiped;
 mod words;
 mod worlds;
@@ -22,11 +23,12 @@ pub use entries::entry_words;
 pub use inputs::{Inputs, WorldFile, judge_calls, read_inputs, read_world_file};
 pub use line::WIPE;
 pub use modules::{Stop, read_contract, read_module, read_valid};
-pub use perform::{Status, carry_out, tell_fault};
+pub use perform::{Status, carry_out, tell_fault, write_files};
 pub use progress::Progress;
 pub use quiet::{QUIET_NAME, Words, without_quiet};
 pub use refusals::ModuleRefusal;
 pub use rejections::{reason_words, reject_line_of};
+pub use transition::{Change, NextWorld, Noted, Transition, with_world};
 pub use wiped::Wiped;
 pub use words::{
     BOOSTED_SWITCH, FORCE_SWITCH, JSON_SWITCH, Line, SIGNED_SWITCH, UNCHECKED_SWITCH, split_words,

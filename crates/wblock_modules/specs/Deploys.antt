@@ -5,13 +5,11 @@ use Rattle.std.specs.FinMap.{empty}
 use Rattle.spec_block.specs.Worlds.{Contract, World}
 use Rattle.spec_block.specs.Bytes.{world_bytes}
 use Rattle.wblock_io.specs.Holding.{Holding}
-use Rattle.wblock_line.specs.declared.answer.Answer.{Answer}
-use Rattle.wblock_line.specs.declared.answer.Answer.TheVariants.{Done, Refused}
 use Rattle.wblock_line.specs.declared.inputs.WorldFile.{WorldFile}
 use Rattle.wblock_line.specs.declared.inputs.WorldFile.TheVariants as file
 use Rattle.wblock_line.specs.declared.perform.Status.TheVariants as status
 use Rattle.wblock_line.specs.declared.refusals.ModuleRefusal.{ModuleRefusal}
-use Rattle.wblock_line.specs.Answers.{writes_of, text_of, status_of}
+use Rattle.wblock_line.specs.Answers.{Upshot, IsRefusal}
 use Rattle.wblock_line.specs.Inputs.{Holds as HoldsBytes, HoldsWorld}
 use Rattle.wblock_line.specs.Modules.{IsContractOf, IsWhy}
 use Rattle.wblock_line.specs.Refusals.{refusal_text}
@@ -64,17 +62,20 @@ TellsNoBase holds (Some old) line = HoldsBytes holds old.now (λ bytes. TellsNoW
 abbrev pub crowd_line : ℕ → List ℕ
 crowd_line count = codes "refused deploy 6 " ++ decimal count ++ 10 ∷ []
 
--- the contracts of OLD and so many more are above 1,024, and the line tells how many they are
-pub record TellsCrowd (holds : Holding) (onto : Option (Bor (List ℕ))) (count : ℕ) (line : List ℕ) : Type 0 where
-  pub base : World
-  pub is_base : IsBase holds onto base
+-- the contracts of the world and so many more are above 1,024, and the line tells how many they are
+pub record IsCrowd (base : World) (count : ℕ) (line : List ℕ) : Type 0 where
   pub many : 1024 < length base.contracts + count
   pub line_is : line ≡ crowd_line (length base.contracts + count)
 
+-- the world that is gone on from has no room for so many more
+pub record TellsCrowd (holds : Holding) (onto : Option (Bor (List ℕ))) (count : ℕ) (line : List ℕ) : Type 0 where
+  pub base : World
+  pub is_base : IsBase holds onto base
+  pub crowd : IsCrowd base count line
+
 -- OLD holds no world, or one without room for so many contracts more
-abbrev pub RefusesOld : Holding → Option (Bor (List ℕ)) → ℕ → Answer → Type 0
-RefusesOld holds onto count (Done writes text) = ⊥
-RefusesOld holds onto count (Refused line why) = TellsNoBase holds onto (string_bytes line) ⊎ TellsCrowd holds onto count (string_bytes line)
+abbrev pub RefusesOld : Holding → Option (Bor (List ℕ)) → ℕ → Upshot → Type 0
+RefusesOld holds onto count u = IsRefusal u (λ line. TellsNoBase holds onto line ⊎ TellsCrowd holds onto count line)
 
 -- ---- modules
 
@@ -107,32 +108,31 @@ onto_text None count = []
 onto_text (Some old) count = codes " onto " ++ decimal count
 
 -- a file is to hold these bytes, and `deployed N contracts` is to be printed, and this behind it
-pub record IsDone (world bytes : List ℕ) (count : ℕ) (behind : List ℕ) (a : Answer) : Type 0 where
-  pub status : status_of a ≡ status.Done
-  pub writes : writes_of a ≡ (world, bytes) ∷ []
-  pub text : text_of a ≡ codes "deployed " ++ decimal count ++ codes " contracts" ++ behind ++ 10 ∷ []
+pub record IsDone (world bytes : List ℕ) (count : ℕ) (behind : List ℕ) (u : Upshot) : Type 0 where
+  pub status_is : u.status ≡ status.Done
+  pub writes : u.writes ≡ (world, bytes) ∷ []
+  pub text : u.text ≡ codes "deployed " ++ decimal count ++ codes " contracts" ++ behind ++ 10 ∷ []
 
 -- the bytes are those of the world with the contracts that the files hold behind its own
-pub record TellsWorld (holds : Holding) (world : List ℕ) (onto : Option (Bor (List ℕ))) (base : World) (names : List (List ℕ)) (a : Answer) : Type 0 where
+pub record TellsWorld (holds : Holding) (world : List ℕ) (onto : Option (Bor (List ℕ))) (base : World) (names : List (List ℕ)) (u : Upshot) : Type 0 where
   pub contracts : List Contract
   pub held : AreHeld holds names contracts
-  pub is : IsDone world (world_bytes (extended base contracts)) (length names) (onto_text onto (length base.contracts)) a
+  pub is : IsDone world (world_bytes (extended base contracts)) (length names) (onto_text onto (length base.contracts)) u
 
 -- what comes of the modules, behind the contracts of this world
-abbrev pub Extends : Holding → List ℕ → Option (Bor (List ℕ)) → World → List (List ℕ) → Answer → Type 0
-Extends holds world onto base names (Done writes text) = TellsWorld holds world onto base names (Done writes text)
-Extends holds world onto base names (Refused line why) = TellsRefusal holds names (string_bytes line)
+abbrev pub Extends : Holding → List ℕ → Option (Bor (List ℕ)) → World → List (List ℕ) → Upshot → Type 0
+Extends holds world onto base names u = TellsWorld holds world onto base names u ⊎ IsRefusal u (TellsRefusal holds names)
 
 -- ---- answers
 
 -- the world that is gone on from has room for the modules
-pub record DeploysOnto (holds : Holding) (world : List ℕ) (onto : Option (Bor (List ℕ))) (names : List (List ℕ)) (a : Answer) : Type 0 where
+pub record DeploysOnto (holds : Holding) (world : List ℕ) (onto : Option (Bor (List ℕ))) (names : List (List ℕ)) (u : Upshot) : Type 0 where
   pub base : World
   pub room : HasRoom holds onto (length names) base
-  pub extends : Extends holds world onto base names a
+  pub extends : Extends holds world onto base names u
 
-abbrev pub Deploys : Holding → List ℕ → Option (Bor (List ℕ)) → List (List ℕ) → Answer → Type 0
-Deploys holds world onto names a = RefusesOld holds onto (length names) a ⊎ DeploysOnto holds world onto names a
+abbrev pub Deploys : Holding → List ℕ → Option (Bor (List ℕ)) → List (List ℕ) → Upshot → Type 0
+Deploys holds world onto names u = RefusesOld holds onto (length names) u ⊎ DeploysOnto holds world onto names u
 
 -- ---- files that are read
 
@@ -156,10 +156,20 @@ abbrev pub GivesBase : Holding → Option (Bor (List ℕ)) → WorldFile → Typ
 GivesBase holds onto (file.Read w) = IsBase holds onto (world_view w)
 GivesBase holds onto (file.Refused line why) = TellsNoBase holds onto (string_bytes line)
 
--- the answer's line tells that the contracts are so many
-abbrev pub TellsCount : ℕ → Answer → Type 0
-TellsCount count (Done writes text) = ⊥
-TellsCount count (Refused line why) = string_bytes line ≡ crowd_line count
+-- the line tells that the contracts are so many
+abbrev pub TellsCount : ℕ → Modules → Type 0
+TellsCount count (modules.Linked contracts) = ⊥
+TellsCount count (modules.Refused line why) = string_bytes line ≡ crowd_line count
+
+-- what is read of modules behind the contracts of a world: there are too many; or one gives no contract; or these are their contracts
+abbrev pub IsReadBehind : Holding → World → List (List ℕ) → Modules → Type 0
+IsReadBehind holds base names (modules.Linked contracts) = (length base.contracts + length names ≤ 1024) × AreHeld holds names (map contract_view contracts.items)
+IsReadBehind holds base names (modules.Refused line why) = IsCrowd base (length names) (string_bytes line) ⊎ ((length base.contracts + length names ≤ 1024) × TellsRefusal holds names (string_bytes line))
+
+-- the contracts that were read fit behind those of the world
+abbrev pub FitsBehind : World → Modules → Type 0
+FitsBehind base (modules.Linked contracts) = length base.contracts + vec_len contracts ≤ 1024
+FitsBehind base (modules.Refused line why) = Unit {0}
 
 abbrev pub HasCount : ℕ → Modules → Type 0
 HasCount count (modules.Linked contracts) = vec_len contracts ≡ count

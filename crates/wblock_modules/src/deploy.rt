@@ -3,26 +3,28 @@
 
 ghost use Rattle.std.specs.Prelude.{◌≡◌, ◌+◌, ◌≤◌, IsTrue, IfOk, IfErr, OnOk, length, vec_len, map, string_bytes};
 ghost use Rattle.spec_block.specs.Bytes.{world_bytes};
-ghost use Rattle.wblock_line.specs.Answers.{CountsFault, IsOfFile};
+ghost use Rattle.wblock_line.specs.Answers.{CountsFault, IsOfFile, upshot_of};
+ghost use Rattle.wblock_line.specs.Transitions.{leaving, WritesBeside};
 ghost use Rattle.world.specs.Views.{contract_view, world_view};
-ghost use Rattle.wblock_modules.specs.Deploys.{HasCount, IsRead, IsRefusalLine, IsNextModule, IsDone, IsEmpty, IsOld, IsNextDeployed, GivesBase, TellsCount, Deploys, Extends, extended, onto_text};
+ghost use Rattle.wblock_modules.specs.Deploys.{HasCount, IsRead, IsReadBehind, FitsBehind, IsRefusalLine, IsNextModule, IsDone, IsEmpty, IsOld, IsNextDeployed, GivesBase, TellsCount, Deploys, extended, onto_text};
 
 use link::deployed::Deployed;
 use std::alloc::{AllocError, Global};
 use storage::Cells;
 use wblock_io::Files;
 use wblock_line::{
-    Answer, Fault, ModuleRefusal, Stop, WorldFile, Write, read_contract, read_file, read_world_file,
+    Answer, Change, Fault, ModuleRefusal, NextWorld, Noted, Stop, Transition, WorldFile,
+    read_contract, read_file, read_world_file, with_world,
 };
-use world::{World, encode_world};
+use world::World;
 use wtypes::NoMemory;
 
 /// What the modules of the files come to.
 #[derive(Drop)]
-enum Modules {
+pub enum Modules {
     /// The contracts, in their order.
     Linked(Vec<Deployed<Global>>),
-    /// One is refused, with this line and this sentence.
+    /// One is refused, or they are too many, with this line and this sentence.
     Refused(String, String),
 }
 
@@ -119,20 +121,19 @@ fn count_of(world: &World) -> usize
     world.contracts().len()
 }
 
-/// The bytes of a world with these contracts behind its own.
-fn encode_extended(
+/// A world with these contracts behind its own.
+fn extended_world(
     alloc: Global,
     base: World,
     contracts: Vec<Deployed<Global>>,
-) -> Result<Vec<u8>, NoMemory>
+) -> Result<World, AllocError>
     requires { length (world_view base).contracts + vec_len contracts ≤ 1024 }
-    ensures { IfOk result (λ bytes. bytes.items ≡ world_bytes (extended (world_view base) (map contract_view contracts.items))) }
+    ensures { IfOk result (λ world. world_view world ≡ extended (world_view base) (map contract_view contracts.items)) }
 {
     let mut behind = contracts;
     let (mut all, cells) = base.into_parts();
     all.append(&mut behind)?;
-    let world = World::new(all, cells);
-    encode_world(alloc, &world)
+    Ok(World::new(all, cells))
 }
 
 /// ` onto M`, M the number of OLD's contracts, or nothing where no OLD is named.
@@ -145,24 +146,39 @@ fn onto_text_of(alloc: Global, onto: Option<&str>, count: usize) -> Result<Strin
     }
 }
 
-/// The answer of so many contracts, whose world these bytes are, with this behind its line.
-fn done<'a>(
+/// What is done with these contracts behind those of a world, which is that of OLD where OLD is named: the world of all of them is left, to be written.
+///
+/// # Errors
+///
+/// Memory was refused.
+pub fn extend<'a>(
     alloc: Global,
     world: &'a str,
-    bytes: Vec<u8>,
-    count: usize,
-    behind: &String,
-) -> Result<Answer<'a>, AllocError>
-    ensures { IfOk result (λ a. IsDone world.entry.now bytes.items count (string_bytes behind.now) a) }
+    onto: Option<&str>,
+    base: World,
+    contracts: Vec<Deployed<Global>>,
+) -> Result<Transition<'a>, NoMemory>
+    requires { length (world_view base).contracts + vec_len contracts ≤ 1024 }
+    ensures beside { IfOk result (WritesBeside 0) }
+    ensures done { IfOk result (λ t. IsDone world.entry.now (world_bytes (extended (world_view base) (map contract_view contracts.items))) (vec_len contracts) (onto_text onto.entry (length (world_view base).contracts)) (leaving t)) }
 {
+    let count = contracts.len();
+    let behind = onto_text_of(alloc, onto, count_of(&base))?;
     let text = format!(in alloc; "deployed {count} contracts{behind}\n")?;
-    let mut writes = Vec::new(alloc);
-    writes.push(Write { name: world, bytes })?;
-    Ok(Answer::Done(writes, text))
+    let next = NextWorld {
+        name: world,
+        world: extended_world(alloc, base, contracts)?,
+    };
+    Ok(Transition::Done(Change {
+        writes: Vec::new(alloc),
+        next: Some(next),
+        text,
+        note: String::new(alloc),
+    }))
 }
 
-/// The answer of these contracts behind those of a world, which is that of OLD where OLD is named.
-fn extend<'a>(
+/// The same, with the bytes of the world.
+fn extend_encoded<'a>(
     alloc: Global,
     world: &'a str,
     onto: Option<&str>,
@@ -170,45 +186,18 @@ fn extend<'a>(
     contracts: Vec<Deployed<Global>>,
 ) -> Result<Answer<'a>, NoMemory>
     requires { length (world_view base).contracts + vec_len contracts ≤ 1024 }
-    ensures { IfOk result (λ a. IsDone world.entry.now (world_bytes (extended (world_view base) (map contract_view contracts.items))) (vec_len contracts) (onto_text onto.entry (length (world_view base).contracts)) a) }
+    ensures { IfOk result (λ a. IsDone world.entry.now (world_bytes (extended (world_view base) (map contract_view contracts.items))) (vec_len contracts) (onto_text onto.entry (length (world_view base).contracts)) (upshot_of a)) }
 {
-    let count = contracts.len();
-    let behind = onto_text_of(alloc, onto, count_of(&base))?;
-    let bytes = encode_extended(alloc, base, contracts)?;
-    Ok(done(alloc, world, bytes, count, &behind)?)
+    let transition = extend(alloc, world, onto, base, contracts)?;
+    let Noted {
+        answer,
+        note: _note,
+    } = with_world(alloc, transition)?;
+    Ok(answer)
 }
 
-/// What the modules come to behind the contracts of a world.
-fn deploy_behind<'a, F: Files>(
-    alloc: Global,
-    files: &mut F,
-    world: &'a str,
-    onto: Option<&'a str>,
-    base: World,
-    modules: &[&'a str],
-) -> Result<Answer<'a>, Fault<'a>>
-    requires { length (world_view base).contracts + length modules.now ≤ 1024 }
-    ensures answers { IfOk result (λ a. IsTrue F.tells → Extends (F.holds files.old) world.entry.now onto.entry (world_view base) (map (λ w. w.now) modules.now) a) }
-    ensures kept { IsTrue F.tells → F.holds files.new ≡ F.holds files.old }
-    ensures calm { OnOk result (F.failures files.new ≡ F.failures files.old) }
-    ensures counted { IfErr result (λ f. CountsFault f (F.failures files.old) (F.failures files.new)) }
-    ensures next { IfErr result (IsOfFile (λ name. IsTrue F.tells → IsNextModule (F.holds files.old) (map (λ w. w.now) modules.now) name)) }
-{
-    match read_modules(alloc, files, modules)? {
-        Modules::Refused(line, why) => Ok(Answer::Refused(line, why)),
-        Modules::Linked(contracts) => match extend(alloc, world, onto, base, contracts) {
-            Ok(answer) => Ok(answer),
-            Err(NoMemory) => Err(Fault::NoMemory),
-        },
-    }
-}
-
-/// The answer that so many contracts of OLD and so many modules are too many for a world.
-fn crowd_answer<'a>(
-    alloc: Global,
-    contracts: usize,
-    modules: usize,
-) -> Result<Answer<'a>, AllocError>
+/// What is said of so many contracts of OLD and so many modules, which are too many for a world.
+fn refuse_crowd(alloc: Global, contracts: usize, modules: usize) -> Result<Modules, AllocError>
     requires contracts { contracts ≤ 1024 }
     requires modules { modules ≤ 1024 }
     ensures { IfOk result (TellsCount (contracts + modules)) }
@@ -218,24 +207,35 @@ fn crowd_answer<'a>(
     let why = format!(in alloc;
         "world: {contracts} contracts of OLD and {modules} modules are more than 1,024 contracts; deploy fewer"
     )?;
-    Ok(Answer::Refused(line, why))
+    Ok(Modules::Refused(line, why))
 }
 
-/// The same, with the fault of a command.
-fn refuse_crowd<'a>(
+/// Reads modules that are to stand behind the contracts of a world: they are refused where they are too many, and none is read then; else each is judged
+/// before the next is read.
+pub fn read_modules_behind<'a, F: Files>(
     alloc: Global,
-    contracts: usize,
-    modules: usize,
-) -> Result<Answer<'a>, Fault<'a>>
-    requires contracts { contracts ≤ 1024 }
-    requires modules { modules ≤ 1024 }
-    ensures line { IfOk result (TellsCount (contracts + modules)) }
-    ensures fault { IfErr result (λ f. f ≡ Fault.NoMemory) }
+    files: &mut F,
+    base: &World,
+    names: &[&'a str],
+) -> Result<Modules, Fault<'a>>
+    requires { length names.now ≤ 1024 }
+    ensures fits { IfOk result (FitsBehind (world_view base.now)) }
+    ensures count { IfOk result (HasCount (length names.now)) }
+    ensures read { IfOk result (λ m. IsTrue F.tells → IsReadBehind (F.holds files.old) (world_view base.now) (map (λ w. w.now) names.now) m) }
+    ensures kept { IsTrue F.tells → F.holds files.new ≡ F.holds files.old }
+    ensures calm { OnOk result (F.failures files.new ≡ F.failures files.old) }
+    ensures counted { IfErr result (λ f. CountsFault f (F.failures files.old) (F.failures files.new)) }
+    ensures room { IfErr result (IsOfFile (λ name. length (world_view base.now).contracts + length names.now ≤ 1024)) }
+    ensures next { IfErr result (IsOfFile (λ name. IsTrue F.tells → IsNextModule (F.holds files.old) (map (λ w. w.now) names.now) name)) }
 {
-    match crowd_answer(alloc, contracts, modules) {
-        Ok(refused) => Ok(refused),
-        Err(AllocError) => Err(Fault::NoMemory),
+    let contracts = count_of(base);
+    if contracts + names.len() > World::MOST_CONTRACTS {
+        return match refuse_crowd(alloc, contracts, names.len()) {
+            Ok(refused) => Ok(refused),
+            Err(AllocError) => Err(Fault::NoMemory),
+        };
     }
+    read_modules(alloc, files, names)
 }
 
 /// What `deploy` comes to: the world of the contracts that the modules of the files are, in their order, is to be written. They stand behind the
@@ -250,7 +250,7 @@ pub fn deploy_modules<'a, F: Files>(
     modules: &[&'a str],
 ) -> Result<Answer<'a>, Fault<'a>>
     requires { length modules.now ≤ 1024 }
-    ensures answers { IfOk result (λ a. IsTrue F.tells → Deploys (F.holds files.old) world.entry.now onto.entry (map (λ w. w.now) modules.now) a) }
+    ensures answers { IfOk result (λ a. IsTrue F.tells → Deploys (F.holds files.old) world.entry.now onto.entry (map (λ w. w.now) modules.now) (upshot_of a)) }
     ensures kept { IsTrue F.tells → F.holds files.new ≡ F.holds files.old }
     ensures calm { OnOk result (F.failures files.new ≡ F.failures files.old) }
     ensures counted { IfErr result (λ f. CountsFault f (F.failures files.old) (F.failures files.new)) }
@@ -260,13 +260,11 @@ pub fn deploy_modules<'a, F: Files>(
         WorldFile::Read(base) => base,
         WorldFile::Refused(line, why) => return Ok(Answer::Refused(line, why)),
     };
-    let contracts = count_of(&base);
-    let is_crowded = contracts + modules.len() > World::MOST_CONTRACTS;
-    if is_crowded {
-        return refuse_crowd(alloc, contracts, modules.len());
-    }
-    match deploy_behind(alloc, files, world, onto, base, modules) {
-        Ok(answer) => Ok(answer),
-        Err(fault) => Err(fault),
+    match read_modules_behind(alloc, files, &base, modules)? {
+        Modules::Refused(line, why) => Ok(Answer::Refused(line, why)),
+        Modules::Linked(contracts) => match extend_encoded(alloc, world, onto, base, contracts) {
+            Ok(answer) => Ok(answer),
+            Err(NoMemory) => Err(Fault::NoMemory),
+        },
     }
 }

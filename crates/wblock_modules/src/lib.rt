@@ -9,5 +9,5 @@ mod text;
 
 pub use asm::assemble_file;
 pub use check::check_module;
-pub use deploy::deploy_modules;
+pub use deploy::{Modules, deploy_modules, extend, read_modules_behind};
 pub use text::write_text;

@@ -3,5 +3,6 @@ mod CellCounts
 mod Exact
 mod Judging
 mod Parts
+mod Spelled
 mod Storing
 mod Worlds

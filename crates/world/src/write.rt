@@ -177,10 +177,13 @@ pub fn write_world<A: Allocator + Copy, S: Sink>(
     }
 }
 
-/// SHA-256 of a world's bytes.
+/// SHA-256 of a world's bytes: the one that the world keeps, or else it is made.
 pub fn digest_world<A: Allocator + Copy>(alloc: A, world: &World<A>) -> Result<[u8; 32], NoMemory>
     ensures { IfOk result (λ digest. digest ≡ sha256 (world_bytes (world_view world.now))) }
 {
+    if let Some(digest) = world.kept_digest() {
+        return Ok(digest);
+    }
     let mut bytes = Vec::new(alloc);
     append_world(alloc, &mut bytes, world)?;
     Ok(Sha256::digest(bytes.as_slice()))

@@ -53,4 +53,4 @@ returns g c = λ calls fuel run.
     accepted c.one_serial_run.ensures.one world block (results_of rs ms) core.cells.cells calls fuel run alike
     (c.in_ok-compared.ensures.compared.total.0 (is_so c.in_ok-compared.compared.is_total c.if-not-compared.false) ∙ total)
     (sym c.after.ensures ∙ (c.is_digest.ensures.0 c.if-not-is_digest.false ∙ digest))
-    (world_view c.in_ok-next.next) c.in_ok-next.ensures
+    (world_view c.with_digest.result) (c.with_digest.ensures ∙ c.in_ok-next.ensures)

@@ -1,35 +1,22 @@
-use Rattle.std.proofs.Common.{◌≡◌, ℕ, ◌+◌, List, Bor, IsTrue, length, map, subst, inl, inr, arith}
+use Rattle.std.proofs.Common.{◌≡◌, ◌+◌, IsTrue, length, map, subst, inl, inr, arith}
 use Rattle.std.proofs.lemmas.List.{length-map}
-use Rattle.std.proofs.lemmas.Result.{IfOk-weaker, err_from_is_err_and}
+use Rattle.std.proofs.lemmas.Result.{err_from_is_err_and}
 use Rattle.wblock_io.specs.Holding.{Holding}
 use Rattle.world.specs.Views.{world_view}
 use Rattle.wblock_line.specs.FaultLaws.{of_file_weaker}
-use Rattle.wblock_modules.specs.Deploys.{IsBase, IsOld, IsNextModule, IsNextDeployed, GivesBase, Extends, TellsCount}
-use Rattle.wblock_modules.proofs.Onto.{crowded}
+use Rattle.wblock_modules.specs.Deploys.{IsBase, IsOld, IsNextModule, IsNextDeployed, IsReadBehind, GivesBase}
+use Rattle.wblock_modules.specs.declared.deploy.Modules.TheVariants as modules
+use Rattle.wblock_modules.proofs.Onto.{refused}
 use Rattle.wblock_modules.proofs.deploy.deploy_modules.Goals as goal
 
-pub returns-then-is_crowded-clause-answers : goal.returns-then-is_crowded-clause-answers
-returns-then-is_crowded-clause-answers g c = IfOk-weaker c.refuse_crowd.result _ _ (λ a told t.
+pub returns-in-Refused-clause-answers : goal.returns-in-Refused-clause-answers
+returns-in-Refused-clause-answers g c = λ t.
     let holds = g.F.Files.holds c.args.files.now in
     let base = world_view c.in-Read.base in
     let names = map (λ w. w.now) c.args.modules.now in
-    let count = length-map c.args.modules.now (λ (w : Bor (List ℕ)). w.now) in
     let is : IsBase holds c.args.onto base = subst (λ found. GivesBase holds c.args.onto found) c.in-Read.is (c.in_ok-base.ensures.gives t) in
-    let same : c.count_of-contracts.result + length c.args.modules.now ≡ length base.contracts + length names = omega (arith, count, c.count_of-contracts.ensures.count) in
-    inl (crowded holds c.args.onto (length names) base a is (omega (arith, same, c.if-is_crowded.true)) (subst (λ (n : ℕ). TellsCount n a) same told))) c.refuse_crowd.ensures.line
-
-pub returns-in-Ok-clause-answers : goal.returns-in-Ok-clause-answers
-returns-in-Ok-clause-answers g c = λ t.
-    let holds = g.F.Files.holds c.args.files.now in
-    let base = world_view c.in-Read.base in
-    let names = map (λ w. w.now) c.args.modules.now in
-    let count = length-map c.args.modules.now (λ (w : Bor (List ℕ)). w.now) in
-    let is : IsBase holds c.args.onto base = subst (λ found. GivesBase holds c.args.onto found) c.in-Read.is (c.in_ok-base.ensures.gives t) in
-    inr (record {
-      base = base;
-      room = record { is_base = is; room = omega (arith, count, c.count_of-contracts.ensures.count, c.if-is_crowded.false) };
-      extends = subst (λ (h : Holding). Extends h c.args.world.now c.args.onto base names c.in-Ok.answer) (c.in_ok-base.ensures.kept t) (c.in-Ok.ensures.answers t);
-    })
+    refused holds c.args.world.now c.args.onto base names c.in-Refused.line c.in-Refused.why is
+    (subst (λ (h : Holding). IsReadBehind h base names (modules.Refused c.in-Refused.line c.in-Refused.why)) (c.in_ok-base.ensures.kept t) (subst (IsReadBehind (g.F.Files.holds c.read_base.new.files) base names) c.in-Refused.is (c.read_modules_behind.ensures.read t)))
 
 pub returns-in_err-base-clause-next : goal.returns-in_err-base-clause-next
 returns-in_err-base-clause-next g c =
@@ -44,11 +31,11 @@ returns-clause-next g c =
     let holds = g.F.Files.holds c.args.files.now in
     let base = world_view c.in-Read.base in
     let names = map (λ w. w.now) c.args.modules.now in
-    let count = length-map c.args.modules.now (λ (w : Bor (List ℕ)). w.now) in
+    let count = length-map (λ w. w.now) c.args.modules.now in
     of_file_weaker (λ name. IsTrue g.F.Files.tells → IsNextModule (g.F.Files.holds c.read_base.new.files) names name) (λ name. IsTrue g.F.Files.tells → IsNextDeployed holds c.args.onto names name) c.in-Err.fault (λ name next t.
     let is : IsBase holds c.args.onto base = subst (λ found. GivesBase holds c.args.onto found) c.in-Read.is (c.in_ok-base.ensures.gives t) in
     inr (record {
       base = base;
-      room = record { is_base = is; room = omega (arith, count, c.count_of-contracts.ensures.count, c.if-is_crowded.false) };
+      room = record { is_base = is; room = omega (arith, count, c.count_of-contracts.ensures.count, c.if-total-MOST_CONTRACTS.false) };
       next = subst (λ (h : Holding). IsNextModule h names name) (c.in_ok-base.ensures.kept t) (next t);
     })) c.in-Err.ensures.next
