@@ -4,10 +4,11 @@
 #
 # It goes to the repository's top; sets `program`, which `build` proves, builds and leaves in the crate's out/ (the first time takes some minutes), `wblock`, the
 # program that `build wblock` builds too, and `work`, a folder that is removed in the end. RT names the kit's command, `rt` if left out; RT=true takes the programs as they
-# are there.
+# are there. A script that uses the program hard takes one as its first word in place of `wblock`, and builds none (`take_program`).
 set -euo pipefail
 shopt -s inherit_errexit
 script=bench/$(basename "$0")
+called_in=$PWD
 cd "$(dirname "${BASH_SOURCE[0]}")/.."
 crate=$1
 program=$PWD/crates/$crate/out/$crate
@@ -19,7 +20,8 @@ for tool in "${@:2}"; do
   if ! command -v "$tool" >/dev/null; then
     case $tool in
       wasm-ld) package=lld ;;
-      clang | python3) package=$tool ;;
+      clang | csmith | gcc | python3) package=$tool ;;
+      node) package=nodejs ;;
       *) package=wabt ;;
     esac
     echo "$script: $tool is missing: apt-get install $package" >&2
@@ -43,6 +45,28 @@ build() {
     fi
     [[ -x crates/$name/out/$name ]] || fail "there is no program crates/$name/out/$name"
   done
+}
+
+# Takes the program that the first word names as `wblock`, if it names one, else that which the gate left; `rest` are the others.
+take_program() {
+  if (($# > 0)) && ! [[ $1 =~ ^[0-9]+$ ]]; then
+    wblock=$(cd "$called_in" && realpath -- "$1")
+    shift
+  fi
+  rest=("$@")
+  if ! [[ -f $wblock && -x $wblock ]]; then
+    echo "$script: there is no program $wblock" >&2
+    exit 2
+  fi
+}
+
+# Keeps these files and folders of `work`, says what is not as it has to be, and ends the script: the files in one word, and the sentence.
+keep() {
+  local kept name
+  kept=$(mktemp -d)
+  for name in $1; do cp -r "$work/$name" "$kept" 2>/dev/null || true; done
+  shift
+  fail "$*; its files are in $kept"
 }
 
 # Says how the script is called, and ends it.

@@ -3,15 +3,21 @@
 # fills a small file system under it; and lets several commands write one file at once. Each time the world is whole, and the one before or the one after;
 # where it is the one after, its block is there; and what a killed run left beside is read by nobody, and is gone when the next run wrote that file.
 #
-#   examples/crash.sh [PROGRAM]     PROGRAM: crates/wblock/out/wblock of this repository if it is not given
+#   examples/crash.sh [PROGRAM [KILLS [SEED]]]     PROGRAM: crates/wblock/out/wblock of this repository if it is not given
 #
 # It needs the shell, coreutils, and unshare of util-linux. A file system is filled where one may be mounted. It kills for some 30 seconds, and for at
-# most 120 on a machine with other work. A kill is no fall of the power: that a file is written down to the disk before it takes its place is tested in
-# tests_program. The status is 0 where all passed, 1 where one failed, 2 where there is no program.
+# most 120 on a machine with other work; with KILLS until so many runs were killed. A kill is no fall of the power: that a file is written down to the disk
+# before it takes its place is tested in tests_program. The status is 0 where all passed, 1 where one failed, 2 where there is no program.
 # shellcheck source=SCRIPTDIR/checks.sh
 . "$(dirname "${BASH_SOURCE[0]}")/checks.sh" "$@"
 export program
-RANDOM=60
+most=${2:-0}
+seed=${3:-60}
+if ! [[ $# -le 3 && $most =~ ^[0-9]{1,6}$ && $seed =~ ^[0-9]{1,9}$ ]]; then
+    echo "usage: examples/crash.sh [PROGRAM [KILLS [SEED]]]" >&2
+    exit 2
+fi
+RANDOM=$seed
 kills=0
 were_before=0
 were_after=0
@@ -37,6 +43,16 @@ all_whole() {
     else
         were_after=$((were_after + 1))
         whole world world.after && whole block block.whole
+    fi
+}
+
+# Looks at what a killed run left: $1 which it was. Where KILLS is given, the first that is not whole ends the script, and its files stay.
+looks_whole() {
+    is "$1" all_whole
+    if ((most > 0 && failed > 0)); then
+        trap - EXIT
+        echo "$script: seed $seed: the files stay in $work"
+        exit 1
     fi
 }
 
@@ -163,28 +179,28 @@ miner=$(microseconds_of "${mined[@]}")
 make_ready block.whole
 validator=$(microseconds_of "${validated[@]}")
 begun=$SECONDS
-for try in $(seq 75); do
+for ((try = 1; most > 0 ? kills < most : try <= 75; try++)); do
     # (on a machine with other work it goes on until some were killed)
     spent=$((SECONDS - begun))
-    if ((spent >= 30 && kills >= 24 || spent >= 120)); then break; fi
+    if ((most == 0 && (spent >= 30 && kills >= 24 || spent >= 120))); then break; fi
     make_ready old
     moment=$(((RANDOM * 32768 + RANDOM) % (miner + miner / 8)))
     killed_after $moment "${mined[@]}"
-    is "kill $try of mine, after $moment microseconds" all_whole
+    looks_whole "kill $try of mine, after $moment microseconds"
     make_ready old
     turns=$((RANDOM % 400))
     killed_in_a_write $turns "${mined[@]}"
-    is "kill $try of mine, in a write, after $turns turns" all_whole
+    looks_whole "kill $try of mine, in a write, after $turns turns"
     make_ready block.whole
     moment=$(((RANDOM * 32768 + RANDOM) % (validator + validator / 8)))
     killed_after $moment "${validated[@]}"
-    is "kill $try of validate, after $moment microseconds" all_whole
+    looks_whole "kill $try of validate, after $moment microseconds"
     make_ready block.whole
     turns=$((RANDOM % 400))
     killed_in_a_write $turns "${validated[@]}"
-    is "kill $try of validate, in a write, after $turns turns" all_whole
+    looks_whole "kill $try of validate, in a write, after $turns turns"
 done
-is "runs were killed" [ $kills -ge 24 ]
+is "runs were killed" [ $kills -ge $((most > 0 ? most : 24)) ]
 is "some left a temporary file" [ $were_left -gt 2 ]
 is "some left the world before" [ $were_before -gt 2 ]
 
@@ -259,5 +275,5 @@ else
     is "some room suffices for a validator" grep -qx '0 after none 0' validated
 fi
 
-echo "crash: $kills kills, of which $were_left left a temporary file; $were_before times the world was the one before, $were_after times the one after"
+echo "crash: seed $seed: $kills kills, of which $were_left left a temporary file; $were_before times the world was the one before, $were_after times the one after"
 told
