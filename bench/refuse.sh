@@ -1,9 +1,9 @@
 #!/usr/bin/env bash
 # Refuses memory to the program: in each command of the examples' sessions, and in some more over their files, each allocation and each start of a thread in turn, first it
 # alone and then it and all behind it (refuse.c, by LD_PRELOAD); and, for as many minutes as asked in all, some that are drawn by chance. A run has to end with status 4, with
-# the word `memory` and with all files as they were; with status 3 and the name of a file that it could not begin to write, each file being as it was or whole; or as the
-# command does that is refused nothing. It tells apart how often `mine` was refused memory as it began NEXT, when BLOCK stood: a known fault of docs/STATUS.md. It prints a
-# line a minute and how many runs came to what, and fails, keeping the files, at the first that ends otherwise. Run it anywhere in the repository:
+# the word `memory` and with all files as they were; with status 3 and the name of a file that it could not begin to write, each file being as it was or whole, a known fault
+# of docs/STATUS.md; or as the command does that is refused nothing. It prints a line a minute and how many runs came to what, and fails, keeping the files, at the first that
+# ends otherwise. Run it anywhere in the repository:
 #
 #   bench/refuse.sh [PROGRAM] MINUTES [SEED [EXAMPLE ..]]
 source "$(dirname "${BASH_SOURCE[0]}")/common.sh" wblock gcc python3
@@ -81,8 +81,7 @@ class Command:
             return "with status 4"
         now = files(self.folder)
         if refused and status == 3 and out == b"" and err in {f"file {word}\n".encode() for word in self.words[1:]} and self.is_whole(now, False):
-            is_known = self.words[0] == "mine" and changed and err == f"file {self.words[4]}\n".encode()
-            return "as mine begins NEXT" if is_known else "with status 3"
+            return "with a file written" if changed else "with status 3"
         is_ordered = "--boosted" not in self.words or self.words[0] != "mine"
         if status == self.plain[0] and (not is_ordered or [out, err] == self.plain[1:]) and self.is_whole(now, True):
             return "as without" if refused else "refused nothing"
@@ -160,7 +159,7 @@ while time.monotonic() < end:
         drawn += 1
     command.go_on()
 print(f"seed {seed}: {len(commands)} commands with up to {max(it.reached for it in commands) - 1} allocations, each of {sum(it.reached - 1 for it in commands)} refused, alone and with all behind it, in {whole / 60:.0f} minutes, and {drawn} runs by chance: "
-      f"{endings['with status 4']} runs end with status 4 and every file as it was, {endings['with status 3']} with status 3, {endings['as without']} as without, {endings['refused nothing']} were refused nothing; "
-      f"{endings['as mine begins NEXT']} end with status 3 as mine begins NEXT, with BLOCK written: the known fault of docs/STATUS.md")
+      f"{endings['with status 4']} runs end with status 4 and every file as it was, {endings['with status 3']} with status 3 and every file as it was, {endings['with a file written']} with status 3 and a file written, as BLOCK of mine "
+      f"(both a known fault of docs/STATUS.md), {endings['as without']} as without, {endings['refused nothing']} were refused nothing")
 RUNS
 took
