@@ -118,7 +118,9 @@ fn asm_of<'w>(words: &[&'w str], options: &[(&str, &str)]) -> Option<(&'w str, &
     if is_word(words[1], words[2]) {
         return None;
     }
-    let json = switch_alone(options, JSON_SWITCH)?;
+    let Some(json) = switch_alone(options, JSON_SWITCH) else {
+        return None;
+    };
     Some((words[1], words[2], json))
 }
 

@@ -1,6 +1,6 @@
 //! What a command comes to before anything is written or printed.
 
-ghost use Rattle.std.specs.Prelude.{◌≡◌, IsTrue, IfOk, IfErr, OnOk, Some, string_bytes};
+ghost use Rattle.std.specs.Prelude.{◌≡◌, false, IsTrue, IfOk, IfErr, OnOk, Some, string_bytes};
 ghost use Rattle.serde_json.specs.View.{view};
 ghost use Rattle.wblock_json.specs.Json.{IsJson, IsLineOf};
 ghost use Rattle.wblock_line.specs.Answers.{CountsFault, IsCounted, IsOfFile};
@@ -46,15 +46,23 @@ fn bytes_json(alloc: Global, count: usize) -> Result<String, AllocError>
     value_line(alloc, &value)
 }
 
-/// `WORD N bytes`, or the same as JSON.
+/// `WORD N bytes`.
+fn count_line(alloc: Global, word: &str, count: usize) -> Result<String, AllocError>
+    ensures { IfOk result (λ text. IsCountText false word.now count (string_bytes text)) }
+{
+    let line = format!(in alloc; "{word} {count} bytes\n")?;
+    Ok(line)
+}
+
+/// The same, or as JSON.
 fn count_told(alloc: Global, json: bool, word: &str, count: usize) -> Result<String, AllocError>
     ensures { IfOk result (λ text. IsCountText json word.now count (string_bytes text)) }
 {
     if json {
-        return bytes_json(alloc, count);
+        bytes_json(alloc, count)
+    } else {
+        count_line(alloc, word, count)
     }
-    let line = format!(in alloc; "{word} {count} bytes\n")?;
-    Ok(line)
 }
 
 /// The answer that writes one file, and tells how many bytes it has: `WORD N bytes`, or the same as JSON.
