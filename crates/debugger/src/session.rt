@@ -155,8 +155,7 @@ fn bytes_shown<'a, A: Allocator + Copy>(
 fn is_place<'a, A: Allocator + Copy>(cursor: &Cursor<'a, A>, place: Place) -> bool
     ensures { IsTrue result ↔ IsSome (instr_there cursor.now.machine.setting.contracts place) }
 {
-    let contracts = cursor.machine.contracts();
-    match contracts.get(place.contract as usize) {
+    match cursor.machine.contracts().get(place.contract as usize) {
         Some(contract) => contract
             .module()
             .instr_at(place.func, place.ordinal)

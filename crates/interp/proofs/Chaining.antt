@@ -1,5 +1,5 @@
 -- The frames of all levels, as the machine keeps them.
-use Rattle.std.proofs.Common.{◌≡◌, ℕ, suc, ◌+◌, List, [], ◌∷◌, ◌++◌, length, map, refl, sym, ap, ap₂, ◌∙◌, subst, arith, Option, append-nil, append_assoc}
+use Rattle.std.proofs.Common.{◌≡◌, ℕ, ◌+◌, List, [], ◌∷◌, ◌++◌, length, map, refl, sym, ap, ap₂, ◌∙◌, subst, arith, Option, append-nil, append_assoc}
 use Rattle.std.specs.Prelude.{reverse}
 use Rattle.std.proofs.lemmas.List.{reverse-append, map-append}
 use Rattle.wtypes.specs.declared.Value.{Value}
@@ -11,7 +11,6 @@ use Rattle.laws_reduction.specs.Tails.{with_tail}
 use Rattle.interp_state.specs.Frames.{frames_of, in_level}
 use Rattle.interp_state.specs.declared.frames.OpenFrame.{OpenFrame}
 use Rattle.interp_state.specs.Unwinding.{frames_from, part_frames}
-use Rattle.interp_state.specs.Views.{opens_of, items_of}
 use Rattle.interp_state.specs.Waiting.{tail_of}
 use Rattle.interp_state.proofs.Unwinding.{next_listed, frames_listed, frames_whole, frames_joined, frames_tail}
 use Rattle.interp.specs.declared.turns.Status.{Status}
@@ -20,7 +19,7 @@ use Rattle.interp.specs.declared.run.Level.{Level}
 use Rattle.interp.specs.declared.run.Run.{Run}
 use Rattle.interp.specs.Chains.{chain_from, chain, waiting_frames}
 use Rattle.interp.specs.Machine.{config_at, progress}
-use Rattle.interp.specs.Run.{args_of, level_of, levels_of, seen, view_of}
+use Rattle.interp.specs.Run.{args_of, level_of, seen, view_of}
 
 -- ---- one level
 

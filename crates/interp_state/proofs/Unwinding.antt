@@ -1,5 +1,5 @@
 -- The frames in the sequence that the parts of a machine stand for.
-use Rattle.std.proofs.Common.{◌≡◌, ℕ, ◌+◌, ◌<◌, List, [], ◌∷◌, ◌++◌, length, take, drop, get_or, refl, ap, ap₂, ◌∙◌, Option, Some, None}
+use Rattle.std.proofs.Common.{◌≡◌, ℕ, ◌+◌, ◌<◌, List, [], ◌∷◌, ◌++◌, length, take, drop, get_or, refl, sym, ap, ap₂, ◌∙◌, Option, Some, None}
 use Rattle.std.proofs.lemmas.List.{take_more}
 use Rattle.wtypes.specs.declared.Value.{Value}
 use Rattle.spec_execution.specs.Configuration as c
@@ -79,6 +79,7 @@ frames_tail args (Some w) = frames_arguments args w.func
 
 -- ---- one step out
 
-pub outward : {A : Type 0} (es : List (Entry A)) (left : ℕ) (d : Entry A) (next : Option ℕ) (inner : List (ℕ × Option ℕ)) → left < length es
-    → frames_from (opens_of (take (left + 1) es)) next inner ≡ frames_from (opens_of (take left es)) (next_out (scope_of (get_or es left d).kind) (items_of (get_or es left d).from.now) next) (frame_at (scope_of (get_or es left d).kind) next ++ inner)
-outward es left d next inner lt = ap (λ os. frames_from os next inner) (ap opens_of (take_more es left d lt) ∙ opens_push (take left es) (get_or es left d))
+pub outward : {A : Type 0} (es : List (Entry A)) (left : ℕ) (e : Entry A) (next : Option ℕ) (inner : List (ℕ × Option ℕ)) → left < length es → e ≡ get_or es left e
+    → frames_from (opens_of (take (left + 1) es)) next inner ≡ frames_from (opens_of (take left es)) (next_out (scope_of e.kind) (items_of e.from.now) next) (frame_at (scope_of e.kind) next ++ inner)
+outward es left e next inner lt is =
+    ap (λ os. frames_from os next inner) (ap opens_of (take_more es left e lt ∙ ap (λ x. take left es ++ x ∷ []) (sym is)) ∙ opens_push (take left es) e)

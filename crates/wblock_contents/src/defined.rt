@@ -53,15 +53,15 @@ fn called<'n, 'b>(
     ensures from { IsFrom (number + 1) (names_in result.1.now) }
     ensures same { (later : ℕ) → number < later → name_among (names_in result.1.now) later ≡ name_among (names_in names.entry.now) later }
 {
-    match names {
-        [first, rest @ ..] => {
+    match names.split_first() {
+        Some((first, rest)) => {
             if first.number == number {
                 (Some(first.name), rest)
             } else {
                 (None, names)
             }
         }
-        [] => (None, names),
+        None => (None, names),
     }
 }
 

@@ -1,9 +1,9 @@
 -- The names of functions that a module carries (Core Specification, 7.4.1 Name Section).
 use Rattle.std.specs.Prelude.{◌≡◌, ◌==◌, ℕ, ◌<◌, ◌≤◌, ◌⊎◌, List, [], ◌∷◌, Option, Some, None, if◌then◌else◌, codes, map, ⊤}
 use Rattle.spec_modules.specs.Syntax.{Name}
-use Rattle.spec_modules.specs.Language.{Language, byte, empty, ◌⨾◌, ◌∣◌}
+use Rattle.spec_modules.specs.Language.{Language, empty, ◌⨾◌, ◌∣◌}
 use Rattle.spec_modules.specs.Leb.{u32}
-use Rattle.spec_modules.specs.Grammar.{vector, name, sized, section, times, header}
+use Rattle.spec_modules.specs.Grammar.{vector, name, section, times, header}
 use Rattle.wblock_words.specs.declared.function_names.FunctionName.{FunctionName}
 
 -- a function by its number, imports counted first, and its name

@@ -24,6 +24,16 @@ pub record HasName (bytes : List ℕ) (n : Name) (rest : List ℕ) : Type 0 wher
   pub is_text : IsUtf8 n
   pub sized : HasSized bytes n rest
 
+-- a section, and the rest
+pub record HasSection (bytes : List ℕ) (id : ℕ) (content rest : List ℕ) : Type 0 where
+  pub after : List ℕ
+  pub bytes_are : bytes ≡ id ∷ after
+  pub sized : HasSized after content rest
+
+-- this and nothing else is so
+abbrev pub IsOnly : (List ℕ → Type 0) → List ℕ → Type 0
+IsOnly P x = P x × ((y : List ℕ) → P y → y ≡ x)
+
 -- ---- the parts of the section
 
 abbrev pub exactly : List ℕ → Language

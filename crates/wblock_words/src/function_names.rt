@@ -4,9 +4,9 @@ ghost use Rattle.std.specs.Prelude.{◌≡◌, ℕ, List, IfOk, MatchOption};
 ghost use Rattle.spec_modules.specs.Language.{◌⨾◌};
 ghost use Rattle.spec_modules.specs.Grammar.{header};
 ghost use Rattle.wblock_words.specs.Names.{AreNamesOf, Named, Rises, name_map, names_in};
-ghost use Rattle.wblock_words.specs.Parts.{HasFunctions, HasNameSection, IsNameData, exactly, is_above};
+ghost use Rattle.wblock_words.specs.Parts.{HasFunctions, HasNameSection, IsNameData, IsOnly, exactly, is_above};
 
-use crate::parts::{name_and_rest, number_and_rest, sized_and_rest};
+use crate::parts::{name_and_rest, number_and_rest, section_and_rest};
 use std::alloc::{AllocError, Allocator};
 
 /// The name of a function.
@@ -55,12 +55,12 @@ fn data_of(id: u8, content: &[u8]) -> Option<&[u8]>
 
 /// What stands behind the name of the first custom section `name`. None where there is none.
 fn name_section(bytes: &[u8]) -> Option<&[u8]>
-    ensures { MatchOption result ((payload : List ℕ) → ¬ HasNameSection bytes.now payload) (λ payload. HasNameSection bytes.now payload.now) }
+    ensures { MatchOption result ((payload : List ℕ) → ¬ HasNameSection bytes.now payload) (λ payload. IsOnly (HasNameSection bytes.now) payload.now) }
 {
     let mut rest = sections_of(bytes)?;
-    while let [id, after @ ..] = rest {
-        let (content, behind) = sized_and_rest(after)?;
-        if let Some(payload) = data_of(*id, content) {
+    while !rest.is_empty() {
+        let (id, content, behind) = section_and_rest(rest)?;
+        if let Some(payload) = data_of(id, content) {
             return Some(payload);
         }
         rest = behind;
@@ -70,23 +70,17 @@ fn name_section(bytes: &[u8]) -> Option<&[u8]>
 
 /// What is in the subsection of the names of functions, which stands first or behind that of the module's name. None where there is none.
 fn functions_in(payload: &[u8]) -> Option<&[u8]>
-    ensures { MatchOption result ((functions : List ℕ) → ¬ HasFunctions payload.now functions) (λ functions. HasFunctions payload.now functions.now) }
+    ensures { MatchOption result ((functions : List ℕ) → ¬ HasFunctions payload.now functions) (λ functions. IsOnly (HasFunctions payload.now) functions.now) }
 {
-    let [id, after @ ..] = payload else {
-        return None;
-    };
-    let (content, behind) = sized_and_rest(after)?;
-    if *id == FUNCTIONS {
+    let (first, content, behind) = section_and_rest(payload)?;
+    if first == FUNCTIONS {
         return Some(content);
     }
-    if *id != FIRST {
+    if first != FIRST {
         return None;
     }
-    let [next, after @ ..] = behind else {
-        return None;
-    };
-    let (content, _behind) = sized_and_rest(after)?;
-    if *next == FUNCTIONS {
+    let (second, content, _behind) = section_and_rest(behind)?;
+    if second == FUNCTIONS {
         Some(content)
     } else {
         None

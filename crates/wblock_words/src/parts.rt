@@ -1,10 +1,8 @@
 //! The parts of a custom section.
 
-ghost use Rattle.std.specs.Prelude.{◌≡◌, ◌≢◌, ℕ, List, ◌++◌, IfSome, IfNone, MatchOption};
+ghost use Rattle.std.specs.Prelude.{ℕ, List, MatchOption};
 ghost use Rattle.spec_modules.specs.Syntax.{Name};
-ghost use Rattle.spec_modules.specs.Leb.{u32};
-ghost use Rattle.spec_modules.specs.Grammar.{name};
-ghost use Rattle.wblock_words.specs.Parts.{HasNumber, HasSized, HasName};
+ghost use Rattle.wblock_words.specs.Parts.{HasNumber, HasSized, HasName, HasSection};
 
 use leb::read_u32;
 use std::str::from_utf8;
@@ -26,6 +24,15 @@ pub(crate) fn sized_and_rest(bytes: &[u8]) -> Option<(&[u8], &[u8])>
         return None;
     }
     Some(rest.split_at(size as usize))
+}
+
+/// The id of a section, its content, and what stands behind it.
+pub(crate) fn section_and_rest(bytes: &[u8]) -> Option<(u8, &[u8], &[u8])>
+    ensures { MatchOption result ((id : ℕ) (content rest : List ℕ) → ¬ HasSection bytes.now id content rest) (λ x. HasSection bytes.now x.0 x.1.now x.2.now) }
+{
+    let (id, after) = bytes.split_first()?;
+    let (content, rest) = sized_and_rest(after)?;
+    Some((*id, content, rest))
 }
 
 /// A name, and what stands behind it.

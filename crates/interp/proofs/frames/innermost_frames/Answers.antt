@@ -1,11 +1,10 @@
--- Not checked: the names of the goals are guessed; `rt check --start innermost_frames` tells them.
 use Rattle.std.proofs.Common.{sym, ◌∙◌, subst}
 use Rattle.interp.specs.Progress.{GoesOn}
 use Rattle.interp.proofs.Chaining.{running_frames, fallen_frames}
 use Rattle.interp.proofs.frames.innermost_frames.Goals as goal
 
-pub returns-in-Running : goal.returns-in-Running
-returns-in-Running g c goes = c.in_ok-frames_of.ensures ∙ sym (running_frames c.args.run.now c.in-Running.is)
+pub returns-in_ok-frames_of-in-Running : goal.returns-in_ok-frames_of-in-Running
+returns-in_ok-frames_of-in-Running g c goes = c.in_ok-frames_of-in-Running.ensures ∙ sym (running_frames c.args.run.now c.in-Running.is)
 
 pub returns-in-Fallen : goal.returns-in-Fallen
 returns-in-Fallen g c goes = c.new.ensures.items ∙ fallen_frames c.args.run.now c.in-Fallen.field-0 c.in-Fallen.is
