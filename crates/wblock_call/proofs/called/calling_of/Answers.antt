@@ -2,8 +2,8 @@ use Rattle.std.proofs.Common.{◌≡◌, List, ℕ, subst}
 use Rattle.std.proofs.lemmas.Option.{MatchOption-at_none}
 use Rattle.wblock_calls.specs.Words.{texts}
 use Rattle.wblock_calls.specs.Texts.{AreCall}
-use Rattle.wblock_debug.specs.Calling.{IsCallOf}
-use Rattle.wblock_debug.proofs.called.calling_of.Goals as goal
+use Rattle.wblock_call.specs.Calling.{IsCallOf}
+use Rattle.wblock_call.proofs.called.calling_of.Goals as goal
 
 -- what stands behind WORLD is one
 behind_world : (words : List (List ℕ)) (w v : List ℕ) (s t : List (List ℕ)) → IsCallOf words w s → IsCallOf words v t → s ≡ t
