@@ -31,8 +31,8 @@ returns-in_err-base-clause-next g c =
     rw (p.1, p.2) (of_file_weaker (IsOld c.args.onto) (λ name. IsTrue g.F.Files.tells → IsNextDeployed holds c.args.onto names name) c.in_err-base.field-0.0
     (λ name is t. inl is) c.in_err-base.ensures.named)
 
-pub returns-clause-next : goal.returns-clause-next
-returns-clause-next g c =
+pub returns-in-Err-clause-next : goal.returns-in-Err-clause-next
+returns-in-Err-clause-next g c =
     let holds = g.F.Files.holds c.args.files.now in
     let base = world_view c.in-Read.base in
     let names = map (λ w. w.now) c.args.modules.now in
