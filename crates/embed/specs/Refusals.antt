@@ -6,6 +6,8 @@ use Rattle.spec_block.specs.Worlds.{World, Call, Block}
 use Rattle.spec_block.specs.Bytes.{SpellsWorld, SpellsBlock}
 use Rattle.spec_block.specs.Verdicts.{Verdict, IsVerdictOf, place}
 use Rattle.block_judge.specs.Judging.{place_in}
+use Rattle.records.specs.declared.refusal.BlockRefusal.{BlockRefusal}
+use Rattle.records.specs.declared.refusal.BlockRefusal.TheVariants as block
 use Rattle.world.specs.Reading.{IsNoWorld, Refuses}
 use Rattle.records.specs.declared.refusal.ReadRefusal.{ReadRefusal}
 use Rattle.records.specs.declared.refusal.ReadRefusal.TheVariants as world
@@ -56,6 +58,11 @@ abbrev pub calls_refusal : CallsRefusal → Option Refusal
 calls_refusal (calls.Line n) = Some (refusal OfCalls 1 (Some n))
 calls_refusal calls.TooMany = Some (refusal OfCalls 2 None)
 calls_refusal calls.NoMemory = None
+
+abbrev pub block_refusal : BlockRefusal → Option Refusal
+block_refusal (block.Malformed at) = Some (refusal OfBlock 1 None)
+block_refusal block.TooLarge = Some (refusal OfBlock 1 None)
+block_refusal block.NoMemory = None
 
 -- ---- what they tell
 

@@ -1,6 +1,6 @@
 //! Blocks: produced in the list's order, verified, and read.
 
-ghost use Rattle.std.specs.Prelude.{◌≡◌, ◌≤◌, None, IfOk, IfErr, length};
+ghost use Rattle.std.specs.Prelude.{◌≡◌, ◌≤◌, Some, IfOk, IfErr, length};
 ghost use Rattle.spec_block.specs.Bytes.{SpellsBlock};
 ghost use Rattle.spec_block.specs.Verdicts.{place};
 ghost use Rattle.block_judge.specs.Judging as judged;
@@ -12,6 +12,7 @@ ghost use Rattle.embed.specs.Refusals.{IfRefused, Rejects, RefusesBlock, Refuses
 
 use crate::failure::{Failure, Refusal, Subject};
 use crate::inputs::{calls_of, world_of};
+use crate::refusals::block_refusal;
 use block::{Block, BlockRefusal, encode_block, read_block};
 use block_judge::Reason;
 use call::Call;
@@ -119,13 +120,12 @@ pub fn verify(
     verify_over(alloc, &before, &list, fuel, block)
 }
 
-/// The failure of bytes that spell no block, for this cause.
 fn refuse_block(alloc: Global, bytes: &[u8], refusal: BlockRefusal) -> Failure
-    ensures { IfRefused result (λ r. r ≡ told.refusal subject.Block 1 None) }
+    ensures { IfRefused result (λ r. told.block_refusal refusal ≡ Some r) }
 {
-    match refusal {
-        BlockRefusal::NoMemory => Failure::NoMemory,
-        _ => Refusal::at(Subject::Block, 1, None).with_sentence(block_words(alloc, bytes, refusal)),
+    match block_refusal(refusal) {
+        Some(told) => told.with_sentence(block_words(alloc, bytes, refusal)),
+        None => Failure::NoMemory,
     }
 }
 

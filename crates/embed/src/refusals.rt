@@ -1,9 +1,10 @@
 //! The refusals of the crates below, as the library tells them.
 
 ghost use Rattle.std.specs.Prelude.{◌≡◌};
-ghost use Rattle.embed.specs.Refusals.{module_refusal, world_refusal, calls_refusal};
+ghost use Rattle.embed.specs.Refusals.{module_refusal, world_refusal, calls_refusal, block_refusal};
 
 use crate::failure::{Refusal, Subject};
+use block::BlockRefusal;
 use wblock_calls::CallsRefusal;
 use wblock_line::ModuleRefusal;
 use world::ReadRefusal;
@@ -61,5 +62,17 @@ pub(crate) fn calls_refusal(refusal: CallsRefusal) -> Option<Refusal>
         CallsRefusal::Line(line) => Some(Refusal::at(Subject::Calls, 1, Some(line as u64))),
         CallsRefusal::TooMany => Some(Refusal::at(Subject::Calls, 2, None)),
         CallsRefusal::NoMemory => None,
+    }
+}
+
+/// The refusal of bytes that spell no block. None where memory was refused.
+pub(crate) fn block_refusal(refusal: BlockRefusal) -> Option<Refusal>
+    ensures { result ≡ block_refusal refusal }
+{
+    match refusal {
+        BlockRefusal::Malformed(_) | BlockRefusal::TooLarge => {
+            Some(Refusal::at(Subject::Block, 1, None))
+        }
+        BlockRefusal::NoMemory => None,
     }
 }

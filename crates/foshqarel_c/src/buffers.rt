@@ -19,16 +19,16 @@ const SHORT: u32 = 2;
 const NO_MEMORY: u32 = 3;
 
 /// Puts items to the front of a list, as many as it holds.
+#[tactic(auto, using(crate::proofs::Laying::all_fit, crate::proofs::Laying::as_many))]
 pub(crate) fn lay<T: Copy>(items: &[T], out: &mut [T])
     ensures { out.new ≡ laid items.now out.old }
 {
-    let count = if items.len() < out.len() {
-        items.len()
+    if items.len() <= out.len() {
+        out[..items.len()].copy_from_slice(items);
     } else {
-        out.len()
-    };
-    let (front, _rest) = out.split_at_mut(count);
-    front.copy_from_slice(&items[..count]);
+        let count = out.len();
+        out.copy_from_slice(&items[..count]);
+    }
 }
 
 /// What stands from this place on.
@@ -42,6 +42,7 @@ pub(crate) fn rest_of<T>(items: &[T], from: u64) -> &[T]
 }
 
 /// Puts bytes into a buffer where they fit, and answers with this status; else puts nothing.
+#[tactic(auto, using(crate::proofs::Laying::all_fit))]
 fn put(status: u32, bytes: &[u8], out: &mut [u8]) -> u32
     ensures { IsPut status bytes.now out.old out.new result }
 {
@@ -62,6 +63,7 @@ pub(crate) fn give(bytes: &[u8], out: &mut [u8], told: &mut Told) -> u32
 }
 
 /// Gives two outputs, where both fit.
+#[tactic(auto, using(crate::proofs::Laying::all_fit))]
 pub(crate) fn give_both(
     first: &[u8],
     second: &[u8],

@@ -52,7 +52,8 @@ fn value_of(outcome: Outcome) -> i64
     match outcome {
         Outcome::Returned(Some(Value::I32(value))) => i64::from(value),
         Outcome::Returned(Some(Value::I64(value))) => value,
-        _ => 0,
+        Outcome::Returned(None) | Outcome::Trapped(_) | Outcome::OutOfFuel | Outcome::Rejected(_) =>
+            0,
     }
 }
 
@@ -63,7 +64,7 @@ fn code_of(outcome: Outcome) -> u32
     match outcome {
         Outcome::Trapped(code) => u32::from(code as u8),
         Outcome::Rejected(code) => u32::from(code),
-        _ => 0,
+        Outcome::Returned(_) | Outcome::OutOfFuel => 0,
     }
 }
 

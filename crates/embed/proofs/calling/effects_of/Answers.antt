@@ -1,8 +1,8 @@
-use Rattle.std.proofs.Common.{◌≡◌, ap, subst, ◌∙◌, map}
+use Rattle.std.proofs.Common.{◌≡◌, List, ap, subst, ◌∙◌, map}
 use Rattle.spec_ledger.specs.declared.Version.TheVariants.{Two}
-use Rattle.spec_execution.specs.Configuration.{Setting}
 use Rattle.spec_execution.specs.Exec.{Executes}
 use Rattle.spec_ledger.specs.Cells.{AreCells, Cells}
+use Rattle.spec_block.specs.Worlds.{Contract}
 use Rattle.spec_block.specs.Serial.{setting_of}
 use Rattle.interp.specs.Callee.{setting_view}
 use Rattle.lock_profile.specs.Groups.{pairs}
@@ -19,9 +19,8 @@ returns c =
     let touched = c.in_ok-executed.executed.touched in
     let later = c.execute.new.cells.cells in
     let same : c.in_ok-later.later.cells ≡ world.cells = c.in_ok-later.ensures.cells ∙ c.cells-before.ensures in
-    let setting : setting_view Two c.contracts.result.now ≡ setting_of Two world = ap (λ cs. record { contracts = cs; version = Two }) c.contracts.ensures.contracts in
     let executes : Executes (setting_of Two world) call world.cells later receipt touched =
-    subst (λ (s : Setting). Executes s call world.cells later receipt touched) setting
+    subst (λ (cs : List Contract). Executes (record { contracts = cs; version = Two }) call world.cells later receipt touched) c.contracts.ensures.contracts
     (subst (λ (cells : Cells). Executes (setting_view Two c.contracts.result.now) call cells later receipt touched) same c.in_ok-executed.ensures.executed) in
     let are : AreCells world.cells = subst AreCells c.cells-before.ensures c.use_invariant.ensures.cells in
     let law = c.an_execution_has_a_read_write_set.ensures in

@@ -1,4 +1,4 @@
-use Rattle.std.proofs.Common.{inl, inr, refl, subst, sym}
+use Rattle.std.proofs.Common.{inl, inr, refl}
 use Rattle.foshqarel_c.proofs.Failing.{fails}
 use Rattle.foshqarel_c.proofs.blocks.foshqarel_calls.Goals as goal
 

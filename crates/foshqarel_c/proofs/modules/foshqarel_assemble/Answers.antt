@@ -1,4 +1,4 @@
-use Rattle.std.proofs.Common.{inl, inr, refl, subst, sym}
+use Rattle.std.proofs.Common.{inl, inr, subst, sym}
 use Rattle.wblock_modules.specs.Assembles.{IsSpelled}
 use Rattle.foshqarel_c.proofs.Failing.{fails}
 use Rattle.foshqarel_c.proofs.modules.foshqarel_assemble.Goals as goal

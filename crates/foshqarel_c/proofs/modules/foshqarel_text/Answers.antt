@@ -1,4 +1,4 @@
-use Rattle.std.proofs.Common.{inl, inr, refl, subst, sym}
+use Rattle.std.proofs.Common.{inl, inr, subst, sym}
 use Rattle.std.proofs.Common.{false}
 use Rattle.wblock_modules.specs.Texts.{IsTextOf}
 use Rattle.foshqarel_c.proofs.Failing.{fails}

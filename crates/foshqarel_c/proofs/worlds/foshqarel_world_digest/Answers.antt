@@ -1,4 +1,4 @@
-use Rattle.std.proofs.Common.{inl, inr, refl, subst, sym}
+use Rattle.std.proofs.Common.{inl, inr, subst, sym}
 use Rattle.embed.specs.Given.{IsDigestOf}
 use Rattle.foshqarel_c.proofs.Failing.{fails}
 use Rattle.foshqarel_c.proofs.worlds.foshqarel_world_digest.Goals as goal

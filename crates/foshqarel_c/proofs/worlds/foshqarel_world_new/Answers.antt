@@ -1,6 +1,5 @@
 use Rattle.std.proofs.Common.{inl, inr, refl, subst, sym}
 use Rattle.embed.specs.Given.{IsNothing}
-use Rattle.foshqarel_c.proofs.Failing.{fails}
 use Rattle.foshqarel_c.proofs.worlds.foshqarel_world_new.Goals as goal
 
 pub returns-in-Ok : goal.returns-in-Ok

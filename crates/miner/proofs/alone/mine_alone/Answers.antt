@@ -1,10 +1,10 @@
-use Rattle.std.proofs.Common.{◌≡◌, ◌∙◌, List, ℕ, ap, sym, subst, arith, length, get_or}
+use Rattle.std.proofs.Common.{◌∙◌, List, ℕ, ap, sym, subst, arith, length, get_or}
 use Rattle.std.proofs.lemmas.List.{length-map}
 use Rattle.std.proofs.lemmas.Option.{slice_get-get_or}
 use Rattle.spec_ledger.specs.declared.Version.{Version}
 use Rattle.spec_ledger.specs.declared.Version.TheVariants.{Two}
 use Rattle.spec_ledger.specs.Cells.{Cells}
-use Rattle.spec_ledger.specs.Order.{IsAdmissible, first_fit}
+use Rattle.spec_ledger.specs.Order.{IsAdmissible}
 use Rattle.spec_execution.specs.Serial.{Serial}
 use Rattle.spec_block.specs.Worlds.{Contract, Block, limits, order_of}
 use Rattle.spec_block.specs.Blocks.{Admissible, block_of}
@@ -18,15 +18,15 @@ use Rattle.miner.proofs.Orders.{few, left_is, order_again}
 use Rattle.miner.proofs.alone.mine_alone.Goals as goal
 
 pub serial_core-requires : goal.serial_core-requires
-serial_core-requires g c κs within =
+serial_core-requires g c k d lt =
     let calls = c.args.calls.now in
     let same = c.deref.ensures.value ∙ c.in_ok-order.ensures.order in
     let admissible = subst (λ (o : List ℕ). IsAdmissible (limits calls) o c.args.block_fuel) (sym same) (c.first_fit_is_admissible.ensures.admissible (limits calls) c.args.block_fuel) in
     let order = c.deref.result.now in
-    λ k d lt. let below = admissible.known k (get_or order k d) (slice_get-get_or order k d lt) in omega (arith, below, length-map calls (λ call. call.fuel))
+    let below = admissible.known k (get_or order k d) (slice_get-get_or order k d lt) in omega (arith, below, length-map calls (λ call. call.fuel))
 
 pub build_block-requires-clause-order : goal.build_block-requires-clause-order
-build_block-requires-clause-order g c κs within =
+build_block-requires-clause-order g c =
     let calls = c.args.calls.now in
     let same = c.deref-2.ensures.value ∙ c.in_ok-order.ensures.order in
     let admissible = subst (λ (o : List ℕ). IsAdmissible (limits calls) o c.args.block_fuel) (sym same) (c.first_fit_is_admissible.ensures.admissible (limits calls) c.args.block_fuel) in
@@ -34,18 +34,18 @@ build_block-requires-clause-order g c κs within =
     omega (arith, at_most, length-map calls (λ call. call.fuel), c.requires)
 
 pub build_block-requires-clause-possible : goal.build_block-requires-clause-possible
-build_block-requires-clause-possible g c κs within =
+build_block-requires-clause-possible g c =
     let core = c.in_ok-core.core in
     are_possible _ _ _ _ core.receipts.items core.touched.items _ (c.in_ok-core.ensures.receipts ∙ sym c.in_ok-core.ensures.touched) c.in_ok-core.ensures.serial
 
 pub build_block-requires-clause-receipts : goal.build_block-requires-clause-receipts
-build_block-requires-clause-receipts g c κs within = c.in_ok-core.ensures.receipts ∙ ap length (c.deref.ensures.value ∙ sym c.deref-2.ensures.value)
+build_block-requires-clause-receipts g c = c.in_ok-core.ensures.receipts ∙ ap length (c.deref.ensures.value ∙ sym c.deref-2.ensures.value)
 
 pub build_block-requires-clause-touched : goal.build_block-requires-clause-touched
-build_block-requires-clause-touched g c κs within = c.in_ok-core.ensures.touched ∙ ap length (c.deref.ensures.value ∙ sym c.deref-2.ensures.value)
+build_block-requires-clause-touched g c = c.in_ok-core.ensures.touched ∙ ap length (c.deref.ensures.value ∙ sym c.deref-2.ensures.value)
 
 pub build_block-requires-clause-fuel : goal.build_block-requires-clause-fuel
-build_block-requires-clause-fuel g c κs within =
+build_block-requires-clause-fuel g c =
     let calls = c.args.calls.now in
     let core = c.in_ok-core.core in
     let same = c.deref.ensures.value ∙ c.in_ok-order.ensures.order in

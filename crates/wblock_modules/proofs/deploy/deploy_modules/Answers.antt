@@ -1,8 +1,11 @@
-use Rattle.std.proofs.Common.{◌≡◌, ℕ, ◌+◌, List, Bor, IsTrue, length, map, string_bytes, subst, inl, inr, arith}
+use Rattle.std.proofs.Common.{◌≡◌, ℕ, ◌+◌, ◌≤◌, List, Bor, IsTrue, length, map, string_bytes, subst, inl, inr, arith}
 use Rattle.std.proofs.lemmas.List.{length-map}
 use Rattle.std.proofs.lemmas.Result.{IfOk-weaker, err_from_is_err_and}
 use Rattle.wblock_io.specs.Holding.{Holding}
 use Rattle.world.specs.Views.{world_view}
+use Rattle.wblock_line.specs.declared.answer.Fault.{Fault}
+use Rattle.wblock_line.specs.declared.answer.Fault.TheVariants.{File, NoMemory}
+use Rattle.wblock_line.specs.Answers.{IsOfFile}
 use Rattle.wblock_line.specs.FaultLaws.{of_file_weaker}
 use Rattle.wblock_modules.specs.Deploys.{IsBase, IsOld, IsNextModule, IsNextDeployed, IsReadBehind, GivesBase}
 use Rattle.wblock_modules.specs.declared.deploy.Modules.TheVariants as modules
@@ -31,16 +34,23 @@ returns-in_err-base-clause-next g c =
     rw (p.1, p.2) (of_file_weaker (IsOld c.args.onto) (λ name. IsTrue g.F.Files.tells → IsNextDeployed holds c.args.onto names name) c.in_err-base.field-0.0
     (λ name is t. inl is) c.in_err-base.ensures.named)
 
-pub returns-clause-next : goal.returns-clause-next
-returns-clause-next g c =
+-- what is true of a file's name follows from two things that are
+of_file_both : (P Q R : List ℕ → Type 0) (f : Fault) → ((name : List ℕ) → P name → Q name → R name) → IsOfFile P f → IsOfFile Q f → IsOfFile R f
+of_file_both P Q R (File name cause) both p q = both name.now p q
+of_file_both P Q R NoMemory both p q = tt
+
+pub returns-in_err-read_modules_behind-clause-next : goal.returns-in_err-read_modules_behind-clause-next
+returns-in_err-read_modules_behind-clause-next g c =
     let holds = g.F.Files.holds c.args.files.now in
     let base = world_view c.in-Read.base in
     let names = map (λ w. w.now) c.args.modules.now in
     let count = length-map c.args.modules.now (λ (w : Bor (List ℕ)). w.now) in
-    of_file_weaker (λ name. IsTrue g.F.Files.tells → IsNextModule (g.F.Files.holds c.read_base.new.files) names name) (λ name. IsTrue g.F.Files.tells → IsNextDeployed holds c.args.onto names name) c.in-Err.fault (λ name next t.
+    let p = err_from_is_err_and c.from_residual-in_err-read_modules_behind.result c.from_residual-in_err-read_modules_behind.ensures.1 in
+    rw (p.1, p.2) (of_file_both (λ name. length base.contracts + length c.args.modules.now ≤ 1024) (λ name. IsTrue g.F.Files.tells → IsNextModule (g.F.Files.holds c.read_base.new.files) names name) (λ name. IsTrue g.F.Files.tells → IsNextDeployed holds c.args.onto names name) c.in_err-read_modules_behind.field-0.0
+    (λ name fits next t.
     let is : IsBase holds c.args.onto base = subst (λ found. GivesBase holds c.args.onto found) c.in-Read.is (c.in_ok-base.ensures.gives t) in
     inr (record {
       base = base;
-      room = record { is_base = is; room = omega (arith, count, c.count_of-contracts.ensures.count, c.if-is_crowded.false) };
+      room = record { is_base = is; room = omega (arith, count, fits) };
       next = subst (λ (h : Holding). IsNextModule h names name) (c.in_ok-base.ensures.kept t) (next t);
-    })) c.in-Err.ensures.next
+    })) c.in_err-read_modules_behind.ensures.room c.in_err-read_modules_behind.ensures.next)
