@@ -7,6 +7,7 @@ mod failing;
 mod files;
 mod lines;
 mod memory;
+mod memory_lines;
 mod stream;
 mod temporary;
 
