@@ -1,6 +1,7 @@
 //! Worlds.
 
 ghost use Rattle.std.specs.Prelude.{◌≤◌, vec_len};
+ghost use Rattle.std.proofs.Props.{props};
 ghost use Rattle.world.specs.Kept.{IsKeptDigest};
 
 use link::deployed::Deployed;
@@ -14,7 +15,7 @@ pub struct World<A: Allocator = Global> {
     contracts: Vec<Deployed<A>, A>,
     cells: Cells<A>,
     digest: Option<[u8; 32]>,
-    ghost kept: { IsKeptDigest digest contracts.items cells.cells },
+    ghost kept: { IsKeptDigest digest contracts.items cells.cells } by { Prim.hlevel props },
     pub ghost few: { vec_len contracts ≤ 1024 },
 }
 
