@@ -1,12 +1,11 @@
 -- A world of the code is one that bytes spell: its contracts are trees that their shortest bytes spell, and linked, and its cells are cells.
-use Rattle.std.proofs.Common.{◌≡◌, ◌≢◌, ℕ, ◌≤◌, ◌<◌, ◌^◌, Bool, true, false, cond, T, List, [], ◌∷◌, length, map, Option, Some, None, refl, sym, ap, subst, ◌∙◌, arith}
+use Rattle.std.proofs.Common.{◌≡◌, ◌≢◌, ℕ, ◌<◌, ◌^◌, Bool, true, false, cond, T, List, [], ◌∷◌, length, map, Some, None, refl, sym, ap, ◌∙◌, arith}
 use Rattle.std.proofs.lemmas.List.{length-map}
 use Rattle.std.specs.List.{AllByRecursion}
 use Rattle.std.specs.Ordering.{is_lt, is_eq, eq_by_cmp}
 use Rattle.std.specs.Cmp.{tied_itself}
 use Rattle.std.specs.FinMap.{entries, get, find, is_sorted, get-entries, entries_sorted}
 use Rattle.std.specs.FinMap.Entries.{below_all}
-use Rattle.spec_ledger.specs.declared.Kind.{Kind}
 use Rattle.spec_ledger.specs.declared.Kind.TheVariants.{Counter}
 use Rattle.spec_ledger.specs.declared.Lock.{Lock}
 use Rattle.spec_ledger.specs.Cells.{lock_cmp, Cells, counter_at, AreCells, AreOfTheirTypes}
@@ -58,9 +57,9 @@ not_zero cells l v are found is zero =
 pub all_cells : (cells : Cells) → AreCells cells → AreOfTheirTypes cells → AllByRecursion IsCell (entries cells)
 all_cells cells are types =
     each_of (entries cells) (entries_sorted cells) (λ l v found.
-      let there : get cells l ≡ Some v = get-entries cells l ∙ found in
-      let fits = types l v there in
-      record { contract = fits.contract; key = fits.key; number = fits.number; not_zero = not_zero cells l v are there })
+    let there : get cells l ≡ Some v = get-entries cells l ∙ found in
+    let fits = types l v there in
+    record { contract = fits.contract; key = fits.key; number = fits.number; not_zero = not_zero cells l v are there })
 
 -- ---- the world
 
