@@ -1,5 +1,5 @@
 -- The gates before the turns of profiles.
-use Rattle.std.proofs.Common.{Fits, w32, ◌^◌, ◌≡◌, ◌↔◌, ◌⊎◌, inl, inr, ℕ, ◌+◌, ◌<◌, ◌≤◌, true, false, cond, Option, Some, None, List, [], ◌∷◌, ◌++◌, length, take, get_or, set, slice_get, refl, sym, ◌∙◌, ap, subst, arith}
+use Rattle.std.proofs.Common.{Fits, w64, ◌^◌, ◌≡◌, ◌↔◌, ◌⊎◌, inl, inr, ℕ, ◌+◌, ◌<◌, ◌≤◌, true, false, cond, Option, Some, None, List, [], ◌∷◌, ◌++◌, length, take, get_or, set, slice_get, refl, sym, ◌∙◌, ap, subst, arith}
 use Rattle.std.specs.List.{Contains}
 use Rattle.std.specs.List.Sorted.{IsStrictlyIncreasing}
 use Rattle.std.proofs.lemmas.List.{take_more, length_push, length-set, get_or_push, get_or_append_left, get_or_past, get_or-set_other}
@@ -266,7 +266,7 @@ next_none numbers es i d gate mid below none so_far =
       ],
     )
 
-pub fits_next : (es : List Entry) (i : ℕ) (d : Entry) → ((e : Entry) → Contains es e → e.turn < 2 ^ 16) → i < length es → Fits w32 ((get_or es i d).turn + 1)
+pub fits_next : (es : List Entry) (i : ℕ) (d : Entry) → ((e : Entry) → Contains es e → e.turn < 2 ^ 16) → i < length es → Fits w64 ((get_or es i d).turn + 1)
 fits_next es i d small below = let h = small (get_or es i d) (Contains-get_or es i d below) in omega (arith, h)
 
 -- one position more
