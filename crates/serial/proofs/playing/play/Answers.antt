@@ -7,8 +7,8 @@ use Rattle.serial.proofs.Ending.{may_end, taken_back}
 use Rattle.serial.proofs.Levels.{none_in_levels, same_in_levels}
 use Rattle.serial.proofs.playing.play.Goals as goal
 
-pub play_over-requires : goal.play_over-requires
-play_over-requires g c =
+pub play_over-played-requires : goal.play_over-played-requires
+play_over-played-requires g c =
     let taken = c.replace-taken.result in
     let is = c.replace-taken.ensures.value in
     let start : AreDoneInLevels taken [] taken [] [] = subst (λ s. AreDoneInLevels s [] s [] []) (sym is) (none_in_levels c.args.cells.now c.requires c.use_invariant.ensures.cells) in
@@ -31,8 +31,8 @@ end_all-requires g c =
     let some = subst (λ r. OnErr r ((t : List TraceStep) × AreDone c.replace-taken.result t now.cells now.inverses.items)) c.in-Err.is c.play_over-played.ensures.rest in
     may_end c.args.cells.now now.cells some.0 now.inverses.items (subst (λ s. AreDone s some.0 now.cells now.inverses.items) c.replace-taken.ensures.value some.1) c.requires
 
-pub returns-in-Err-clause-err : goal.returns-in-Err-clause-err
-returns-in-Err-clause-err g c =
+pub returns-clause-err : goal.returns-clause-err
+returns-clause-err g c =
     let now = c.play_over-played.new.storage in
     let some = subst (λ r. OnErr r ((t : List TraceStep) × AreDone c.replace-taken.result t now.cells now.inverses.items)) c.in-Err.is c.play_over-played.ensures.rest in
     taken_back c.args.cells.now now.cells some.0 now.inverses.items (subst (λ s. AreDone s some.0 now.cells now.inverses.items) c.replace-taken.ensures.value some.1) c.requires c.use_invariant.ensures.cells c.end_all.new.cells c.end_all.ensures.cells c.end_all.ensures.unsettled

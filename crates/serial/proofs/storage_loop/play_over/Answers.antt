@@ -42,4 +42,4 @@ returns-in-Ok-Runs-clause-call g c =
     IfOk-weaker c.run_over.result _ _ (λ f e. e ∙ start.call_is) c.run_over.ensures.call
 
 pub returns-in-Err-clause-rest : goal.returns-in-Err-clause-rest
-returns-in-Err-clause-rest g c = ([], g.met.S.Storage.stay c.args.storage.now c.args.storage.now [] c.requires)
+returns-in-Err-clause-rest g c = ([], g.S.Storage.stay c.args.storage.now c.args.storage.now [] c.requires)

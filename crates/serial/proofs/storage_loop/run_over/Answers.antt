@@ -13,5 +13,5 @@ operations-init g c = record {
 pub do_next-requires-clause-led : goal.do_next-requires-clause-led
 do_next-requires-clause-led g c = (c.args.storage.now, c.operations.invariant.led)
 
-pub returns-in-Ok-clause-led : goal.returns-in-Ok-clause-led
-returns-in-Ok-clause-led g c = subst (λ t. g.S.Storage.led c.args.storage.now t c.operations.storage) (sym c.in-Ok.ensures.trace) c.operations.invariant.led
+pub returns-clause-led : goal.returns-clause-led
+returns-clause-led g c = subst (λ t. g.S.Storage.led c.args.storage.now t c.do_next.new.storage) (sym c.in-Ok.ensures.trace) (c.in_ok-do_next.ensures.way c.args.storage.now c.operations.invariant.led)

@@ -1,5 +1,8 @@
-use Rattle.std.proofs.Common.{◌∷◌, ◌++◌, [], refl}
+use Rattle.std.proofs.Common.{List, ◌∷◌, ◌++◌, [], refl}
+use Rattle.spec_ledger.specs.declared.TraceStep.{TraceStep}
 use Rattle.spec_ledger.specs.declared.TraceStep.TheVariants.{Did}
+use Rattle.serial.specs.declared.playing.OverCells.{OverCells}
+use Rattle.serial.specs.Playing.{AreDone, AreDoneInLevels}
 use Rattle.serial.proofs.Ending.{on_err}
 use Rattle.serial.proofs.Levels.{did_one, same_done}
 use Rattle.serial.proofs.playing.OverCellsStorage.act.Goals as goal
@@ -11,5 +14,7 @@ returns-clause-on g c = λ start t d.
     e.reply e.cells e.unsettled e.inverses
 
 pub returns-in_err-reply-clause-rest : goal.returns-in_err-reply-clause-rest
-returns-in_err-reply-clause-rest g c = on_err _ (λ start t d.
-    same_done start.cells c.args.self.now.cells c.act.new.cells t c.args.self.now.inverses.items c.act.new.inverses.items c.in_err-reply.ensures.err c.in_err-reply.ensures.err_inverses d.done)
+returns-in_err-reply-clause-rest g c =
+    let told : (start : OverCells g.row.A.Denot) (t : List TraceStep) → AreDoneInLevels start.cells t c.args.self.now.cells c.args.self.now.inverses.items c.args.self.now.marks.items → AreDone start.cells t c.act.new.cells c.act.new.inverses.items = λ start t d.
+    same_done start.cells c.args.self.now.cells c.act.new.cells t c.args.self.now.inverses.items c.act.new.inverses.items c.in_err-reply.ensures.err c.in_err-reply.ensures.err_inverses d.done in
+    on_err _ told

@@ -1,5 +1,8 @@
-use Rattle.std.proofs.Common.{◌≡◌, ◌∷◌, ◌++◌, [], length, refl, arith}
+use Rattle.std.proofs.Common.{List, ◌≡◌, ◌∷◌, ◌++◌, [], length, refl, arith}
+use Rattle.spec_ledger.specs.declared.TraceStep.{TraceStep}
 use Rattle.spec_ledger.specs.declared.TraceStep.TheVariants.{Opened}
+use Rattle.serial.specs.declared.playing.OverCells.{OverCells}
+use Rattle.serial.specs.Playing.{AreDone, AreDoneInLevels}
 use Rattle.serial.proofs.Ending.{on_err}
 use Rattle.serial.proofs.Levels.{entered}
 use Rattle.serial.proofs.playing.OverCellsStorage.enter.Goals as goal
@@ -10,4 +13,6 @@ returns-clause-on g c = λ start t d.
     entered start.cells c.args.self.now.cells t c.args.self.now.inverses.items c.args.self.now.marks.items d (t ++ Opened ∷ []) refl c.len.result size c.push.new.self.items c.in_ok-push.ensures.items
 
 pub returns-in_err-push-clause-rest : goal.returns-in_err-push-clause-rest
-returns-in_err-push-clause-rest g c = on_err _ (λ start t d. d.done)
+returns-in_err-push-clause-rest g c =
+    let told : (start : OverCells g.row.A.Denot) (t : List TraceStep) → AreDoneInLevels start.cells t c.args.self.now.cells c.args.self.now.inverses.items c.args.self.now.marks.items → AreDone start.cells t c.args.self.now.cells c.args.self.now.inverses.items = λ start t d. d.done in
+    on_err _ told
