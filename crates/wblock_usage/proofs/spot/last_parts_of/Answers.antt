@@ -1,6 +1,5 @@
--- Not checked: the names of the goals are guessed; `rt check --start last_parts_of` tells them.
 use Rattle.wblock_usage.proofs.Colons.{of_last_parts}
 use Rattle.wblock_usage.proofs.spot.last_parts_of.Goals as goal
 
 pub returns : goal.returns
-returns c = of_last_parts c.args.text.now _ c.rsplit_once.ensures
+returns c = of_last_parts c.args.text.now _ c.rsplit_once.ensures.cases

@@ -1,4 +1,3 @@
--- Not checked: the names of the goals are guessed; `rt check --start small_number_of` tells them.
 use Rattle.std.proofs.Common.{rules}
 use Rattle.wblock_usage.proofs.Colons.{at_some, too_great}
 use Rattle.wblock_usage.proofs.spot.small_number_of.Goals as goal

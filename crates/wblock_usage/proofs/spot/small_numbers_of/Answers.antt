@@ -1,4 +1,3 @@
--- Not checked: the names of the goals are guessed; `rt check --start small_numbers_of` tells them.
 use Rattle.std.proofs.Common.{decimal, sym, ◌∙◌, arith}
 use Rattle.wblock_usage.proofs.Colons.{at_none, not_cut, one_cut, decimal_free}
 use Rattle.wblock_usage.proofs.spot.small_numbers_of.Goals as goal

@@ -1,4 +1,3 @@
--- Not checked: the names of the goals are guessed; `rt check --start spot_in` tells them.
 use Rattle.std.proofs.Common.{rules, ◌∷◌, ◌++◌, decimal, refl, ap}
 use Rattle.wblock_usage.proofs.Colons.{at_none, at_some}
 use Rattle.wblock_usage.proofs.spot.spot_in.Goals as goal

@@ -1,4 +1,3 @@
--- Not checked: the names of the goals are guessed; `rt check --start spot_of` tells them.
 use Rattle.std.proofs.Common.{List, ℕ, ◌∷◌, ◌++◌, sym, ap, ◌∙◌, subst}
 use Rattle.wblock_usage.specs.Words.{SpellsSpot}
 use Rattle.wblock_usage.proofs.Colons.{at_none, at_some}
