@@ -1,3 +1,4 @@
+mod Behind
 mod FlatObjects
 mod Onto
 mod Reading

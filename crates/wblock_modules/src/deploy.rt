@@ -324,6 +324,7 @@ fn refuse_crowd(
 
 /// Reads modules that are to stand behind the contracts of a world: they are refused where they are too many, and none is read then; else each is judged
 /// before the next is read.
+#[tactic(auto, using(crate::proofs::Behind::crowd_fits, crate::proofs::Behind::crowd_count, crate::proofs::Behind::crowd_read))]
 pub fn read_modules_behind<'a, F: Files>(
     alloc: Global,
     files: &mut F,
