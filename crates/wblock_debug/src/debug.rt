@@ -99,7 +99,7 @@ fn debug_in_block<'a, P: Pace>(
         pace,
     ) {
         Ok(Some(met)) => Ok(debug_over(alloc, world, &met.cells, call, task, met.version)?),
-        Ok(None) => absent(alloc, task.json, task.call),
+        Ok(None) => Ok(absent(alloc, task.json, task.call)?),
         Err(JudgeRefusal::Rejected(reason)) => Ok(reject(alloc, task.json, bytes, reason)?),
         Err(JudgeRefusal::NoMemory) => Err(NoMemory),
     }

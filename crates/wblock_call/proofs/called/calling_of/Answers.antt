@@ -9,6 +9,9 @@ use Rattle.wblock_call.proofs.called.calling_of.Goals as goal
 behind_world : (words : List (List ℕ)) (w v : List ℕ) (s t : List (List ℕ)) → IsCallOf words w s → IsCallOf words v t → s ≡ t
 behind_world words w v s t first second = cc
 
+pub returns-in_default : goal.returns-in_default
+returns-in_default c = λ asked a. MatchOption-at_none _ _ c.in_default.is c.switch_alone.ensures asked.json a.json
+
 pub returns-in_default-3 : goal.returns-in_default-3
 returns-in_default-3 c = λ asked a.
     let same : a.spelling ≡ texts c.in-Some-2.spelling.now = behind_world _ _ _ _ _ a.words c.in-Some-2.ensures in

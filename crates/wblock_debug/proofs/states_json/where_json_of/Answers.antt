@@ -8,4 +8,4 @@ pub value_line-requires : goal.value_line-requires
 value_line-requires c = subst (IsFlat 127) (sym c.in_ok-value.ensures) (where_flat _)
 
 pub returns : goal.returns
-returns c = subst (λ (d : Data). IsLineOf (IsJson d) (string_bytes c.in_ok-text.field-0)) c.in_ok-value.ensures c.in_ok-text.ensures
+returns c = subst (λ (d : Data). IsLineOf (IsJson d) (string_bytes c.in_ok-text.text)) c.in_ok-value.ensures c.in_ok-text.ensures
