@@ -1,8 +1,10 @@
 // One attempt at a call.
-ghost use Rattle.std.specs.Prelude.{◌≡◌, ◌↔◌, ◌<◌, true, IfOk, IfSome, length};
+ghost use Rattle.std.specs.Prelude.{◌≡◌, ◌↔◌, ◌<◌, ◌≤◌, ◌^◌, Ok, true, false, IfOk, OnOk, IfSome, length};
 ghost use Rattle.spec_execution.specs.Run.{IsReply};
 ghost use Rattle.spec_ledger.specs.declared.Version.TheVariants.{Two};
 ghost use Rattle.interp.specs.Callee.{setting_view};
+ghost use Rattle.interp.specs.Progress.{IsFree, IsSameCall};
+ghost use Rattle.serial.specs.Going.{MayGoOn, IsEnded};
 ghost use Rattle.serial.specs.Runs.{IsRunOf};
 ghost use Rattle.book_workers.specs.Handed.{IsCommitted};
 
@@ -11,10 +13,11 @@ use crate::admission::AdmissionLimit;
 use boost::book::{BeginRefusal, CommitRefusal, EnterRefusal, OpRefusal, Run};
 use call::Call;
 use interp::finished::Finished;
+use interp::machine::Machine;
 use link::deployed::Deployed as Contract;
 use lock_profile::Touched;
 use pace::{Pace, Step, must_stop_at};
-use serial::{Storage, play_over, touched_by};
+use serial::{Begun, HostRequest, begin, next_request, touched_by};
 use shards::{NoGate, Shards, Ticket};
 use spec_ledger::{NoMemory, Op, Reply, Version};
 use std::alloc::Allocator;
@@ -111,60 +114,108 @@ fn ask<A: Allocator + Copy, R: Wait, P: Pace>(
     }
 }
 
-/// A live attempt at a call, over the book.
-#[derive(Drop)]
-struct OverBook<'j, 's, 'a, A: Allocator + Copy, R: Wait, P: Pace> {
-    rt: &'j R,
-    job: &'j Job<'s, 'a, A, P>,
-    ticket: Ticket<A>,
-    call: u32,
+/// Enters a level in the book.
+fn enter<A: Allocator + Copy, R: Wait, P: Pace>(
+    rt: &R,
+    job: &Job<'_, '_, A, P>,
+    ticket: &mut Ticket<A>,
+) -> Result<(), Stop> {
+    match job.book.enter(rt, ticket) {
+        Ok(()) => Ok(()),
+        Err(EnterRefusal::NoMemory) => Err(Stop::NoMemory),
+        Err(EnterRefusal::Stale) => Err(Stop::Refused),
+    }
 }
 
-impl<A: Allocator + Copy, R: Wait, P: Pace> Storage for OverBook<'_, '_, '_, A, R, P> {
-    type Refusal = Stop;
-
-    ghost led = { λ _ _ _. Unit {0} };
-
-    ghost left = { λ _ _ _. Unit {0} };
-
-    ghost stay = { λ _ _ _ _. tt };
-
-    fn act(&mut self, asked: u64, op: Op) -> Result<Reply, Stop> {
-        let reply = ask(self.rt, self.job, &mut self.ticket, self.call, asked, op)?;
-        Ok(reply)
+/// Leaves the innermost level in the book: what was done in it stands, or is taken back.
+fn leave<A: Allocator + Copy, R: Wait, P: Pace>(
+    rt: &R,
+    job: &Job<'_, '_, A, P>,
+    ticket: &mut Ticket<A>,
+    keep: bool,
+) -> Result<(), Stop> {
+    match job.book.leave(rt, ticket, keep) {
+        Ok(()) => Ok(()),
+        Err(_) => Err(Stop::Refused),
     }
+}
 
-    fn enter(&mut self) -> Result<(), Stop> {
-        match self.job.book.enter(self.rt, &mut self.ticket) {
-            Ok(()) => Ok(()),
-            Err(EnterRefusal::NoMemory) => Err(Stop::NoMemory),
-            Err(EnterRefusal::Stale) => Err(Stop::Refused),
+/// Goes on to the next operation, or to the next level that is entered or left, and asks the book for it. Answers whether there was one. The pace
+/// is told of operations alone.
+fn ask_next<'a, A: Allocator + Copy, R: Wait, P: Pace>(
+    rt: &R,
+    job: &Job<'_, 'a, A, P>,
+    ticket: &mut Ticket<A>,
+    call: u32,
+    machine: &mut Machine<'a, A>,
+    asked: &mut u64,
+) -> Result<bool, Stop>
+    requires free { IsFree machine.old.status }
+    requires limit { machine.old.call.fuel < 2 ^ 64 }
+    requires asked { asked.old ≤ machine.old.used }
+    ensures same { OnOk result (IsSameCall machine.old machine.new) }
+    ensures goes_on { result ≡ Ok true → MayGoOn machine.old machine.new }
+    ensures ended { result ≡ Ok false → IsEnded machine.new.status }
+    ensures asked { OnOk result (asked.new ≤ machine.new.used) }
+{
+    match next_request(machine) {
+        Ok(Some(HostRequest::Do(op))) => {
+            let reply = ask(rt, job, ticket, call, *asked, op)?;
+            machine.answer(reply);
+            *asked += 1;
+            Ok(true)
         }
-    }
-
-    fn leave(&mut self, keep: bool) -> Result<(), Stop> {
-        match self.job.book.leave(self.rt, &mut self.ticket, keep) {
-            Ok(()) => Ok(()),
-            Err(_) => Err(Stop::Refused),
+        Ok(Some(HostRequest::Enter)) => {
+            enter(rt, job, ticket)?;
+            Ok(true)
         }
+        Ok(Some(HostRequest::Leave(keep))) => {
+            leave(rt, job, ticket, keep)?;
+            Ok(true)
+        }
+        Ok(None) => Ok(false),
+        Err(NoMemory) => Err(Stop::NoMemory),
     }
+}
 
-    fn no_memory() -> Stop {
-        Stop::NoMemory
+/// Runs a call that starts to its end.
+fn run<'a, A: Allocator + Copy, R: Wait, P: Pace>(
+    rt: &R,
+    job: &Job<'_, 'a, A, P>,
+    ticket: &mut Ticket<A>,
+    call: u32,
+    mut machine: Machine<'a, A>,
+) -> Result<Finished<'a, A>, Stop>
+    requires free { IsFree machine.status }
+    requires limit { machine.call.fuel < 2 ^ 64 }
+    ensures setting { IfOk result (λ finished. finished.setting ≡ machine.entry.setting) }
+    ensures call { IfOk result (λ finished. finished.call ≡ machine.entry.call) }
+{
+    let mut asked = 0;
+    'operations: while ask_next(rt, job, ticket, call, &mut machine, &mut asked)? {}
+    match machine.finish() {
+        Ok(finished) => Ok(finished),
+        Err(_) => unreachable!(),
     }
 }
 
 /// Runs a live attempt to its end.
 fn play<'a, A: Allocator + Copy, R: Wait, P: Pace>(
+    rt: &R,
     job: &Job<'_, 'a, A, P>,
-    storage: &mut OverBook<'_, '_, 'a, A, R, P>,
+    ticket: &mut Ticket<A>,
     number: u32,
 ) -> Result<Finished<'a, A>, Stop>
     requires { number < length job.now.calls.now }
     ensures { IfOk result (IsRunOf (setting_view Two job.now.contracts.now) job.now.calls.now number) }
 {
     let call = &job.calls[number as usize];
-    play_over(job.alloc, job.contracts, call, Version::Two, storage)
+    let _limit = call.fuel();
+    match begin(job.alloc, job.contracts, call, Version::Two) {
+        Ok(Begun::Ended(finished)) => Ok(finished),
+        Ok(Begun::Runs(machine)) => run(rt, job, ticket, number, machine),
+        Err(NoMemory) => Err(Stop::NoMemory),
+    }
 }
 
 /// Commits a live attempt by its run, and undoes it where the pace stops the worker or the book refuses.
@@ -225,25 +276,12 @@ fn attempt<'a, A: Allocator + Copy, R: Wait, P: Pace>(
     if must_stop_at(job.pace, Step::Attempt { call, nth }) {
         return Err(Stop::Stopped);
     }
-    let ticket = match job.book.begin(rt, call) {
+    let mut ticket = match job.book.begin(rt, call) {
         Ok(ticket) => ticket,
         Err(BeginRefusal::NoMemory) => return Err(Stop::NoMemory),
         Err(_) => return Err(Stop::Refused),
     };
-    let mut storage = OverBook {
-        rt,
-        job,
-        ticket,
-        call,
-    };
-    let played = play(job, &mut storage, call);
-    let OverBook {
-        rt: _,
-        job: _,
-        ticket,
-        call: _,
-    } = storage;
-    match played {
+    match play(rt, job, &mut ticket, call) {
         Ok(finished) => commit(rt, job, ticket, call, finished),
         Err(stop) => {
             job.book.undo(rt, ticket);

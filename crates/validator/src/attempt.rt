@@ -1,18 +1,24 @@
 //! A worker's run of a position's call, over the cells that the workers share.
 
-ghost use Rattle.std.specs.Prelude.{◌<◌, IfOk, IfSome, length};
+ghost use Rattle.std.specs.Prelude.{◌≡◌, ◌<◌, ◌≤◌, ◌^◌, Ok, true, false, IfOk, IfSome, OnOk, length};
 ghost use Rattle.spec_execution.specs.Run.{IsReply};
+ghost use Rattle.interp.specs.Callee.{setting_view};
+ghost use Rattle.interp.specs.Progress.{IsFree, IsSameCall};
+ghost use Rattle.serial.specs.Going.{MayGoOn, IsEnded};
 ghost use Rattle.validator.specs.Handed.{IsMade, IsRunIn};
 ghost use Rattle.validator.specs.Jobs.{IsJob};
 
 use crate::job::{Job, PositionResult, PositionRun};
 use crate::profile::allows;
+use call::Call;
 use in_order::Task;
 use interp::finished::Finished;
+use interp::machine::Machine;
+use link::deployed::Deployed as Contract;
 use lock_profile::Profile;
 use pace::{Pace, Step, acquire, must_stop_at};
-use serial::{Storage, play_over};
-use spec_ledger::{NoMemory, Op, Reply};
+use serial::{Begun, HostRequest, begin, next_request};
+use spec_ledger::{NoMemory, Op, Reply, Version};
 use std::alloc::Allocator;
 use std::sync::{Mutex, Wait};
 use storage::{Ahead, returned};
@@ -28,17 +34,14 @@ enum Stop {
     Stopped,
 }
 
-/// The run of a position's call over the cells that the workers share. The marks are how many operations there were where each open level was entered, the
-/// innermost last.
+/// A position, the number of its call, what the call may ask for, the cells that it is run over, and who is told.
 #[derive(Drop)]
-struct OverAhead<'s, A: Allocator + Copy, R: Wait, P: Pace> {
-    rt: &'s R,
+struct AttemptContext<'s, A: Allocator, P: Pace> {
     position: u32,
     number: u32,
     profile: &'s Profile<A>,
     ahead: &'s Mutex<Ahead<A>>,
     pace: &'s P,
-    marks: Vec<usize, A>,
 }
 
 /// Does an operation for a position, under the lock of the cells.
@@ -58,72 +61,138 @@ fn act<A: Allocator + Copy>(
     }
 }
 
-impl<A: Allocator + Copy, R: Wait, P: Pace> Storage for OverAhead<'_, A, R, P> {
-    type Refusal = Stop;
-
-    ghost led = { λ _ _ _. Unit {0} };
-
-    ghost left = { λ _ _ _. Unit {0} };
-
-    ghost stay = { λ _ _ _ _. tt };
-
-    // The operation has to be within the profile. The pace is told before it, and may stop the worker.
-    fn act(&mut self, asked: u64, op: Op) -> Result<Reply, Stop> {
-        let step = Step::Op {
-            call: self.number,
-            n: asked,
-        };
-        if must_stop_at(self.pace, step) {
-            return Err(Stop::Stopped);
-        }
-        if !allows(self.profile, op) {
-            return Err(Stop::Outside);
-        }
-        let reply = act(self.rt, self.ahead, self.position, op)?;
-        Ok(reply)
+/// Does an operation that is within the profile, and tells the pace before it, which may stop the worker.
+fn ask<A: Allocator + Copy, R: Wait, P: Pace>(
+    rt: &R,
+    place: &AttemptContext<'_, A, P>,
+    n: u64,
+    op: Op,
+) -> Result<Reply, Stop>
+    ensures { IfOk result (λ reply. IsReply op reply) }
+{
+    let step = Step::Op {
+        call: place.number,
+        n,
+    };
+    if must_stop_at(place.pace, step) {
+        return Err(Stop::Stopped);
     }
-
-    fn enter(&mut self) -> Result<(), Stop> {
-        let mark = acquire(self.rt, self.ahead).count(self.position as usize);
-        match self.marks.push(mark) {
-            Ok(()) => Ok(()),
-            Err(_) => Err(Stop::NoMemory),
-        }
+    if !allows(place.profile, op) {
+        return Err(Stop::Outside);
     }
+    act(rt, place.ahead, place.position, op)
+}
 
-    // What is taken back is so under the lock of the cells.
-    fn leave(&mut self, keep: bool) -> Result<(), Stop> {
-        let Some(mark) = self.marks.pop() else {
-            return Ok(());
-        };
-        if keep {
-            return Ok(());
-        }
-        acquire(self.rt, self.ahead).take_back_to(self.position as usize, mark);
-        Ok(())
+/// Notes how many operations a position has done where a level is entered.
+fn enter<A: Allocator + Copy, R: Wait, P: Pace>(
+    rt: &R,
+    place: &AttemptContext<'_, A, P>,
+    marks: &mut Vec<usize, A>,
+) -> Result<(), Stop> {
+    let mark = acquire(rt, place.ahead).count(place.position as usize);
+    match marks.push(mark) {
+        Ok(()) => Ok(()),
+        Err(_) => Err(Stop::NoMemory),
     }
+}
 
-    fn no_memory() -> Stop {
-        Stop::NoMemory
+/// Leaves the innermost level of a position, which the last mark is of: what was done in it stands, or is taken back under the lock of the cells.
+fn leave<A: Allocator + Copy, R: Wait, P: Pace>(
+    rt: &R,
+    place: &AttemptContext<'_, A, P>,
+    marks: &mut Vec<usize, A>,
+    keep: bool,
+) {
+    let Some(mark) = marks.pop() else {
+        return;
+    };
+    if keep {
+        return;
+    }
+    acquire(rt, place.ahead).take_back_to(place.position as usize, mark);
+}
+
+/// Goes on to the next operation, or to the next level that is entered or left, and does it. Answers whether there was one.
+fn do_next<'a, A: Allocator + Copy, R: Wait, P: Pace>(
+    rt: &R,
+    place: &AttemptContext<'_, A, P>,
+    machine: &mut Machine<'a, A>,
+    marks: &mut Vec<usize, A>,
+    asked: &mut u64,
+) -> Result<bool, Stop>
+    requires free { IsFree machine.old.status }
+    requires limit { machine.old.call.fuel < 2 ^ 64 }
+    requires asked { asked.old ≤ machine.old.used }
+    ensures same { OnOk result (IsSameCall machine.old machine.new) }
+    ensures goes_on { result ≡ Ok true → MayGoOn machine.old machine.new }
+    ensures ended { result ≡ Ok false → IsEnded machine.new.status }
+    ensures asked { OnOk result (asked.new ≤ machine.new.used) }
+{
+    match next_request(machine) {
+        Ok(Some(HostRequest::Do(op))) => {
+            let reply = ask(rt, place, *asked, op)?;
+            machine.answer(reply);
+            *asked += 1;
+            Ok(true)
+        }
+        Ok(Some(HostRequest::Enter)) => {
+            enter(rt, place, marks)?;
+            Ok(true)
+        }
+        Ok(Some(HostRequest::Leave(keep))) => {
+            leave(rt, place, marks, keep);
+            Ok(true)
+        }
+        Ok(None) => Ok(false),
+        Err(NoMemory) => Err(Stop::NoMemory),
+    }
+}
+
+/// Runs a call that starts to its end.
+fn run<'a, A: Allocator + Copy, R: Wait, P: Pace>(
+    rt: &R,
+    alloc: A,
+    place: &AttemptContext<'_, A, P>,
+    mut machine: Machine<'a, A>,
+) -> Result<Finished<'a, A>, Stop>
+    requires free { IsFree machine.status }
+    requires limit { machine.call.fuel < 2 ^ 64 }
+    ensures setting { IfOk result (λ finished. finished.setting ≡ machine.entry.setting) }
+    ensures call { IfOk result (λ finished. finished.call ≡ machine.entry.call) }
+{
+    let mut asked = 0;
+    // how many operations there were where each open level was entered, the innermost last
+    let mut marks = Vec::new(alloc);
+    'operations: while do_next(rt, place, &mut machine, &mut marks, &mut asked)? {}
+    match machine.finish() {
+        Ok(finished) => Ok(finished),
+        Err(_) => unreachable!(),
     }
 }
 
 /// Runs the call of a number to its end.
 fn play<'a, A: Allocator + Copy, R: Wait, P: Pace>(
+    rt: &R,
     job: &Job<'_, 'a, A, P>,
-    storage: &mut OverAhead<'_, A, R, P>,
+    place: &AttemptContext<'_, A, P>,
     number: u32,
 ) -> Result<Finished<'a, A>, Stop>
     requires { number < length job.now.ordered.task.calls.now }
     ensures { IfOk result (IsRunIn job.now number) }
 {
+    let alloc = job.ordered.alloc;
     let Task {
         contracts,
         calls,
         version,
     } = job.ordered.task;
     let call = &calls[number as usize];
-    play_over(job.ordered.alloc, contracts, call, version, storage)
+    let _limit = call.fuel();
+    match begin(alloc, contracts, call, version) {
+        Ok(Begun::Ended(finished)) => Ok(finished),
+        Ok(Begun::Runs(machine)) => run(rt, alloc, place, machine),
+        Err(NoMemory) => Err(Stop::NoMemory),
+    }
 }
 
 /// Whether what a call did stands: where it was run to its end, and returned.
@@ -166,16 +235,14 @@ pub(crate) fn attempt<'a, A: Allocator + Copy, R: Wait, P: Pace>(
             stops: true,
         });
     }
-    let mut storage = OverAhead {
-        rt,
+    let place = AttemptContext {
         position,
         number,
         profile: positions[at].profile(),
         ahead,
         pace: job.ordered.pace,
-        marks: Vec::new(job.ordered.alloc),
     };
-    let played = play(job, &mut storage, number);
+    let played = play(rt, job, &place, number);
     acquire(rt, ahead).end(at, stands(&played));
     match played {
         Ok(finished) => Ok(PositionResult {
