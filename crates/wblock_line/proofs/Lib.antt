@@ -1,4 +1,5 @@
 mod Beginning
 mod FlatObjects
+mod Leaving
 mod Saying
 mod Splitting

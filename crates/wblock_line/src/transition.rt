@@ -1,8 +1,8 @@
 //! What a command makes of a world, while the world that it leaves has no bytes yet.
 
-ghost use Rattle.std.specs.Prelude.{◌≡◌, IfOk, string_bytes};
-ghost use Rattle.wblock_line.specs.Answers.{upshot_of};
-ghost use Rattle.wblock_line.specs.Transitions.{leaving, note_in};
+ghost use Rattle.std.specs.Prelude.{◌≡◌, ◌++◌, IfOk, map, string_bytes};
+ghost use Rattle.wblock_line.specs.Answers.{upshot_of, write_of};
+ghost use Rattle.wblock_line.specs.Transitions.{leaving, next_write, note_in};
 
 use crate::answer::{Answer, Write};
 use std::alloc::Global;
@@ -49,6 +49,25 @@ pub struct Noted<'a> {
     pub note: String,
 }
 
+/// These files, and behind them the world that is left, if any.
+fn with_next<'a>(
+    alloc: Global,
+    mut writes: Vec<Write<'a>>,
+    next: Option<NextWorld<'a>>,
+) -> Result<Vec<Write<'a>>, NoMemory>
+    ensures { IfOk result (λ all. map write_of all.items ≡ map write_of writes.entry.items ++ next_write next.entry) }
+{
+    let Some(left) = next else {
+        return Ok(writes);
+    };
+    let bytes = encode_world(alloc, &left.world)?;
+    writes.push(Write {
+        name: left.name,
+        bytes,
+    })?;
+    Ok(writes)
+}
+
 /// The answer that writes the world that is left, too, behind its other files.
 ///
 /// # Errors
@@ -65,18 +84,12 @@ pub fn with_world<'a>(alloc: Global, transition: Transition<'a>) -> Result<Noted
         }),
         Transition::Done(change) => {
             let Change {
-                mut writes,
+                writes,
                 next,
                 text,
                 note,
             } = change;
-            if let Some(next) = next {
-                let bytes = encode_world(alloc, &next.world)?;
-                writes.push(Write {
-                    name: next.name,
-                    bytes,
-                })?;
-            }
+            let writes = with_next(alloc, writes, next)?;
             Ok(Noted {
                 answer: Answer::Done(writes, text),
                 note,
