@@ -12,7 +12,7 @@ behind_world words w v s t first second = cc
 pub returns-in_default : goal.returns-in_default
 returns-in_default c = λ asked a. MatchOption-at_none _ _ c.in_default.is c.switch_alone.ensures asked.json a.json
 
-pub returns-in_default-3 : goal.returns-in_default-3
-returns-in_default-3 c = λ asked a.
+pub returns-in_default-2 : goal.returns-in_default-2
+returns-in_default-2 c = λ asked a.
     let same : a.spelling ≡ texts c.in-Some-2.spelling.now = behind_world _ _ _ _ _ a.words c.in-Some-2.ensures in
-    MatchOption-at_none _ _ c.in_default-3.is c.in_ok-call.ensures asked.call (subst (λ (s : List (List ℕ)). AreCall s asked.call) same a.spelled)
+    MatchOption-at_none _ _ c.in_default-2.is c.in_ok-call.ensures asked.call (subst (λ (s : List (List ℕ)). AreCall s asked.call) same a.spelled)
