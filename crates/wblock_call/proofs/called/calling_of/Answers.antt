@@ -14,5 +14,5 @@ returns-in_default c = λ asked a. MatchOption-at_none _ _ c.in_default.is c.swi
 
 pub returns-in_default-2 : goal.returns-in_default-2
 returns-in_default-2 c = λ asked a.
-    let same : a.spelling ≡ texts c.in-Some-2.spelling.now = behind_world _ _ _ _ _ a.words c.in-Some-2.ensures in
+    let same : a.spelling ≡ texts c.in-Some-parts_of.spelling.now = behind_world _ _ _ _ _ a.words c.in-Some-parts_of.ensures in
     MatchOption-at_none _ _ c.in_default-2.is c.in_ok-call.ensures asked.call (subst (λ (s : List (List ℕ)). AreCall s asked.call) same a.spelled)
