@@ -29,7 +29,7 @@ fn amounts_text_of(alloc: Global, locals: usize, instructions: u32) -> Result<St
 
 /// ` name "NAME"`, where there is a name.
 fn called_text_of(alloc: Global, name: Option<&str>) -> Result<String, AllocError>
-    ensures { IfOk result (λ text. string_bytes text ≡ called_text (option_map (λ n. n.now) name)) }
+    ensures { IfOk result (λ text. string_bytes text ≡ called_text (option_map (λ n. n.now) name.entry)) }
 {
     match name {
         None => Ok(String::new(alloc)),
@@ -91,7 +91,7 @@ fn func_line_of(
     func: &Func<Global>,
 ) -> Result<String, AllocError>
     requires { defined_func (module_view tree.now) number ≡ Some (func_view func.now) }
-    ensures { IfOk result (λ line. (names : List Named) → option_map (λ n. n.now) name ≡ name_among names number → string_bytes line ≡ func_line (module_view tree.now).types names number (func_view func.now)) }
+    ensures { IfOk result (λ line. (names : List Named) → option_map (λ n. n.now) name.entry ≡ name_among names number → string_bytes line ≡ func_line (module_view tree.now).types names number (func_view func.now)) }
 {
     let func_type = type_text_at(alloc, &tree.types, func.type_index)?;
     let amounts = amounts_text_of(alloc, func.locals.len(), tree.size(number))?;
@@ -114,8 +114,8 @@ fn func_lines_of(
     let mut left = names_from(names, number);
     for func in &tree.funcs {
         let (name, behind) = called(left, number);
-        let line = func_line_of(alloc, tree, number, name, func)?;
         left = behind;
+        let line = func_line_of(alloc, tree, number, name, func)?;
         text.push_str(line.as_str())?;
         number += 1;
     }
