@@ -41,27 +41,21 @@ fn called_text_of(alloc: Global, name: Option<&str>) -> Result<String, AllocErro
     }
 }
 
-/// The name of the function of this number, which is the first of these where there is one, and what is left of them for the functions behind it.
-fn called<'n, 'b>(
-    names: &'n [FunctionName<'b>],
-    number: u32,
-) -> (Option<&'b str>, &'n [FunctionName<'b>])
+/// The name of the function of this number, which is the first of these where there is one.
+fn first_name<'b>(names: &[FunctionName<'b>], number: u32) -> Option<&'b str>
     requires rises { Rises (names_in names.now) }
     requires from { IsFrom number (names_in names.now) }
-    ensures name { option_map (λ n. n.now) result.0 ≡ name_among (names_in names.entry.now) number }
-    ensures rises { Rises (names_in result.1.now) }
-    ensures from { IsFrom (number + 1) (names_in result.1.now) }
-    ensures same { (later : ℕ) → number < later → name_among (names_in result.1.now) later ≡ name_among (names_in names.entry.now) later }
+    ensures { option_map (λ n. n.now) result ≡ name_among (names_in names.now) number }
 {
     match names.split_first() {
-        Some((first, rest)) => {
+        Some((first, _rest)) => {
             if first.number == number {
-                (Some(first.name), rest)
+                Some(first.name)
             } else {
-                (None, names)
+                None
             }
         }
-        None => (None, names),
+        None => None,
     }
 }
 
@@ -111,10 +105,10 @@ fn func_lines_of(
 {
     let mut text = String::new(alloc);
     let mut number = first_func(tree);
-    let mut left = names_from(names, number);
+    let mut left = names;
     for func in &tree.funcs {
-        let (name, behind) = called(left, number);
-        left = behind;
+        left = names_from(left, number);
+        let name = first_name(left, number);
         let line = func_line_of(alloc, tree, number, name, func)?;
         text.push_str(line.as_str())?;
         number += 1;

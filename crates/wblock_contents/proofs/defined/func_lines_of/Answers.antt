@@ -26,13 +26,12 @@ loop-func-preserved c =
     let before = string_bytes c.loop-func.text in
     let pushed : string_bytes c.push_str.new.self ≡ before ++ string_bytes c.in_ok-line.line = search rules in
     let names = names_in c.args.names.now in
-    let same = c.loop-func.invariant.4 in
-    let called = c.called.ensures in
-    let told = pushed ∙ ap (λ l. before ++ l) (c.in_ok-line.ensures names (called.name ∙ same c.loop-func.number (omega arith))) in
+    let same = c.loop-func.invariant.3 in
+    let left = c.names_from-left.ensures in
+    let told = pushed ∙ ap (λ l. before ++ l) (c.in_ok-line.ensures names (c.first_name-name.ensures ∙ left.same c.loop-func.number (omega arith) ∙ same c.loop-func.number (omega arith))) in
     let at = c.loop-func.invariant.0 in (
       omega (arith, at),
       one_line (func_line (module_view c.args.tree.now).types names) func_view funcs f i c.loop-func.number before (string_bytes c.push_str.new.self) _ lt is c.loop-func.invariant.1 told,
-      called.rises,
-      called.from,
-      λ later le. called.same later (omega (arith, le)) ∙ same later (omega (arith, le)),
+      left.rises,
+      λ later le. left.same later (omega (arith, le)) ∙ same later (omega (arith, le)),
     )
