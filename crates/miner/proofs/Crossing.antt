@@ -1,6 +1,7 @@
 -- Threads may share a world, over an allocator that may cross threads, and whose blocks any thread may give back.
 use denote.RattleType.{RattleType}
 use denote.Param.Send.{Frees, IsSend, IsSync}
+use denote.Param.SendFields.{declared_sync}
 use Rattle.std.specs.declared.alloc.Allocator.{Ghosts}
 use Rattle.link.specs.contracts.deployed.Deployed as contract_row
 use Rattle.world.specs.contracts.value.World as world_row
@@ -11,4 +12,4 @@ module _ (B : RattleType) (g : Ghosts B.Denot) (send : IsSend B) (sync : IsSync 
   world_sync =
       let contracts = vec_sync B g send sync frees (contract_row.the_row B g) (contract_sync B g send sync frees) in
       let cells = cells_sync B g send sync frees in
-      search (crosses, contracts, cells) depth 60 fits 100000
+      declared_sync (world_row.the_type B g) (search (crosses, contracts) depth 60 fits 100000, (search (crosses, cells) depth 60 fits 100000, (search crosses depth 60 fits 100000, tt)))

@@ -53,7 +53,7 @@ module _ (B : RattleType) (g : Ghosts B.Denot) (send : IsSend B) (sync : IsSync 
   world_sync =
       let contracts = vec_sync B g send sync frees (contract_row.the_row B g) (contract_sync B g send sync frees) in
       let cells = cells_sync B g send sync frees in
-      search (crosses, contracts, cells) depth 60 fits 100000
+      declared_sync (world_row.the_type B g) (search (crosses, contracts) depth 60 fits 100000, (search (crosses, cells) depth 60 fits 100000, (search crosses depth 60 fits 100000, tt)))
 
   block_sync : IsSync (block_row.the_row B g)
   block_sync = let vec = vec_sync B g send sync frees in search (crosses, vec, position_sync) depth 60 fits 100000

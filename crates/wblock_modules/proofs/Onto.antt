@@ -1,5 +1,5 @@
 -- The world that modules are deployed onto.
-use Rattle.std.proofs.Common.{◌≡◌, ℕ, List, Option, Some, Bor, Result, Ok, Err, IfOk, IsTrue, Bool, refl, inl, inr, String}
+use Rattle.std.proofs.Common.{◌≡◌, ℕ, List, Option, Some, Bor, Result, Ok, Err, IfOk, IsTrue, Bool, refl, inl, inr, String, Global}
 use Rattle.spec_block.specs.Worlds.{World}
 use Rattle.wblock_io.specs.Holding.{Holding}
 use Rattle.wblock_line.specs.declared.answer.Answer.{Answer}
@@ -27,7 +27,7 @@ pub no_base : (json : Bool) (holds : Holding) (onto : Option (Bor (List ℕ))) (
 no_base json holds onto count line a none told = record { line = line; why = inl none; told = of_answer json line a told }
 
 -- what was read of the modules refuses them, behind the contracts of what is gone on from
-pub refused : (json : Bool) (holds : Holding) (world : List ℕ) (onto : Option (Bor (List ℕ))) (base : World) (names : List (List ℕ)) (told why : String) → IsBase holds onto base → IsReadBehind json holds base names (modules.Refused told why)
+pub refused : (json : Bool) (holds : Holding) (world : List ℕ) (onto : Option (Bor (List ℕ))) (base : World) (names : List (List ℕ)) (told why : String Global) → IsBase holds onto base → IsReadBehind json holds base names (modules.Refused told why)
     → Deploys json holds world onto names (upshot_of (Refused told why))
 refused json holds world onto base names told why is (inl many) =
     inl (record { line = many.line; why = inr (record { base = base; is_base = is; crowd = many.crowd }); told = record { status_is = refl; writes = refl; line = many.told_is } })

@@ -1,14 +1,15 @@
 //! The command `deploy WORLD MODULE... [--onto OLD] [--json]`: the world of the contracts that modules are, with no cells; or the world OLD with these contracts
 //! behind its own.
 
-ghost use Rattle.std.specs.Prelude.{◌≡◌, ◌+◌, ◌≤◌, false, IsTrue, IfOk, IfErr, OnOk, length, vec_len, map, string_bytes};
+ghost use Rattle.std.specs.Prelude.{◌≡◌, ◌+◌, ◌≤◌, [], ◌∷◌, ◌++◌, true, false, IsTrue, IfOk, IfErr, OnOk, length, vec_len, map, string_bytes};
 ghost use Rattle.spec_block.specs.Bytes.{world_bytes};
 ghost use Rattle.serde_json.specs.View.{view};
 ghost use Rattle.wblock_json.specs.Json.{IsJson, IsLineOf};
+ghost use Rattle.wblock_line.specs.Refusals.{refusal_text};
 ghost use Rattle.wblock_line.specs.Answers.{CountsFault, IsOfFile, upshot_of};
 ghost use Rattle.wblock_line.specs.Transitions.{leaving, WritesBeside};
 ghost use Rattle.world.specs.Views.{contract_view, world_view};
-ghost use Rattle.wblock_modules.specs.Deploys.{HasCount, IsDeployedText, IsRead, IsReadBehind, FitsBehind, IsRefusalLine, IsNextModule, IsDone, IsEmpty, IsOld, IsNextDeployed, GivesBase, TellsCount, Deploys, extended, onto_text};
+ghost use Rattle.wblock_modules.specs.Deploys.{HasCount, IsDeployedText, IsModuleLine, IsRead, IsReadBehind, FitsBehind, IsRefusalLine, IsNextModule, IsDone, IsEmpty, IsOld, IsNextDeployed, GivesBase, TellsCount, Deploys, extended, onto_text, refusal_line};
 ghost use Rattle.wblock_modules.specs.Objects.{deployed_data, onto_data};
 
 use link::deployed::Deployed;
@@ -33,7 +34,53 @@ pub enum Modules {
     Refused(String, String),
 }
 
-/// What is told of the module of these bytes and this number that is refused: the line, or the same as JSON; and the sentence of the refusal.
+/// The line of the module of this number that is refused.
+fn module_line(alloc: Global, refusal: ModuleRefusal, number: usize) -> Result<String, AllocError>
+    ensures { IfOk result (λ text. string_bytes text ≡ refusal_line refusal number) }
+{
+    let line = format!(in alloc; "{refusal} module {number}\n")?;
+    Ok(line)
+}
+
+/// The line of a refusal.
+fn line_of(alloc: Global, refusal: ModuleRefusal) -> Result<String, AllocError>
+    ensures { IfOk result (λ text. string_bytes text ≡ refusal_text refusal ++ 10 ∷ []) }
+{
+    let line = format!(in alloc; "{refusal}\n")?;
+    Ok(line)
+}
+
+/// The object of the module of this number that is refused, with this sentence.
+fn module_object(
+    alloc: Global,
+    refusal: ModuleRefusal,
+    number: usize,
+    why: &str,
+) -> Result<String, AllocError>
+    ensures { IfOk result (λ text. IsModuleLine true refusal number (string_bytes text) why.now) }
+{
+    let line = line_of(alloc, refusal)?;
+    json_refusal(alloc, Some(number), line.as_str(), why)
+}
+
+/// What is told of the module of this number that is refused: the line, or the same as JSON, with this sentence.
+fn module_told(
+    alloc: Global,
+    json: bool,
+    refusal: ModuleRefusal,
+    number: usize,
+    why: &str,
+) -> Result<String, AllocError>
+    ensures { IfOk result (λ text. IsModuleLine json refusal number (string_bytes text) why.now) }
+{
+    if json {
+        module_object(alloc, refusal, number, why)
+    } else {
+        module_line(alloc, refusal, number)
+    }
+}
+
+/// What is told of the module of these bytes and this number that is refused; and the sentence of the refusal.
 fn refusal_of(
     alloc: Global,
     json: bool,
@@ -45,13 +92,8 @@ fn refusal_of(
 {
     let words = refusal.words(alloc, bytes)?;
     let why = format!(in alloc; "module {number}: {words}")?;
-    if json {
-        let line = format!(in alloc; "{refusal}\n")?;
-        let told = json_refusal(alloc, Some(number), line.as_str(), why.as_str())?;
-        return Ok(Modules::Refused(told, why));
-    }
-    let line = format!(in alloc; "{refusal} module {number}\n")?;
-    Ok(Modules::Refused(line, why))
+    let told = module_told(alloc, json, refusal, number, why.as_str())?;
+    Ok(Modules::Refused(told, why))
 }
 
 /// The same, with the fault of a command.
