@@ -13,7 +13,7 @@ use Rattle.debugger.specs.declared.session.Refusal.TheVariants as refusal
 use Rattle.wblock_usage.specs.declared.spot.Spot.{Spot}
 use Rattle.wblock_usage.specs.declared.spot.Spot.TheVariants.{Own, Of, Exported}
 use Rattle.wblock_usage.specs.declared.debugging.Command.{Command}
-use Rattle.wblock_usage.specs.declared.debugging.Command.TheVariants.{Step, Back, Cont, Place, Break, Clear, Stack, Locals, Globals, Bytes, Cells as CellsShown, Where}
+use Rattle.wblock_usage.specs.declared.debugging.Command.TheVariants.{Step, Back, Cont, Place as PlaceAsked, Break, Clear, Stack, Locals, Globals, Bytes, Cells as CellsShown, Where}
 use Rattle.wblock_debug.specs.Lines.{OthersAreAsBefore}
 use Rattle.wblock_debug.specs.Tells.{TellsBytes, TellsCells, TellsOk, TellsRefusal, TellsStart, TellsState, TellsValues, TellsWhere}
 use Rattle.wblock_debug.specs.declared.perform.Said.{Said}
@@ -43,7 +43,7 @@ abbrev pub Does : (json : Bool) → Command → SessionView → SessionView → 
 Does json (Step n) s t line = ((made : ℕ) × HasStepped s n made t) × TellsState json t line
 Does json (Back n) s t line = HasGoneBack s n t × TellsState json t line
 Does json Cont s t line = ((made : ℕ) × HasContinued s made t) × TellsState json t line
-Does json Place s t line = (t ≡ s) × TellsState json t line
+Does json PlaceAsked s t line = (t ≡ s) × TellsState json t line
 Does json (Break spot) s t line = IsSome (instr_named s spot) × (t ≡ record s { breaks = with_break_at s.breaks (place_named s spot) }) × TellsOk json line
 Does json (Clear spot) s t line = IsSome (instr_named s spot) × (t ≡ record s { breaks = without_break_at s.breaks (place_named s spot) }) × TellsOk json line
 Does json Stack s t line = (t ≡ s) × TellsValues json (codes "stack") (stack_at t) line
