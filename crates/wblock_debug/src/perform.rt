@@ -67,7 +67,7 @@ fn cont(
 
 /// The place that a spot names. None where its name is that of no function that the contract that is called exports.
 fn place_named<A: Allocator + Copy>(session: &Session<'_, A>, spot: Spot<'_>) -> Option<Place>
-    ensures { result ≡ place_named session.now spot }
+    ensures { result ≡ place_named session.now spot.entry }
 {
     let called = session.called();
     match spot {
@@ -99,7 +99,7 @@ fn break_at(
     session: &mut Session<'_, Global>,
     spot: Spot<'_>,
 ) -> Result<Said<Global>, NoMemory>
-    ensures { IfOk result (Performs json (Command.Break spot) session.old session.new) }
+    ensures { IfOk result (Performs json (Command.Break spot.entry) session.old session.new) }
 {
     let Some(place) = place_named(session, spot) else {
         return Ok(Said::Refused(Refusal::NoSuchPlace));
@@ -118,7 +118,7 @@ fn clear(
     session: &mut Session<'_, Global>,
     spot: Spot<'_>,
 ) -> Result<Said<Global>, NoMemory>
-    ensures { IfOk result (Performs json (Command.Clear spot) session.old session.new) }
+    ensures { IfOk result (Performs json (Command.Clear spot.entry) session.old session.new) }
 {
     let Some(place) = place_named(session, spot) else {
         return Ok(Said::Refused(Refusal::NoSuchPlace));
@@ -153,7 +153,7 @@ pub(crate) fn perform(
     session: &mut Session<'_, Global>,
     command: Command<'_>,
 ) -> Result<Said<Global>, NoMemory>
-    ensures { IfOk result (Performs json command session.old session.new) }
+    ensures { IfOk result (Performs json command.entry session.old session.new) }
 {
     match command {
         Command::Step(count) => step(alloc, json, session, count),

@@ -72,7 +72,7 @@ fn append(
     command: Command<'_>,
     printed: &mut Printed,
 ) -> Result<(), NoMemory>
-    ensures { OnOk result (AddsCommand json command session.old session.new printed.old printed.new) }
+    ensures { OnOk result (AddsCommand json command.entry session.old session.new printed.old printed.new) }
 {
     match perform(alloc, json, session, command)? {
         Said::Line(line) => {
