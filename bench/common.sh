@@ -57,7 +57,7 @@ build() {
 # Takes the program that the first word names as `wblock`, if it names one, else that which the gate left; `rest` are the others.
 take_program() {
   if (($# > 0)) && ! [[ $1 =~ ^[0-9]+$ ]]; then
-    wblock=$(cd "$called_in" && realpath -- "$1")
+    wblock=$(cd "$called_in" && realpath -m -- "$1")
     shift
   fi
   rest=("$@")

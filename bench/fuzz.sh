@@ -36,7 +36,7 @@ begin() {
   case $1 in
     module) cp "$good"/*.wasm "$2" ;;
     text) for name in examples/*/contract.wat; do cp "$name" "$2/$(basename "$(dirname "$name")").wat"; done ;;
-    calls) cp examples/*/*.calls "$2" ;;
+    calls) for name in examples/*/*.calls; do cp "$name" "$2/$(basename "$(dirname "$name")").$(basename "$name")"; done ;;
     world) cp "$good/world" "$good/next" "$2" ;;
     block) cp "$good/block" "$2" ;;
     words) printf '%s\n' step:3 stack locals back:2 break:0:7 cont globals bytes:0:8 place "--block=$good/block" --fuel=1000 >"$2/words" ;;

