@@ -9,8 +9,8 @@ use Rattle.wblock_line.specs.FaultLaws.{of_file_weaker}
 use Rattle.wblock_debug.specs.Debugs.{TellsListed, IsBlockName, IsNextRead}
 use Rattle.wblock_debug.proofs.debug.debug_world.Goals as goal
 
-pub returns-in_ok-refused-in-Refused-clause-answers : goal.returns-in_ok-refused-in-Refused-clause-answers
-returns-in_ok-refused-in-Refused-clause-answers g c = λ t. inl (record {
+pub returns-in-Refused-clause-answers : goal.returns-in-Refused-clause-answers
+returns-in-Refused-clause-answers g c = λ t. inl (record {
   line = string_bytes c.in-Refused.line;
   why = subst (λ inputs. Gives (g.F.Files.holds c.args.files.now) c.args.task.now.world.now c.args.task.now.calls.now inputs) c.in-Refused.is (c.in_ok-world.ensures.gives t);
   told = c.in_ok-refused-in-Refused.ensures.told;
